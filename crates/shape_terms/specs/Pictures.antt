@@ -1,6 +1,6 @@
 -- Binary pictures of any number of axes, and the nearest background points of their points.
 -- A picture has a value at each point of the whole space; outside its box it is background.
-use Rattle.std.specs.Prelude.{◌≡◌, ℕ, ◌≤◌, Bool, false, ◌&&◌, List, length, slice_index_or, slice_set, replicate, filter}
+use Rattle.std.specs.Prelude.{◌≡◌, ℕ, ◌≤◌, Bool, false, ◌&&◌, List, length, slice_index_or, slice_set, replicate, filter, drop}
 use Rattle.shape_terms.specs.Points.{Point, IsPoint, in_box, raster_number, box_points, box_count, squared_distance}
 
 -- one side for each axis, and one truth value for each point of the box, in raster order
@@ -39,3 +39,7 @@ pub record Least (X : Picture) (p q : Point) (s : ℕ) : Type 0 where
   pub background : IsBackground X q
   pub distance : s ≡ squared_distance p q
   pub least : (r : Point) → IsBackground X r → s ≤ squared_distance p r
+
+-- the object points with raster numbers from i on, in raster order
+abbrev pub objects_from : Picture → ℕ → List Point
+objects_from X i = filter (at X) (drop i (box_points X.sides))

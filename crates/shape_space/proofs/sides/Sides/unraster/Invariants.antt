@@ -1,0 +1,8 @@
+use Rattle.std.proofs.Common.{◌≡◌, ◌++◌, take, drop}
+use Rattle.shape_terms.specs.Points.{sides_of, raster_point}
+use Rattle.shape_space.proofs.sides.Sides.unraster.Given as goal
+
+abbrev pub invariant-loop-k : goal.invariant-loop-k
+invariant-loop-k g l =
+    let ns = g.P.Point.coords l.self.lengths in
+    (take l.k (g.P.Point.coords l.p) ++ raster_point (sides_of (drop l.k ns)) l.left ≡ raster_point (sides_of ns) l.fn.i)
