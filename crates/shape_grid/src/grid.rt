@@ -1,0 +1,154 @@
+//! The grid: one truth value a point, in raster order, and the number of those that are true.
+//! Another way of keeping the values changes nothing outside this file.
+ghost use Rattle.std.specs.Prelude.{◌≡◌, ◌+◌, ◌<◌, ◌≤◌, ◌^◌, [], ◌∷◌, IfOk, IfSome, MatchOption, IsTrue, All, true, false, length};
+ghost use Rattle.std.specs.Iterator.{YieldsFirstBy, item_count};
+ghost use Rattle.shape_terms.specs.Points.{AreSides, sides_of, in_box, box_count, raster_point};
+ghost use Rattle.shape_terms.specs.Pictures.{IsPicture, at, blank, with_value, object_points, objects_from};
+
+use shape_space::{NoMemory, Point, Sides};
+use std::alloc::Global;
+use std::marker::Model;
+
+/// A set of object points in a box. Every point outside the box is background.
+///
+/// It takes one byte for each point of the box.
+#[derive(Drop)]
+pub struct Grid<P: Point> {
+    sides: Sides<P>,
+    values: Vec<bool>,
+    objects: u32,
+}
+
+impl<P: Point> Model for Grid<P> {
+    ghost use Rattle.std.specs.Prelude.{◌≡◌, count_by};
+    ghost use Rattle.shape_terms.specs.Points.{sides_of, box_count};
+    ghost use Rattle.shape_terms.specs.Pictures.{Picture};
+
+    ghost Value = { Picture };
+
+    ghost view = { λ g. record { sides = sides_of (P.coords g.sides.lengths); values = g.values.items } };
+
+    ghost invariant = { λ g. (g.values.len ≡ box_count (sides_of (P.coords g.sides.lengths))) × (g.objects ≡ count_by (λ b. b) g.values.items) };
+}
+
+impl<P: Point> Grid<P> {
+    /// A box without an object point.
+    pub fn new(alloc: Global, sides: Sides<P>) -> Result<Grid<P>, NoMemory>
+        ensures { IfOk result (λ g. g ≡ blank (sides_of (P.coords sides.lengths))) }
+    {
+        let count = sides.count() as usize;
+        match vec![in alloc; false; count] {
+            Ok(values) => Ok(Grid {
+                sides,
+                values,
+                objects: 0,
+            }),
+            Err(_) => Err(NoMemory),
+        }
+    }
+
+    /// The sides of the box.
+    pub fn sides(&self) -> Sides<P>
+        ensures value { sides_of (P.coords result.lengths) ≡ self.now.sides }
+        ensures picture { IsPicture P.DIM self.now }
+    {
+        self.sides
+    }
+
+    /// Whether the point is an object point.
+    pub fn has(&self, p: P) -> bool
+        ensures { result ≡ at self.now (P.coords p) }
+    {
+        if self.sides.inside(p) {
+            self.values[self.sides.raster(p) as usize]
+        } else {
+            false
+        }
+    }
+
+    /// The number of object points.
+    pub fn count(&self) -> u32
+        ensures { result ≡ length (object_points self.now) }
+    {
+        self.objects
+    }
+
+    /// Makes a point of the box an object point.
+    pub fn set(&mut self, p: P)
+        requires { IsTrue (in_box self.old.sides (P.coords p)) }
+        ensures { self.new ≡ with_value self.old (P.coords p) true }
+    {
+        let i = self.sides.raster(p) as usize;
+        if !self.values[i] {
+            self.values[i] = true;
+            self.objects += 1;
+        }
+    }
+
+    /// Makes a point of the box a background point.
+    pub fn clear(&mut self, p: P)
+        requires { IsTrue (in_box self.old.sides (P.coords p)) }
+        ensures { self.new ≡ with_value self.old (P.coords p) false }
+    {
+        let i = self.sides.raster(p) as usize;
+        if self.values[i] {
+            self.values[i] = false;
+            self.objects -= 1;
+        }
+    }
+
+    // The number of the first object point from a number on.
+    fn first_from(&self, from: u32) -> Option<u32>
+        ensures next { MatchOption result (objects_from self.now from ≡ [])
+            (λ i. objects_from self.now from ≡ raster_point self.now.sides i ∷ objects_from self.now (i + 1)) }
+        ensures below { IfSome result (λ i. i < box_count self.now.sides) }
+        ensures few { box_count self.now.sides ≤ 2 ^ 23 }
+    {
+        for i in from..self.sides.count() {
+            if self.values[i as usize] {
+                return Some(i);
+            }
+        }
+        None
+    }
+
+    /// The object points in raster order.
+    pub fn objects(&self) -> Objects<'_, P>
+        ensures rest { objects_from result.grid.now result.next ≡ object_points self.now }
+        ensures object { All (λ p. IsTrue (at self.now p)) (object_points self.now) }
+    {
+        let _ = self.sides();
+        Objects {
+            grid: self,
+            next: 0,
+        }
+    }
+}
+
+/// The object points of a grid that are still to come, in raster order.
+#[derive(Drop)]
+pub struct Objects<'a, P: Point> {
+    /// The grid.
+    pub grid: &'a Grid<P>,
+    /// The raster number from which the search goes on.
+    pub next: u32,
+}
+
+impl<'a, P: Point> Iterator for Objects<'a, P> {
+    type Item = P;
+
+    ghost next_gives = { YieldsFirstBy P.coords (λ s. objects_from s.grid.now s.next) };
+
+    ghost remaining = { item_count (λ s. objects_from s.grid.now s.next) };
+
+    fn next(&mut self) -> Option<P> {
+        let grid = self.grid;
+        match grid.first_from(self.next) {
+            Some(i) => {
+                self.next = i + 1;
+                Some(grid.sides.unraster(i))
+            }
+            None => None,
+        }
+    }
+}
