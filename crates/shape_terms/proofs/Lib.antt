@@ -1,3 +1,10 @@
 pub mod Boxes
 pub mod RasterOrder
 pub mod BoxLists
+pub mod WordLists
+pub mod LineWords
+pub mod Spelled
+pub mod TextLines
+pub mod FirstBadOnce
+pub mod SectionLines
+pub mod HoldsShows

@@ -1,0 +1,102 @@
+-- A report that holds shows what it says: the claims of its lines, one after another, are facts about the whole picture.
+-- One lemma for each section, which speaks of the section's own list of lines.
+use Rattle.std.proofs.Common.{◌≡◌, ℕ, zero, suc, List, [], ◌∷◌, ◌++◌, length, map, take, ap, sym, ◌∙◌, refl, subst, arith, Some, true}
+use Rattle.std.specs.Prelude.{filter_map, slice_get, All, ◌==◌}
+use Rattle.std.proofs.lemmas.List.{append-nil}
+use Rattle.std.proofs.lemmas.List.Elements.{All-nil, All-cons}
+use Rattle.shape_terms.specs.Points.{Point}
+use Rattle.shape_terms.specs.Pictures.{Picture, object_points, Least}
+use Rattle.shape_terms.specs.Distances.{NearFact, IsField}
+use Rattle.shape_terms.specs.Lines.{Line, text_of}
+use Rattle.shape_terms.specs.Good.{section, section_lines, NearClaim, GoodAfter, GoodSoFar}
+use Rattle.shape_terms.specs.Holds.{Holds}
+use Rattle.shape_terms.specs.Shows.{near_fact, TextShows}
+use Rattle.shape_terms.proofs.SectionLines.{stood}
+
+-- ---- nearest background points
+
+-- each `near` line is good after the `near` lines before it
+nears_good : (X : Picture) (lines : List Line) → GoodSoFar X lines → (j : ℕ) (l : Line) → slice_get (section_lines 1 lines) j ≡ Some l → NearClaim X (take j (section_lines 1 lines)) l
+nears_good X lines good j l e =
+    let s = stood (λ m. section m == 1) lines j l e in
+    subst (λ ls. NearClaim X ls l) s.before (claim l s.passes (good s.place l s.there))
+  where
+    claim : (m : Line) → (section m == 1) ≡ true → {ls : List Line} → GoodAfter X ls m → NearClaim X (section_lines 1 ls) m
+    claim (Line.Shape sides rule) p g = cc
+    claim (Line.Near a b s) p g = g.claim
+    claim Line.End p g = cc
+
+facts_nears : (lines : List Line) → filter_map near_fact lines ≡ filter_map near_fact (section_lines 1 lines)
+facts_nears [] = refl
+facts_nears (Line.Shape sides rule ∷ lines) = facts_nears lines
+facts_nears (Line.Near p q s ∷ lines) = ap (λ l. record { p = p; q = q; s = s } ∷ l) (facts_nears lines)
+facts_nears (Line.End ∷ lines) = facts_nears lines
+
+-- the line says of the j-th of the points what a `near` line says
+abbrev NearAt : Picture → List Point → ℕ → Line → Type 0
+NearAt X points j (Line.Near p q s) = (slice_get points j ≡ Some p) × Least X p q s
+NearAt X points j _ = ⊥
+
+abbrev AreFacts : Picture → List Point → List NearFact → Type 0
+AreFacts X points facts = (map (λ f. f.p) facts ≡ points) × All (λ f. Least X f.p f.q f.s) facts
+
+near_facts : (X : Picture) (lines : List Line) (points : List Point) → length lines ≡ length points → ((j : ℕ) (l : Line) → slice_get lines j ≡ Some l → NearAt X points j l) → AreFacts X points (filter_map near_fact lines)
+near_facts X [] [] e h = (refl, All-nil (λ f. Least X f.p f.q f.s))
+near_facts X [] (p ∷ points) e h = absurd (omega arith)
+near_facts X (l ∷ lines) [] e h = absurd (omega arith)
+near_facts X (Line.Shape sides rule ∷ lines) (p ∷ points) e h = absurd (h 0 (Line.Shape sides rule) refl)
+near_facts X (Line.End ∷ lines) (p ∷ points) e h = absurd (h 0 Line.End refl)
+near_facts X (Line.Near a b s ∷ lines) (p ∷ points) e h =
+    let first = h 0 (Line.Near a b s) refl in
+    let same : a ≡ p = let f = first.0 in cc in
+    let rest = near_facts X lines points (omega arith) (λ j l m. later j l (h (suc j) l m)) in
+    ((λ i. same i ∷ rest.0 i), All-cons (λ f. Least X f.p f.q f.s) (record { p = a; q = b; s = s }) (filter_map near_fact lines) first.1 rest.1)
+  where
+    later : (j : ℕ) (l : Line) → NearAt X (p ∷ points) (suc j) l → NearAt X points j l
+    later j (Line.Shape sides rule) n = n
+    later j (Line.Near x y z) n = n
+    later j Line.End n = n
+
+length_below : (lines : List Line) (j : ℕ) (l : Line) → slice_get lines j ≡ Some l → length (take j lines) ≡ j
+length_below [] j l e = cc
+length_below (m ∷ lines) zero l e = refl
+length_below (m ∷ lines) (suc j) l e = ap suc (length_below lines j l e)
+
+at_place : (X : Picture) (lines : List Line) (j : ℕ) (l : Line) → length lines ≡ j → NearClaim X lines l → NearAt X (object_points X) j l
+at_place X lines j (Line.Shape sides rule) e n = n
+at_place X lines j (Line.Near p q s) e n = (ap (slice_get (object_points X)) (sym e) ∙ n.0, n.1)
+at_place X lines j Line.End e n = n
+
+-- good lines in which each object point has its `near` line make the field
+pub lines_field : (X : Picture) (lines : List Line) → GoodSoFar X lines → length (section_lines 1 lines) ≡ length (object_points X) → IsField X (filter_map near_fact lines)
+lines_field X lines good e =
+    let facts = near_facts X (section_lines 1 lines) (object_points X) e (λ j l m. at_place X (take j (section_lines 1 lines)) j l (length_below (section_lines 1 lines) j l m) (nears_good X lines good j l m)) in
+    subst (IsField X) (sym (facts_nears lines)) (record { points = facts.0; least = facts.1 })
+
+-- ---- the whole report
+
+get_last : (lines : List Line) (l : Line) → slice_get (lines ++ l ∷ []) (length lines) ≡ Some l
+get_last [] l = refl
+get_last (m ∷ lines) l = get_last lines l
+
+take_front : (lines more : List Line) → take (length lines) (lines ++ more) ≡ lines
+take_front [] more = refl
+take_front (m ∷ lines) more = ap (λ l. m ∷ l) (take_front lines more)
+
+end_adds_none : (lines : List Line) → section_lines 1 (lines ++ Line.End ∷ []) ≡ section_lines 1 lines
+end_adds_none [] = refl
+end_adds_none (Line.Shape sides rule ∷ lines) = end_adds_none lines
+end_adds_none (Line.Near p q s ∷ lines) = ap (λ l. Line.Near p q s ∷ l) (end_adds_none lines)
+end_adds_none (Line.End ∷ lines) = end_adds_none lines
+
+pub holds_shows : (X : Picture) (text : List ℕ) → Holds X text → TextShows X text
+holds_shows X text (lines, b) =
+    let all = lines ++ Line.End ∷ [] in
+    let end = b.good (length lines) Line.End (get_last lines Line.End) in
+    let complete : length (section_lines 1 lines) ≡ length (object_points X) = ap (λ ls. length (section_lines 1 ls)) (sym (take_front lines (Line.End ∷ []))) ∙ end.complete 1 (omega arith) in
+    record {
+      lines = all;
+      fields = b.fields;
+      text_is = b.split ∙ append-nil (text_of all);
+      shows = record { nears = lines_field X all b.good (ap length (end_adds_none lines) ∙ complete) };
+    }

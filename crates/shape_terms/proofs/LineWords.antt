@@ -1,0 +1,58 @@
+-- No two lines have the same words.
+-- One clause for each kind of line, and one that tells all others apart by their first word.
+use Rattle.std.proofs.Common.{◌≡◌, ℕ, ◌+◌, refl, ap, sym, ◌∙◌, arith, List, [], ◌∷◌, ◌++◌, length}
+use Rattle.std.specs.Prelude.{◌*◌, ℤ, fold, All, FitsSigned}
+use Rattle.std.specs.Fmt.{decimal, signed_decimal}
+use Rattle.std.specs.Int.{w32}
+use Rattle.std.proofs.lemmas.Fmt.{decimal_injective, signed_decimal_injective}
+use Rattle.std.proofs.lemmas.List.Elements.{All-head, All-tail}
+use Rattle.shape_terms.specs.Lines.{Line, line_words, number_words, IsLineOf}
+
+coordinates_same : (p q : List ℤ) → All (FitsSigned w32) p → All (FitsSigned w32) q → number_words p ≡ number_words q → p ≡ q
+coordinates_same [] [] a b e = refl
+coordinates_same [] (y ∷ q) a b e = cc
+coordinates_same (x ∷ p) [] a b e = cc
+coordinates_same (x ∷ p) (y ∷ q) a b e =
+    let f : signed_decimal x ≡ signed_decimal y = cc in
+    let g : number_words p ≡ number_words q = cc in
+    let fx = All-head (FitsSigned w32) x p a in
+    let fy = All-head (FitsSigned w32) y q b in
+    let h : x ≡ y = signed_decimal_injective x y (omega (arith, fx.sfits)) (omega (arith, fy.sfits)) f in
+    let r = coordinates_same p q (All-tail (FitsSigned w32) x p a) (All-tail (FitsSigned w32) y q b) g in
+    λ i. h i ∷ r i
+
+-- a number that tells words apart
+abbrev code_of : List ℕ → ℕ
+code_of w = fold (λ n c. n * 256 + c) 0 w
+
+abbrev first_code : List (List ℕ) → ℕ
+first_code [] = 0
+first_code (w ∷ ws) = code_of w
+
+-- numbers before other words
+cut : (p q : List ℤ) (r s : List (List ℕ)) → length p ≡ length q → number_words p ++ r ≡ number_words q ++ s → (number_words p ≡ number_words q) × (r ≡ s)
+cut [] [] r s l e = (refl, e)
+cut [] (y ∷ q) r s l e = absurd (omega arith)
+cut (x ∷ p) [] r s l e = absurd (omega arith)
+cut (x ∷ p) (y ∷ q) r s l e =
+    let f : signed_decimal x ≡ signed_decimal y = cc in
+    let g : number_words p ++ r ≡ number_words q ++ s = cc in
+    let h = cut p q r s (omega arith) g in
+    (λ i. f i ∷ h.0 i, h.1)
+
+pub words_injective : (d : ℕ) (l m : Line) → IsLineOf d l → IsLineOf d m → line_words l ≡ line_words m → l ≡ m
+words_injective d Line.End Line.End a b e = refl
+words_injective d (Line.Shape s w) (Line.Shape s' w') a b e =
+    let c = cut s s' (w ∷ []) (w' ∷ []) (a.0.axes ∙ sym b.0.axes) cc in
+    let f = coordinates_same s s' a.0.fits b.0.fits c.0 in
+    let g : w ≡ w' = let h = c.1 in cc in
+    λ i. Line.Shape (f i) (g i)
+words_injective d (Line.Near p q s) (Line.Near p' q' s') a b e =
+    let c = cut p p' (number_words q ++ decimal s ∷ []) (number_words q' ++ decimal s' ∷ []) (a.0.axes ∙ sym b.0.axes) cc in
+    let c' = cut q q' (decimal s ∷ []) (decimal s' ∷ []) (a.1.axes ∙ sym b.1.axes) c.1 in
+    let f = coordinates_same p p' a.0.fits b.0.fits c.0 in
+    let g = coordinates_same q q' a.1.fits b.1.fits c'.0 in
+    let k : decimal s ≡ decimal s' = let h = c'.1 in cc in
+    let n = decimal_injective s s' (omega (arith, a.2)) (omega (arith, b.2)) k in
+    λ i. Line.Near (f i) (g i) (n i)
+words_injective d _ _ a b e = let f = ap first_code e in absurd (omega arith)

@@ -1,0 +1,76 @@
+-- No two lines have the same spelling.
+-- One clause of `words_of_line` for each kind of line: its words have no blank.
+use Rattle.std.proofs.Common.{◌≡◌, ℕ, zero, suc, ◌≤◌, ◌<◌, ◌^◌, refl, arith, List, [], ◌∷◌, ◌++◌, length, true}
+use Rattle.std.specs.Prelude.{◌&&◌, nat_lt, ℤ, pos, negsuc, All, FitsSigned, codes}
+use Rattle.std.specs.List.{AllByRecursion, list_all}
+use Rattle.std.specs.Str.Parse.{AllDigits}
+use Rattle.std.specs.Char.{digit_value}
+use Rattle.std.specs.Fmt.{decimal, signed_decimal}
+use Rattle.std.proofs.lemmas.Fmt.{decimal_is_IsNumeral}
+use Rattle.std.proofs.lemmas.List.Elements.{All-head, All-tail}
+use Rattle.std.proofs.lemmas.Bool.{ltb-true, and_parts}
+use Rattle.std.proofs.lemmas.Bool.Decides.{nat_tests}
+use Rattle.std.specs.Int.{w32, w64}
+use Rattle.shape_terms.specs.Lines.{Line, line_words, spelling, number_words, kind_word, IsLineOf, IsName}
+use Rattle.shape_terms.proofs.WordLists.{IsWord, join_injective}
+use Rattle.shape_terms.proofs.LineWords.{words_injective}
+
+digit_past_blank : (c : ℕ) → digit_value c < 10 → 32 < c
+digit_past_blank c h = grind (arith, nat_tests)
+
+digits_free : (ds : List ℕ) → AllDigits 10 ds → AllByRecursion (λ c. 32 < c) ds
+digits_free [] a = tt
+digits_free (c ∷ ds) a = (digit_past_blank c a.0, digits_free ds a.1)
+
+word_decimal : (n : ℕ) → n < 2 ^ 64 → IsWord (decimal n)
+unfolding IsWord
+word_decimal n h = let k = (decimal_is_IsNumeral n h).0 in (k.0, digits_free (decimal n) k.1)
+
+word_signed : (z : ℤ) → FitsSigned w64 z → IsWord (signed_decimal z)
+unfolding IsWord
+word_signed (pos n) h = word_decimal n (omega (arith, h.sfits))
+word_signed (negsuc n) h = let k = word_decimal (suc n) (omega (arith, h.sfits)) in (omega arith, (omega arith, k.1))
+
+free_by_test : (w : List ℕ) → list_all (λ c. nat_lt 32 c) w ≡ true → AllByRecursion (λ c. 32 < c) w
+free_by_test [] h = tt
+free_by_test (c ∷ w) h =
+    let p = and_parts (nat_lt 32 c) (list_all (λ x. nat_lt 32 x) w) h in
+    (ltb-true 32 c p.0, free_by_test w p.1)
+
+literal : (w : List ℕ) → (nat_lt 0 (length w) && list_all (λ c. nat_lt 32 c) w) ≡ true → IsWord w
+unfolding IsWord
+literal w h = let p = and_parts (nat_lt 0 (length w)) (list_all (λ c. nat_lt 32 c) w) h in (ltb-true 0 (length w) p.0, free_by_test w p.1)
+
+words_append : (xs ys : List (List ℕ)) → AllByRecursion IsWord xs → AllByRecursion IsWord ys → AllByRecursion IsWord (xs ++ ys)
+words_append [] ys a b = b
+words_append (x ∷ xs) ys a b = (a.0, words_append xs ys a.1 b)
+
+wider : (z : ℤ) → FitsSigned w32 z → FitsSigned w64 z
+wider z h = record { sfits = omega (arith, h.sfits) }
+
+words_point : (p : List ℤ) → All (FitsSigned w32) p → AllByRecursion IsWord (number_words p)
+words_point [] a = tt
+words_point (x ∷ p) a = (word_signed x (wider x (All-head (FitsSigned w32) x p a)), words_point p (All-tail (FitsSigned w32) x p a))
+
+word_kind : (n : ℕ) → IsWord (kind_word n)
+word_kind zero = literal (codes "raw") refl
+word_kind (suc zero) = literal (codes "raw") refl
+word_kind (suc (suc zero)) = literal (codes "pbm") refl
+word_kind (suc (suc (suc n))) = literal (codes "raw") refl
+
+letters_free : (w : List ℕ) → All (λ c. (97 ≤ c) × (c ≤ 122)) w → AllByRecursion (λ c. 32 < c) w
+letters_free [] a = tt
+letters_free (c ∷ w) a = let h = All-head (λ c. (97 ≤ c) × (c ≤ 122)) c w a in (omega (arith, h.0), letters_free w (All-tail (λ c. (97 ≤ c) × (c ≤ 122)) c w a))
+
+word_name : (w : List ℕ) → IsName w → IsWord w
+unfolding IsWord
+word_name w n = (n.some, letters_free w n.letters)
+
+pub words_of_line : (d : ℕ) (l : Line) → IsLineOf d l → AllByRecursion IsWord (line_words l)
+words_of_line d (Line.Shape s w) a = (literal (codes "shape") refl, (literal (codes "1") refl, (word_kind (length s), words_append (number_words s) (w ∷ []) (words_point s a.0.fits) (word_name w a.1, tt))))
+words_of_line d (Line.Near p q s) a = (literal (codes "near") refl, words_append (number_words p) _ (words_point p a.0.fits) (words_append (number_words q) _ (words_point q a.1.fits) (word_decimal s (omega (arith, a.2)), tt)))
+words_of_line d Line.End a = (literal (codes "end") refl, tt)
+
+-- no two lines have the same spelling
+pub spelling_injective : (d : ℕ) (l m : Line) → IsLineOf d l → IsLineOf d m → spelling l ≡ spelling m → l ≡ m
+spelling_injective d l m a b e = words_injective d l m a b (join_injective (line_words l) (line_words m) (words_of_line d l a) (words_of_line d m b) e)

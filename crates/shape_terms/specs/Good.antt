@@ -1,0 +1,51 @@
+-- When a line of a report is good after the lines before it.
+-- A report is a list of sections: the `shape` line, the `near` lines and `end`; a further kind of line is a further section or part of one.
+use Rattle.std.specs.Prelude.{◌≡◌, ℕ, zero, suc, ◌<◌, ◌≤◌, ◌==◌, List, [], length, map, filter, take, slice_get, Some, codes, pos, All}
+use Rattle.shape_terms.specs.Pictures.{Picture, object_points, Least}
+use Rattle.shape_terms.specs.Lines.{Line}
+
+-- ---- sections
+
+-- the number of the line's section in the order of a report
+abbrev pub section : Line → ℕ
+section (Line.Shape _ _) = 0
+section (Line.Near _ _ _) = 1
+section Line.End = 2
+
+abbrev pub section_lines : ℕ → List Line → List Line
+section_lines k lines = filter (λ l. section l == k) lines
+
+-- ---- nearest background points
+
+-- the claim of a `near` line, after the `near` lines before it: its first point is the next object point, and it has a nearest background point and the distance
+abbrev pub NearClaim : Picture → List Line → Line → Type 0
+NearClaim X lines (Line.Near p q s) = (slice_get (object_points X) (length lines) ≡ Some p) × Least X p q s
+NearClaim X lines _ = ⊥
+
+-- each object point has its line
+abbrev pub NearsComplete : Picture → List Line → Type 0
+NearsComplete X lines = length lines ≡ length (object_points X)
+
+-- ---- all lines
+
+-- the claim of a line after the lines before it
+abbrev pub Claim : Picture → List Line → Line → Type 0
+Claim X earlier (Line.Shape sides rule) = (earlier ≡ []) × (sides ≡ map pos X.sides) × (rule ≡ codes "none")
+Claim X earlier (Line.Near p q s) = NearClaim X (section_lines 1 earlier) (Line.Near p q s)
+Claim X earlier Line.End = section_lines 2 earlier ≡ []
+
+-- the section of this number is complete
+abbrev pub IsComplete : Picture → ℕ → List Line → Type 0
+IsComplete X zero lines = length (section_lines 0 lines) ≡ 1
+IsComplete X (suc zero) lines = NearsComplete X (section_lines 1 lines)
+IsComplete X _ lines = length (section_lines 2 lines) ≡ 1
+
+-- the line is good after the earlier ones: it comes in the order of the sections, each section before its own is complete, and its claim is true
+pub record GoodAfter (X : Picture) (earlier : List Line) (l : Line) : Type 0 where
+  pub order : All (λ e. section e ≤ section l) earlier
+  pub complete : (k : ℕ) → k < section l → IsComplete X k earlier
+  pub claim : Claim X earlier l
+
+-- each line is good after those before it
+abbrev pub GoodSoFar : Picture → List Line → Type 0
+GoodSoFar X lines = (k : ℕ) (l : Line) → slice_get lines k ≡ Some l → GoodAfter X (take k lines) l

@@ -1,0 +1,29 @@
+-- What a report says of a picture, in geometry alone.
+-- No line, spelling or judge stands in what is shown, only in how it is read off the lines.
+use Rattle.std.specs.Prelude.{◌≡◌, ℕ, List, length, filter_map, Option, Some, None, All}
+use Rattle.shape_terms.specs.Pictures.{Picture}
+use Rattle.shape_terms.specs.Distances.{NearFact, IsField}
+use Rattle.shape_terms.specs.Lines.{Line, text_of, IsLineOf}
+
+-- what a `near` line says of one object point
+abbrev pub near_fact : Line → Option NearFact
+near_fact (Line.Near p q s) = Some (record { p = p; q = q; s = s })
+near_fact _ = None
+
+-- the report's content: what its lines say, section by section
+pub record Content : Type 0 where
+  pub nears : List NearFact
+
+abbrev pub content_of : List Line → Content
+content_of lines = record { nears = filter_map near_fact lines }
+
+-- each object point stands there once, in raster order, with a nearest background point of the whole space
+pub record Shows (X : Picture) (content : Content) : Type 0 where
+  pub nears : IsField X content.nears
+
+-- the text is made of lines that show of the picture what they say
+pub record TextShows (X : Picture) (text : List ℕ) : Type 0 where
+  pub lines : List Line
+  pub fields : All (IsLineOf (length X.sides)) lines
+  pub text_is : text ≡ text_of lines
+  pub shows : Shows X (content_of lines)
