@@ -1,0 +1,9 @@
+//! Reports: their lines, the spelling of a line, and the writing of a whole report.
+//! Spelling and lines are one to one; what a line claims of a picture is judged elsewhere.
+#![tactic(auto)]
+
+mod line;
+
+
+pub use line::Line;
+

@@ -1,0 +1,14 @@
+//! The lines of reports: one variant for each kind of line.
+//! A further kind of line is a variant here, a constructor of the definitions' line, and a case of `line_of`.
+use shape_rules::Name;
+
+/// A line of a report of a picture whose points are of type `P`.
+#[derive(Clone, Copy)]
+pub enum Line<P> {
+    /// The sides of the picture and the rule of the thinning.
+    Shape { sides: P, rule: Name },
+    /// An object point, a nearest background point, and the square of their distance.
+    Near { p: P, q: P, s: u64 },
+    /// The last line.
+    End,
+}
