@@ -1,0 +1,122 @@
+-- The run of digits at the front of bytes, and the one spelling of a number.
+use Rattle.std.proofs.Common.{◌≡◌, ◌≢◌, ◌+◌, ◌-◌, ◌*◌, ◌^◌, ◌<◌, ◌≤◌, ℕ, zero, suc, ℤ, pos, negsuc, Bool, true, false, cond, List, [], ◌∷◌, ◌++◌, length, get_or, take, drop, take_while, decimal, Option, None, Some, MatchOption, FitsSigned, refl, sym, ap, subst, ◌∙◌, arith}
+use Rattle.std.specs.Int.{w64}
+use Rattle.std.specs.Fmt.{signed_decimal}
+use Rattle.std.specs.Char.{is_ascii_digit, digit_value}
+use Rattle.std.specs.Str.Parse.{AllDigits, digits_value_after, digits_value}
+use Rattle.std.proofs.lemmas.List.Sums.{take_while-cons}
+use Rattle.std.proofs.lemmas.Str.{digit_value_digit}
+use Rattle.std.proofs.lemmas.Str.Parse.{digit_from_value, digit_at, numerals_by_value, tells_digits}
+use Rattle.std.proofs.lemmas.Fmt.{decimal_is_IsNumeral, decimal_nonempty, first_decimal, decimal_digit, decimal_injective, decimal-digits_value}
+use Rattle.std.proofs.lemmas.Bool.Decides.{nat_tests}
+use Rattle.std.proofs.lemmas.List.{drop_more, length-take, take_min}
+use Rattle.std.specs.List.{prefix_len}
+use borrow.Author.Tests.{ne_eqb}
+use Rattle.shape_desk.specs.Number.{number_front, HasNoLeadingZero}
+
+-- ---- the run of digits
+
+is_digit : (c : ℕ) → is_ascii_digit c ≡ true → digit_value c < 10
+is_digit c e = let r : (48 ≤ c) × (c ≤ 57) = grind (arith, nat_tests) in omega (arith, digit_value_digit c r)
+
+-- the test of a digit passes
+passes : (c : ℕ) → digit_value c < 10 → is_ascii_digit c ≡ true
+passes c h = let r = digit_from_value c h in grind (arith, nat_tests)
+
+pub AllDigits-take_while : (xs : List ℕ) → AllDigits 10 (take_while is_ascii_digit xs)
+AllDigits-take_while [] = tt
+AllDigits-take_while (x ∷ xs) = rw (take_while-cons is_ascii_digit x xs) (first (AllDigits-take_while xs) (is_ascii_digit x) refl)
+  where
+    first : AllDigits 10 (take_while is_ascii_digit xs) → (b : Bool) → is_ascii_digit x ≡ b → AllDigits 10 (cond b (x ∷ take_while is_ascii_digit xs) [])
+    first h true e = (is_digit x e, h)
+    first h false e = tt
+
+pub take-length-take_while : (p : ℕ → Bool) (xs : List ℕ) → take (length (take_while p xs)) xs ≡ take_while p xs
+take-length-take_while p xs = ap (λ k. take k xs) (length-take (prefix_len p xs) xs) ∙ take_min (prefix_len p xs) xs
+
+-- the run ends where no digit follows
+pub take_while-digits : (ds rest : List ℕ) → AllDigits 10 ds → is_ascii_digit (get_or rest 0 0) ≡ false → take_while is_ascii_digit (ds ++ rest) ≡ ds
+take_while-digits [] [] d n = refl
+take_while-digits [] (x ∷ rest) d n = take_while-cons is_ascii_digit x rest ∙ ap (λ b. cond b (x ∷ take_while is_ascii_digit rest) []) n
+take_while-digits (c ∷ cs) rest d n =
+    take_while-cons is_ascii_digit c (cs ++ rest)
+    ∙ ap (λ b. cond b (c ∷ take_while is_ascii_digit (cs ++ rest)) []) (passes c d.0)
+    ∙ ap (λ l. c ∷ l) (take_while-digits cs rest d.1 n)
+
+-- ---- the front
+
+pub number_front-unsigned : (bs : List ℕ) → get_or bs 0 0 ≢ 45 → number_front bs ≡ take_while is_ascii_digit bs
+number_front-unsigned [] n = refl
+number_front-unsigned (b ∷ bs) n = ap (λ t. cond t (45 ∷ take_while is_ascii_digit bs) (take_while is_ascii_digit (b ∷ bs))) (ne_eqb b 45 n)
+
+digits_of_decimal : (n : ℕ) → n < 2 ^ 64 → AllDigits 10 (decimal n)
+digits_of_decimal n h = (decimal_is_IsNumeral n h).0.1
+
+-- digits are no minus sign
+pub no_minus : (ds es : List ℕ) → AllDigits 10 ds → ds ≢ 45 ∷ es
+no_minus ds es d e = omega (arith, digit_from_value 45 (subst (AllDigits 10) e d).0)
+
+-- what was written is the front that is read, where no digit follows
+pub number_front-signed_decimal : (z : ℤ) (rest : List ℕ) → FitsSigned w64 z → is_ascii_digit (get_or rest 0 0) ≡ false → number_front (signed_decimal z ++ rest) ≡ signed_decimal z
+number_front-signed_decimal (pos n) rest f s =
+    let d = digits_of_decimal n (omega (arith, f.sfits)) in
+    number_front-unsigned (decimal n ++ rest) (first (decimal n) d (decimal_nonempty n (omega (arith, f.sfits)))) ∙ take_while-digits (decimal n) rest d s
+  where
+    first : (ds : List ℕ) → AllDigits 10 ds → 0 < length ds → get_or (ds ++ rest) 0 0 ≢ 45
+    first [] d l e = omega arith
+    first (c ∷ cs) d l e = omega (arith, digit_from_value c d.0)
+number_front-signed_decimal (negsuc n) rest f s =
+    ap (λ l. 45 ∷ l) (take_while-digits (decimal (suc n)) rest (digits_of_decimal (suc n) (omega (arith, f.sfits))) s)
+
+-- ---- no spelling
+
+pub none_negative : (ds : List ℕ) → ((n : ℕ) → 0 < n → n ≤ 2 ^ 63 → ds ≢ decimal n) → (z : ℤ) → FitsSigned w64 z → 45 ∷ ds ≢ signed_decimal z
+none_negative ds h (pos n) f e = no_minus (decimal n) ds (digits_of_decimal n (omega (arith, f.sfits))) (sym e)
+none_negative ds h (negsuc n) f e = h (suc n) (omega arith) (omega (arith, f.sfits)) (ap (drop 1) e)
+
+pub none_unsigned : (ds : List ℕ) → AllDigits 10 ds → ((n : ℕ) → n < 2 ^ 63 → ds ≢ decimal n) → (z : ℤ) → FitsSigned w64 z → ds ≢ signed_decimal z
+none_unsigned ds d h (pos n) f e = h n (omega (arith, f.sfits)) e
+none_unsigned ds d h (negsuc n) f e = no_minus ds (decimal (suc n)) d e
+
+pub HasNoLeadingZero-decimal : (n : ℕ) → n ≤ 2 ^ 63 → HasNoLeadingZero (decimal n)
+HasNoLeadingZero-decimal zero l = (decimal_nonempty 0 (omega arith), λ _. ap length (decimal_digit 0 (omega arith)))
+HasNoLeadingZero-decimal (suc n) l = (decimal_nonempty (suc n) (omega arith), λ z. absurd (omega (arith, first_decimal (suc n) (omega arith) (omega arith))))
+
+pub none_misspelt : (ds : List ℕ) → (HasNoLeadingZero ds → ⊥) → (n : ℕ) → n ≤ 2 ^ 63 → ds ≢ decimal n
+none_misspelt ds h n l e = h (subst HasNoLeadingZero (sym e) (HasNoLeadingZero-decimal n l))
+
+-- ---- the value of digits
+
+at_least : (n : ℕ) (ds : List ℕ) → n ≤ digits_value_after 10 n ds
+at_least n [] = omega arith
+at_least n (c ∷ cs) = omega (arith, at_least (n * 10 + digit_value c) cs)
+
+-- digits of a value above 2 ^ 63 spell no number up to it
+pub none_large : (ds : List ℕ) (n : ℕ) → n ≤ 2 ^ 63 → 2 ^ 63 < digits_value 10 ds → ds ≢ decimal n
+none_large ds n l h e = omega (arith, (decimal_is_IsNumeral n (omega arith)).1, ap (digits_value 10) e)
+
+-- one digit more
+pub value_step : (size : ℕ) (ds : List ℕ) (k : ℕ) → AllDigits 10 ds → k < length ds → digits_value_after 10 (size * 10 + (get_or ds k 0 - 48)) (drop (k + 1) ds) ≡ digits_value_after 10 size (drop k ds)
+value_step size ds k d l =
+    let e : get_or ds k 0 - 48 ≡ digit_value (get_or ds k 0) = omega (arith, digit_value_digit (get_or ds k 0) (digit_at ds k d l)) in
+    ap (λ v. digits_value_after 10 (size * 10 + v) (drop (k + 1) ds)) e ∙ sym (ap (digits_value_after 10 size) (drop_more ds k 0 l))
+
+pub value_above : (size : ℕ) (ds : List ℕ) → 922337203685477580 < size → 0 < length ds → 2 ^ 63 < digits_value_after 10 size ds
+value_above size [] h l = absurd (omega arith)
+value_above size (c ∷ cs) h l = omega (arith, at_least (size * 10 + digit_value c) cs)
+
+pub spelled : (ds : List ℕ) (n : ℕ) → AllDigits 10 ds → HasNoLeadingZero ds → n ≤ 2 ^ 63 → digits_value 10 ds ≡ n → ds ≡ decimal n
+spelled ds n d s l e = sym (decimal-digits_value (numerals_by_value _ tells_digits) ds d s.0 s.1 (omega arith)) ∙ ap decimal e
+
+-- digits without a leading zero spell their value, or no number up to 2 ^ 63
+pub spelled_or_none : (ds : List ℕ) (r : Option ℕ) → AllDigits 10 ds → HasNoLeadingZero ds → MatchOption r (2 ^ 63 < digits_value 10 ds) (λ n. (n ≤ 2 ^ 63) × (digits_value 10 ds ≡ n)) → MatchOption r ((n : ℕ) → n ≤ 2 ^ 63 → ds ≢ decimal n) (λ n. (n ≤ 2 ^ 63) × (ds ≡ decimal n))
+spelled_or_none ds None d s h = λ n l. none_large ds n l h
+spelled_or_none ds (Some n) d s h = (h.0, spelled ds n d s h.0 h.1)
+
+-- digits of the number 0 are those of no other
+pub none_zero : (ds : List ℕ) (size : ℕ) → size ≤ 2 ^ 63 → ds ≡ decimal size → size ≡ 0 → (n : ℕ) → 0 < n → n ≤ 2 ^ 63 → ds ≢ decimal n
+none_zero ds size f e z n some l d = omega (arith, decimal_injective size n (omega arith) (omega arith) (sym e ∙ d))
+
+-- digits of the number 2 ^ 63 are those of no smaller one
+pub none_other : (ds : List ℕ) (size : ℕ) → size ≤ 2 ^ 63 → ds ≡ decimal size → size ≡ 2 ^ 63 → (n : ℕ) → n < 2 ^ 63 → ds ≢ decimal n
+none_other ds size f e z n l d = omega (arith, decimal_injective size n (omega arith) (omega arith) (sym e ∙ d))

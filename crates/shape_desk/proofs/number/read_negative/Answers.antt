@@ -1,0 +1,12 @@
+use Rattle.std.proofs.Common.{arith}
+use Rattle.shape_desk.proofs.Numbers.{none_negative, none_zero}
+use Rattle.shape_desk.proofs.number.read_negative.Goals as goal
+
+pub returns-in_default : goal.returns-in_default
+returns-in_default c =
+    rw (← c.digits_of-digits.ensures.run) (none_negative c.digits_of-digits.result.now (λ n _ l. c.in_default.ensures n l))
+
+pub returns-then-size-eq0 : goal.returns-then-size-eq0
+returns-then-size-eq0 c =
+    let h = c.in-Some.ensures in
+    rw (← c.digits_of-digits.ensures.run) (none_negative c.digits_of-digits.result.now (none_zero c.digits_of-digits.result.now c.in-Some.size h.0 h.1 c.if-size-eq0.true))
