@@ -2,6 +2,7 @@
 //! Layers above use the trait `Desk` alone; another kind of desk may be added beside `MemoryDesk`.
 #![tactic(auto)]
 
+mod calls;
 mod desk;
 mod line;
 mod memory;
