@@ -7,6 +7,8 @@ mod desk;
 mod line;
 mod memory;
 mod number;
+#[cfg(test)]
+mod tests;
 mod text;
 
 pub use desk::{Desk, Failed, Place};

@@ -1,4 +1,3 @@
-use Rattle.std.proofs.Common.{arith}
 use Rattle.shape_desk.proofs.Numbers.{none_negative, none_zero}
 use Rattle.shape_desk.proofs.number.read_negative.Goals as goal
 

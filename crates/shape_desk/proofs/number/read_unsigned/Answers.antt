@@ -1,5 +1,4 @@
-use Rattle.std.proofs.Common.{◌≡◌, take_while, ◌∙◌, sym, arith}
-use Rattle.std.specs.Char.{is_ascii_digit}
+use Rattle.std.proofs.Common.{◌≡◌, ◌∙◌, sym}
 use Rattle.shape_desk.specs.Number.{number_front}
 use Rattle.shape_desk.proofs.Numbers.{none_unsigned, none_other, number_front-unsigned}
 use Rattle.shape_desk.proofs.number.read_unsigned.Goals as goal
