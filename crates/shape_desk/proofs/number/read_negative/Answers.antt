@@ -3,7 +3,7 @@ use Rattle.shape_desk.proofs.number.read_negative.Goals as goal
 
 pub returns-in_default : goal.returns-in_default
 returns-in_default c =
-    rw (← c.digits_of-digits.ensures.run) (none_negative c.digits_of-digits.result.now (λ n _ l. c.in_default.ensures n l))
+    rw (← c.digits_of-digits.ensures.run) (none_negative c.digits_of-digits.result.now (λ n some l. c.in_default.ensures n l))
 
 pub returns-then-size-eq0 : goal.returns-then-size-eq0
 returns-then-size-eq0 c =
