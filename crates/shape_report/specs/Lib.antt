@@ -1,2 +1,4 @@
 pub mod LineOf
 pub mod Texts
+pub mod Slots
+pub mod Flow

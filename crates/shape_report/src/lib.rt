@@ -3,9 +3,12 @@
 #![tactic(auto)]
 
 mod line;
+mod report;
 mod spell;
-
+mod write;
 
 pub use line::Line;
+pub use report::Report;
 pub use spell::put_claim;
+pub use write::WriteFault;
 

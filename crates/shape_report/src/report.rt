@@ -1,0 +1,167 @@
+//! A report: its lines in order, each kept among the lines of its kind in as little room as it needs.
+//! A further kind of line is one more vector, one more slot and one more case of each `match`.
+ghost use Rattle.std.specs.Prelude.{◌≡◌, ◌<◌, ◌++◌, [], ◌∷◌, IfOk, OnOk, OnErr, length, slice_get, Some};
+ghost use Rattle.shape_terms.specs.Lines as Terms;
+ghost use Rattle.shape_terms.specs.Lines.{IsLineOf};
+ghost use Rattle.shape_report.specs.LineOf.{line_of};
+
+use crate::line::Line;
+use shape_rules::Name;
+use shape_space::{NoMemory, Point};
+use std::alloc::Global;
+use std::marker::Model;
+
+/// What a `shape` line says.
+#[derive(Clone, Copy)]
+pub struct Heading<P> {
+    pub sides: P,
+    pub rule: Name,
+}
+
+/// What a `near` line says.
+#[derive(Clone, Copy)]
+pub struct Distance<P> {
+    pub p: P,
+    pub q: P,
+    pub s: u64,
+}
+
+/// The kind of a line, and its place among the lines of its kind.
+#[derive(Clone, Copy)]
+pub enum Slot {
+    Shape(u32),
+    Near(u32),
+    End,
+}
+
+/// A report: a list of lines.
+#[derive(Drop)]
+pub struct Report<P: Point> {
+    slots: Vec<Slot>,
+    headings: Vec<Heading<P>>,
+    distances: Vec<Distance<P>>,
+}
+
+impl<P: Point> Model for Report<P> {
+    ghost use Rattle.std.specs.Prelude.{List, map, All};
+    ghost use Rattle.shape_terms.specs.Lines.{Line, IsLineOf};
+    ghost use Rattle.shape_report.specs.Slots.{line_in, IsSlotIn};
+
+    ghost Value = { List Line };
+
+    ghost view = { λ r. map (line_in P.coords r.headings.items r.distances.items) r.slots.items };
+
+    ghost invariant = { λ r. All (λ s. IsSlotIn P.DIM P.coords r.headings.items r.distances.items s) r.slots.items };
+}
+
+impl<P: Point> Report<P> {
+    ghost use Rattle.shape_report.specs.Slots.{heading_line, distance_line};
+    /// The report that has a first line alone.
+    pub fn new(alloc: Global, head: Line<P>) -> Result<Report<P>, NoMemory>
+        requires { IsLineOf P.DIM (line_of P.coords head) }
+        ensures { IfOk result (λ r. r ≡ line_of P.coords head ∷ []) }
+    {
+        let mut report = Report {
+            slots: Vec::new(alloc),
+            headings: Vec::new(alloc),
+            distances: Vec::new(alloc),
+        };
+        match report.add(head) {
+            Ok(()) => Ok(report),
+            Err(e) => Err(e),
+        }
+    }
+
+    /// Puts a line last.
+    pub fn add(&mut self, line: Line<P>) -> Result<(), NoMemory>
+        requires { IsLineOf P.DIM (line_of P.coords line) }
+        ensures ok { OnOk result (self.new ≡ self.old ++ line_of P.coords line ∷ []) }
+        ensures err { OnErr result (self.new ≡ self.old) }
+    {
+        match line {
+            Line::Shape { sides, rule } => self.add_heading(Heading { sides, rule }),
+            Line::Near { p, q, s } => self.add_distance(Distance { p, q, s }),
+            Line::End => self.add_end(),
+        }
+    }
+
+    // Puts a `shape` line last.
+    fn add_heading(&mut self, heading: Heading<P>) -> Result<(), NoMemory>
+        requires { IsLineOf P.DIM (heading_line P.coords heading) }
+        ensures ok { OnOk result (self.new ≡ self.old ++ heading_line P.coords heading ∷ []) }
+        ensures err { OnErr result (self.new ≡ self.old) }
+    {
+        let Ok(place) = u32::try_from(self.headings.len()) else {
+            return Err(NoMemory);
+        };
+        if self.headings.push(heading).is_err() {
+            return Err(NoMemory);
+        }
+        if self.slots.push(Slot::Shape(place)).is_err() {
+            return Err(NoMemory);
+        }
+        Ok(())
+    }
+
+    // Puts a `near` line last.
+    fn add_distance(&mut self, distance: Distance<P>) -> Result<(), NoMemory>
+        requires { IsLineOf P.DIM (distance_line P.coords distance) }
+        ensures ok { OnOk result (self.new ≡ self.old ++ distance_line P.coords distance ∷ []) }
+        ensures err { OnErr result (self.new ≡ self.old) }
+    {
+        let Ok(place) = u32::try_from(self.distances.len()) else {
+            return Err(NoMemory);
+        };
+        if self.distances.push(distance).is_err() {
+            return Err(NoMemory);
+        }
+        if self.slots.push(Slot::Near(place)).is_err() {
+            return Err(NoMemory);
+        }
+        Ok(())
+    }
+
+    // Puts an `end` line last.
+    fn add_end(&mut self) -> Result<(), NoMemory>
+        ensures ok { OnOk result (self.new ≡ self.old ++ Terms.Line.End ∷ []) }
+        ensures err { OnErr result (self.new ≡ self.old) }
+    {
+        match self.slots.push(Slot::End) {
+            Ok(()) => Ok(()),
+            Err(_) => Err(NoMemory),
+        }
+    }
+
+    /// The number of lines.
+    pub fn len(&self) -> u64
+        ensures { result ≡ length self.now }
+    {
+        self.slots.len() as u64
+    }
+
+    /// The line at a place, counted from 0.
+    pub fn line(&self, i: u64) -> Line<P>
+        requires { i < length self.now }
+        ensures line { slice_get self.now i ≡ Some (line_of P.coords result) }
+        ensures fields { IsLineOf P.DIM (line_of P.coords result) }
+    {
+        match self.slots[i as usize] {
+            Slot::Shape(place) => {
+                let heading = self.headings[place as usize];
+                Line::Shape {
+                    sides: heading.sides,
+                    rule: heading.rule,
+                }
+            }
+            Slot::Near(place) => {
+                let distance = self.distances[place as usize];
+                Line::Near {
+                    p: distance.p,
+                    q: distance.q,
+                    s: distance.s,
+                }
+            }
+            Slot::End => Line::End,
+        }
+    }
+}
