@@ -1,2 +1,3 @@
 pub mod LineTexts
 pub mod SlotLists
+pub mod Flowing

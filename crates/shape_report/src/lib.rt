@@ -10,5 +10,5 @@ mod write;
 pub use line::Line;
 pub use report::Report;
 pub use spell::put_claim;
-pub use write::WriteFault;
+pub use write::{WriteFault, report_bytes, write_report};
 

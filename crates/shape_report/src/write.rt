@@ -63,4 +63,102 @@ impl Pending {
             Err(failed) => Err(failed),
         }
     }
+
+    // Makes room for a line.
+    fn make_room<D: Desk>(&mut self, desk: &mut D) -> Result<(), Failed>
+        ensures ok { OnOk result (Flows (D.written desk.old) (D.written desk.new) self.old self.new []) }
+        ensures room { OnOk result (length self.new + 1025 ≤ 4096) }
+        ensures err { OnErr result (PutsFront (D.written desk.old) (D.written desk.new) self.old) }
+        ensures cause { HasCause (D.write_faults desk.old) (D.write_faults desk.new) result }
+        ensures places { KeepsPlaces D.files D.left D.begun D.read_faults desk.old desk.new }
+    {
+        if self.used + 1025 > ROOM {
+            self.flush(desk)
+        } else {
+            Ok(())
+        }
+    }
+
+    // Keeps a line and its LF.
+    fn keep<P: Point>(&mut self, line: &Line<P>)
+        requires fields { IsLineOf P.DIM (line_of P.coords line.now) }
+        requires room { length self.old + 1025 ≤ 4096 }
+        ensures { self.new ≡ self.old ++ (spelling (line_of P.coords line.now) ++ 10 ∷ []) }
+    {
+        let mut claim = [0; 1024];
+        let len = put_claim(line, &mut claim);
+        let end = put_word(&claim[..len], &mut self.bytes, self.used);
+        self.used = put_word(b"\n", &mut self.bytes, end);
+    }
+
+    // Puts a line, and hands on what is kept where there is no room for it.
+    fn put<P: Point, D: Desk>(&mut self, line: &Line<P>, desk: &mut D) -> Result<(), Failed>
+        requires { IsLineOf P.DIM (line_of P.coords line.now) }
+        ensures ok { OnOk result (Flows (D.written desk.old) (D.written desk.new) self.old self.new (spelling (line_of P.coords line.now) ++ 10 ∷ [])) }
+        ensures err { OnErr result (PutsFront (D.written desk.old) (D.written desk.new) self.old) }
+        ensures cause { HasCause (D.write_faults desk.old) (D.write_faults desk.new) result }
+        ensures places { KeepsPlaces D.files D.left D.begun D.read_faults desk.old desk.new }
+    {
+        match self.make_room(desk) {
+            Ok(()) => {
+                self.keep(line);
+                Ok(())
+            }
+            Err(failed) => Err(failed),
+        }
+    }
+}
+
+/// Writes every line of a report with its LF. It takes no memory.
+///
+/// A fault comes only from a write that failed; a front of the text was written then.
+pub fn write_report<P: Point, D: Desk>(
+    report: &Report<P>,
+    desk: &mut D,
+) -> Result<(), WriteFault>
+    ensures text { PutsText (D.written desk.old) (D.written desk.new) result (text_of report.now) }
+    ensures cause { HasCause (D.write_faults desk.old) (D.write_faults desk.new) result }
+    ensures places { KeepsPlaces D.files D.left D.begun D.read_faults desk.old desk.new }
+{
+    let mut pending = Pending::new();
+    for i in 0..report.len() {
+        match pending.put(&report.line(i), desk) {
+            Ok(()) => {}
+            Err(_) => return Err(WriteFault),
+        }
+    }
+    match pending.flush(desk) {
+        Ok(()) => Ok(()),
+        Err(_) => Err(WriteFault),
+    }
+}
+
+/// The text of a report: every line's spelling with its LF.
+pub fn report_bytes<P: Point>(alloc: Global, report: &Report<P>) -> Result<Vec<u8>, NoMemory>
+    ensures { IfOk result (λ v. v.items ≡ text_of report.now) }
+{
+    let mut bytes = Vec::new(alloc);
+    for i in 0..report.len() {
+        match push_line(&report.line(i), &mut bytes) {
+            Ok(()) => {}
+            Err(e) => return Err(e),
+        }
+    }
+    Ok(bytes)
+}
+
+// Puts a line and its LF last.
+fn push_line<P: Point>(line: &Line<P>, bytes: &mut Vec<u8>) -> Result<(), NoMemory>
+    requires { IsLineOf P.DIM (line_of P.coords line.now) }
+    ensures { OnOk result (bytes.new.items ≡ bytes.old.items ++ (spelling (line_of P.coords line.now) ++ 10 ∷ [])) }
+{
+    let mut claim = [0; 1024];
+    let len = put_claim(line, &mut claim);
+    if bytes.extend_from_slice(&claim[..len]).is_err() {
+        return Err(NoMemory);
+    }
+    match bytes.push(b'\n') {
+        Ok(()) => Ok(()),
+        Err(_) => Err(NoMemory),
+    }
 }
