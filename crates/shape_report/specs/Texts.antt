@@ -1,7 +1,17 @@
 -- The text of words, one behind another.
 -- A line's spelling is its first word and then each word behind a blank.
-use Rattle.std.specs.Prelude.{ℕ, List, ◌∷◌, flat_map}
+use Rattle.std.specs.Prelude.{ℕ, ℤ, List, [], ◌∷◌, ◌++◌, length, codes, flat_map}
+use Rattle.std.specs.Fmt.{decimal}
+use Rattle.shape_terms.specs.Points.{Point}
+use Rattle.shape_terms.specs.Lines.{kind_word, number_words}
 
 -- each word behind a blank
 abbrev pub behind_blanks : List (List ℕ) → List ℕ
 behind_blanks words = flat_map (λ w. 32 ∷ w) words
+
+-- the text of a `shape` line and of a `near` line
+abbrev pub shape_text : Point → List ℕ → List ℕ
+shape_text sides rule = codes "shape 1 " ++ kind_word (length sides) ++ behind_blanks (number_words sides) ++ 32 ∷ rule
+
+abbrev pub near_text : Point → Point → ℕ → List ℕ
+near_text p q s = codes "near" ++ behind_blanks (number_words p) ++ behind_blanks (number_words q) ++ 32 ∷ decimal s

@@ -3,7 +3,9 @@
 #![tactic(auto)]
 
 mod line;
+mod spell;
 
 
 pub use line::Line;
+pub use spell::put_claim;
 

@@ -1,0 +1,26 @@
+-- The spelling of a line is the text that the program puts together.
+-- One lemma for each kind of line that has more than one word.
+use Rattle.std.proofs.Common.{◌≡◌, ℕ, ℤ, List, [], ◌∷◌, ◌++◌, length, refl, sym, ap, ◌∙◌, append_assoc}
+use Rattle.std.specs.Prelude.{codes, pos}
+use Rattle.std.specs.List.{join_with_byte, flat_map}
+use Rattle.std.specs.Fmt.{decimal}
+use Rattle.std.proofs.lemmas.List.{append-nil}
+use Rattle.std.proofs.lemmas.Grind.{flat_map-append}
+use Rattle.shape_terms.specs.Points.{Point}
+use Rattle.shape_terms.specs.Lines.{Line, spelling, kind_word, number_words}
+use Rattle.shape_report.specs.Texts.{behind_blanks, shape_text, near_text}
+
+pub join_is : (w : List ℕ) (ws : List (List ℕ)) → join_with_byte 32 (w ∷ ws) ≡ w ++ behind_blanks ws
+join_is w [] = sym (append-nil w)
+join_is w (v ∷ ws) = ap (λ t. w ++ 32 ∷ t) (join_is v ws)
+
+last_word : (ws : List (List ℕ)) (w : List ℕ) → behind_blanks (ws ++ w ∷ []) ≡ behind_blanks ws ++ 32 ∷ w
+last_word ws w = flat_map-append (λ (v : List ℕ). 32 ∷ v) ws (w ∷ []) ∙ ap (λ t. behind_blanks ws ++ t) (append-nil (32 ∷ w))
+
+pub shape_spelled : (sides : Point) (rule : List ℕ) → shape_text sides rule ≡ spelling (Line.Shape sides rule)
+shape_spelled sides rule = sym (join_is (codes "shape") (codes "1" ∷ kind_word (length sides) ∷ (number_words sides ++ rule ∷ []))
+    ∙ rw (last_word (number_words sides) rule) (sym (simp append_assoc)))
+
+pub near_spelled : (p q : Point) (s : ℕ) → near_text p q s ≡ spelling (Line.Near p q s)
+near_spelled p q s = sym (join_is (codes "near") (number_words p ++ (number_words q ++ decimal s ∷ []))
+    ∙ rw (flat_map-append (λ (v : List ℕ). 32 ∷ v) (number_words p) (number_words q ++ decimal s ∷ []), last_word (number_words q) (decimal s)) (sym (simp append_assoc)))
