@@ -8,3 +8,5 @@ pub mod TextLines
 pub mod FirstBadOnce
 pub mod SectionLines
 pub mod HoldsShows
+pub mod Checking
+pub mod GoodSteps

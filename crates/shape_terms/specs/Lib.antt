@@ -5,3 +5,4 @@ pub mod Lines
 pub mod Good
 pub mod Holds
 pub mod Shows
+pub mod Progress
