@@ -1,4 +1,1 @@
-pub mod SquaredDistances
-pub mod FramedBoxes
-pub mod NearestFound
 pub mod FieldSteps

@@ -1,2 +1,1 @@
-pub mod FramedBox
 pub mod FieldLoop

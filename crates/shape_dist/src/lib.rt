@@ -3,7 +3,6 @@
 #![tactic(auto)]
 
 mod field;
-mod frame;
 mod search;
 
 pub use field::{Field, nearest};

@@ -1,5 +1,6 @@
 pub mod Points
 pub mod Pictures
+pub mod FramedBox
 pub mod Distances
 pub mod Lines
 pub mod Good

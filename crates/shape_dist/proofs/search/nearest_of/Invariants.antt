@@ -1,7 +1,7 @@
 use Rattle.std.proofs.Common.{◌≡◌, ◌<◌, ◌≤◌, ℕ, false}
 use Rattle.shape_terms.specs.Points.{squared_distance}
 use Rattle.shape_terms.specs.Pictures.{at, IsBackground}
-use Rattle.shape_dist.specs.FramedBox.{framed_point}
+use Rattle.shape_terms.specs.FramedBox.{framed_point}
 use Rattle.shape_dist.proofs.search.nearest_of.Given as goal
 
 abbrev pub invariant-loop-i : goal.invariant-loop-i

@@ -7,8 +7,8 @@ use Rattle.std.proofs.lemmas.Nat.{mul-le}
 use Rattle.std.proofs.lemmas.List.{drop_more, append-nil, take_all, drop_all, take_more_set, append_assoc, length-map}
 use Rattle.shape_terms.specs.Points.{Point, coordinate, AreSides, sides_of, in_box, raster_number, box_count, squared_distance}
 use Rattle.shape_terms.proofs.Boxes.{abs_is, in_box_first, in_box_more, in_box_length, in_box_coordinate, raster_below, raster_point-raster_number, abs_high}
-use Rattle.shape_dist.specs.FramedBox.{framed_sides, framed_point, IsWithin}
-use Rattle.shape_dist.proofs.SquaredDistances.{squared_distance-cons}
+use Rattle.shape_terms.specs.FramedBox.{framed_sides, framed_point, IsWithin}
+use Rattle.shape_terms.proofs.SquaredDistances.{squared_distance-cons}
 
 -- ---- the count
 

@@ -5,8 +5,8 @@ use Rattle.std.specs.Prelude.{IsTrue, get_or}
 use Rattle.std.proofs.lemmas.Bool.{cases_Bool}
 use Rattle.shape_terms.specs.Points.{Point, in_box, raster_number, box_count, squared_distance}
 use Rattle.shape_terms.specs.Pictures.{Picture, at, IsBackground, Least}
-use Rattle.shape_dist.specs.FramedBox.{framed_sides, framed_point}
-use Rattle.shape_dist.proofs.FramedBoxes.{StandsFor, stand_in, length-framed_point, corner_outside}
+use Rattle.shape_terms.specs.FramedBox.{framed_sides, framed_point}
+use Rattle.shape_terms.proofs.FramedBoxes.{StandsFor, stand_in, length-framed_point, corner_outside}
 
 at_outside : (X : Picture) (p : Point) → in_box X.sides p ≡ false → at X p ≡ false
 at_outside X p e = ap (λ b. b && get_or X.values (raster_number X.sides p) false) e

@@ -2,8 +2,8 @@ use Rattle.std.proofs.Common.{◌≡◌, ◌-◌, ◌-ℤ◌, arith, rules, Fits
 use Rattle.std.proofs.lemmas.Int.{to_z-of_z}
 use Rattle.std.specs.Prelude.{nat_abs}
 use Rattle.shape_terms.specs.Points.{coordinate}
-use Rattle.shape_dist.proofs.SquaredDistances.{squared_distance-more, square_apart}
-use Rattle.shape_dist.proofs.search.squared_distance.Goals as goal
+use Rattle.shape_terms.proofs.SquaredDistances.{squared_distance-more, square_apart}
+use Rattle.shape_space.proofs.frame.squared_distance.Goals as goal
 
 pub loop-k-preserved : goal.loop-k-preserved
 loop-k-preserved g c =
