@@ -47,6 +47,20 @@ impl<P: Point> Grid<P> {
         }
     }
 
+    /// A grid of its own with the same picture.
+    pub fn copy(&self, alloc: Global) -> Result<Grid<P>, NoMemory>
+        ensures { IfOk result (λ g. g ≡ self.now) }
+    {
+        match self.values.as_slice().to_vec(alloc) {
+            Ok(values) => Ok(Grid {
+                sides: self.sides,
+                values,
+                objects: self.objects,
+            }),
+            Err(_) => Err(NoMemory),
+        }
+    }
+
     /// The sides of the box.
     pub fn sides(&self) -> Sides<P>
         ensures value { sides_of (P.coords result.lengths) ≡ self.now.sides }
@@ -97,8 +111,8 @@ impl<P: Point> Grid<P> {
         }
     }
 
-    // The number of the first object point from a number on.
-    fn first_from(&self, from: u32) -> Option<u32>
+    /// The raster number of the first object point from a raster number on.
+    pub fn first_from(&self, from: u32) -> Option<u32>
         ensures next { MatchOption result (objects_from self.now from ≡ [])
             (λ i. objects_from self.now from ≡ raster_point self.now.sides i ∷ objects_from self.now (i + 1)) }
         ensures below { IfSome result (λ i. i < box_count self.now.sides) }

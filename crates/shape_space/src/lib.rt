@@ -2,9 +2,11 @@
 //! Everything here is generic over the dimension and takes no memory.
 #![tactic(auto)]
 
+mod frame;
 mod point;
 mod sides;
 
+pub use frame::squared_distance;
 pub use point::{P2, Point};
 pub use sides::{Sides, raster_order};
 

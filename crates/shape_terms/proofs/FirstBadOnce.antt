@@ -16,7 +16,7 @@ get_take (y ∷ xs) zero j x e = cc
 get_take (y ∷ xs) (suc k) zero x e = (e, refl)
 get_take (y ∷ xs) (suc k) (suc j) x e = let h = get_take xs k j x e in (h.0, ap (λ zs. y ∷ zs) h.1)
 
-text_parts : (lines : List Line) (k : ℕ) (r : List ℕ) → text_of lines ++ r ≡ text_of (take k lines) ++ (text_of (drop k lines) ++ r)
+pub text_parts : (lines : List Line) (k : ℕ) (r : List ℕ) → text_of lines ++ r ≡ text_of (take k lines) ++ (text_of (drop k lines) ++ r)
 text_parts [] zero r = refl
 text_parts [] (suc k) r = refl
 text_parts (l ∷ lines) zero r = refl

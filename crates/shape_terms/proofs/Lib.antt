@@ -1,6 +1,9 @@
 pub mod Boxes
 pub mod RasterOrder
 pub mod BoxLists
+pub mod SquaredDistances
+pub mod FramedBoxes
+pub mod NearestFound
 pub mod WordLists
 pub mod LineWords
 pub mod Spelled
@@ -8,3 +11,5 @@ pub mod TextLines
 pub mod FirstBadOnce
 pub mod SectionLines
 pub mod HoldsShows
+pub mod Checking
+pub mod GoodSteps

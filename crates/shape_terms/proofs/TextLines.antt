@@ -55,3 +55,7 @@ pub same_lines : (X : Picture) (text : List ℕ) (lines ms : List Line) (rest s 
     → All (IsLineOf (length X.sides)) ms → length lines ≡ length ms → text ≡ text_of ms ++ s → lines ≡ ms
 same_lines X text lines ms rest s b a l e =
     (lines_unique (length X.sides) lines ms rest s (recursion_from_All (IsLineOf (length X.sides)) lines b.fields) (recursion_from_All (IsLineOf (length X.sides)) ms a) l (sym b.split ∙ e)).0
+
+-- no byte of a line's spelling is LF or below it
+pub spelling_past : (d : ℕ) (l : Line) → IsLineOf d l → AllByRecursion (λ c. 10 < c) (spelling l)
+spelling_past d l a = past_join (line_words l) (words_of_line d l a)

@@ -1,0 +1,102 @@
+-- When the next line of a report is good, from the section that its lines have come to.
+-- One law for each kind of line that may come next, and for each that may not.
+use Rattle.std.proofs.Common.{◌≡◌, ◌⊎◌, inl, inr, ℕ, zero, suc, ◌≤◌, ◌<◌, true, false, refl, ap, sym, ◌∙◌, subst, arith, List, [], ◌∷◌, ◌++◌, length, get_or}
+use Rattle.std.specs.Prelude.{All, ◌==◌}
+use Rattle.std.proofs.lemmas.Bool.{cond-true, cond-false}
+use Rattle.std.proofs.lemmas.List.{append-nil, length-append}
+use Rattle.std.proofs.lemmas.List.Elements.{All-nil, All-push, filter-append}
+use Rattle.shape_terms.specs.Pictures.{Picture}
+use Rattle.shape_terms.specs.Lines.{Line}
+use Rattle.shape_terms.specs.Good.{section, section_lines, Claim, IsComplete, GoodAfter}
+use Rattle.shape_terms.specs.Progress.{HasCome}
+
+-- ---- the lines of a section, when one more line comes
+
+pub section_push : (k : ℕ) (lines : List Line) (l : Line) → (section l == k) ≡ true → section_lines k (lines ++ l ∷ []) ≡ section_lines k lines ++ l ∷ []
+section_push k lines l e = filter-append (λ m. section m == k) lines (l ∷ []) ∙ ap (λ ls. section_lines k lines ++ ls) (cond-true (section l == k) (l ∷ []) [] e)
+
+pub section_skip : (k : ℕ) (lines : List Line) (l : Line) → (section l == k) ≡ false → section_lines k (lines ++ l ∷ []) ≡ section_lines k lines
+section_skip k lines l e = filter-append (λ m. section m == k) lines (l ∷ []) ∙ ap (λ ls. section_lines k lines ++ ls) (cond-false (section l == k) (l ∷ []) [] e) ∙ append-nil (section_lines k lines)
+
+-- an earlier section stays as it is
+complete_kept : (X : Picture) (lines : List Line) (l : Line) (j : ℕ) → j < section l → IsComplete X j lines → IsComplete X j (lines ++ l ∷ [])
+complete_kept X lines (Line.Shape sides rule) j h c = absurd (omega arith)
+complete_kept X lines (Line.Near p q s) zero h c = ap length (section_skip 0 lines (Line.Near p q s) refl) ∙ c
+complete_kept X lines (Line.Near p q s) (suc j) h c = absurd (omega arith)
+complete_kept X lines Line.End zero h c = ap length (section_skip 0 lines Line.End refl) ∙ c
+complete_kept X lines Line.End (suc zero) h c = ap length (section_skip 1 lines Line.End refl) ∙ c
+complete_kept X lines Line.End (suc (suc j)) h c = absurd (omega arith)
+
+-- ---- how far the lines have come
+
+pub come_none : (X : Picture) → HasCome X 0 []
+come_none X = record { order = All-nil (λ e. section e ≤ 0); complete = λ j h. absurd (omega arith) }
+
+-- one more line of the section
+pub come_more : (X : Picture) (k : ℕ) (lines : List Line) (l : Line) → HasCome X k lines → section l ≡ k → HasCome X k (lines ++ l ∷ [])
+come_more X k lines l h e = record {
+  order = All-push (λ m. section m ≤ k) lines l h.order (omega arith);
+  complete = λ j m. complete_kept X lines l j (omega arith) (h.complete j m);
+}
+
+-- the section is complete, so the next one may come
+pub come_past : (X : Picture) (k : ℕ) (lines : List Line) → HasCome X k lines → IsComplete X k lines → HasCome X (suc k) lines
+come_past X k lines h c = record {
+  order = λ i d m. let o = h.order i d m in omega arith;
+  complete = λ j m. elim (below k j m) [ inl l ↦ h.complete j l | inr e ↦ subst (λ n. IsComplete X n lines) (sym e) c ];
+}
+  where
+    below : (k j : ℕ) → j < suc k → (j < k) ⊎ (j ≡ k)
+    below zero zero m = inr refl
+    below zero (suc j) m = absurd (omega arith)
+    below (suc k) zero m = inl (omega arith)
+    below (suc k) (suc j) m = elim (below k j (omega arith)) [ inl l ↦ inl (omega arith) | inr e ↦ inr (omega arith) ]
+
+-- a line of the section that the lines have come to is good where its claim is true
+pub good_at : (X : Picture) (lines : List Line) (l : Line) → HasCome X (section l) lines → Claim X lines l → GoodAfter X lines l
+good_at X lines l h c = record { order = h.order; complete = h.complete; claim = c }
+
+-- ---- the first line
+
+-- only a `shape` line is good first
+pub first_is_shape : (X : Picture) (l : Line) → GoodAfter X [] l → section l ≡ 0
+first_is_shape X (Line.Shape sides rule) g = refl
+first_is_shape X (Line.Near p q s) g = absurd (let c : 0 ≡ 1 = g.complete 0 (omega arith) in omega arith)
+first_is_shape X Line.End g = absurd (let c : 0 ≡ 1 = g.complete 0 (omega arith) in omega arith)
+
+-- ---- after the `shape` line
+
+-- no second `shape` line is good
+pub no_second_shape : (X : Picture) (lines : List Line) (sides : List _) (rule : List ℕ) → IsComplete X 0 lines → GoodAfter X lines (Line.Shape sides rule) → ⊥
+no_second_shape X lines sides rule c g =
+    let e : length (section_lines 0 lines) ≡ 0 = ap (λ ls. length (section_lines 0 ls)) g.claim.0 in
+    omega arith
+
+-- where no line is of a later section, none is `end`
+pub not_ended : (X : Picture) (k : ℕ) (lines front : List Line) → k < 2 → HasCome X k lines → lines ≡ front ++ Line.End ∷ [] → ⊥
+not_ended X k lines front h c e =
+    let n = length front in
+    let inside : n < length lines = rw e (omega (arith, length-append front (Line.End ∷ []))) in
+    let o : section (get_or lines n Line.End) ≤ k = c.order n Line.End inside in
+    let t : get_or lines n Line.End ≡ Line.End = rw e (at_end front) in
+    let s : section (get_or lines n Line.End) ≡ 2 = ap section t in
+    omega arith
+  where
+    at_end : (xs : List Line) → get_or (xs ++ Line.End ∷ []) (length xs) Line.End ≡ Line.End
+    at_end [] = refl
+    at_end (x ∷ xs) = at_end xs
+
+-- ---- after `end`
+
+end_among : (lines : List Line) (k : ℕ) → k < 2 → All (λ e. section e ≤ k) (lines ++ Line.End ∷ []) → ⊥
+end_among [] k h a = let o : 2 ≤ k = a 0 Line.End (omega arith) in omega arith
+end_among (l ∷ lines) k h a = end_among lines k h (λ i d m. a (suc i) d (omega arith))
+
+-- no line is good after `end`
+pub none_after_end : (X : Picture) (lines : List Line) (l : Line) → GoodAfter X (lines ++ Line.End ∷ []) l → ⊥
+none_after_end X lines (Line.Shape sides rule) g = end_among lines 0 (omega arith) g.order
+none_after_end X lines (Line.Near p q s) g = end_among lines 1 (omega arith) g.order
+none_after_end X lines Line.End g =
+    let e : section_lines 2 lines ++ Line.End ∷ [] ≡ [] = sym (section_push 2 lines Line.End refl) ∙ g.claim in
+    let n = ap length e in
+    omega (arith, length-append (section_lines 2 lines) (Line.End ∷ []))
