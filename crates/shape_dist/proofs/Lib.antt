@@ -1,0 +1,4 @@
+pub mod SquaredDistances
+pub mod FramedBoxes
+pub mod NearestFound
+pub mod FieldSteps

@@ -1,0 +1,11 @@
+use Rattle.std.proofs.Common.{◌≡◌, ◌<◌, ◌≤◌, ℕ, false}
+use Rattle.shape_terms.specs.Points.{squared_distance}
+use Rattle.shape_terms.specs.Pictures.{at, IsBackground}
+use Rattle.shape_dist.specs.FramedBox.{framed_point}
+use Rattle.shape_dist.proofs.search.nearest_of.Given as goal
+
+abbrev pub invariant-loop-i : goal.invariant-loop-i
+invariant-loop-i g l =
+    IsBackground l.grid (g.P.Point.coords l.q)
+    × (l.s ≡ squared_distance (g.P.Point.coords l.p) (g.P.Point.coords l.q))
+    × ((i : ℕ) → i < l.i → at l.grid (framed_point l.grid.sides i) ≡ false → l.s ≤ squared_distance (g.P.Point.coords l.p) (framed_point l.grid.sides i))

@@ -1,0 +1,2 @@
+pub mod FramedBox
+pub mod FieldLoop
