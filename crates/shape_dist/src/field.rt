@@ -1,7 +1,7 @@
 //! The field of a picture: a nearest background point for each object point.
 //! Another way of finding them changes `nearest` alone.
-ghost use Rattle.std.specs.Prelude.{◌≡◌, ◌<◌, length, IfOk, slice_index_or};
-ghost use Rattle.shape_terms.specs.Distances.{NearFact, IsField};
+ghost use Rattle.std.specs.Prelude.{◌≡◌, ◌<◌, length, IfOk, slice_get};
+ghost use Rattle.shape_terms.specs.Distances.{IsField};
 
 use crate::search::{Near, nearest_of};
 use shape_grid::Grid;
@@ -54,7 +54,7 @@ impl<P: Point> Field<P> {
     /// The entry of the object point that is number `i` in raster order, from 0 on.
     pub fn near(&self, i: u32) -> Near<P>
         requires { i < length self.now }
-        ensures { (d : NearFact) → slice_index_or self.now i d ≡ record { p = P.coords result.p; q = P.coords result.q; s = result.s } }
+        ensures { slice_get self.now i ≡ Some (record { p = P.coords result.p; q = P.coords result.q; s = result.s }) }
     {
         self.entries[i as usize]
     }

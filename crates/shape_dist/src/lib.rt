@@ -7,3 +7,6 @@ mod search;
 
 pub use field::{Field, nearest};
 pub use search::{Near, nearest_of};
+
+#[cfg(test)]
+mod tests;

@@ -1,7 +1,7 @@
 use Rattle.std.proofs.Common.{◌≡◌, inl, inr, arith, refl, ◌∙◌}
 use Rattle.shape_terms.specs.Points.{box_count}
 use Rattle.shape_terms.specs.FramedBox.{framed_sides, framed_point}
-use Rattle.shape_terms.proofs.FramedBoxes.{box_point_within, framed_point_within}
+use Rattle.shape_terms.proofs.FramedBoxes.{box_point_within}
 use Rattle.shape_terms.proofs.NearestFound.{corner_background, least_found}
 use Rattle.shape_dist.proofs.search.nearest_of.Goals as goal
 
