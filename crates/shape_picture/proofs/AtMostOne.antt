@@ -221,4 +221,4 @@ module _ (form : PlainForm) (longest : ℕ) (bytes : List ℕ) where
 
 pub told_none : (form : PlainForm) (longest : ℕ) (all : Option (List ℕ)) (f : PictureFault) → IfTold all (λ bytes. PlainFault form longest bytes f) → IfTold all (SpellsNone form longest)
 told_none form longest None f h = tt
-told_none form longest (Some bytes) f h = λ X m p. not_both form longest bytes X m f p h
+told_none form longest (Some bytes) f h = λ s. not_both form longest bytes s.0 s.1.0 f s.1.1 h

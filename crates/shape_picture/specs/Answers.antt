@@ -1,6 +1,6 @@
 -- What a reader of plain PBM answers, and what it leaves of the desk: all that its callers have to read beside `Plain`.
 -- The words of the reader's parts stand in `Bytes`, `Header`, `Raster` and `Parts`.
-use Rattle.std.specs.Prelude.{◌≡◌, ◌⊎◌, ℕ, ◌≤◌, ◌^◌, Bool, true, false, List, length, Option, Result, Ok, Err, ⊤}
+use Rattle.std.specs.Prelude.{◌≡◌, ℕ, ◌≤◌, ◌^◌, Bool, true, false, List, length, Option, Result, Ok, Err, ⊤}
 use Rattle.shape_terms.specs.Pictures.{Picture}
 use Rattle.shape_desk.specs.declared.desk.Place.{Place}
 use Rattle.shape_desk.specs.declared.desk.Place.TheVariants as place
@@ -35,13 +35,17 @@ bare_form = record { limit = most_side; comments = false }
 abbrev pub SpellsPicture : PlainForm → ℕ → Picture → List ℕ → Type 0
 SpellsPicture form longest X bytes = (m : ℕ) × Plain form longest bytes X m
 
+-- some front of the bytes spells some picture
+abbrev pub SpellsSome : PlainForm → ℕ → List ℕ → Type 0
+SpellsSome form longest bytes = (X : Picture) × SpellsPicture form longest X bytes
+
 -- no front of the bytes spells a picture
 abbrev pub SpellsNone : PlainForm → ℕ → List ℕ → Type 0
-SpellsNone form longest bytes = (X : Picture) (m : ℕ) → Plain form longest bytes X m → ⊥
+SpellsNone form longest bytes = SpellsSome form longest bytes → ⊥
 
--- a front of the bytes spells a picture, or they have a fault
-abbrev pub HasPictureOrFault : PlainForm → ℕ → List ℕ → Type 0
-HasPictureOrFault form longest bytes = ((X : Picture) × (m : ℕ) × Plain form longest bytes X m) ⊎ ((f : PictureFault) × PlainFault form longest bytes f)
+-- the bytes have some fault
+abbrev pub HasFault : PlainForm → ℕ → List ℕ → Type 0
+HasFault form longest bytes = (f : PictureFault) × PlainFault form longest bytes f
 
 -- ---- the desk
 

@@ -43,10 +43,14 @@ opened form t c other = if is_white c then Ok (gap_of t) else if form.comments &
 abbrev pub digit_step : PlainForm → Side → ℕ → ℕ → Result Progress PictureFault
 digit_step form s v c = if nat_lt form.limit (v * 10 + (c - 48)) then Err (fault.SideTooLarge (v * 10 + (c - 48))) else Ok (progress.More (header.Digits s (v * 10 + (c - 48))))
 
+-- a byte of the magic number
+abbrev pub magic_step : ℕ → Header → ℕ → Result Progress PictureFault
+magic_step wanted next c = if c == wanted then Ok (progress.More next) else Err fault.NotPlain
+
 -- the header after one byte more, which stands at this place
 abbrev pub header_step : PlainForm → ℕ → Header → ℕ → Result Progress PictureFault
-header_step form at header.Start c = if c == 80 then Ok (progress.More header.Letter) else Err fault.NotPlain
-header_step form at header.Letter c = if c == 49 then Ok (progress.More header.Magic) else Err fault.NotPlain
+header_step form at header.Start c = magic_step 80 header.Letter c
+header_step form at header.Letter c = magic_step 49 header.Magic c
 header_step form at header.Magic c = opened form coming.Width c fault.NotPlain
 header_step form at (header.Gap s) c = if is_digit c then digit_step form s 0 c else opened form (before_side s) c (fault.BadNumber at)
 header_step form at (header.Comment t) c = if is_line_end c then Ok (gap_of t) else Ok (progress.More (header.Comment t))

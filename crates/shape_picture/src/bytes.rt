@@ -1,6 +1,6 @@
 //! Bytes of the picture's place, taken one by one and read ahead in pieces.
 //! Never more bytes are read than the caller still wants; the size of a piece is this file's own.
-ghost use Rattle.std.specs.Prelude.{◌≡◌, ◌+◌, ◌-◌, ◌≤◌, max, [], ◌∷◌, true, length, take, drop, IfOk, IfSome, OnOk, OnErr, MatchResult, MatchOption, option_to_list};
+ghost use Rattle.std.specs.Prelude.{◌≡◌, ◌+◌, ◌-◌, ◌≤◌, max, [], ◌∷◌, true, length, take, drop, IfOk, OnOk, OnErr, MatchResult, MatchOption, option_to_list};
 ghost use Rattle.shape_desk.specs.Desk.{Rose, Takes, IsEnd};
 ghost use Rattle.shape_desk.specs.Line.{ahead_of};
 ghost use Rattle.shape_desk.specs.declared.desk.Place.TheVariants.{Picture};
@@ -30,7 +30,7 @@ impl Model for ByteReader {
     ghost invariant = { λ r. (r.buf.len ≡ 512) × (r.start ≤ r.end) × (r.end ≤ 512) };
 }
 
-// PictureRead the next bytes of the file, not more than are wanted.
+// Reads the next bytes of the file, not more than are wanted.
 fn fill<D: Desk>(buf: &mut [u8], desk: &mut D, most: u64) -> Result<usize, Failed>
     requires size { length buf.old ≡ 512 }
     requires most { 1 ≤ most }
@@ -62,7 +62,7 @@ impl ByteReader {
         }
     }
 
-    // PictureRead bytes ahead where there are none.
+    // Reads bytes ahead where there are none.
     fn refill<D: Desk>(&mut self, desk: &mut D, most: u64) -> Result<(), Failed>
         requires most { 1 ≤ most }
         requires begun { D.begun desk.old Picture ≡ true }

@@ -1,8 +1,8 @@
 //! The header of a plain PBM as a machine that takes one byte after another.
 //! Its steps are those of `specs/Header.antt`; what they mean for the grammar is proved in `proofs/HeaderSteps.antt`.
-ghost use Rattle.std.specs.Prelude.{◌≡◌, ◌≤◌, ◌^◌, IsTrue, true};
+ghost use Rattle.std.specs.Prelude.{◌≡◌, ◌≤◌, ◌^◌, true};
 ghost use Rattle.shape_picture.specs.Plain.{is_white, is_line_end};
-ghost use Rattle.shape_picture.specs.Header.{is_digit, opened, gap_of, before_side, after_side, digit_step, header_step, IsSmall};
+ghost use Rattle.shape_picture.specs.Header.{is_digit, opened, gap_of, before_side, after_side, digit_step, magic_step, header_step, IsSmall};
 
 use crate::fault::PictureFault;
 use crate::form::PlainForm;
@@ -106,6 +106,17 @@ fn open(
     }
 }
 
+// A byte of the magic number.
+fn letter(wanted: u8, next: Header, c: u8) -> Result<Progress, PictureFault>
+    ensures { result ≡ magic_step wanted next c }
+{
+    if c == wanted {
+        Ok(Progress::More(next))
+    } else {
+        Err(PictureFault::NotPlain)
+    }
+}
+
 // A digit of a side.
 fn digit(form: PlainForm, side: Side, value: u32, c: u8) -> Result<Progress, PictureFault>
     requires limit { form.limit ≤ 2 ^ 20 }
@@ -128,20 +139,8 @@ pub fn step(form: PlainForm, at: u64, header: Header, c: u8) -> Result<Progress,
     ensures { result ≡ header_step form at header c }
 {
     match header {
-        Header::Start => {
-            if c == b'P' {
-                Ok(Progress::More(Header::Letter))
-            } else {
-                Err(PictureFault::NotPlain)
-            }
-        }
-        Header::Letter => {
-            if c == b'1' {
-                Ok(Progress::More(Header::Magic))
-            } else {
-                Err(PictureFault::NotPlain)
-            }
-        }
+        Header::Start => letter(b'P', Header::Letter, c),
+        Header::Letter => letter(b'1', Header::Magic, c),
         Header::Magic => open(form, Coming::Width, c, PictureFault::NotPlain),
         Header::Gap(side) => {
             if is_digit(c) {

@@ -1,12 +1,11 @@
 //! Reading a plain PBM byte by byte: the header, then the pixels into a grid.
 //! No function holds the file; each takes one byte at most, or loops over one that does.
-ghost use Rattle.std.specs.Prelude.{◌≡◌, ◌+◌, ◌*◌, ◌≤◌, ◌<◌, ◌^◌, [], ◌∷◌, true, false, length, IfOk, OnErr, Option, List, ℕ};
-ghost use Rattle.shape_terms.specs.Points.{box_count, sides_of};
+ghost use Rattle.std.specs.Prelude.{◌≡◌, ◌+◌, ◌≤◌, ◌<◌, ◌^◌, [], ◌∷◌, true, false, length, Option, List, ℕ};
+ghost use Rattle.shape_terms.specs.Points.{sides_of};
 ghost use Rattle.shape_desk.specs.declared.desk.Place.TheVariants.{Picture};
-ghost use Rattle.shape_terms.specs.Pictures.{blank};
 ghost use Rattle.shape_picture.specs.declared.form.PlainForm.{PlainForm};
-ghost use Rattle.shape_picture.specs.Answers.{most_side, most_bytes, whole_form, bare_form, OnlyReads, PictureAnswer, BareAnswer};
-ghost use Rattle.shape_picture.specs.Plain.{IsUnfinished, pixels_of, number_value};
+ghost use Rattle.shape_picture.specs.Answers.{most_side, most_bytes, whole_form, OnlyReads, PictureAnswer, BareAnswer};
+ghost use Rattle.shape_picture.specs.Plain.{IsUnfinished};
 ghost use Rattle.shape_picture.specs.Header.{IsSmall, HeaderReached};
 ghost use Rattle.shape_picture.specs.Raster.{HasPixels};
 ghost use Rattle.shape_picture.specs.Parts.{BytesTaken, NextByteAnswer, NextHeaderAnswer, HeaderAnswer, NextPieceAnswer, RasterSoFar};
@@ -100,7 +99,7 @@ struct Heading {
     at: u64,
 }
 
-// PictureRead the header.
+// Reads the header.
 fn read_header<D: Desk>(
     form: PlainForm,
     longest: u64,
@@ -149,7 +148,7 @@ fn box_of(width: u32, height: u32) -> Sides<P2>
     }
 }
 
-// PictureRead the pixels.
+// Reads the pixels.
 fn read_raster<D: Desk>(
     form: PlainForm,
     longest: u64,
@@ -192,7 +191,7 @@ fn read_raster<D: Desk>(
     Err(PictureError::Bad(PictureFault::TooLong))
 }
 
-// PictureRead a picture with sides of at most a limit, of at most so many bytes.
+// Reads a picture with sides of at most a limit, of at most so many bytes.
 fn read_within<D: Desk>(
     alloc: Global,
     form: PlainForm,
@@ -254,5 +253,172 @@ pub fn read_bare<D: Desk>(alloc: Global, desk: &mut D) -> Result<Grid<P2>, Pictu
         Ok(grid) => Ok(grid),
         Err(PictureError::Bad(_)) => Err(PictureError::Bad(PictureFault::NotPlain)),
         Err(error) => Err(error),
+    }
+}
+
+#[cfg(test)]
+mod tests {
+    use super::*;
+    use shape_desk::MemoryDesk;
+    use std::test::Fail;
+
+    // The reader that is tried: with comments, without them, or with comments and another greatest length.
+    #[derive(Clone, Copy)]
+    enum Reader {
+        Plain,
+        Bare,
+        Within(u64),
+    }
+
+    // What is read of a file, in pieces of so many bytes, where the call of the desk with this number fails.
+    fn read(
+        alloc: Global,
+        bytes: &[u8],
+        piece: usize,
+        bad_read: u64,
+        reader: Reader,
+    ) -> Result<Grid<P2>, PictureError> {
+        let Ok(name) = Vec::from_slice(alloc, b"f") else {
+            return Err(PictureError::NoMemory);
+        };
+        let Ok(file) = Vec::from_slice(alloc, bytes) else {
+            return Err(PictureError::NoMemory);
+        };
+        let mut files = Vec::new(alloc);
+        let Ok(()) = files.push((name, file)) else {
+            return Err(PictureError::NoMemory);
+        };
+        let Ok(bad_reads) = Vec::from_slice(alloc, &[bad_read]) else {
+            return Err(PictureError::NoMemory);
+        };
+        let Ok(mut desk) = MemoryDesk::new(
+            alloc,
+            files,
+            bad_reads,
+            Vec::new(alloc),
+            piece.max(1),
+            0,
+        ) else {
+            return Err(PictureError::NoMemory);
+        };
+        if desk.begin(Place::Picture, b"f").is_err() {
+            return Err(PictureError::ReadFault);
+        }
+        match reader {
+            Reader::Plain => read_plain(alloc, &mut desk),
+            Reader::Bare => read_bare(alloc, &mut desk),
+            Reader::Within(longest) => {
+                let form = PlainForm {
+                    limit: MOST_SIDE,
+                    comments: true,
+                };
+                read_within(alloc, form, longest, &mut desk)
+            }
+        }
+    }
+
+    fn fault(alloc: Global, bytes: &[u8], reader: Reader) -> Option<PictureError> {
+        match read(alloc, bytes, 3, 0, reader) {
+            Ok(_) => None,
+            Err(error) => Some(error),
+        }
+    }
+
+    // The number of object points of the picture that is read in pieces of one byte.
+    fn count(alloc: Global, bytes: &[u8], reader: Reader) -> Option<u32> {
+        match read(alloc, bytes, 1, 0, reader) {
+            Ok(grid) => Some(grid.count()),
+            Err(_) => None,
+        }
+    }
+
+    #[test]
+    fn faults(rt: HostRuntime) -> Result<(), Fail> {
+        let alloc = rt.alloc();
+        let cases: [(&[u8], PictureFault); 16] = [
+            (b"", PictureFault::Short { at: 0 }),
+            (b"P1 0", PictureFault::Short { at: 4 }),
+            (b"P1 3 1 1 0", PictureFault::Short { at: 10 }),
+            (b"P1 1 1 #1", PictureFault::Short { at: 9 }),
+            (b"P4 1 1 x", PictureFault::NotPlain),
+            (b"P1x", PictureFault::NotPlain),
+            (b"P1 2x2 1", PictureFault::BadNumber { at: 4 }),
+            (b"P1 0x", PictureFault::BadNumber { at: 4 }),
+            (b"P1 0 3 ", PictureFault::ZeroSide),
+            (b"P1 0#", PictureFault::ZeroSide),
+            (b"P1 1025 1 1", PictureFault::SideTooLarge { value: 1025 }),
+            (b"P1 99999 1", PictureFault::SideTooLarge { value: 9999 }),
+            (b"P1 1 1 x", PictureFault::BadByte { at: 7 }),
+            (b"P1 2 1 0 2", PictureFault::BadByte { at: 9 }),
+            (b"P1 2 1 1#", PictureFault::BadByte { at: 8 }),
+            (b"P1 2 1 1 #c\n1", PictureFault::BadByte { at: 9 }),
+        ];
+        for (bytes, want) in cases {
+            assert_eq!(rt;
+                fault(alloc, bytes, Reader::Plain),
+                Some(PictureError::Bad(want))
+            );
+        }
+        Ok(())
+    }
+
+    #[test]
+    fn pictures(rt: HostRuntime) -> Result<(), Fail> {
+        let alloc = rt.alloc();
+        assert_eq!(rt;
+            count(
+                alloc,
+                b"P1#a\n02#b\r3 \t#c\r\n#d\n10 1\n011rest",
+                Reader::Plain
+            ),
+            Some(4)
+        );
+        assert_eq!(rt; count(alloc, b"P1 1 1 #c\n1#", Reader::Plain), Some(1));
+        assert_eq!(rt; count(alloc, b"P1\t1\r\n01 1", Reader::Bare), Some(1));
+        assert_eq!(rt;
+            fault(alloc, b"P1 1 1 #c\n1", Reader::Bare),
+            Some(PictureError::Bad(PictureFault::NotPlain))
+        );
+        match read(alloc, b"P1 3 2 011 001", 512, 0, Reader::Plain) {
+            Ok(grid) => {
+                assert_eq!(rt; grid.count(), 3);
+                assert!(rt; grid.has(P2 { x: 2, y: 0 }) && grid.has(P2 { x: 2, y: 1 }));
+                assert!(rt; grid.has(P2 { x: 1, y: 0 }) && !grid.has(P2 { x: 1, y: 1 }));
+            }
+            Err(_) => assert!(rt; false),
+        }
+        Ok(())
+    }
+
+    #[test]
+    fn limits(rt: HostRuntime) -> Result<(), Fail> {
+        let alloc = rt.alloc();
+        let mut widest = Vec::from_slice(alloc, b"P1 1024 1 ")?;
+        for _ in 0..1024u32 {
+            widest.push(b'0')?;
+        }
+        assert_eq!(rt; count(alloc, &widest, Reader::Plain), Some(0));
+        assert_eq!(rt; count(alloc, b"P1 1 1 1", Reader::Within(8)), Some(1));
+        assert_eq!(rt;
+            fault(alloc, b"P1  1 1 1", Reader::Within(8)),
+            Some(PictureError::Bad(PictureFault::TooLong))
+        );
+        assert_eq!(rt;
+            fault(alloc, b"P1\n\n\n\n\n\n", Reader::Within(8)),
+            Some(PictureError::Bad(PictureFault::TooLong))
+        );
+        Ok(())
+    }
+
+    #[test]
+    fn failed_reads(rt: HostRuntime) -> Result<(), Fail> {
+        let alloc = rt.alloc();
+        for bad_read in 2..5 {
+            match read(alloc, b"P1 1 1 1", 3, bad_read, Reader::Plain) {
+                Ok(_) => assert!(rt; false),
+                Err(error) => assert_eq!(rt; error, PictureError::ReadFault),
+            }
+        }
+        Ok(())
     }
 }
