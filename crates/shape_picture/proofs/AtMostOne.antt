@@ -1,0 +1,224 @@
+-- A file spells at most one picture or has at most one fault, and not both.
+use Rattle.std.proofs.Common.{◌≡◌, ℕ, zero, suc, ◌+◌, ◌*◌, ◌<◌, ◌≤◌, Bool, true, false, List, [], ◌∷◌, ◌++◌, length, map, take, drop, Option, None, Some, All, refl, sym, ap, ◌∙◌, subst, inl, inr, ⊎_elim, arith}
+use Rattle.std.specs.Prelude.{◌||◌, ◌⊎◌, IsTrue, slice_get}
+use Rattle.std.proofs.lemmas.Bool.{cases_lt}
+use Rattle.std.proofs.lemmas.List.{append_assoc, length-map, length-take-le, length_push, take-append-drop, take-take, take_all, take_at}
+use Rattle.std.proofs.lemmas.List.Elements.{All-take, All-same}
+use Rattle.shape_picture.specs.declared.form.PlainForm.{PlainForm}
+use Rattle.shape_terms.specs.Points.{box_count}
+use Rattle.shape_terms.specs.Pictures.{Picture}
+use Rattle.shape_picture.specs.declared.fault.PictureFault.{PictureFault}
+use Rattle.shape_picture.specs.declared.fault.PictureFault.TheVariants as fault
+use Rattle.shape_picture.specs.Plain.{is_white, is_pixel, pixel_code, pixels_of, number_value, Plain, PlainFault, DecidesFault}
+use Rattle.shape_desk.specs.Line.{IfTold}
+use Rattle.shape_picture.specs.Answers.{SpellsNone}
+use Rattle.shape_picture.proofs.Grammar.{pixels_of-pixel}
+use Rattle.shape_picture.proofs.Machine.{State, run, state_of, onward, run_full, run_stop, IsOpenState}
+use Rattle.shape_picture.proofs.FrontStates.{not_white_of_pixel, heading_run, in_raster_run, open_of, decided_step}
+
+-- ---- lists
+
+split_got : (xs : List ℕ) (i c : ℕ) → slice_get xs i ≡ Some c → (xs ≡ take i xs ++ c ∷ drop (suc i) xs) × (length (take i xs) ≡ i)
+split_got [] i c e = absurd (cc)
+split_got (x ∷ xs) zero c e = let k : x ≡ c = cc in (ap (λ (y : ℕ). y ∷ xs) k, refl)
+split_got (x ∷ xs) (suc i) c e = let r = split_got xs i c e in (ap (λ (l : List ℕ). x ∷ l) r.0, ap suc r.1)
+
+record Last (xs : List ℕ) : Type 0 where
+  front : List ℕ
+  last : ℕ
+  is : xs ≡ front ++ last ∷ []
+
+last_of : (x : ℕ) (xs : List ℕ) → Last (x ∷ xs)
+last_of x [] = record { front = []; last = x; is = refl }
+last_of x (y ∷ xs) = let r = last_of y xs in record { front = x ∷ r.front; last = r.last; is = ap (λ (l : List ℕ). x ∷ l) r.is }
+
+got_last : (xs : List ℕ) (d k c : ℕ) → length xs ≡ k → slice_get (xs ++ d ∷ []) k ≡ Some c → d ≡ c
+got_last [] d zero c e g = cc
+got_last [] d (suc k) c e g = absurd (omega arith)
+got_last (x ∷ xs) d zero c e g = absurd (omega arith)
+got_last (x ∷ xs) d (suc k) c e g = got_last xs d k c (omega arith) g
+
+got_taken : (xs : List ℕ) (k m : ℕ) → k < m → slice_get (take m xs) k ≡ slice_get xs k
+got_taken xs k zero l = absurd (omega arith)
+got_taken [] k (suc m) l = refl
+got_taken (x ∷ xs) zero (suc m) l = refl
+got_taken (x ∷ xs) (suc k) (suc m) l = got_taken xs k m (omega arith)
+
+got_within : (xs : List ℕ) (k c : ℕ) → slice_get xs k ≡ Some c → k < length xs
+got_within [] k c e = absurd (cc)
+got_within (x ∷ xs) zero c e = omega arith
+got_within (x ∷ xs) (suc k) c e = let l = got_within xs k c e in omega arith
+
+code_injective : (a b : Bool) → pixel_code a ≡ pixel_code b → a ≡ b
+code_injective true true e = refl
+code_injective false false e = refl
+code_injective true false e = absurd (omega arith)
+code_injective false true e = absurd (omega arith)
+
+codes_injective : (xs ys : List Bool) → map pixel_code xs ≡ map pixel_code ys → xs ≡ ys
+codes_injective [] [] e = refl
+codes_injective [] (y ∷ ys) e = absurd (cc)
+codes_injective (x ∷ xs) [] e = absurd (cc)
+codes_injective (x ∷ xs) (y ∷ ys) e =
+    let h : pixel_code x ≡ pixel_code y = cc in
+    let t : map pixel_code xs ≡ map pixel_code ys = cc in
+    let a = code_injective x y h in
+    let b = codes_injective xs ys t in cc
+
+same_by_parts : {R : Type 0} (f : List ℕ → List Bool → R) (a c : List ℕ) (b d : List Bool) → a ≡ c → b ≡ d → f a b ≡ f c d
+same_by_parts f a c b d x y = cc
+
+same_picture : (X Y : Picture) → X.sides ≡ Y.sides → X.values ≡ Y.values → X ≡ Y
+same_picture X Y s c = same_by_parts (λ s c. record { sides = s; values = c }) X.sides Y.sides X.values Y.values s c
+
+module _ (form : PlainForm) (longest : ℕ) (bytes : List ℕ) where
+  -- the state after as many bytes as are looked at
+  abbrev end_state : State
+  end_state = state_of form (take longest bytes)
+
+  -- ---- a picture
+
+  record IsWholePicture (X : Picture) (s : State) : Type 0 where
+    w : ℕ
+    h : ℕ
+    pixels : List ℕ
+    is : s ≡ State.AtRaster false w h pixels
+    full : w * h ≤ length pixels
+    sides : X.sides ≡ w ∷ h ∷ []
+    values : pixels ≡ map pixel_code X.values
+
+  times_one : (a b : ℕ) → a * (b * 1) ≡ a * b
+  times_one a b = grind arith
+
+  whole_pixels : (X : Picture) (m : ℕ) (p : Plain form longest bytes X m) → length (pixels_of p.raster) ≡ number_value p.width * number_value p.height
+  whole_pixels X m p = ap length p.values ∙ length-map X.values pixel_code ∙ p.filled ∙ ap box_count p.sides ∙ times_one (number_value p.width) (number_value p.height)
+
+  -- from the last pixel on
+  whole_from : (X : Picture) (m n : ℕ) → Plain form longest bytes X m → m ≤ n → IsWholePicture X (state_of form (take n bytes))
+  whole_from X m n p l =
+      let e = whole_pixels X m p in
+      let w = number_value p.width in
+      let h = number_value p.height in
+      let split : take n bytes ≡ take m bytes ++ drop m (take n bytes) = sym (take-append-drop m (take n bytes)) ∙ ap (λ (x : List ℕ). x ++ drop m (take n bytes)) (take-take m n bytes l) in
+      record {
+        w = w;
+        h = h;
+        pixels = pixels_of p.raster;
+        is = ap (state_of form) split ∙ onward form (take m bytes) (drop m (take n bytes))
+            ∙ ap (λ (s : State). run form (length (take m bytes)) s (drop m (take n bytes))) (in_raster_run form (take m bytes) p.width p.height p.raster p.front (omega arith))
+            ∙ run_full form (drop m (take n bytes)) (length (take m bytes)) w h false (pixels_of p.raster) (omega arith);
+        full = omega arith;
+        sides = p.sides;
+        values = p.values;
+      }
+
+  whole_not_open : (X : Picture) (s : State) → IsWholePicture X s → IsOpenState form s → ⊥
+  whole_not_open X s h o = let l = subst (IsOpenState form) h.is o in omega (arith, h.full)
+
+  whole_not_stop : (X : Picture) (s : State) (f : PictureFault) → IsWholePicture X s → s ≡ State.AtFault f → ⊥
+  whole_not_stop X s f h e = let k : State.AtRaster false h.w h.h h.pixels ≡ State.AtFault f = sym h.is ∙ e in cc
+
+  same_whole : (X Y : Picture) (s : State) → IsWholePicture X s → IsWholePicture Y s → X ≡ Y
+  same_whole X Y s a b =
+      let e : State.AtRaster false a.w a.h a.pixels ≡ State.AtRaster false b.w b.h b.pixels = sym a.is ∙ b.is in
+      let w : a.w ≡ b.w = cc in
+      let h : a.h ≡ b.h = cc in
+      let p : a.pixels ≡ b.pixels = cc in
+      same_picture X Y (a.sides ∙ rw (w, h) (sym b.sides)) (codes_injective X.values Y.values (sym a.values ∙ p ∙ b.values))
+
+  -- before the last pixel
+  last_part : (raster : List ℕ) → 0 < length (pixels_of raster) → Last raster
+  last_part [] l = absurd (omega arith)
+  last_part (x ∷ raster) l = last_of x raster
+
+  some_product : (a b : ℕ) → 1 ≤ a → 1 ≤ b → 0 < a * b
+  some_product a b l m = grind arith
+
+  open_last : (X : Picture) (m : ℕ) (p : Plain form longest bytes X m) → IsOpenState form (state_of form (take p.last.0 bytes))
+  open_last X m p =
+      let k = p.last.0 in
+      let c = p.last.2.0 in
+      let i = p.front in
+      let w = number_value p.width in
+      let h = number_value p.height in
+      let e = whole_pixels X m p in
+      let some = some_product w h i.in_height.width_done.value.0 i.height_done.value.0 in
+      let r = last_part p.raster (omega arith) in
+      let head = i.before ++ i.gap ++ r.front in
+      let km : k + 1 ≡ m = p.last.1 in
+      let split : take m bytes ≡ head ++ r.last ∷ [] = i.front_is ∙ ap (λ (x : List ℕ). i.before ++ i.gap ++ x) r.is ∙ sym (append_assoc (i.before ++ i.gap) r.front (r.last ∷ [])) in
+      let within : k < length bytes = got_within bytes k c p.last.2.1 in
+      let full : length (take m bytes) ≡ m = length-take-le m bytes (omega arith) in
+      let len : length head ≡ k = omega (arith, ap length split, length_push head r.last) in
+      let got : slice_get (head ++ r.last ∷ []) k ≡ Some c = ap (λ (x : List ℕ). slice_get x k) (sym split) ∙ got_taken bytes k m (omega arith) ∙ p.last.2.1 in
+      let same : r.last ≡ c = got_last head r.last k c len got in
+      let pixel : is_pixel r.last ≡ true = rw same p.last.2.2 in
+      let before : take k bytes ≡ head = sym (take-take k m bytes (omega arith)) ∙ ap (take k) split ∙ take_at head (r.last ∷ []) k len in
+      let pixels : pixels_of p.raster ≡ pixels_of r.front ++ r.last ∷ [] = ap pixels_of r.is ∙ pixels_of-pixel r.front r.last (not_white_of_pixel r.last pixel) in
+      let one_less : length (pixels_of r.front) + 1 ≡ w * h = sym (length_push (pixels_of r.front) r.last) ∙ sym (ap length pixels) ∙ e in
+      let all : All (λ c. IsTrue (is_pixel c || is_white c)) r.front = All-same (λ c. IsTrue (is_pixel c || is_white c)) r.front (take (length r.front) p.raster) (sym (ap (take (length r.front)) r.is ∙ take_at r.front (r.last ∷ []) (length r.front) refl)) (All-take (λ c. IsTrue (is_pixel c || is_white c)) (length r.front) p.raster i.bytes) in
+      let state : state_of form (take k bytes) ≡ State.AtRaster false w h (pixels_of r.front) = ap (state_of form) before ∙ heading_run form i.before p.width p.height i.gap r.front i.in_height i.height_done i.is_gap all (omega (arith, one_less)) in
+      let less : length (pixels_of r.front) < w * h = omega (arith, one_less) in
+      subst (IsOpenState form) (sym state) less
+
+  -- ---- a fault
+
+  abbrev Ends : PictureFault → Type 0
+  Ends f = (end_state ≡ State.AtFault f) ⊎ (IsOpenState form end_state × (((length bytes < longest) × (f ≡ fault.Short (length bytes))) ⊎ ((longest ≤ length bytes) × (f ≡ fault.TooLong))))
+
+  decided_end : (i c : ℕ) (f : PictureFault) → i < longest → slice_get bytes i ≡ Some c → DecidesFault form (take i bytes) c f → end_state ≡ State.AtFault f
+  decided_end i c f l g d =
+      let r = split_got (take longest bytes) i c (got_taken bytes i longest l ∙ g) in
+      let t : take i (take longest bytes) ≡ take i bytes = take-take i longest bytes (omega arith) in
+      let rest = drop (suc i) (take longest bytes) in
+      ap (state_of form) (r.0 ∙ ap (λ (x : List ℕ). x ++ c ∷ rest) t) ∙ onward form (take i bytes) (c ∷ rest)
+      ∙ ap (λ (s : State). run form (length (take i bytes) + 1) s rest) (decided_step form (take i bytes) c f d) ∙ run_stop form rest (length (take i bytes) + 1) f
+
+  ends : (f : PictureFault) → PlainFault form longest bytes f → Ends f
+  ends fault.NotPlain (i, c, l, g, d) = inl (decided_end i c fault.NotPlain l g d)
+  ends (fault.BadNumber n) (i, c, l, g, d) = inl (decided_end i c (fault.BadNumber n) l g d)
+  ends fault.ZeroSide (i, c, l, g, d) = inl (decided_end i c fault.ZeroSide l g d)
+  ends (fault.SideTooLarge n) (i, c, l, g, d) = inl (decided_end i c (fault.SideTooLarge n) l g d)
+  ends (fault.BadByte n) (i, c, l, g, d) = inl (decided_end i c (fault.BadByte n) l g d)
+  ends (fault.Short n) (e, l, u) =
+      let t : take longest bytes ≡ bytes = take_all longest bytes (omega arith) in
+      inr (rw t (open_of form bytes u), inl (omega arith, ap fault.Short e))
+  ends fault.TooLong (l, u) = inr (open_of form (take longest bytes) u, inr (l, refl))
+
+  stop_not_open : (s : State) (f : PictureFault) → s ≡ State.AtFault f → IsOpenState form s → ⊥
+  stop_not_open s f e o = subst (IsOpenState form) e o
+
+  -- ---- the laws
+
+  pub one_picture : (X Y : Picture) (m n : ℕ) → Plain form longest bytes X m → Plain form longest bytes Y n → X ≡ Y
+  one_picture X Y m n p q = same_whole X Y end_state (whole_from X m longest p p.short) (whole_from Y n longest q q.short)
+
+  not_later : (X Y : Picture) (m n : ℕ) → Plain form longest bytes X m → Plain form longest bytes Y n → m < n → ⊥
+  not_later X Y m n p q l =
+      let k = q.last.0 in
+      whole_not_open X (state_of form (take k bytes)) (whole_from X m k p (omega (arith, q.last.1))) (open_last Y n q)
+
+  pub one_length : (X Y : Picture) (m n : ℕ) → Plain form longest bytes X m → Plain form longest bytes Y n → m ≡ n
+  one_length X Y m n p q =
+      ⊎_elim (λ l. absurd (not_later X Y m n p q l)) (λ l. ⊎_elim (λ k. absurd (not_later Y X n m q p k)) (λ k. omega arith) (cases_lt n m)) (cases_lt m n)
+
+  pub not_both : (X : Picture) (m : ℕ) (f : PictureFault) → Plain form longest bytes X m → PlainFault form longest bytes f → ⊥
+  not_both X m f p g =
+      let w = whole_from X m longest p p.short in
+      ⊎_elim (λ e. whole_not_stop X end_state f w e) (λ o. whole_not_open X end_state w o.0) (ends f g)
+
+  same_fault : (f g : PictureFault) → Ends f → Ends g → f ≡ g
+  same_fault f g (inl a) (inl b) = let e : State.AtFault f ≡ State.AtFault g = sym a ∙ b in cc
+  same_fault f g (inl a) (inr b) = absurd (stop_not_open end_state f a b.0)
+  same_fault f g (inr a) (inl b) = absurd (stop_not_open end_state g b a.0)
+  same_fault f g (inr (o, inl a)) (inr (p, inl b)) = a.1 ∙ sym b.1
+  same_fault f g (inr (o, inl a)) (inr (p, inr b)) = absurd (omega (arith, a.0, b.0))
+  same_fault f g (inr (o, inr a)) (inr (p, inl b)) = absurd (omega (arith, a.0, b.0))
+  same_fault f g (inr (o, inr a)) (inr (p, inr b)) = a.1 ∙ sym b.1
+
+  pub one_fault : (f g : PictureFault) → PlainFault form longest bytes f → PlainFault form longest bytes g → f ≡ g
+  one_fault f g a b = same_fault f g (ends f a) (ends g b)
+
+pub told_none : (form : PlainForm) (longest : ℕ) (all : Option (List ℕ)) (f : PictureFault) → IfTold all (λ bytes. PlainFault form longest bytes f) → IfTold all (SpellsNone form longest)
+told_none form longest None f h = tt
+told_none form longest (Some bytes) f h = λ s. not_both form longest bytes s.0 s.1.0 f s.1.1 h

@@ -1,0 +1,209 @@
+-- How a front of a plain PBM goes on by one byte.
+use Rattle.std.proofs.Common.{◌≡◌, ℕ, ◌+◌, ◌-◌, ◌*◌, ◌<◌, ◌≤◌, true, false, List, [], ◌∷◌, ◌++◌, refl, sym, ap, inl, inr, arith, Some, cond}
+use Rattle.std.specs.Prelude.{◌||◌, codes, IsTrue, slice_get, filter, not}
+use Rattle.std.proofs.lemmas.List.{append_assoc, append-nil}
+use Rattle.std.proofs.lemmas.List.Elements.{All-nil, All-push}
+use Rattle.std.proofs.lemmas.Grind.{fold-append}
+use Rattle.shape_picture.specs.declared.form.PlainForm.{PlainForm}
+use Rattle.shape_picture.specs.Plain.{is_white, is_line_end, is_pixel, IsDigit, IsGap, IsGapPiece, IsSide, IsInWidth, IsInHeight, IsInRaster, IsInPicture, number_value, pixels_of}
+use Rattle.shape_picture.specs.Header.{GapLeadsTo, CommentLeadsTo}
+
+-- ---- lists
+
+glue_gap : (front a b p : List ℕ) → front ≡ a ++ b ++ [] → front ++ p ≡ a ++ (b ++ p) ++ []
+glue_gap front a b p e = rw (e, append-nil, append-nil, append_assoc) refl
+
+glue_open : (front p : List ℕ) → front ++ p ≡ front ++ p ++ []
+glue_open front p = sym (append-nil (front ++ p))
+
+glue_byte : (front a b d : List ℕ) (c : ℕ) → front ≡ a ++ b ++ d → front ++ c ∷ [] ≡ a ++ b ++ (d ++ c ∷ [])
+glue_byte front a b d c e = rw (e, append_assoc) refl
+
+glue_text : (front a d : List ℕ) (c : ℕ) → front ≡ a ++ 35 ∷ d → front ++ c ∷ [] ≡ a ++ 35 ∷ (d ++ c ∷ [])
+glue_text front a d c e = rw (e, append_assoc) refl
+
+-- ---- gaps
+
+pub gap_push : {form : PlainForm} {gap piece : List ℕ} → IsGap form gap → IsGapPiece form piece → IsGap form (gap ++ piece)
+gap_push {piece} (IsGap.one {piece = p} h) q = IsGap.more p piece h (IsGap.one q)
+gap_push {piece} (IsGap.more p gap h g) q = rw append_assoc (IsGap.more p (gap ++ piece) h (gap_push g q))
+
+module _ (form : PlainForm) where
+  pub magic_opens : (front : List ℕ) → front ≡ codes "P1" → GapLeadsTo form (λ f. IsInWidth form f []) front
+  magic_opens front e = record {
+    may = inl e;
+    onward = λ piece p. record {
+      gap = piece;
+      is_gap = IsGap.one p;
+      digits_only = All-nil IsDigit;
+      within = omega arith;
+      front_is = rw e (glue_open (codes "P1") piece);
+    };
+  }
+
+  pub width_opens : (front : List ℕ) → IsInWidth form front [] → GapLeadsTo form (λ f. IsInWidth form f []) front
+  width_opens front h = record {
+    may = inr (inl ([], inl h, inl refl));
+    onward = λ piece p. record {
+      gap = h.gap ++ piece;
+      is_gap = gap_push h.is_gap p;
+      digits_only = All-nil IsDigit;
+      within = omega arith;
+      front_is = glue_gap front (codes "P1") h.gap piece h.front_is;
+    };
+  }
+
+  pub width_done_opens : (front digits : List ℕ) → IsInWidth form front digits → IsSide form digits → GapLeadsTo form (λ f. IsInHeight form f digits []) front
+  width_done_opens front digits h s = record {
+    may = inr (inl (digits, inl h, inr s));
+    onward = λ piece p. record {
+      before = front;
+      gap = piece;
+      in_width = h;
+      width_done = s;
+      is_gap = IsGap.one p;
+      digits_only = All-nil IsDigit;
+      within = omega arith;
+      front_is = glue_open front piece;
+    };
+  }
+
+  pub height_opens : (front width : List ℕ) → IsInHeight form front width [] → GapLeadsTo form (λ f. IsInHeight form f width []) front
+  height_opens front width h = record {
+    may = inr (inl ([], inr (width, h), inl refl));
+    onward = λ piece p. record {
+      before = h.before;
+      gap = h.gap ++ piece;
+      in_width = h.in_width;
+      width_done = h.width_done;
+      is_gap = gap_push h.is_gap p;
+      digits_only = All-nil IsDigit;
+      within = omega arith;
+      front_is = glue_gap front h.before h.gap piece h.front_is;
+    };
+  }
+
+  pub height_done_opens : (front width digits : List ℕ) → IsInHeight form front width digits → IsSide form digits → GapLeadsTo form (λ f. IsInRaster form f width digits []) front
+  height_done_opens front width digits h s = record {
+    may = inr (inl (digits, inr (width, h), inr s));
+    onward = λ piece p. record {
+      before = front;
+      gap = piece;
+      in_height = h;
+      height_done = s;
+      is_gap = IsGap.one p;
+      begins = λ c e. absurd (cc);
+      bytes = All-nil (λ c. IsTrue (is_pixel c || is_white c));
+      front_is = glue_open front piece;
+    };
+  }
+
+  -- a picture has pixels
+  some_pixels : (w h : ℕ) → 1 ≤ w → 1 ≤ h → 0 < w * h
+  some_pixels w h a b = grind arith
+
+  pub none_yet : (front width height : List ℕ) → IsInRaster form front width height [] → IsInPicture form front []
+  none_yet front width height h = (width, height, h, some_pixels (number_value width) (number_value height) h.in_height.width_done.value.0 h.height_done.value.0)
+
+  pub raster_opens : (front width height : List ℕ) → IsInRaster form front width height [] → GapLeadsTo form (λ f. IsInRaster form f width height []) front
+  raster_opens front width height h = record {
+    may = inr (inr (none_yet front width height h));
+    onward = λ piece p. record {
+      before = h.before;
+      gap = h.gap ++ piece;
+      in_height = h.in_height;
+      height_done = h.height_done;
+      is_gap = gap_push h.is_gap p;
+      begins = h.begins;
+      bytes = h.bytes;
+      front_is = glue_gap front h.before h.gap piece h.front_is;
+    };
+  }
+
+  -- ---- a byte more in a gap or a comment
+
+  module _ (T : List ℕ → Type 0) where
+    pub open_white : (front : List ℕ) (c : ℕ) → GapLeadsTo form T front → is_white c ≡ true → T (front ++ c ∷ [])
+    open_white front c h w = h.onward (c ∷ []) (IsGapPiece.white c w)
+
+    pub open_comment : (front : List ℕ) (c : ℕ) → IsTrue form.comments → GapLeadsTo form T front → c ≡ 35 → CommentLeadsTo form T (front ++ c ∷ [])
+    open_comment front c y h e = record {
+      before = front;
+      text = [];
+      allowed = y;
+      opens = h;
+      no_end = All-nil (λ b. is_line_end b ≡ false);
+      front_is = ap (λ (n : ℕ). front ++ n ∷ []) e;
+    }
+
+    pub comment_more : (front : List ℕ) (c : ℕ) → CommentLeadsTo form T front → is_line_end c ≡ false → CommentLeadsTo form T (front ++ c ∷ [])
+    comment_more front c h e = record {
+      before = h.before;
+      text = h.text ++ c ∷ [];
+      allowed = h.allowed;
+      opens = h.opens;
+      no_end = All-push (λ b. is_line_end b ≡ false) h.text c h.no_end e;
+      front_is = glue_text front h.before h.text c h.front_is;
+    }
+
+    pub comment_done : (front : List ℕ) (c : ℕ) → CommentLeadsTo form T front → is_line_end c ≡ true → T (front ++ c ∷ [])
+    comment_done front c h e =
+        rw (glue_text front h.before h.text c h.front_is) (h.opens.onward (35 ∷ (h.text ++ c ∷ [])) (IsGapPiece.comment h.allowed h.text c h.no_end e))
+
+  -- ---- a digit more
+
+  pub number_value-push : (digits : List ℕ) (c : ℕ) → number_value (digits ++ c ∷ []) ≡ number_value digits * 10 + (c - 48)
+  number_value-push digits c = fold-append (λ n c. n * 10 + (c - 48)) 0 digits (c ∷ [])
+
+  pub width_digit : (front digits : List ℕ) (c : ℕ) → IsInWidth form front digits → IsDigit c → number_value digits * 10 + (c - 48) ≤ form.limit → IsInWidth form (front ++ c ∷ []) (digits ++ c ∷ [])
+  width_digit front digits c h d l = record {
+    gap = h.gap;
+    is_gap = h.is_gap;
+    digits_only = All-push IsDigit digits c h.digits_only d;
+    within = rw (number_value-push digits c) l;
+    front_is = glue_byte front (codes "P1") h.gap digits c h.front_is;
+  }
+
+  pub height_digit : (front width digits : List ℕ) (c : ℕ) → IsInHeight form front width digits → IsDigit c → number_value digits * 10 + (c - 48) ≤ form.limit → IsInHeight form (front ++ c ∷ []) width (digits ++ c ∷ [])
+  height_digit front width digits c h d l = record {
+    before = h.before;
+    gap = h.gap;
+    in_width = h.in_width;
+    width_done = h.width_done;
+    is_gap = h.is_gap;
+    digits_only = All-push IsDigit digits c h.digits_only d;
+    within = rw (number_value-push digits c) l;
+    front_is = glue_byte front h.before h.gap digits c h.front_is;
+  }
+
+  -- ---- a byte more of the raster
+
+  first_of_push : (raster : List ℕ) (c : ℕ) → ((d : ℕ) → slice_get raster 0 ≡ Some d → IsTrue (is_pixel d)) → (raster ≡ [] → is_pixel c ≡ true) → (d : ℕ) → slice_get (raster ++ c ∷ []) 0 ≡ Some d → IsTrue (is_pixel d)
+  first_of_push [] c h p d e = let same : c ≡ d = cc in rw same at (p refl)
+  first_of_push (x ∷ raster) c h p d e = h d e
+
+  pub raster_byte : (front width height raster : List ℕ) (c : ℕ) → IsInRaster form front width height raster → (is_pixel c || is_white c) ≡ true → (raster ≡ [] → is_pixel c ≡ true) → IsInRaster form (front ++ c ∷ []) width height (raster ++ c ∷ [])
+  raster_byte front width height raster c h b p = record {
+    before = h.before;
+    gap = h.gap;
+    in_height = h.in_height;
+    height_done = h.height_done;
+    is_gap = h.is_gap;
+    begins = first_of_push raster c h.begins p;
+    bytes = All-push (λ c. IsTrue (is_pixel c || is_white c)) raster c h.bytes b;
+    front_is = glue_byte front h.before h.gap raster c h.front_is;
+  }
+
+filter_push : (p : ℕ → _) (xs : List ℕ) (c : ℕ) → filter p (xs ++ c ∷ []) ≡ filter p xs ++ cond (p c) (c ∷ []) []
+filter_push p [] c = refl
+filter_push p (x ∷ xs) c = cases (p x) (filter_push p xs c)
+  where
+    cases : (b : _) → filter p (xs ++ c ∷ []) ≡ filter p xs ++ cond (p c) (c ∷ []) [] → cond b (x ∷ filter p (xs ++ c ∷ [])) (filter p (xs ++ c ∷ [])) ≡ cond b (x ∷ filter p xs) (filter p xs) ++ cond (p c) (c ∷ []) []
+    cases true e = ap (λ (l : List ℕ). x ∷ l) e
+    cases false e = e
+
+pub pixels_of-white : (raster : List ℕ) (c : ℕ) → is_white c ≡ true → pixels_of (raster ++ c ∷ []) ≡ pixels_of raster
+pixels_of-white raster c e = rw (filter_push (λ c. not (is_white c)) raster c, e, append-nil) refl
+
+pub pixels_of-pixel : (raster : List ℕ) (c : ℕ) → is_white c ≡ false → pixels_of (raster ++ c ∷ []) ≡ pixels_of raster ++ c ∷ []
+pixels_of-pixel raster c e = rw (filter_push (λ c. not (is_white c)) raster c, e) refl

@@ -1,0 +1,9 @@
+pub mod Ahead
+pub mod Grammar
+pub mod HeaderSteps
+pub mod ByteSteps
+pub mod RasterSteps
+pub mod SomeAnswer
+pub mod Machine
+pub mod FrontStates
+pub mod AtMostOne

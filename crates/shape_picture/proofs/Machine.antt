@@ -1,0 +1,190 @@
+-- A file read whole by the machine: each front of it leads to one state, so no two answers fit one file.
+use Rattle.std.proofs.Common.{◌≡◌, ℕ, ◌+◌, ◌-◌, ◌*◌, ◌<◌, ◌≤◌, Bool, true, false, eqb, leb, fold, List, [], ◌∷◌, ◌++◌, length, Ok, Err, Result, All, refl, sym, ap, subst, ◌∙◌, ⊎_elim, arith}
+use Rattle.std.specs.Prelude.{◌||◌, ◌==◌, nat_lt, if◌then◌else◌, IsTrue, codes}
+use Rattle.std.proofs.lemmas.Bool.{eqb-true, ne_eqb, or_cases, lt-ltb, le-ltb, le-leb, and_from}
+use Rattle.std.proofs.lemmas.List.Elements.{All-head, All-tail}
+use Rattle.shape_picture.specs.declared.form.PlainForm.{PlainForm}
+use Rattle.shape_picture.specs.declared.fault.PictureFault.{PictureFault}
+use Rattle.shape_picture.specs.declared.header.Side.{Side}
+use Rattle.shape_picture.specs.declared.header.Side.TheVariants as side
+use Rattle.shape_picture.specs.declared.header.Coming.{Coming}
+use Rattle.shape_picture.specs.declared.header.Coming.TheVariants as coming
+use Rattle.shape_picture.specs.declared.header.Header.{Header}
+use Rattle.shape_picture.specs.declared.header.Header.TheVariants as header
+use Rattle.shape_picture.specs.declared.header.Progress.{Progress}
+use Rattle.shape_picture.specs.declared.header.Progress.TheVariants as progress
+use Rattle.shape_picture.specs.declared.raster.Piece.{Piece}
+use Rattle.shape_picture.specs.declared.raster.Piece.TheVariants as piece
+use Rattle.shape_picture.specs.Plain.{is_white, is_line_end, IsDigit, IsGap, IsGapPiece, IsSide, IsInWidth, IsInHeight, number_value}
+use Rattle.shape_picture.specs.Header.{is_digit, before_side, after_side, gap_of, digit_step, header_step}
+use Rattle.shape_picture.specs.Raster.{piece_of}
+
+pub data State : Type 0 where
+  AtHeader : Header → State
+  AtRaster : Bool → ℕ → ℕ → List ℕ → State
+  AtFault : PictureFault → State
+
+abbrev pub after_progress : Result Progress PictureFault → State
+after_progress (Ok (progress.More h)) = State.AtHeader h
+after_progress (Ok (progress.Done w h)) = State.AtRaster false w h []
+after_progress (Err f) = State.AtFault f
+
+abbrev pub after_piece : ℕ → ℕ → List ℕ → ℕ → Result Piece PictureFault → State
+after_piece w h px c (Ok piece.Gap) = State.AtRaster false w h px
+after_piece w h px c (Ok piece.Comment) = State.AtRaster true w h px
+after_piece w h px c (Ok (piece.Pixel b)) = State.AtRaster false w h (px ++ c ∷ [])
+after_piece w h px c (Err f) = State.AtFault f
+
+abbrev pub state_step : PlainForm → ℕ → State → ℕ → State
+state_step form at (State.AtHeader s) c = after_progress (header_step form at s c)
+state_step form at (State.AtRaster k w h px) c = if nat_lt (length px) (w * h) then after_piece w h px c (piece_of form k (length px) at c) else State.AtRaster k w h px
+state_step form at (State.AtFault f) c = State.AtFault f
+
+abbrev pub run : PlainForm → ℕ → State → List ℕ → State
+run form at s [] = s
+run form at s (c ∷ cs) = run form (at + 1) (state_step form at s c) cs
+
+abbrev pub gap_state : Coming → State
+gap_state t = after_progress (Ok (gap_of t))
+
+pub white_not_digit : (c : ℕ) → is_white c ≡ true → is_digit c ≡ false
+white_not_digit c e =
+    ⊎_elim (λ a. ⊎_elim (λ b. ⊎_elim (λ d. at 32 c (eqb-true c 32 d) refl) (λ d. at 9 c (eqb-true c 9 d) refl) (or_cases (c == 32) (c == 9) b))
+    (λ b. at 13 c (eqb-true c 13 b) refl) (or_cases ((c == 32) || (c == 9)) (c == 13) a))
+    (λ a. at 10 c (eqb-true c 10 a) refl) (or_cases (((c == 32) || (c == 9)) || (c == 13)) (c == 10) e)
+  where
+    at : (n c : ℕ) → c ≡ n → is_digit n ≡ false → is_digit c ≡ false
+    at n c e d = rw e d
+
+pub digit_yes : (c : ℕ) → IsDigit c → is_digit c ≡ true
+digit_yes c d = and_from (leb 48 c) (leb c 57) (le-leb 48 c d.0) (le-leb c 57 d.1)
+
+module _ (form : PlainForm) where
+  pub run-append : (xs ys : List ℕ) (at n : ℕ) (s : State) → n ≡ at + length xs → run form at s (xs ++ ys) ≡ run form n (run form at s xs) ys
+  run-append [] ys at n s e = let f : at ≡ n = omega arith in ap (λ (i : ℕ). run form i s ys) f
+  run-append (x ∷ xs) ys at n s e = run-append xs ys (at + 1) n (state_step form at s x) (omega arith)
+
+  pub run_stop : (xs : List ℕ) (at : ℕ) (f : PictureFault) → run form at (State.AtFault f) xs ≡ State.AtFault f
+  run_stop [] at f = refl
+  run_stop (x ∷ xs) at f = run_stop xs (at + 1) f
+
+  pub full_step : (at c w h : ℕ) (k : Bool) (px : List ℕ) → w * h ≤ length px → state_step form at (State.AtRaster k w h px) c ≡ State.AtRaster k w h px
+  full_step at c w h k px l = rw (le-ltb (length px) (w * h) l) refl
+
+  pub run_full : (xs : List ℕ) (at w h : ℕ) (k : Bool) (px : List ℕ) → w * h ≤ length px → run form at (State.AtRaster k w h px) xs ≡ State.AtRaster k w h px
+  run_full [] at w h k px l = refl
+  run_full (x ∷ xs) at w h k px l = rw (full_step at x w h k px l) (run_full xs (at + 1) w h k px l)
+
+  -- ---- gaps
+
+  -- neither a whole picture nor a fault
+  abbrev pub IsOpenState : State → Type 0
+  IsOpenState (State.AtHeader s) = Unit {0}
+  IsOpenState (State.AtRaster k w h px) = length px < w * h
+  IsOpenState (State.AtFault f) = ⊥
+
+  pub record IsCommentState (t : Coming) (s : State) : Type 0 where
+    pub stays : (at c : ℕ) → is_line_end c ≡ false → state_step form at s c ≡ s
+    pub ends : (at c : ℕ) → is_line_end c ≡ true → state_step form at s c ≡ gap_state t
+
+  pub record OpensGap (t : Coming) (s : State) : Type 0 where
+    pub white : (at c : ℕ) → is_white c ≡ true → state_step form at s c ≡ gap_state t
+    pub hash : (at : ℕ) → IsTrue form.comments → IsCommentState t (state_step form at s 35) × IsOpenState (state_step form at s 35)
+
+  head_comment : (t : Coming) → IsCommentState t (State.AtHeader (header.Comment t))
+  head_comment t = record { stays = λ at c e. rw e refl; ends = λ at c e. rw e refl }
+
+  pix_comment : (w h : ℕ) → 0 < w * h → IsCommentState (coming.Raster w h) (State.AtRaster true w h [])
+  pix_comment w h l = let n = lt-ltb 0 (w * h) l in record { stays = λ at c e. rw (n, e) refl; ends = λ at c e. rw (n, e) refl }
+
+  comment_at : (t : Coming) (s k : State) (at : ℕ) → state_step form at s 35 ≡ k → IsCommentState t k → IsOpenState k → IsCommentState t (state_step form at s 35) × IsOpenState (state_step form at s 35)
+  comment_at t s k at e c o = (subst (IsCommentState t) (sym e) c, subst IsOpenState (sym e) o)
+
+  pub magic_to : OpensGap coming.Width (State.AtHeader header.Magic)
+  magic_to = record { white = λ at c e. rw e refl; hash = λ at y. comment_at coming.Width (State.AtHeader header.Magic) (State.AtHeader (header.Comment coming.Width)) at (rw y refl) (head_comment coming.Width) tt }
+
+  pub gap_to : (s : Side) → OpensGap (before_side s) (State.AtHeader (header.Gap s))
+  gap_to s = record { white = λ at c e. rw (white_not_digit c e, e) refl; hash = λ at y. comment_at (before_side s) (State.AtHeader (header.Gap s)) (State.AtHeader (header.Comment (before_side s))) at (rw y refl) (head_comment (before_side s)) tt }
+
+  pub digits_to : (s : Side) (v : ℕ) → 1 ≤ v → OpensGap (after_side s v) (State.AtHeader (header.Digits s v))
+  digits_to s v l =
+      let n : eqb v 0 ≡ false = ne_eqb v 0 (λ e. omega arith) in
+      record { white = λ at c e. rw (white_not_digit c e, n, e) refl; hash = λ at y. comment_at (after_side s v) (State.AtHeader (header.Digits s v)) (State.AtHeader (header.Comment (after_side s v))) at (rw (n, y) refl) (head_comment (after_side s v)) tt }
+
+  pub raster_to : (w h : ℕ) → 0 < w * h → OpensGap (coming.Raster w h) (State.AtRaster false w h [])
+  raster_to w h l =
+      let n = lt-ltb 0 (w * h) l in
+      record { white = λ at c e. rw (n, e) refl; hash = λ at y. comment_at (coming.Raster w h) (State.AtRaster false w h []) (State.AtRaster true w h []) at (rw (n, y) refl) (pix_comment w h l) l }
+
+  pub text_run : (t : Coming) (s : State) (text : List ℕ) (at : ℕ) → IsCommentState t s → All (λ b. is_line_end b ≡ false) text → run form at s text ≡ s
+  text_run t s [] at k a = refl
+  text_run t s (x ∷ text) at k a =
+      rw (k.stays at x (All-head (λ b. is_line_end b ≡ false) x text a)) (text_run t s text (at + 1) k (All-tail (λ b. is_line_end b ≡ false) x text a))
+
+  piece_run : (t : Coming) (s : State) (p : List ℕ) (at : ℕ) → OpensGap t s → IsGapPiece form p → run form at s p ≡ gap_state t
+  piece_run t s _ at o (IsGapPiece.white c w) = o.white at c w
+  piece_run t s _ at o (IsGapPiece.comment y text c a e) =
+      let k = (o.hash at y).0 in
+      run-append text (c ∷ []) (at + 1) (at + 1 + length text) (state_step form at s 35) refl
+      ∙ rw (text_run t (state_step form at s 35) text (at + 1) k a) (k.ends (at + 1 + length text) c e)
+
+  pub gap_run : (t : Coming) (s : State) (gap : List ℕ) (at : ℕ) → OpensGap t (gap_state t) → OpensGap t s → IsGap form gap → run form at s gap ≡ gap_state t
+  gap_run t s _ at again o (IsGap.one {piece = p} h) = piece_run t s p at o h
+  gap_run t s _ at again o (IsGap.more p gap h g) =
+      run-append p gap at (at + length p) s refl ∙ rw (piece_run t s p at o h) (gap_run t (gap_state t) gap (at + length p) again again g)
+
+  -- ---- sides
+
+  abbrev value_from : ℕ → List ℕ → ℕ
+  value_from v ds = fold (λ n c. n * 10 + (c - 48)) v ds
+
+  value_above : (ds : List ℕ) (v : ℕ) → v ≤ value_from v ds
+  value_above [] v = omega arith
+  value_above (d ∷ ds) v = let k = value_above ds (v * 10 + (d - 48)) in omega arith
+
+  pub digit_goes : (s : Side) (v c : ℕ) → v * 10 + (c - 48) ≤ form.limit → digit_step form s v c ≡ Ok (progress.More (header.Digits s (v * 10 + (c - 48))))
+  digit_goes s v c l = rw (le-ltb form.limit (v * 10 + (c - 48)) l) refl
+
+  digits_run : (s : Side) (ds : List ℕ) (v at : ℕ) → All IsDigit ds → value_from v ds ≤ form.limit → run form at (State.AtHeader (header.Digits s v)) ds ≡ State.AtHeader (header.Digits s (value_from v ds))
+  digits_run s [] v at a l = refl
+  digits_run s (d ∷ ds) v at a l =
+      let m : v * 10 + (d - 48) ≤ form.limit = omega (arith, value_above ds (v * 10 + (d - 48))) in
+      rw (digit_yes d (All-head IsDigit d ds a), digit_goes s v d m) (digits_run s ds (v * 10 + (d - 48)) (at + 1) (All-tail IsDigit d ds a) l)
+
+  abbrev pub side_state : Side → List ℕ → State
+  side_state s [] = State.AtHeader (header.Gap s)
+  side_state s (d ∷ ds) = State.AtHeader (header.Digits s (number_value (d ∷ ds)))
+
+  pub side_run : (s : Side) (ds : List ℕ) (at : ℕ) → All IsDigit ds → number_value ds ≤ form.limit → run form at (State.AtHeader (header.Gap s)) ds ≡ side_state s ds
+  side_run s [] at a l = refl
+  side_run s (d ∷ ds) at a l =
+      let m : 0 * 10 + (d - 48) ≤ form.limit = omega (arith, value_above ds (0 * 10 + (d - 48))) in
+      rw (digit_yes d (All-head IsDigit d ds a), digit_goes s 0 d m) (digits_run s ds (0 * 10 + (d - 48)) (at + 1) (All-tail IsDigit d ds a) l)
+
+  pub side_to : (s : Side) (ds : List ℕ) → IsSide form ds → OpensGap (after_side s (number_value ds)) (side_state s ds)
+  side_to s [] h = absurd (omega (arith, h.some))
+  side_to s (d ∷ ds) h = digits_to s (number_value (d ∷ ds)) h.value.0
+
+  -- the state after a front from the beginning
+  abbrev pub state_of : List ℕ → State
+  state_of front = run form 0 (State.AtHeader header.Start) front
+
+  pub onward : (xs ys : List ℕ) → state_of (xs ++ ys) ≡ run form (length xs) (state_of xs) ys
+  onward xs ys = run-append xs ys 0 (length xs) (State.AtHeader header.Start) (omega arith)
+
+  pub width_run : (front digits : List ℕ) → IsInWidth form front digits → state_of front ≡ side_state side.Width digits
+  width_run front digits h =
+      rw h.front_is
+      (onward (codes "P1" ++ h.gap) digits
+      ∙ ap (λ (s : State). run form (length (codes "P1" ++ h.gap)) s digits) (onward (codes "P1") h.gap ∙ gap_run coming.Width (State.AtHeader header.Magic) h.gap 2 (gap_to side.Width) magic_to h.is_gap)
+      ∙ side_run side.Width digits (length (codes "P1" ++ h.gap)) h.digits_only h.within)
+
+  pub height_run : (front width digits : List ℕ) → IsInHeight form front width digits → state_of front ≡ side_state (side.Height (number_value width)) digits
+  height_run front width digits h =
+      let w = number_value width in
+      rw h.front_is
+      (onward (h.before ++ h.gap) digits
+      ∙ ap (λ (s : State). run form (length (h.before ++ h.gap)) s digits)
+      (onward h.before h.gap ∙ ap (λ (s : State). run form (length h.before) s h.gap) (width_run h.before width h.in_width)
+      ∙ gap_run (coming.Height w) (side_state side.Width width) h.gap (length h.before) (gap_to (side.Height w)) (side_to side.Width width h.width_done) h.is_gap)
+      ∙ side_run (side.Height w) digits (length (h.before ++ h.gap)) h.digits_only h.within)

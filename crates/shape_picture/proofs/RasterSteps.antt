@@ -1,0 +1,199 @@
+-- One byte of the raster after another.
+use Rattle.std.proofs.Common.{◌≡◌, ◌≢◌, ℕ, suc, ◌+◌, ◌-◌, ◌*◌, ◌<◌, ◌≤◌, Bool, true, false, cond, List, [], ◌∷◌, ◌++◌, length, set, map, replicate, Option, None, Some, Ok, Err, refl, sym, ap, ◌∙◌, inl, inr, ⊎_elim, arith}
+use Rattle.std.specs.Prelude.{◌&&◌, ◌==◌, slice_get, IsTrue}
+use Rattle.std.proofs.lemmas.Bool.{eqb-true, eqb-false, and_parts, and_cases, or_from, or_left, or_right, or_cases, cond_both, false≢true}
+use Rattle.std.proofs.lemmas.List.{append_assoc, append-nil, length-map, length_push, map_push, take_at, set_at}
+use Rattle.shape_picture.specs.declared.form.PlainForm.{PlainForm}
+use Rattle.shape_terms.specs.Points.{box_count}
+use Rattle.shape_terms.specs.Pictures.{Picture, blank}
+use Rattle.shape_desk.specs.Desk.{Takes}
+use Rattle.shape_desk.specs.Line.{IfTold, ahead_of}
+use Rattle.shape_picture.specs.declared.fault.PictureFault.TheVariants as fault
+use Rattle.shape_picture.specs.declared.raster.Piece.TheVariants as piece
+use Rattle.shape_picture.specs.Plain.{is_white, is_line_end, is_pixel, pixel_code, pixels_of, number_value, IsInRaster, IsUnfinished, DecidesFault, Plain}
+use Rattle.shape_picture.specs.declared.header.Coming.TheVariants as coming
+use Rattle.shape_picture.specs.Header.{IsInGap}
+use Rattle.shape_picture.specs.Raster.{piece_of, HasPixels, RasterGoesOn, PieceAnswer, PictureSoFar}
+use Rattle.shape_picture.specs.Answers.{PictureRead, SpellsPicture}
+use Rattle.shape_picture.specs.Parts.{BytesTaken}
+use Rattle.shape_picture.proofs.Grammar.{raster_opens, open_white, open_comment, comment_more, comment_done, raster_byte, pixels_of-white, pixels_of-pixel}
+use Rattle.shape_picture.proofs.ByteSteps.{taken_within}
+
+pixel_is : (c : ℕ) → is_pixel c ≡ true → c ≡ pixel_code (c == 49)
+pixel_is c e =
+    ⊎_elim (λ a. let f : c ≡ 48 = eqb-true c 48 a in rw f refl) (λ a. let f : c ≡ 49 = eqb-true c 49 a in rw f refl) (or_cases (c == 48) (c == 49) e)
+
+code_not_white : (b : Bool) → is_white (pixel_code b) ≡ false
+code_not_white true = refl
+code_not_white false = refl
+
+code_pixel : (b : Bool) → is_pixel (pixel_code b) ≡ true
+code_pixel true = refl
+code_pixel false = refl
+
+module _ (form : PlainForm) where
+  white_goes : (front : List ℕ) (c : ℕ) (width height raster : List ℕ) → IsInRaster form front width height raster → is_white c ≡ true → RasterGoesOn form front c width height raster piece.Gap
+  white_goes front c width height [] h w = ([], open_white form (λ f. IsInRaster form f width height []) front c (raster_opens form front width height h) w, refl, λ _. refl)
+  white_goes front c width height (x ∷ raster) h w =
+      (x ∷ raster ++ c ∷ [], raster_byte form front width height (x ∷ raster) c h (or_right (is_pixel c) (is_white c) w) (λ e. absurd (cc)), pixels_of-white (x ∷ raster) c w, λ e. absurd (cc))
+
+  comment_goes : (front : List ℕ) (c : ℕ) (width height raster : List ℕ) → IsTrue form.comments → IsInRaster form front width height raster → raster ≡ [] → c ≡ 35 → RasterGoesOn form front c width height raster piece.Comment
+  comment_goes front c width height [] y h e k = (refl, (refl, open_comment form (λ f. IsInRaster form f width height []) front c y (raster_opens form front width height h) k))
+  comment_goes front c width height (x ∷ raster) y h e k = absurd (cc)
+
+  bad_byte : (at n : ℕ) (front : List ℕ) (c : ℕ) (width height raster : List ℕ) → at ≡ length front → HasPixels form false n front width height raster → is_white c ≡ false → (form.comments && ((n == 0) && (c == 35))) ≡ false → is_pixel c ≡ false → DecidesFault form front c (fault.BadByte at)
+  bad_byte at n front c width height raster e h w k p =
+      let hash : IsTrue form.comments → raster ≡ [] → c ≢ 35 = λ y r. let k : ((n == 0) && (c == 35)) ≡ false = ⊎_elim (λ z. absurd (false≢true (sym z ∙ y))) (λ z. z) (and_cases form.comments ((n == 0) && (c == 35)) k) in ⊎_elim (λ z. absurd (eqb-false n 0 z (sym h.pixels ∙ ap (λ (l : List ℕ). length (pixels_of l)) r))) (λ z. eqb-false c 35 z) (and_cases (n == 0) (c == 35) k) in
+      let few : length (pixels_of raster) < number_value width * number_value height = omega (arith, h.pixels, h.fewer) in
+      (e, (raster, (width, height, h.at, few), hash), or_from (is_pixel c) (is_white c) p w)
+
+  pub piece_answer : (at n : ℕ) (comment : Bool) (front : List ℕ) (c : ℕ) (width height raster : List ℕ) → at ≡ length front → HasPixels form comment n front width height raster → PieceAnswer form front c width height raster (piece_of form comment n at c)
+  piece_answer at n true front c width height raster e h =
+      cond_both (is_line_end c) (Ok piece.Gap) (Ok piece.Comment) (PieceAnswer form front c width height raster)
+      (λ l. ([], comment_done form (λ f. IsInRaster form f width height []) front c h.at.1 l, rw h.at.0 refl, λ _. refl))
+      (λ l. (h.at.0, (h.at.0, comment_more form (λ f. IsInRaster form f width height []) front c h.at.1 l)))
+  piece_answer at n false front c width height raster e h =
+      cond_both (is_white c) (Ok piece.Gap) _ (PieceAnswer form front c width height raster)
+      (λ w. white_goes front c width height raster h.at w)
+      (λ w. cond_both (form.comments && ((n == 0) && (c == 35))) (Ok piece.Comment) _ (PieceAnswer form front c width height raster)
+      (λ k. let y = and_parts form.comments ((n == 0) && (c == 35)) k in let q = and_parts (n == 0) (c == 35) y.1 in comment_goes front c width height raster y.0 h.at (h.none (eqb-true n 0 q.0)) (eqb-true c 35 q.1))
+      (λ k. cond_both (is_pixel c) (Ok (piece.Pixel (c == 49))) (Err (fault.BadByte at)) (PieceAnswer form front c width height raster)
+      (λ p. (raster_byte form front width height raster c h.at (or_left (is_pixel c) (is_white c) p) (λ _. p), pixel_is c p))
+      (λ p. bad_byte at n front c width height raster e h w k p)))
+
+  pub raster_unfinished : (n : ℕ) (comment : Bool) (front width height raster : List ℕ) → HasPixels form comment n front width height raster → IsUnfinished form front
+  raster_unfinished n true front width height raster h =
+      let k = h.at.1 in inr (inr (inr (record { before = k.before; text = k.text; allowed = k.allowed; may = k.opens.may; no_end = k.no_end; front_is = k.front_is })))
+  raster_unfinished n false front width height raster h =
+      let few : length (pixels_of raster) < number_value width * number_value height = omega (arith, h.pixels, h.fewer) in
+      inr (inr (inl (raster, (width, height, h.at, few))))
+
+-- ---- the picture
+
+-- its values once one more is read
+abbrev pub put_value : List Bool → ℕ → Bool → List Bool
+put_value values n b = cond b (set values n true) values
+
+pub values_next : (known values : List Bool) (n k : ℕ) (b : Bool) → values ≡ known ++ false ∷ replicate k false → length known ≡ n → put_value values n b ≡ (known ++ b ∷ []) ++ replicate k false
+values_next known values n k true e l = rw (e, set_at known false (replicate k false) true n l, append_assoc known (true ∷ []) (replicate k false)) refl
+values_next known values n k false e l = e ∙ sym (append_assoc known (false ∷ []) (replicate k false))
+
+pub replicate_less : (k n t : ℕ) → n < t → k ≡ t - (n + 1) → replicate (t - n) false ≡ false ∷ replicate k false
+replicate_less k n t l e = let m : t - n ≡ suc k = omega arith in rw m refl
+
+pixels_next : (raster : List ℕ) (values : List Bool) (c : ℕ) (b : Bool) → pixels_of raster ≡ map pixel_code values → c ≡ pixel_code b → pixels_of (raster ++ c ∷ []) ≡ map pixel_code (values ++ b ∷ [])
+pixels_next raster values c b e k =
+    pixels_of-pixel raster c (rw k (code_not_white b)) ∙ rw (e, k) (sym (map_push pixel_code values b))
+
+module _ (form : PlainForm) (X Y : Picture) (comment : Bool) (n : ℕ) (front : List ℕ) (b : Bool) where
+  pub pixel_next : (h : PictureSoFar form X comment n front) (c : ℕ) → RasterGoesOn form front c h.width h.height h.raster (piece.Pixel b) → Y.sides ≡ X.sides → Y.values ≡ put_value X.values n b → n + 1 < number_value h.width * number_value h.height → PictureSoFar form Y false (n + 1) (front ++ c ∷ [])
+  pixel_next h c g s e l =
+      let t = number_value h.width * number_value h.height in
+      let p = pixels_next h.raster h.known c b h.pixels g.1 in
+      record {
+        width = h.width;
+        height = h.height;
+        raster = h.raster ++ c ∷ [];
+        known = h.known ++ b ∷ [];
+        within = record {
+          at = g.0;
+          none = λ z. absurd (omega arith);
+          pixels = ap length p ∙ length-map (h.known ++ b ∷ []) pixel_code ∙ length_push h.known b ∙ ap (λ (i : ℕ). i + 1) h.count;
+          fewer = l;
+        };
+        sides = s ∙ h.sides;
+        pixels = p;
+        count = length_push h.known b ∙ ap (λ (i : ℕ). i + 1) h.count;
+        values = e ∙ values_next h.known X.values n (t - (n + 1)) b (h.values ∙ ap (λ (l : List Bool). h.known ++ l) (replicate_less (t - (n + 1)) n t h.within.fewer refl)) h.count;
+      }
+
+  -- the last pixel was read
+  pub spelled : (longest : ℕ) (rest : List ℕ) (h : PictureSoFar form X comment n front) (c : ℕ) → RasterGoesOn form front c h.width h.height h.raster (piece.Pixel b) → Y.sides ≡ X.sides → Y.values ≡ put_value X.values n b → n + 1 ≡ number_value h.width * number_value h.height → length front < longest → Plain form longest ((front ++ c ∷ []) ++ rest) Y (length front + 1)
+  spelled longest rest h c g s e l m =
+      let t = number_value h.width * number_value h.height in
+      let p = pixels_next h.raster h.known c b h.pixels g.1 in
+      let z : t - (n + 1) ≡ 0 = omega arith in
+      let filled : Y.values ≡ h.known ++ b ∷ [] =
+      e ∙ values_next h.known X.values n (t - (n + 1)) b (h.values ∙ ap (λ (l : List Bool). h.known ++ l) (replicate_less (t - (n + 1)) n t h.within.fewer refl)) h.count
+      ∙ ap (λ (i : ℕ). (h.known ++ b ∷ []) ++ replicate i false) z ∙ append-nil (h.known ++ b ∷ []) in
+      let k : length (front ++ c ∷ []) ≡ length front + 1 = length_push front c in
+      let many : length Y.values ≡ t = ap length filled ∙ length_push h.known b ∙ ap (λ (i : ℕ). i + 1) h.count ∙ l in
+      let box : box_count Y.sides ≡ t = ap box_count (s ∙ h.sides) ∙ (let q : number_value h.width * (number_value h.height * 1) ≡ t = grind arith in q) in
+      record {
+        width = h.width;
+        height = h.height;
+        raster = h.raster ++ c ∷ [];
+        front = rw (take_at (front ++ c ∷ []) rest (length front + 1) k) g.0;
+        sides = s ∙ h.sides;
+        values = rw filled p;
+        filled = many ∙ sym box;
+        last = (length front, refl, (c, byte_then front rest c, rw g.1 (code_pixel b)));
+        short = omega arith;
+      }
+    where
+      byte_then : (front rest : List ℕ) (c : ℕ) → slice_get ((front ++ c ∷ []) ++ rest) (length front) ≡ Some c
+      byte_then [] rest c = refl
+      byte_then (x ∷ front) rest c = byte_then front rest c
+
+  pub pixel_last : (longest at : ℕ) (all left : Option (List ℕ)) (ahead : List ℕ) (h : PictureSoFar form X comment n front) (c : ℕ) → RasterGoesOn form front c h.width h.height h.raster (piece.Pixel b) → Y.sides ≡ X.sides → Y.values ≡ put_value X.values n b → n + 1 ≡ number_value h.width * number_value h.height → length front < longest → BytesTaken longest at all left ahead (front ++ c ∷ []) → PictureRead form longest all left Y
+  pixel_last longest at all left ahead h c g s e l m t =
+      record { spells = told all (ahead_of ahead left) t.takes; within = taken_within longest at all left ahead (front ++ c ∷ []) t }
+    where
+      told : (all rest : Option (List ℕ)) → Takes all rest (front ++ c ∷ []) → IfTold all (SpellsPicture form longest Y)
+      told all None k = rw k tt
+      told all (Some xs) k = rw k (length front + 1, spelled longest xs h c g s e l m)
+
+pub gap_next : (form : PlainForm) (X : Picture) (comment : Bool) (n : ℕ) (front : List ℕ) (h : PictureSoFar form X comment n front) (c : ℕ) → RasterGoesOn form front c h.width h.height h.raster piece.Gap → PictureSoFar form X false n (front ++ c ∷ [])
+gap_next form X comment n front h c g = record {
+  width = h.width;
+  height = h.height;
+  raster = g.0;
+  known = h.known;
+  within = record { at = g.1; none = λ z. g.3 (h.within.none z); pixels = ap length g.2 ∙ h.within.pixels; fewer = h.within.fewer };
+  sides = h.sides;
+  pixels = g.2 ∙ h.pixels;
+  count = h.count;
+  values = h.values;
+}
+
+pub comment_next : (form : PlainForm) (X : Picture) (comment : Bool) (n : ℕ) (front : List ℕ) (h : PictureSoFar form X comment n front) (c : ℕ) → RasterGoesOn form front c h.width h.height h.raster piece.Comment → PictureSoFar form X true n (front ++ c ∷ [])
+comment_next form X comment n front h c g = record {
+  width = h.width;
+  height = h.height;
+  raster = h.raster;
+  known = h.known;
+  within = record { at = g.1; none = h.within.none; pixels = h.within.pixels; fewer = h.within.fewer };
+  sides = h.sides;
+  pixels = h.pixels;
+  count = h.count;
+  values = h.values;
+}
+
+pub total_is : (form : PlainForm) (X : Picture) (comment : Bool) (n : ℕ) (front : List ℕ) (h : PictureSoFar form X comment n front) → box_count X.sides ≡ number_value h.width * number_value h.height
+total_is form X comment n front h = ap box_count h.sides ∙ times_one (number_value h.width) (number_value h.height)
+  where
+    times_one : (a b : ℕ) → a * (b * 1) ≡ a * b
+    times_one a b = grind arith
+
+-- after the header
+pub pixels_start : (form : PlainForm) (w h : ℕ) (X : Picture) (n : List ℕ) (front : List ℕ) → IsInGap form (coming.Raster w h) front → X ≡ blank n → n ≡ w ∷ h ∷ [] → PictureSoFar form X false 0 front
+pixels_start form w h X n front (width, height, a, b, r) e s =
+    let sides : n ≡ number_value width ∷ number_value height ∷ [] = s ∙ rw (a, b) refl in
+    let t = some_product (number_value width) (number_value height) r.in_height.width_done.value.0 r.height_done.value.0 in
+    record {
+      width = width;
+      height = height;
+      raster = [];
+      known = [];
+      within = record { at = r; none = λ _. refl; pixels = refl; fewer = t };
+      sides = ap (λ (X : Picture). X.sides) e ∙ sides;
+      pixels = refl;
+      count = refl;
+      values = ap (λ (X : Picture). X.values) e ∙ ap (λ (i : ℕ). replicate i false) (ap box_count sides ∙ one_less (number_value width) (number_value height));
+    }
+  where
+    some_product : (a b : ℕ) → 1 ≤ a → 1 ≤ b → 0 < a * b
+    some_product a b l m = grind arith
+
+    one_less : (a b : ℕ) → a * (b * 1) ≡ a * b - 0
+    one_less a b = grind arith

@@ -1,0 +1,23 @@
+use Rattle.std.proofs.Common.{◌<◌, length, sym, subst, arith}
+use Rattle.shape_desk.specs.declared.desk.Place.TheVariants.{Picture}
+use Rattle.shape_picture.specs.Raster.{PieceAnswer}
+use Rattle.shape_picture.proofs.RasterSteps.{piece_answer, raster_unfinished}
+use Rattle.shape_picture.proofs.ByteSteps.{stops_bad}
+use Rattle.shape_picture.proofs.plain.next_piece.Goals as goal
+
+pub returns-in-Ok-piece_at-clause-answer : goal.returns-in-Ok-piece_at-clause-answer
+returns-in-Ok-piece_at-clause-answer g c = λ all front width height raster t r. record {
+  byte = c.in-Ok.c;
+  goes = subst (λ x. PieceAnswer c.args.form front c.in-Ok.c width height raster x) (sym c.in-Ok-piece_at.ensures) (piece_answer c.args.form c.args.at c.args.count c.args.comment front c.in-Ok.c width height raster (sym t.many) r);
+  taken = c.in-Ok.ensures.answer c.args.form all front t (raster_unfinished c.args.form c.args.count c.args.comment front width height raster r);
+}
+
+pub returns-in-Err-piece_at-clause-answer : goal.returns-in-Err-piece_at-clause-answer
+returns-in-Err-piece_at-clause-answer g c = λ all front width height raster t r.
+    let few : length front < c.args.longest = omega (arith, t.many, c.requires.more) in
+    stops_bad c.args.form c.args.longest c.args.at all (g.D.Desk.left c.next_byte.new.desk Picture) c.next_byte.new.bytes front c.in-Ok.c (g.D.Desk.read_faults c.args.desk.now) (g.D.Desk.read_faults c.next_byte.new.desk) c.in-Err-piece_at.fault
+    (c.in-Ok.ensures.answer c.args.form all front t (raster_unfinished c.args.form c.args.count c.args.comment front width height raster r)) few
+    (subst (λ x. PieceAnswer c.args.form front c.in-Ok.c width height raster x) (sym c.in-Err-piece_at.ensures) (piece_answer c.args.form c.args.at c.args.count c.args.comment front c.in-Ok.c width height raster (sym t.many) r))
+
+pub returns-in-Err-clause-answer : goal.returns-in-Err-clause-answer
+returns-in-Err-clause-answer g c = λ all front width height raster t r. c.in-Err.ensures.answer c.args.form all front t (raster_unfinished c.args.form c.args.count c.args.comment front width height raster r)

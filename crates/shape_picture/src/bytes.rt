@@ -1,0 +1,114 @@
+//! Bytes of the picture's place, taken one by one and read ahead in pieces.
+//! Never more bytes are read than the caller still wants; the size of a piece is this file's own.
+ghost use Rattle.std.specs.Prelude.{◌≡◌, ◌+◌, ◌-◌, ◌≤◌, max, [], ◌∷◌, true, length, take, drop, IfOk, OnOk, OnErr, MatchResult, MatchOption, option_to_list};
+ghost use Rattle.shape_desk.specs.Desk.{Rose, Takes, IsEnd};
+ghost use Rattle.shape_desk.specs.Line.{ahead_of};
+ghost use Rattle.shape_desk.specs.declared.desk.Place.TheVariants.{Picture};
+ghost use Rattle.shape_picture.specs.Answers.{OnlyReads};
+ghost use Rattle.shape_picture.specs.Bytes.{NextByte};
+
+use shape_desk::{Desk, Failed, Place};
+use shape_space::NoMemory;
+use std::alloc::Global;
+use std::marker::Model;
+
+/// The bytes at the picture's place, some of them read ahead. Contracts see the bytes that are ahead.
+#[derive(Drop)]
+pub struct ByteReader {
+    buf: Vec<u8>,
+    start: usize,
+    end: usize,
+}
+
+impl Model for ByteReader {
+    ghost use Rattle.std.specs.Prelude.{◌≡◌, ◌≤◌, ◌-◌, ℕ, List, take, drop};
+
+    ghost Value = { List ℕ };
+
+    ghost view = { λ r. take (r.end - r.start) (drop r.start r.buf.items) };
+
+    ghost invariant = { λ r. (r.buf.len ≡ 512) × (r.start ≤ r.end) × (r.end ≤ 512) };
+}
+
+// Reads the next bytes of the file, not more than are wanted.
+fn fill<D: Desk>(buf: &mut [u8], desk: &mut D, most: u64) -> Result<usize, Failed>
+    requires size { length buf.old ≡ 512 }
+    requires most { 1 ≤ most }
+    requires begun { D.begun desk.old Picture ≡ true }
+    ensures size { length buf.new ≡ 512 }
+    ensures count { IfOk result (λ n. (n ≤ 512) × (n ≤ most)) }
+    ensures taken { IfOk result (λ n. Takes (D.left desk.old Picture) (D.left desk.new Picture) (take n buf.new)) }
+    ensures end { IfOk result (λ n. n ≡ 0 → IsEnd (D.left desk.old Picture)) }
+    ensures cause { OnErr result (Rose (D.read_faults desk.old) (D.read_faults desk.new)) }
+    ensures kept { OnErr result (D.left desk.new Picture ≡ D.left desk.old Picture) }
+    ensures reads { OnlyReads D.files D.left D.written D.begun D.read_faults D.write_faults desk.old desk.new }
+{
+    let want = most.min(512) as usize;
+    desk.read(Place::Picture, &mut buf[..want])
+}
+
+impl ByteReader {
+    /// A reader with nothing ahead. It takes 512 bytes of memory.
+    pub fn new(alloc: Global) -> Result<ByteReader, NoMemory>
+        ensures { IfOk result (λ r. r ≡ []) }
+    {
+        match vec![in alloc; 0; 512] {
+            Ok(buf) => Ok(ByteReader {
+                buf,
+                start: 0,
+                end: 0,
+            }),
+            Err(_) => Err(NoMemory),
+        }
+    }
+
+    // Reads bytes ahead where there are none.
+    fn refill<D: Desk>(&mut self, desk: &mut D, most: u64) -> Result<(), Failed>
+        requires most { 1 ≤ most }
+        requires begun { D.begun desk.old Picture ≡ true }
+        ensures same { ahead_of self.new (D.left desk.new Picture) ≡ ahead_of self.old (D.left desk.old Picture) }
+        ensures end { OnOk result (self.new ≡ [] → IsEnd (D.left desk.new Picture)) }
+        ensures cause { OnErr result (Rose (D.read_faults desk.old) (D.read_faults desk.new)) }
+        ensures room { length self.new ≤ max (length self.old) most }
+        ensures reads { OnlyReads D.files D.left D.written D.begun D.read_faults D.write_faults desk.old desk.new }
+    {
+        if self.start < self.end {
+            return Ok(());
+        }
+        match fill(&mut self.buf, desk, most) {
+            Ok(count) => {
+                self.start = 0;
+                self.end = count;
+                Ok(())
+            }
+            Err(failed) => Err(failed),
+        }
+    }
+
+    // Takes the next of the bytes that were read ahead.
+    fn pop(&mut self) -> Option<u8>
+        ensures { MatchOption result ((self.old ≡ []) × (self.new ≡ [])) (λ c. self.old ≡ c ∷ self.new) }
+    {
+        if self.start < self.end {
+            let c = self.buf[self.start];
+            self.start += 1;
+            Some(c)
+        } else {
+            None
+        }
+    }
+
+    /// Takes the next byte; none is left at the end of the file. At most `most` bytes are then ahead, unless more were before.
+    pub fn next<D: Desk>(&mut self, desk: &mut D, most: u64) -> Result<Option<u8>, Failed>
+        requires most { 1 ≤ most }
+        requires begun { D.begun desk.old Picture ≡ true }
+        ensures next { NextByte (ahead_of self.old (D.left desk.old Picture)) (ahead_of self.new (D.left desk.new Picture)) (D.read_faults desk.old) (D.read_faults desk.new) result }
+        ensures room { MatchResult result (λ o. length self.new + length (option_to_list o) ≤ max (length self.old) most) (λ _. length self.new ≤ max (length self.old) most) }
+        ensures reads { OnlyReads D.files D.left D.written D.begun D.read_faults D.write_faults desk.old desk.new }
+    {
+        match self.refill(desk, most) {
+            Ok(()) => Ok(self.pop()),
+            Err(failed) => Err(failed),
+        }
+    }
+}

@@ -1,0 +1,38 @@
+//! What can be wrong with the bytes of a picture, and why a call gave none.
+//! A further format brings its own faults; the exact place of each is said in `specs/Plain.antt`.
+use thiserror::Error;
+
+/// What is wrong with the bytes of a picture. The first byte that decides, in file order, decides the fault.
+///
+/// Places of bytes count from 0.
+#[derive(Clone, Copy, Debug, PartialEq, Eq)]
+pub enum PictureFault {
+    /// One of the first three bytes is not `P`, `1`, and white space or the `#` of a comment, in turn.
+    NotPlain,
+    /// The byte at this place can follow in no header.
+    BadNumber { at: u64 },
+    /// A side is 0.
+    ZeroSide,
+    /// The digits of a side so far have this value, the first that passes the greatest side.
+    SideTooLarge { value: u32 },
+    /// The byte at this place of the raster is neither a pixel nor white space.
+    BadByte { at: u64 },
+    /// The file ends before the last pixel: this is its length.
+    Short { at: u64 },
+    /// The picture is not complete after the greatest number of bytes.
+    TooLong,
+}
+
+/// Why there is no picture.
+#[derive(Clone, Copy, Debug, PartialEq, Eq, Error)]
+pub enum PictureError {
+    /// The bytes spell no picture.
+    #[error("the bytes spell no picture: {0:?}")]
+    Bad(PictureFault),
+    /// A read failed.
+    #[error("the picture could not be read")]
+    ReadFault,
+    /// There was no memory for the reader or the grid.
+    #[error("there is no memory for the picture")]
+    NoMemory,
+}
