@@ -244,6 +244,18 @@ pub const MOST_SIDE: u32 = P2::MAX_SIDE as u32;
 /// How many bytes a plain PBM has at most, up to and with its last pixel.
 pub const MOST_BYTES: u64 = 1 << 25;
 
+// Plain PBM with comments.
+const WHOLE_FORM: PlainForm = PlainForm {
+    limit: MOST_SIDE,
+    comments: true,
+};
+
+// Plain PBM without comments.
+const BARE_FORM: PlainForm = PlainForm {
+    limit: MOST_SIDE,
+    comments: false,
+};
+
 /// Reads the plain PBM at the front of the picture's place.
 ///
 /// What follows the last pixel is not looked at, but may have been taken from the desk. It takes memory for 512 bytes
@@ -256,11 +268,7 @@ pub fn read_plain<D: Desk>(alloc: Global, desk: &mut D) -> Result<Grid<P2>, Pict
     ensures reads { OnlyReads D.files D.left D.written D.begun D.read_faults D.write_faults
         desk.old desk.new }
 {
-    let form = PlainForm {
-        limit: MOST_SIDE,
-        comments: true,
-    };
-    read_within(alloc, form, MOST_BYTES, desk)
+    read_within(alloc, WHOLE_FORM, MOST_BYTES, desk)
 }
 
 /// Reads the plain PBM without comments at the front of the picture's place. Every other file is `NotPlain`.
@@ -271,11 +279,7 @@ pub fn read_bare<D: Desk>(alloc: Global, desk: &mut D) -> Result<Grid<P2>, Pictu
     ensures reads { OnlyReads D.files D.left D.written D.begun D.read_faults D.write_faults
         desk.old desk.new }
 {
-    let form = PlainForm {
-        limit: MOST_SIDE,
-        comments: false,
-    };
-    match read_within(alloc, form, MOST_BYTES, desk) {
+    match read_within(alloc, BARE_FORM, MOST_BYTES, desk) {
         Ok(grid) => Ok(grid),
         Err(PictureError::Bad(_)) => Err(PictureError::Bad(PictureFault::NotPlain)),
         Err(error) => Err(error),
@@ -333,13 +337,7 @@ mod tests {
         match reader {
             Reader::Plain => read_plain(alloc, &mut desk),
             Reader::Bare => read_bare(alloc, &mut desk),
-            Reader::Within(longest) => {
-                let form = PlainForm {
-                    limit: MOST_SIDE,
-                    comments: true,
-                };
-                read_within(alloc, form, longest, &mut desk)
-            }
+            Reader::Within(longest) => read_within(alloc, WHOLE_FORM, longest, &mut desk),
         }
     }
 
