@@ -48,8 +48,10 @@ pub OnlyReads-more : {D : Type 0} {files : D → Option Files} {left : D → Pla
 OnlyReads-more p q = record {
   still_begun = q.still_begun;
   later = omega (arith, p.later, q.later);
-  same_report = q.same_report ∙ p.same_report;
-  same_begun = q.same_begun ∙ p.same_begun;
+  report = record {
+    same_left = q.report.same_left ∙ p.report.same_left;
+    same_begun = q.report.same_begun ∙ p.report.same_begun;
+  };
   output = record {
     same_files = q.output.same_files ∙ p.output.same_files;
     same_written = q.output.same_written ∙ p.output.same_written;
