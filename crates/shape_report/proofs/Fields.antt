@@ -1,6 +1,6 @@
 -- The fields of a line: what their words are, and why words begin with no field.
 -- Laws over lists of words; a further kind of field brings its own few here.
-use Rattle.std.proofs.Common.{◌≡◌, ◌≢◌, ℕ, suc, ◌+◌, ◌<◌, ◌≤◌, ◌^◌, ℤ, pos, negsuc, Result, Ok, Err, List, [], ◌∷◌, ◌++◌, length, get_or, set, take, drop, refl, sym, ap, subst, ◌∙◌, min, arith, FitsSigned, append-nil, append_assoc}
+use Rattle.std.proofs.Common.{◌≡◌, ◌≢◌, ℕ, suc, ◌+◌, ◌<◌, ◌≤◌, ℤ, pos, negsuc, Result, Ok, Err, List, [], ◌∷◌, ◌++◌, length, get_or, set, take, drop, refl, sym, ap, subst, ◌∙◌, min, arith, FitsSigned, append-nil, append_assoc}
 use Rattle.std.specs.Prelude.{All, nat_abs}
 use Rattle.std.specs.Int.{w32, w64, FitsUnsignedBits}
 use Rattle.std.specs.Fmt.{decimal, signed_decimal}

@@ -1,6 +1,6 @@
 -- What reading the words of a line answers.
 -- The words of a text, one field at its front, and a whole line; each answer is said for both outcomes.
-use Rattle.std.specs.Prelude.{◌≡◌, ◌≢◌, ◌==◌, ℕ, ℤ, List, [], ◌∷◌, ◌++◌, Option, None, Some, FitsSigned}
+use Rattle.std.specs.Prelude.{◌≡◌, ◌≢◌, ◌==◌, ℕ, ℤ, List, [], ◌++◌, Option, None, Some, FitsSigned}
 use Rattle.std.specs.List.{slice_split}
 use Rattle.std.specs.Borrow.{Bor}
 use Rattle.std.specs.Int.{w64}

@@ -116,3 +116,60 @@ pub fn read_claim<P: Point>(bytes: &[u8]) -> Option<Line<P>>
 {
     line(&mut Words::new(bytes))
 }
+
+#[cfg(test)]
+mod tests {
+    use super::*;
+    use shape_space::P2;
+
+    #[test]
+    fn lines_are_read(rt: HostRuntime) {
+        assert!(rt; matches!(read_claim::<P2>(b"end"), Some(Line::End)));
+        assert!(rt;
+            matches!(
+                read_claim::<P2>(b"near 10 0 -2147483648 2147483647 9223372036854775807"),
+                Some(Line::Near {
+                    p: P2 { x: 10, y: 0 },
+                    q: P2 {
+                        x: i32::MIN,
+                        y: i32::MAX
+                    },
+                    s: 9223372036854775807
+                })
+            )
+        );
+        let Some(Line::Shape { sides, rule }) = read_claim::<P2>(b"shape 1 pbm 3 1024 none") else {
+            panic!(rt; "a `shape` line")
+        };
+        assert_eq!(rt; sides, P2 { x: 3, y: 1024 });
+        assert_eq!(rt; rule.word(), b"none".as_slice());
+    }
+
+    #[test]
+    fn other_texts_are_no_lines(rt: HostRuntime) {
+        for text in [
+            "",
+            " end",
+            "end ",
+            "ends",
+            "near 00 0 0 -1 1",
+            "near -0 0 0 -1 1",
+            "near +1 0 0 -1 1",
+            "near 0  0 0 -1 1",
+            "near 0 0 0 -1",
+            "near 0 0 0 -1 1 1",
+            "near 0 0 0 -1 1 ",
+            "near 0 0 0 -1 1x",
+            "near 0 0 0 -1 -1",
+            "near 2147483648 0 0 0 1",
+            "near 0 -2147483649 0 0 1",
+            "near 0 0 0 0 9223372036854775808",
+            "shape 1 raw 1 1 none",
+            "shape 2 pbm 1 1 none",
+            "shape 1 pbm 1 1 None",
+            "shape 1 pbm 1 1 abcdefghijklmnopq",
+        ] {
+            assert!(rt; read_claim::<P2>(text.as_bytes()).is_none(), "{text}");
+        }
+    }
+}

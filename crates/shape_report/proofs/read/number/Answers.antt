@@ -1,5 +1,3 @@
-use Rattle.std.proofs.Common.{sym, subst}
-use Rattle.shape_report.specs.Reading.{ReadsNumberWord}
 use Rattle.shape_report.proofs.Fields.{no_number, longer_word}
 use Rattle.shape_report.proofs.read.number.Goals as goal
 

@@ -1,6 +1,5 @@
-use Rattle.std.proofs.Common.{◌≡◌, ◌<◌, ◌≤◌, ◌∙◌, refl, ap, set, length, arith}
+use Rattle.std.proofs.Common.{◌≡◌, ◌<◌, ◌≤◌, refl, set, length, arith}
 use Rattle.std.proofs.Math.Facts.{to_z-of_z}
-use Rattle.std.proofs.lemmas.List.Elements.{All-nil}
 use Rattle.shape_report.proofs.Fields.{point_more, fits_more, point_stops, point_whole}
 use Rattle.shape_report.proofs.read.point.Goals as goal
 
@@ -13,7 +12,7 @@ loop-axis-preserved g c =
     let f = c.in_ok-coordinate.ensures in
     let z = c.in_ok-coordinate.field-0 in
     let p = g.P.Point.coords l.point in
-    let e : g.P.Point.coords c.with-point.result ≡ set p l.axis z = c.with-point.ensures ∙ ap (set p l.axis) (to_z-of_z f.range) in
+    let e : g.P.Point.coords c.with-point.result ≡ set p l.axis z = let k = to_z-of_z f.range in cc in
     let h : l.axis < length p = omega (arith, g.met.P.Point.axes l.point, c.DIM-axis-end.ensures) in
     rw e (record {
       split = point_more c.args.words.now l.words c.coordinate.new.words p l.axis z h l.invariant.split f.split;

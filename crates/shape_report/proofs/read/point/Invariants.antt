@@ -7,5 +7,5 @@ use Rattle.shape_report.proofs.read.point.Given as goal
 abbrev pub invariant-loop-axis : goal.invariant-loop-axis
 invariant-loop-axis g l = record {
   split : l.initial.words ≡ number_words (take l.axis (g.P.Point.coords l.point)) ++ l.words;
-  fits : All (FitsSigned w32) (take l.axis (g.P.Point.coords l.point))
+  fits : All (FitsSigned w32) (take l.axis (g.P.Point.coords l.point));
 }

@@ -1,5 +1,5 @@
-use Rattle.std.proofs.Common.{◌≡◌, ap, sym, ◌∙◌}
-use Rattle.shape_report.specs.Reading.{split_words, words_left}
+use Rattle.std.proofs.Common.{ap, sym, ◌∙◌}
+use Rattle.shape_report.specs.Reading.{words_left}
 use Rattle.shape_report.proofs.SplitWords.{first_word, only_word}
 use Rattle.shape_report.proofs.words.Words.next_word.Goals as goal
 
