@@ -4,12 +4,13 @@ ghost use Rattle.std.specs.Prelude.{◌≡◌, ◌≢◌, ◌∷◌, [], List, �
 ghost use Rattle.std.specs.Int.{w32};
 ghost use Rattle.std.specs.Fmt.{signed_decimal};
 ghost use Rattle.shape_terms.specs.Lines as Terms;
-ghost use Rattle.shape_terms.specs.Lines.{number_words, kind_word, spelling, IsLineOf, IsShortPoint, IsName, IsWeight};
+ghost use Rattle.shape_terms.specs.Lines.{number_words, spelling, IsLineOf, IsShortPoint, IsName, IsWeight};
 ghost use Rattle.shape_rules.specs.Names.{word_of};
 ghost use Rattle.shape_report.specs.LineOf.{line_of};
 ghost use Rattle.shape_report.specs.Reading.{ReadsField, ReadsNumberWord, ReadsWords};
 
 use crate::line::Line;
+use crate::spell::kind;
 use crate::words::Words;
 use shape_desk::read_number;
 use shape_rules::Name;
@@ -53,13 +54,6 @@ fn point<P: Point>(words: &mut Words) -> Option<P>
         point = point.with(axis, coordinate(words)?);
     }
     Some(point)
-}
-
-// The word for the kind of picture.
-fn kind<P: Point>() -> &'static [u8]
-    ensures { result.now ≡ kind_word P.DIM }
-{
-    if P::DIM == 2 { b"pbm" } else { b"raw" }
 }
 
 // Reads the words of a `shape` line behind the first. Reports of this kind have the number 1.
