@@ -2,3 +2,4 @@ pub mod LineOf
 pub mod Texts
 pub mod Slots
 pub mod Flow
+pub mod Reading

@@ -3,12 +3,14 @@
 #![tactic(auto)]
 
 mod line;
+mod read;
 mod report;
 mod spell;
+mod words;
 mod write;
 
 pub use line::Line;
+pub use read::read_claim;
 pub use report::Report;
 pub use spell::put_claim;
 pub use write::{WriteFault, report_bytes, write_report};
-

@@ -52,7 +52,7 @@ fn put_shape<P: Point>(sides: P, rule: &[u8], buf: &mut [u8]) -> usize
 }
 
 // The word for the kind of picture.
-fn kind<P: Point>() -> &'static [u8]
+pub(crate) fn kind<P: Point>() -> &'static [u8]
     ensures { result.now ≡ kind_word P.DIM }
 {
     if P::DIM == 2 { b"pbm" } else { b"raw" }

@@ -1,0 +1,49 @@
+-- The kinds of lines: a line's first word tells its kind, and its other words its fields.
+-- A further kind of line brings one lemma `.._only` here, and one clause of `split_spelling`.
+use Rattle.std.proofs.Common.{◌≡◌, ◌≢◌, ℕ, ◌+◌, ℤ, Option, Some, None, MatchOption, List, [], ◌∷◌, ◌++◌, length, sym, ap, ◌∙◌, arith}
+use Rattle.std.specs.Prelude.{◌*◌, fold, codes}
+use Rattle.std.specs.Fmt.{decimal}
+use Rattle.std.specs.List.{join_with_byte}
+use Rattle.shape_terms.specs.Points.{Point}
+use Rattle.shape_terms.specs.Lines as Terms
+use Rattle.shape_terms.specs.Lines.{line_words, spelling, number_words, kind_word, IsLineOf, IsShortPoint, IsName, IsWeight}
+use Rattle.shape_terms.proofs.Spelled.{words_of_line}
+use Rattle.shape_report.specs.declared.line.Line.{Line}
+use Rattle.shape_report.specs.LineOf.{line_of}
+use Rattle.shape_report.specs.Reading.{split_words, ReadsWords}
+use Rattle.shape_report.proofs.SplitWords.{join-split_words, split_words-join}
+
+-- a number that tells first words apart
+abbrev code_of : List ℕ → ℕ
+code_of w = fold (λ n c. n * 256 + c) 0 w
+
+abbrev first_code : List (List ℕ) → ℕ
+first_code [] = 0
+first_code (w ∷ ws) = code_of w
+
+-- only a `shape` line has these words
+pub shape_only : (d : ℕ) (words : List (List ℕ)) → ((sides : Point) (rule : List ℕ) → IsShortPoint d sides → IsName rule → words ≢ codes "1" ∷ kind_word d ∷ (number_words sides ++ rule ∷ []))
+    → (l : Terms.Line) → IsLineOf d l → line_words l ≢ codes "shape" ∷ words
+shape_only d words h (Terms.Line.Shape sides rule) a e =
+    let f : codes "1" ∷ kind_word (length sides) ∷ (number_words sides ++ rule ∷ []) ≡ words = cc in
+    h sides rule a.0 a.1 (sym f ∙ ap (λ n. codes "1" ∷ kind_word n ∷ (number_words sides ++ rule ∷ [])) a.0.axes)
+shape_only d words h _ a e = let f = ap first_code e in absurd (omega arith)
+
+-- only a `near` line has these words
+pub near_only : (d : ℕ) (words : List (List ℕ)) → ((p q : Point) (s : ℕ) → IsShortPoint d p → IsShortPoint d q → IsWeight s → words ≢ number_words p ++ (number_words q ++ decimal s ∷ []))
+    → (l : Terms.Line) → IsLineOf d l → line_words l ≢ codes "near" ∷ words
+near_only d words h (Terms.Line.Near p q s) a e = let f : number_words p ++ (number_words q ++ decimal s ∷ []) ≡ words = cc in h p q s a.0 a.1 a.2 (sym f)
+near_only d words h _ a e = let f = ap first_code e in absurd (omega arith)
+
+-- ---- from words to bytes
+
+split_spelling : (d : ℕ) (l : Terms.Line) → IsLineOf d l → split_words (spelling l) ≡ line_words l
+split_spelling d (Terms.Line.Shape sides rule) a = split_words-join _ _ (words_of_line d (Terms.Line.Shape sides rule) a)
+split_spelling d (Terms.Line.Near p q s) a = split_words-join _ _ (words_of_line d (Terms.Line.Near p q s) a)
+split_spelling d Terms.Line.End a = split_words-join _ _ (words_of_line d Terms.Line.End a)
+
+-- a line has the words of a text exactly where it has its bytes
+pub from_words : {P : Type 0} (d : ℕ) (coords : P → List ℤ) (bytes : List ℕ) (r : Option (Line P)) → ReadsWords d coords (split_words bytes) r
+    → MatchOption r ((l : Terms.Line) → IsLineOf d l → spelling l ≢ bytes) (λ line. IsLineOf d (line_of coords line) × (spelling (line_of coords line) ≡ bytes))
+from_words d coords bytes None h = λ l a e. h l a (sym (split_spelling d l a) ∙ ap split_words e)
+from_words d coords bytes (Some line) h = (h.0, ap (join_with_byte 32) h.1 ∙ join-split_words bytes)

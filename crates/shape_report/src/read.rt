@@ -1,0 +1,169 @@
+//! Reading one line of a report: the inverse of its spelling.
+//! A further kind of line is one more case of `line` and a function that reads its fields in turn.
+ghost use Rattle.std.specs.Prelude.{◌≡◌, ◌≢◌, ◌∷◌, [], List, ℕ, ℤ, codes, decimal, FitsSigned, MatchOption};
+ghost use Rattle.std.specs.Int.{w32};
+ghost use Rattle.std.specs.Fmt.{signed_decimal};
+ghost use Rattle.shape_terms.specs.Lines as Terms;
+ghost use Rattle.shape_terms.specs.Lines.{number_words, spelling, IsLineOf, IsShortPoint, IsName, IsWeight};
+ghost use Rattle.shape_rules.specs.Names.{word_of};
+ghost use Rattle.shape_report.specs.LineOf.{line_of};
+ghost use Rattle.shape_report.specs.Reading.{ReadsField, ReadsNumberWord, ReadsWords};
+
+use crate::line::Line;
+use crate::spell::kind;
+use crate::words::Words;
+use shape_desk::read_number;
+use shape_rules::Name;
+use shape_space::Point;
+
+// The number that a whole word spells.
+fn number(word: &[u8]) -> Option<i64>
+    ensures { ReadsNumberWord word.now result }
+{
+    let (value, len) = read_number(word)?;
+    if len == word.len() { Some(value) } else { None }
+}
+
+// Reads a coordinate.
+fn coordinate(words: &mut Words) -> Option<i32>
+    ensures { ReadsField (λ z. z) (FitsSigned w32) (λ z. signed_decimal z ∷ []) words.old words.new result }
+{
+    i32::try_from(number(words.next_word()?)?).ok()
+}
+
+// Reads a weight or a squared distance.
+fn weight(words: &mut Words) -> Option<u64>
+    ensures { ReadsField (λ n. n) IsWeight (λ n. decimal n ∷ []) words.old words.new result }
+{
+    u64::try_from(number(words.next_word()?)?).ok()
+}
+
+// Reads a name.
+fn name(words: &mut Words) -> Option<Name>
+    ensures { ReadsField word_of IsName (λ word. word ∷ []) words.old words.new result }
+{
+    Name::new(words.next_word()?)
+}
+
+// Reads the coordinates of a point.
+fn point<P: Point>(words: &mut Words) -> Option<P>
+    ensures { ReadsField P.coords (IsShortPoint P.DIM) number_words words.old words.new result }
+{
+    let mut point = P::origin();
+    for axis in 0..P::DIM {
+        point = point.with(axis, coordinate(words)?);
+    }
+    Some(point)
+}
+
+// Reads the words of a `shape` line behind the first. Reports of this kind have the number 1.
+fn shape<P: Point>(words: &mut Words) -> Option<Line<P>>
+    ensures { ReadsWords P.DIM P.coords (codes "shape" ∷ words.old) result }
+{
+    words.skip(b"1")?;
+    words.skip(kind::<P>())?;
+    let sides = point(words)?;
+    let rule = name(words)?;
+    words.end()?;
+    Some(Line::Shape { sides, rule })
+}
+
+// Reads the words of a `near` line behind the first.
+fn near<P: Point>(words: &mut Words) -> Option<Line<P>>
+    ensures { ReadsWords P.DIM P.coords (codes "near" ∷ words.old) result }
+{
+    let p = point(words)?;
+    let q = point(words)?;
+    let s = weight(words)?;
+    words.end()?;
+    Some(Line::Near { p, q, s })
+}
+
+// Reads what stands behind the word `end`: nothing.
+fn end<P: Point>(words: &Words) -> Option<Line<P>>
+    ensures { ReadsWords P.DIM P.coords (codes "end" ∷ words.now) result }
+{
+    words.end()?;
+    Some(Line::End)
+}
+
+// Reads the words of a line.
+fn line<P: Point>(words: &mut Words) -> Option<Line<P>>
+    ensures { ReadsWords P.DIM P.coords words.old result }
+{
+    match words.next_word()? {
+        b"shape" => shape(words),
+        b"near" => near(words),
+        b"end" => end(words),
+        _ => None,
+    }
+}
+
+/// Reads a line of a report from its bytes without the LF, for pictures whose points are of type `P`.
+///
+/// `None` exactly where no line has this spelling: an unknown first word, a word too few or too many, a blank too
+/// many, a number that is not spelled in the one lawful way or is out of its range, another report number than 1,
+/// another kind of picture, or no lawful name of a rule. It takes no memory.
+pub fn read_claim<P: Point>(bytes: &[u8]) -> Option<Line<P>>
+    ensures { MatchOption result ((l : Terms.Line) → IsLineOf P.DIM l → spelling l ≢ bytes.now)
+        (λ line. IsLineOf P.DIM (line_of P.coords line) × (spelling (line_of P.coords line) ≡ bytes.now)) }
+{
+    line(&mut Words::new(bytes))
+}
+
+#[cfg(test)]
+mod tests {
+    use super::*;
+    use shape_space::P2;
+
+    #[test]
+    fn lines_are_read(rt: HostRuntime) {
+        assert!(rt; matches!(read_claim::<P2>(b"end"), Some(Line::End)));
+        assert!(rt;
+            matches!(
+                read_claim::<P2>(b"near 10 0 -2147483648 2147483647 9223372036854775807"),
+                Some(Line::Near {
+                    p: P2 { x: 10, y: 0 },
+                    q: P2 {
+                        x: i32::MIN,
+                        y: i32::MAX
+                    },
+                    s: 9223372036854775807
+                })
+            )
+        );
+        let Some(Line::Shape { sides, rule }) = read_claim::<P2>(b"shape 1 pbm 3 1024 none") else {
+            panic!(rt; "a `shape` line")
+        };
+        assert_eq!(rt; sides, P2 { x: 3, y: 1024 });
+        assert_eq!(rt; rule.word(), b"none".as_slice());
+    }
+
+    #[test]
+    fn other_texts_are_no_lines(rt: HostRuntime) {
+        for text in [
+            "",
+            " end",
+            "end ",
+            "ends",
+            "near 00 0 0 -1 1",
+            "near -0 0 0 -1 1",
+            "near +1 0 0 -1 1",
+            "near 0  0 0 -1 1",
+            "near 0 0 0 -1",
+            "near 0 0 0 -1 1 1",
+            "near 0 0 0 -1 1 ",
+            "near 0 0 0 -1 1x",
+            "near 0 0 0 -1 -1",
+            "near 2147483648 0 0 0 1",
+            "near 0 -2147483649 0 0 1",
+            "near 0 0 0 0 9223372036854775808",
+            "shape 1 raw 1 1 none",
+            "shape 2 pbm 1 1 none",
+            "shape 1 pbm 1 1 None",
+            "shape 1 pbm 1 1 abcdefghijklmnopq",
+        ] {
+            assert!(rt; read_claim::<P2>(text.as_bytes()).is_none(), "{text}");
+        }
+    }
+}
