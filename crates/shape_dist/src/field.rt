@@ -1,7 +1,7 @@
 //! The field of a picture: a nearest background point for each object point.
 //! Another way of finding them changes `nearest` alone.
-ghost use Rattle.std.specs.Prelude.{◌≡◌, ◌<◌, length, IfOk, slice_get};
-ghost use Rattle.shape_terms.specs.Distances.{IsField};
+ghost use Rattle.std.specs.Prelude.{◌≡◌, ◌<◌, length, IfOk, All, Some, slice_get};
+ghost use Rattle.shape_terms.specs.Distances.{IsField, IsFramed};
 
 use crate::search::{Near, nearest_of};
 use shape_grid::Grid;
@@ -30,7 +30,8 @@ impl<P: Point> Model for Field<P> {
 ///
 /// Each object point costs a search of the whole framed box.
 pub fn nearest<P: Point>(alloc: Global, grid: &Grid<P>) -> Result<Field<P>, NoMemory>
-    ensures { IfOk result (IsField grid.now) }
+    ensures field { IfOk result (IsField grid.now) }
+    ensures framed { IfOk result (All IsFramed) }
 {
     let Ok(mut entries) = Vec::with_capacity(alloc, grid.count() as usize) else {
         return Err(NoMemory);

@@ -1,8 +1,9 @@
 //! A nearest background point of one point, by a search of the whole framed box.
 //! Another search changes nothing outside this file.
-ghost use Rattle.std.specs.Prelude.{◌≡◌, IsTrue};
+ghost use Rattle.std.specs.Prelude.{◌≡◌, IsTrue, negsuc, pos};
 ghost use Rattle.shape_terms.specs.Points.{in_box};
 ghost use Rattle.shape_terms.specs.Pictures.{Least};
+ghost use Rattle.shape_terms.specs.FramedBox.{IsWithin};
 
 use shape_grid::Grid;
 use shape_space::{Point, squared_distance};
@@ -25,6 +26,8 @@ pub fn nearest_of<P: Point>(grid: &Grid<P>, p: P) -> Near<P>
     requires { IsTrue (in_box grid.now.sides (P.coords p)) }
     ensures point { result.p ≡ p }
     ensures least { Least grid.now (P.coords p) (P.coords result.q) result.s }
+    ensures p_within { IsWithin (negsuc 0) (pos 4096) (P.coords p) }
+    ensures q_within { IsWithin (negsuc 0) (pos 4096) (P.coords result.q) }
 {
     let sides = grid.sides();
     let mut q = sides.framed_point(0);

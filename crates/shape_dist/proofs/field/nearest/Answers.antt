@@ -12,4 +12,4 @@ pub loop-p-preserved : goal.loop-p-preserved
 loop-p-preserved g c =
     let items : c.push.new.self.items ≡ c.loop-p.entries.items ++ c.nearest_of.result ∷ [] = search rules in
     let point = c.nearest_of.ensures.point in
-    (tt, tt, rw (items, map-append) (one_more_fact c.args.grid.now _ _ _ _ c.loop-p.invariant.2 (rw (← point) at c.in-Some.ensures.steps) (rw (← point) at c.nearest_of.ensures.least)))
+    (tt, tt, rw (items, map-append) (one_more_fact c.args.grid.now _ _ _ _ c.loop-p.invariant.2 (rw (← point) at c.in-Some.ensures.steps) (rw (← point) at c.nearest_of.ensures.least) (record { p = rw (← point) at c.nearest_of.ensures.p_within; q = c.nearest_of.ensures.q_within })))

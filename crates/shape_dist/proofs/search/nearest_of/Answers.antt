@@ -20,7 +20,7 @@ loop-i-init g c =
     let X = c.args.grid.now in
     let w = c.sides-sides.ensures.picture in
     let e : g.P.Point.coords c.framed_point-q.result ≡ framed_point X.sides 0 = c.framed_point-q.ensures.value ∙ rw c.sides-sides.ensures.value refl in
-    (rw e (corner_background X (elim g.met.P.Point.two_or_three [ inl d ↦ omega (arith, w.axes, d) | inr d ↦ omega (arith, w.axes, d) ])), c.squared_distance-s.ensures, λ i l. absurd (omega arith))
+    (rw e (corner_background X (elim g.met.P.Point.two_or_three [ inl d ↦ omega (arith, w.axes, d) | inr d ↦ omega (arith, w.axes, d) ])), c.squared_distance-s.ensures, λ i l. absurd (omega arith), c.framed_point-q.ensures.within)
 
 pub squared_distance-t-requires-clause-near : goal.squared_distance-t-requires-clause-near
 squared_distance-t-requires-clause-near g c =
@@ -38,3 +38,8 @@ returns-clause-least g c =
     let h = c.loop-i.invariant in
     let n : c.framed_count-i-end.result ≡ box_count (framed_sides X.sides) = c.framed_count-i-end.ensures.value ∙ rw c.sides-sides.ensures.value refl in
     least_found X (g.P.Point.coords c.args.p) (g.P.Point.coords c.loop-i.q) c.loop-i.s c.requires h.0 h.1 (λ i l b. h.2 i (omega arith) b)
+
+pub returns-clause-p_within : goal.returns-clause-p_within
+returns-clause-p_within g c =
+    let s = c.sides-sides.result in
+    box_point_within g.P.Point.MAX_SIDE (g.P.Point.coords s.lengths) (g.P.Point.coords c.args.p) s.in_range g.met.P.Point.flat_side (rw c.sides-sides.ensures.value c.requires)
