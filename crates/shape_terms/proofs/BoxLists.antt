@@ -6,7 +6,7 @@ use Rattle.std.proofs.Math.Nat.{add-mul-mod_self_left, mod-eq_of_lt, add-mul-div
 use Rattle.std.proofs.lemmas.Bool.{cond-true, cond-false, cond_both, cases_Bool}
 use Rattle.std.proofs.lemmas.List.{map-append, get_or_default, same_lists, length-map, get_or-map}
 use Rattle.std.proofs.lemmas.List.FromFn.{length-map-range_with_len, get_or-map-range_with_len}
-use Rattle.std.proofs.lemmas.List.Sums.{length-filter}
+use Rattle.std.proofs.lemmas.List.Sums.{length-filter, count_by-le-length}
 use Rattle.std.proofs.lemmas.List.Elements.{All-nil, All-cons}
 use Rattle.shape_terms.specs.Points.{Point, raster_point, box_points, box_count}
 use Rattle.shape_terms.specs.Pictures.{Picture, at, object_points, objects_from}
@@ -110,3 +110,7 @@ all_pass p (x ∷ xs) = cond_both (p x) (x ∷ filter p xs) (filter p xs) (All (
 
 pub objects_are : (X : Picture) → All (λ p. IsTrue (at X p)) (object_points X)
 objects_are X = all_pass (at X) (box_points X.sides)
+
+-- no more points are object than the box has
+pub few_objects : (X : Picture) → length (object_points X) ≤ box_count X.sides
+few_objects X = omega (arith, length-filter (at X) (box_points X.sides), count_by-le-length (at X) (box_points X.sides), length-box_points X.sides)

@@ -17,7 +17,7 @@ use Rattle.shape_terms.proofs.FirstBadOnce.{text_parts, good_front}
 -- ---- one more good line
 
 -- an element of a list with one more at its end is one of the list or that last one
-get_push : (xs : List Line) (x : Line) (k : ℕ) (m : Line) → slice_get (xs ++ x ∷ []) k ≡ Some m → ((slice_get xs k ≡ Some m) × (take k (xs ++ x ∷ []) ≡ take k xs)) ⊎ ((x ≡ m) × (take k (xs ++ x ∷ []) ≡ xs))
+pub get_push : (xs : List Line) (x : Line) (k : ℕ) (m : Line) → slice_get (xs ++ x ∷ []) k ≡ Some m → ((slice_get xs k ≡ Some m) × (take k (xs ++ x ∷ []) ≡ take k xs)) ⊎ ((x ≡ m) × (take k (xs ++ x ∷ []) ≡ xs))
 get_push [] x zero m e = inr (cc, refl)
 get_push [] x (suc k) m e = cc
 get_push (y ∷ xs) x zero m e = inl (e, refl)

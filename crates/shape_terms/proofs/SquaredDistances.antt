@@ -1,6 +1,6 @@
 -- Squared distances, one axis at a time.
 -- Laws over plain points alone; what a search finds belongs elsewhere.
-use Rattle.std.proofs.Common.{◌≡◌, ◌+◌, ◌*◌, ◌<◌, ◌≤◌, ℕ, ℤ, pos, negsuc, ◌-ℤ◌, ◌≤ℤ◌, ◌∷◌, length, drop, arith}
+use Rattle.std.proofs.Common.{◌≡◌, ◌+◌, ◌*◌, ◌<◌, ◌≤◌, ℕ, zero, suc, ℤ, pos, negsuc, ◌-ℤ◌, ◌≤ℤ◌, [], ◌∷◌, length, drop, arith}
 use Rattle.std.specs.Prelude.{nat_abs}
 use Rattle.std.proofs.lemmas.Int.{ints}
 use Rattle.std.proofs.lemmas.Nat.{mul-le}
@@ -26,3 +26,12 @@ pub square_apart : (x y : ℤ) (d : ℕ) → d ≡ nat_abs (x -ℤ y) → (negsu
 square_apart x y d e h k =
     let l : d ≤ 4097 = rw e (apart x y h.0 h.1 k.0 k.1) in
     omega (arith, mul-le d d 4097 4097 l l)
+
+-- fewer axes are no farther apart
+pub squared_distance-drop : (p q : Point) (k : ℕ) → length p ≡ length q → squared_distance (drop k p) (drop k q) ≤ squared_distance p q
+squared_distance-drop p q zero e = omega arith
+squared_distance-drop [] [] (suc k) e = omega arith
+squared_distance-drop [] (y ∷ q) (suc k) e = absurd (omega arith)
+squared_distance-drop (x ∷ p) [] (suc k) e = absurd (omega arith)
+squared_distance-drop (x ∷ p) (y ∷ q) (suc k) e =
+    omega (arith, squared_distance-cons x y p q, squared_distance-drop p q k (omega arith))

@@ -1,0 +1,2 @@
+pub mod LeastTests
+pub mod NextPoint

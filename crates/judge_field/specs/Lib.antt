@@ -1,0 +1,2 @@
+pub mod FieldState
+pub mod Nearer
