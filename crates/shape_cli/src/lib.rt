@@ -8,3 +8,6 @@ mod words;
 
 pub use outcome::Outcome;
 pub use top::run;
+
+#[cfg(test)]
+mod tests;

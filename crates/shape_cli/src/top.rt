@@ -19,11 +19,7 @@ use shape_space::P2;
 use std::alloc::Global;
 
 // Reads the picture in a file.
-fn open_picture<D: Desk>(
-    alloc: Global,
-    file: &[u8],
-    desk: &mut D,
-) -> Result<Grid<P2>, PictureError>
+fn open_picture<D: Desk>(alloc: Global, file: &[u8], desk: &mut D) -> Result<Grid<P2>, PictureError>
     ensures opened { Opened (D.files desk.old) file.now (D.read_faults desk.old) (D.read_faults desk.new) result }
     ensures later { D.read_faults desk.old ≤ D.read_faults desk.new }
     ensures output { KeepsOutput D.files D.written D.write_faults desk.old desk.new }
@@ -41,11 +37,7 @@ pub enum Unwritten {
 }
 
 // Builds the whole report of a picture, and then writes it.
-fn write_analysis<D: Desk>(
-    alloc: Global,
-    grid: &Grid<P2>,
-    desk: &mut D,
-) -> Result<(), Unwritten>
+fn write_analysis<D: Desk>(alloc: Global, grid: &Grid<P2>, desk: &mut D) -> Result<(), Unwritten>
     ensures written { Written grid.now (D.written desk.old) (D.written desk.new) (D.write_faults desk.old) (D.write_faults desk.new) result }
     ensures later { D.write_faults desk.old ≤ D.write_faults desk.new }
     ensures places { KeepsPlaces D.files D.left D.begun D.read_faults desk.old desk.new }

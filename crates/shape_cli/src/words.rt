@@ -23,8 +23,7 @@ pub fn read_words(words: &[Vec<u8>]) -> Option<Command<'_>>
 {
     match words {
         [first, second, file, last]
-            if is_text(first, b"analyse") && is_text(second, b"pbm") && is_text(last, b"none") =>
-        {
+            if is_text(first, b"analyse") && is_text(second, b"pbm") && is_text(last, b"none") => {
             Some(Command::Analyse {
                 file: file.as_slice(),
             })
