@@ -7,12 +7,12 @@ use Rattle.std.specs.Str.Parse.{AllDigits, digits_value_after, digits_value}
 use Rattle.std.proofs.lemmas.List.Sums.{take_while-cons}
 use Rattle.std.proofs.lemmas.Str.{digit_value_digit}
 use Rattle.std.proofs.lemmas.Str.Parse.{digit_from_value, digit_at, numerals_by_value, tells_digits}
-use Rattle.std.proofs.lemmas.Fmt.{decimal_is_IsNumeral, decimal_nonempty, first_decimal, decimal_digit, decimal_injective, decimal-digits_value}
+use Rattle.std.proofs.lemmas.Fmt.{decimal_is_IsNumeral, decimal_nonempty, first_decimal, decimal_digit, decimal_injective, signed_decimal_injective, decimal-digits_value}
 use Rattle.std.proofs.lemmas.Bool.Decides.{nat_tests}
 use Rattle.std.proofs.lemmas.List.{drop_more, length-take, take_min}
 use Rattle.std.specs.List.{prefix_len}
 use borrow.Author.Tests.{ne_eqb}
-use Rattle.shape_desk.specs.Number.{number_front, HasNoLeadingZero}
+use Rattle.shape_desk.specs.Number.{number_front, HasNoLeadingZero, SpellsNumber, ReadsNumber}
 
 -- ---- the run of digits
 
@@ -33,6 +33,16 @@ AllDigits-take_while (x ∷ xs) = rw (take_while-cons is_ascii_digit x xs) (firs
 
 pub take-length-take_while : (p : ℕ → Bool) (xs : List ℕ) → take (length (take_while p xs)) xs ≡ take_while p xs
 take-length-take_while p xs = ap (λ k. take k xs) (length-take (prefix_len p xs) xs) ∙ take_min (prefix_len p xs) xs
+
+-- no digit follows the run
+pub after_run : (xs : List ℕ) → is_ascii_digit (get_or xs (length (take_while is_ascii_digit xs)) 0) ≡ false
+after_run [] = refl
+after_run (x ∷ xs) =
+    subst (λ (l : List ℕ). is_ascii_digit (get_or (x ∷ xs) (length l) 0) ≡ false) (sym (take_while-cons is_ascii_digit x xs)) (first (after_run xs) (is_ascii_digit x) refl)
+  where
+    first : is_ascii_digit (get_or xs (length (take_while is_ascii_digit xs)) 0) ≡ false → (b : Bool) → is_ascii_digit x ≡ b → is_ascii_digit (get_or (x ∷ xs) (length (cond b (x ∷ take_while is_ascii_digit xs) [])) 0) ≡ false
+    first h true e = h
+    first h false e = e
 
 -- the run ends where no digit follows
 pub take_while-digits : (ds rest : List ℕ) → AllDigits 10 ds → is_ascii_digit (get_or rest 0 0) ≡ false → take_while is_ascii_digit (ds ++ rest) ≡ ds
@@ -67,6 +77,15 @@ number_front-signed_decimal (pos n) rest f s =
     first (c ∷ cs) d l e = omega (arith, digit_from_value c d.0)
 number_front-signed_decimal (negsuc n) rest f s =
     ap (λ l. 45 ∷ l) (take_while-digits (decimal (suc n)) rest (digits_of_decimal (suc n) (omega (arith, f.sfits))) s)
+
+-- what was put is read back: its number and its length
+pub ReadsNumber-signed_decimal : (z : ℤ) (rest : List ℕ) (r : Option (ℤ × ℕ)) → FitsSigned w64 z → is_ascii_digit (get_or rest 0 0) ≡ false → ReadsNumber (signed_decimal z ++ rest) r → r ≡ Some (z, length (signed_decimal z))
+ReadsNumber-signed_decimal z rest None f s h = absurd (h z f (number_front-signed_decimal z rest f s))
+ReadsNumber-signed_decimal z rest (Some a) f s h =
+    let front : number_front (signed_decimal z ++ rest) ≡ signed_decimal z = number_front-signed_decimal z rest f s in
+    let number : a.0 ≡ z = signed_decimal_injective a.0 z h.fits.sfits f.sfits (sym h.spelling ∙ front) in
+    let len : a.1 ≡ length (signed_decimal z) = h.len ∙ ap length front in
+    λ i. Some (number i, len i)
 
 -- ---- no spelling
 
@@ -120,3 +139,28 @@ none_zero ds size f e z n some l d = omega (arith, decimal_injective size n (ome
 -- digits of the number 2 ^ 63 are those of no smaller one
 pub none_other : (ds : List ℕ) (size : ℕ) → size ≤ 2 ^ 63 → ds ≡ decimal size → size ≡ 2 ^ 63 → (n : ℕ) → n < 2 ^ 63 → ds ≢ decimal n
 none_other ds size f e z n l d = omega (arith, decimal_injective size n (omega arith) (omega arith) (sym e ∙ d))
+
+-- ---- a spelling
+
+pub spells_negative : (bs ds : List ℕ) (size : ℕ) → ds ≡ take_while is_ascii_digit bs → size ≤ 2 ^ 63 → ds ≡ decimal size → 0 < size → SpellsNumber (45 ∷ bs) (negsuc (size - 1)) (length ds + 1)
+spells_negative bs ds size run fits spelt some =
+    let one : length ds + 1 ≡ suc (length (take_while is_ascii_digit bs)) = omega (arith, ap length run) in
+    let number : size ≡ suc (size - 1) = omega arith in
+    record {
+      fits = record { sfits = omega arith };
+      spelling = ap (λ (l : List ℕ). 45 ∷ l) (sym run ∙ spelt ∙ ap decimal number);
+      front = ap (λ k. take k (45 ∷ bs)) one ∙ ap (λ (l : List ℕ). 45 ∷ l) (take-length-take_while is_ascii_digit bs);
+      len = one;
+      stop = ap (λ k. is_ascii_digit (get_or (45 ∷ bs) k 0)) one ∙ after_run bs;
+    }
+
+pub spells_unsigned : (bs ds : List ℕ) (size : ℕ) → get_or bs 0 0 ≢ 45 → ds ≡ take_while is_ascii_digit bs → size < 2 ^ 63 → ds ≡ decimal size → SpellsNumber bs (pos size) (length ds)
+spells_unsigned bs ds size unsigned run fits spelt =
+    let front : number_front bs ≡ ds = number_front-unsigned bs unsigned ∙ sym run in
+    record {
+      fits = record { sfits = omega arith };
+      spelling = front ∙ spelt;
+      front = ap (λ k. take k bs) (ap length run) ∙ take-length-take_while is_ascii_digit bs ∙ sym run ∙ sym front;
+      len = ap length (sym front);
+      stop = ap (λ k. is_ascii_digit (get_or bs k 0)) (ap length run) ∙ after_run bs;
+    }

@@ -1,5 +1,5 @@
 -- Decimal numbers at the front of bytes: an optional minus sign and digits.
-use Rattle.std.specs.Prelude.{◌≡◌, ◌≢◌, ◌==◌, ◌<◌, ℕ, List, [], ◌∷◌, length, get_or, take, take_while, if◌then◌else◌, Option, None, Some, ℤ, FitsSigned}
+use Rattle.std.specs.Prelude.{◌≡◌, ◌≢◌, ◌==◌, ◌<◌, ℕ, false, List, [], ◌∷◌, length, get_or, take, take_while, if◌then◌else◌, Option, None, Some, ℤ, FitsSigned}
 use Rattle.std.specs.Int.{w64}
 use Rattle.std.specs.Char.{is_ascii_digit}
 use Rattle.std.specs.Fmt.{signed_decimal}
@@ -13,12 +13,13 @@ number_front (b ∷ bs) = if b == 45 then 45 ∷ take_while is_ascii_digit bs el
 abbrev pub HasNoLeadingZero : List ℕ → Type 0
 HasNoLeadingZero ds = (0 < length ds) × (get_or ds 0 0 ≡ 48 → length ds ≡ 1)
 
--- the front is the decimal spelling of z, of length n
+-- the first n bytes are the decimal spelling of z, a number of 64 bits, and no digit follows
 pub record SpellsNumber (bytes : List ℕ) (z : ℤ) (n : ℕ) : Type 0 where
   pub fits : FitsSigned w64 z
   pub spelling : number_front bytes ≡ signed_decimal z
   pub front : take n bytes ≡ number_front bytes
   pub len : n ≡ length (number_front bytes)
+  pub stop : is_ascii_digit (get_or bytes n 0) ≡ false
 
 -- what reading a number answers: None exactly where the front spells no number of 64 bits
 abbrev pub ReadsNumber : List ℕ → Option (ℤ × ℕ) → Type 0

@@ -1,5 +1,5 @@
 //! Reading a decimal number at the front of bytes.
-//! The spelling is the one that `put_number` writes; what counts as the front may be changed in the specification alone.
+//! The spelling is the one that `put_number` writes: a change of it is a change of both and of the specification.
 ghost use Rattle.std.specs.Prelude.{◌≡◌, ◌≢◌, ◌↔◌, IsTrue, ◌≤◌, ◌<◌, ◌^◌, ◌-◌, ℕ, ◌∷◌, negsuc, length, get_or, take_while, decimal, MatchOption};
 ghost use Rattle.std.specs.Char.{is_ascii_digit};
 ghost use Rattle.std.specs.Str.Parse.{AllDigits, digits_value};

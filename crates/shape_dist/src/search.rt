@@ -15,7 +15,7 @@ pub struct Near<P> {
     pub p: P,
     /// A background point of the whole space, which may lie outside the box. Where several are nearest, it is one of them.
     pub q: P,
-    /// The sum of the squared differences of their coordinates, at least 1 for an object point.
+    /// The sum of the squared differences of their coordinates.
     pub s: u64,
 }
 

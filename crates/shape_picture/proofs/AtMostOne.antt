@@ -1,4 +1,5 @@
--- A file spells at most one picture or has at most one fault, and not both.
+-- A file spells at most one picture or has at most one fault, and not both: each answer is read off one state.
+-- The law's second half; `told_none` says it of a file that a desk tells.
 use Rattle.std.proofs.Common.{◌≡◌, ℕ, zero, suc, ◌+◌, ◌*◌, ◌<◌, ◌≤◌, Bool, true, false, List, [], ◌∷◌, ◌++◌, length, map, take, drop, Option, None, Some, All, refl, sym, ap, ◌∙◌, subst, inl, inr, ⊎_elim, arith}
 use Rattle.std.specs.Prelude.{◌||◌, ◌⊎◌, IsTrue, slice_get}
 use Rattle.std.proofs.lemmas.Bool.{cases_lt}
@@ -78,6 +79,7 @@ module _ (form : PlainForm) (longest : ℕ) (bytes : List ℕ) where
 
   -- ---- a picture
 
+  -- the state's pixels are all those of the picture
   record IsWholePicture (X : Picture) (s : State) : Type 0 where
     w : ℕ
     h : ℕ
@@ -219,6 +221,7 @@ module _ (form : PlainForm) (longest : ℕ) (bytes : List ℕ) where
   pub one_fault : (f g : PictureFault) → PlainFault form longest bytes f → PlainFault form longest bytes g → f ≡ g
   one_fault f g a b = same_fault f g (ends f a) (ends g b)
 
+-- a file with a fault spells no picture
 pub told_none : (form : PlainForm) (longest : ℕ) (all : Option (List ℕ)) (f : PictureFault) → IfTold all (λ bytes. PlainFault form longest bytes f) → IfTold all (SpellsNone form longest)
 told_none form longest None f h = tt
 told_none form longest (Some bytes) f h = λ s. not_both form longest bytes s.0 s.1.0 f s.1.1 h

@@ -1,4 +1,5 @@
--- One byte of a picture after another.
+-- Bytes taken one after another from a desk: where the reading stops, the error has its cause.
+-- Over any front of which the caller knows that no byte has spoilt it.
 use Rattle.std.proofs.Common.{◌≡◌, ℕ, ◌+◌, ◌-◌, ◌<◌, ◌≤◌, max, List, [], ◌∷◌, ◌++◌, length, take, Option, None, Some, Ok, Err, refl, sym, arith}
 use Rattle.std.specs.Prelude.{slice_get}
 use Rattle.std.proofs.lemmas.List.{append_assoc, append-nil, length-append, take_at}
@@ -16,6 +17,7 @@ use Rattle.shape_terms.specs.Pictures.{Picture}
 use Rattle.shape_picture.specs.Parts.{BytesTaken}
 use Rattle.shape_picture.proofs.Ahead.{taken_ahead}
 
+-- a count that rose in a later part rose in the whole
 pub rose_earlier : (a b c : ℕ) → a ≤ b → Rose b c → Rose a c
 rose_earlier a b c l r = omega arith
 
@@ -27,7 +29,7 @@ taken_within longest at all left ahead front h = record {
   takes = taken_ahead all left front ahead h.takes;
 }
 
--- where the bytes left are these and the rest, all are the front and these and the rest
+-- the byte behind a front
 byte_at : (front rest : List ℕ) (c : ℕ) → slice_get (front ++ c ∷ rest) (length front) ≡ Some c
 byte_at [] rest c = refl
 byte_at (x ∷ front) rest c = byte_at front rest c
@@ -36,10 +38,12 @@ module _ (form : PlainForm) (longest : ℕ) where
   short_bytes : (front : List ℕ) (at : ℕ) → length front ≡ at → at < longest → IsUnfinished form front → PlainFault form longest front (fault.Short at)
   short_bytes front at e l u = (sym e, l, u)
 
+  -- the file ends too early
   pub short_fault : (all left : Option (List ℕ)) (front : List ℕ) (at : ℕ) → Takes all left front → IsEnd left → length front ≡ at → at < longest → IsUnfinished form front → IfTold all (λ bytes. PlainFault form longest bytes (fault.Short at))
   short_fault all None front at e z l m u = rw e tt
   short_fault all (Some xs) front at e z l m u = rw (e, z, append-nil front) (sym l, m, u)
 
+  -- the greatest length is reached
   pub long_fault : (all left : Option (List ℕ)) (front : List ℕ) → Takes all left front → length front ≡ longest → IsUnfinished form front → IfTold all (λ bytes. PlainFault form longest bytes fault.TooLong)
   long_fault all None front e l u = rw e tt
   long_fault all (Some xs) front e l u =
@@ -55,11 +59,13 @@ module _ (form : PlainForm) (longest : ℕ) where
   decided front rest c (fault.Short i) l d = absurd d
   decided front rest c fault.TooLong l d = absurd d
 
+  -- the byte just taken decides
   pub byte_fault : (all left : Option (List ℕ)) (front : List ℕ) (c : ℕ) (f : PictureFault) → Takes all left (front ++ c ∷ []) → length front < longest → DecidesFault form front c f → IfTold all (λ bytes. PlainFault form longest bytes f)
   byte_fault all None front c f e l d = rw e tt
   byte_fault all (Some xs) front c f e l d = rw (e, append_assoc front (c ∷ []) xs) (decided front xs c f l d)
 
 module _ (form : PlainForm) (longest at : ℕ) (all old new : Option (List ℕ)) (before_ahead ahead front : List ℕ) (before now : ℕ) where
+  -- nothing more was taken
   pub still_taken : BytesTaken longest at all old before_ahead front → at < longest → ahead_of ahead new ≡ ahead_of before_ahead old → length ahead ≤ max (length before_ahead) (longest - at) → BytesTaken longest at all new ahead front
   still_taken h m e l = record {
     many = h.many;
@@ -87,11 +93,13 @@ stops_long form longest at all left ahead front before now h l u = record {
   within = taken_within longest at all left ahead front h;
 }
 
+-- an error of a later part is one of the whole
 pub stops_earlier : (form : PlainForm) (longest : ℕ) (all left : Option (List ℕ)) (before mid now : ℕ) (e : PictureError) → before ≤ mid → ReadStopped form longest all left mid now e → ReadStopped form longest all left before now e
 stops_earlier form longest all left before mid now (error.Bad f) l h = record { comes = h.comes; within = h.within }
 stops_earlier form longest all left before mid now error.ReadFault l h = record { comes = rose_earlier before mid now l h.comes; within = h.within }
 stops_earlier form longest all left before mid now error.NoMemory l h = record { comes = tt; within = h.within }
 
+-- an answer of a later part is one of the whole
 pub answer_earlier : (form : PlainForm) (longest : ℕ) (all left : Option (List ℕ)) (before mid now : ℕ) (r : Result Picture PictureError) → before ≤ mid → PictureAnswer form longest all left mid now r → PictureAnswer form longest all left before now r
 answer_earlier form longest all left before mid now (Ok X) l h = h
 answer_earlier form longest all left before mid now (Err e) l h = stops_earlier form longest all left before mid now e l h

@@ -1,4 +1,5 @@
--- Each file spells one picture or has one fault, and not both.
+-- The state that each front of the grammar leads to, and the fault that each byte that decides leads to.
+-- Used by the law alone.
 use Rattle.std.proofs.Common.{◌≡◌, ◌≢◌, ℕ, zero, suc, ◌+◌, ◌-◌, ◌*◌, ◌<◌, ◌≤◌, Bool, true, false, eqb, ltb, List, [], ◌∷◌, ◌++◌, length, take, Some, Err, All, refl, sym, ap, ◌∙◌, subst, inl, inr, ⊎_elim, arith}
 use Rattle.std.specs.Prelude.{◌||◌, ◌&&◌, ◌==◌, IsTrue, codes, slice_get}
 use Rattle.std.proofs.lemmas.Bool.{cases_Bool, eqb-true, ne_eqb, or_cases, or_parts, lt-ltb, and_from, and_parts, and_left, and_right, false≢true, eq-eqb}

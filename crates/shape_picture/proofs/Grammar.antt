@@ -1,4 +1,5 @@
 -- How a front of a plain PBM goes on by one byte.
+-- Facts of the grammar alone: no machine occurs here.
 use Rattle.std.proofs.Common.{◌≡◌, ℕ, ◌+◌, ◌-◌, ◌*◌, ◌<◌, ◌≤◌, true, false, List, [], ◌∷◌, ◌++◌, refl, sym, ap, inl, inr, arith, Some, cond}
 use Rattle.std.specs.Prelude.{◌||◌, codes, IsTrue, slice_get, filter, not}
 use Rattle.std.proofs.lemmas.List.{append_assoc, append-nil}
@@ -24,11 +25,13 @@ glue_text front a d c e = rw (e, append_assoc) refl
 
 -- ---- gaps
 
+-- a gap goes on by a piece
 pub gap_push : {form : PlainForm} {gap piece : List ℕ} → IsGap form gap → IsGapPiece form piece → IsGap form (gap ++ piece)
 gap_push {piece} (IsGap.one {piece = p} h) q = IsGap.more p piece h (IsGap.one q)
 gap_push {piece} (IsGap.more p gap h g) q = rw append_assoc (IsGap.more p (gap ++ piece) h (gap_push g q))
 
 module _ (form : PlainForm) where
+  -- the six places where a gap may begin or go on, and what it leads to
   pub magic_opens : (front : List ℕ) → front ≡ codes "P1" → GapLeadsTo form (λ f. IsInWidth form f []) front
   magic_opens front e = record {
     may = inl e;
@@ -152,6 +155,7 @@ module _ (form : PlainForm) where
 
   -- ---- a digit more
 
+  -- one digit more, in the width and in the height
   pub number_value-push : (digits : List ℕ) (c : ℕ) → number_value (digits ++ c ∷ []) ≡ number_value digits * 10 + (c - 48)
   number_value-push digits c = fold-append (λ n c. n * 10 + (c - 48)) 0 digits (c ∷ [])
 
@@ -182,6 +186,7 @@ module _ (form : PlainForm) where
   first_of_push [] c h p d e = let same : c ≡ d = cc in rw same at (p refl)
   first_of_push (x ∷ raster) c h p d e = h d e
 
+  -- a pixel or white space more
   pub raster_byte : (front width height raster : List ℕ) (c : ℕ) → IsInRaster form front width height raster → (is_pixel c || is_white c) ≡ true → (raster ≡ [] → is_pixel c ≡ true) → IsInRaster form (front ++ c ∷ []) width height (raster ++ c ∷ [])
   raster_byte front width height raster c h b p = record {
     before = h.before;
@@ -194,6 +199,7 @@ module _ (form : PlainForm) where
     front_is = glue_byte front h.before h.gap raster c h.front_is;
   }
 
+-- the last element is kept or dropped by itself
 filter_push : (p : ℕ → _) (xs : List ℕ) (c : ℕ) → filter p (xs ++ c ∷ []) ≡ filter p xs ++ cond (p c) (c ∷ []) []
 filter_push p [] c = refl
 filter_push p (x ∷ xs) c = cases (p x) (filter_push p xs c)
@@ -202,8 +208,10 @@ filter_push p (x ∷ xs) c = cases (p x) (filter_push p xs c)
     cases true e = ap (λ (l : List ℕ). x ∷ l) e
     cases false e = e
 
+-- white space adds no pixel
 pub pixels_of-white : (raster : List ℕ) (c : ℕ) → is_white c ≡ true → pixels_of (raster ++ c ∷ []) ≡ pixels_of raster
 pixels_of-white raster c e = rw (filter_push (λ c. not (is_white c)) raster c, e, append-nil) refl
 
+-- another byte adds itself
 pub pixels_of-pixel : (raster : List ℕ) (c : ℕ) → is_white c ≡ false → pixels_of (raster ++ c ∷ []) ≡ pixels_of raster ++ c ∷ []
 pixels_of-pixel raster c e = rw (filter_push (λ c. not (is_white c)) raster c, e) refl

@@ -1,4 +1,5 @@
--- The header's machine stands for the grammar.
+-- Each step of the header's machine keeps what its states say of the grammar, or finds the fault that the byte decides.
+-- The steps are those of the code; the meanings are those of `Plain`.
 use Rattle.std.proofs.Common.{◌≡◌, ℕ, ◌+◌, ◌-◌, ◌*◌, ◌≤◌, true, false, List, [], ◌∷◌, ◌++◌, length, refl, sym, ap, ◌∙◌, inl, inr, arith, Ok, Err, All, Bool, ltb, leb, ⊎_elim}
 use Rattle.std.specs.Prelude.{◌&&◌, ◌==◌}
 use Rattle.std.proofs.lemmas.Bool.{ltb-true, ltb-false, leb-true, eqb-true, eqb-false, and_parts, and_cases, or_from, or_parts, cond_both, and_from, false≢true, le-leb}
@@ -29,6 +30,7 @@ module _ (form : PlainForm) where
   gap_comes (coming.Height w) front h = h
   gap_comes (coming.Raster w h) front i = i
 
+  -- a byte where a gap may begin or go on
   opened_answer : (t : Coming) (front : List ℕ) (c : ℕ) (other : PictureFault) → GapLeadsTo form (IsInGap form t) front → (is_stop form c ≡ false → DecidesFault form front c other) → StepAnswer form front c (opened form t c other)
   opened_answer t front c other h d =
       cond_both (is_white c) (Ok (gap_of t)) _ (StepAnswer form front c)
@@ -50,6 +52,7 @@ module _ (form : PlainForm) where
   after_opens (side.Height w) v front h d =
       let o = height_done_opens form front h.within.0 h.digits h.within.2 d in record { may = o.may; onward = λ piece p. (h.within.0, h.digits, h.within.1, h.value, o.onward piece p) }
 
+  -- the digits of a side, as the faults speak of them
   in_side : (s : Side) (front digits : List ℕ) → IsInDigits form s front digits → IsInSide form front digits
   in_side side.Width front digits h = inl h
   in_side (side.Height w) front digits h = inr (h.0, h.2)
@@ -70,6 +73,7 @@ module _ (form : PlainForm) where
   more_digits side.Width front digits c h d l = width_digit form front digits c h d l
   more_digits (side.Height w) front digits c h d l = (h.0, h.1, height_digit form front h.0 digits c h.2 d l)
 
+  -- a digit more
   digit_answer : (s : Side) (v : ℕ) (front digits : List ℕ) (c : ℕ) → IsInDigits form s front digits → number_value digits ≡ v → is_digit c ≡ true → StepAnswer form front c (digit_step form s v c)
   digit_answer s v front digits c h e d =
       let k : number_value (digits ++ c ∷ []) ≡ v * 10 + (c - 48) = number_value-push form digits c ∙ ap (λ (n : ℕ). n * 10 + (c - 48)) e in
@@ -82,6 +86,7 @@ module _ (form : PlainForm) where
         within = more_digits s front digits c h (digit_is c d) (let m : v * 10 + (c - 48) ≤ form.limit = ltb-false form.limit (v * 10 + (c - 48)) l in rw e m);
       })
 
+  -- a byte more in each state
   pub step_answer : (at : ℕ) (s : Header) (front : List ℕ) (c : ℕ) → at ≡ length front → HeaderReached form s front → StepAnswer form front c (header_step form at s c)
   step_answer at header.Start front c e h =
       cond_both (c == 80) (Ok (progress.More header.Letter)) (Err fault.NotPlain) (StepAnswer form front c)
@@ -122,6 +127,7 @@ module _ (form : PlainForm) where
           let p = or_parts (is_white c) (form.comments && (c == 35)) t in
           rw (p.0, p.1) (bad d t)
 
+  -- no state is a whole picture or a fault
   pub unfinished : (s : Header) (front : List ℕ) → HeaderReached form s front → IsUnfinished form front
   unfinished header.Start front h = inl (0, omega arith, h)
   unfinished header.Letter front h = inl (1, omega arith, h)
@@ -130,6 +136,7 @@ module _ (form : PlainForm) where
   unfinished (header.Comment t) front h = inr (inr (inr (record { before = h.before; text = h.text; allowed = h.allowed; may = h.opens.may; no_end = h.no_end; front_is = h.front_is })))
   unfinished (header.Digits s v) front h = inr (inl (h.digits, in_side s front h.digits h.within))
 
+  -- the digits so far are within the limit
   pub small : (s : Header) (front : List ℕ) → HeaderReached form s front → IsSmall form s
   small header.Start front h = tt
   small header.Letter front h = tt

@@ -1,4 +1,5 @@
--- A file read whole by the machine: each front of it leads to one state, so no two answers fit one file.
+-- A file read by the two machines as one, whose states say all that is known of a front of it.
+-- Used by the law alone: each part of the grammar is run, so that a front leads to one state and two answers never fit.
 use Rattle.std.proofs.Common.{◌≡◌, ℕ, ◌+◌, ◌-◌, ◌*◌, ◌<◌, ◌≤◌, Bool, true, false, eqb, leb, fold, List, [], ◌∷◌, ◌++◌, length, Ok, Err, Result, All, refl, sym, ap, subst, ◌∙◌, ⊎_elim, arith}
 use Rattle.std.specs.Prelude.{◌||◌, ◌==◌, nat_lt, if◌then◌else◌, IsTrue, codes}
 use Rattle.std.proofs.lemmas.Bool.{eqb-true, ne_eqb, or_cases, lt-ltb, le-ltb, le-leb, and_from}
@@ -19,6 +20,7 @@ use Rattle.shape_picture.specs.Plain.{is_white, is_line_end, IsDigit, IsGap, IsG
 use Rattle.shape_picture.specs.Header.{is_digit, before_side, after_side, gap_of, digit_step, header_step}
 use Rattle.shape_picture.specs.Raster.{piece_of}
 
+-- in the header; in the raster, within a comment or not, of these sides with these pixels; or at a fault
 pub data State : Type 0 where
   AtHeader : Header → State
   AtRaster : Bool → ℕ → ℕ → List ℕ → State
@@ -35,15 +37,18 @@ after_piece w h px c (Ok piece.Comment) = State.AtRaster true w h px
 after_piece w h px c (Ok (piece.Pixel b)) = State.AtRaster false w h (px ++ c ∷ [])
 after_piece w h px c (Err f) = State.AtFault f
 
+-- one byte more; a whole picture and a fault stay
 abbrev pub state_step : PlainForm → ℕ → State → ℕ → State
 state_step form at (State.AtHeader s) c = after_progress (header_step form at s c)
 state_step form at (State.AtRaster k w h px) c = if nat_lt (length px) (w * h) then after_piece w h px c (piece_of form k (length px) at c) else State.AtRaster k w h px
 state_step form at (State.AtFault f) c = State.AtFault f
 
+-- some bytes more, the first of them at this place
 abbrev pub run : PlainForm → ℕ → State → List ℕ → State
 run form at s [] = s
 run form at s (c ∷ cs) = run form (at + 1) (state_step form at s c) cs
 
+-- within the gap before what comes
 abbrev pub gap_state : Coming → State
 gap_state t = after_progress (Ok (gap_of t))
 
@@ -83,10 +88,12 @@ module _ (form : PlainForm) where
   IsOpenState (State.AtRaster k w h px) = length px < w * h
   IsOpenState (State.AtFault f) = ⊥
 
+  -- a comment whose end leads to the gap before what comes
   pub record IsCommentState (t : Coming) (s : State) : Type 0 where
     pub stays : (at c : ℕ) → is_line_end c ≡ false → state_step form at s c ≡ s
     pub ends : (at c : ℕ) → is_line_end c ≡ true → state_step form at s c ≡ gap_state t
 
+  -- a gap may begin or go on, and leads to what comes
   pub record OpensGap (t : Coming) (s : State) : Type 0 where
     pub white : (at c : ℕ) → is_white c ≡ true → state_step form at s c ≡ gap_state t
     pub hash : (at : ℕ) → IsTrue form.comments → IsCommentState t (state_step form at s 35) × IsOpenState (state_step form at s 35)
@@ -151,6 +158,7 @@ module _ (form : PlainForm) where
       let m : v * 10 + (d - 48) ≤ form.limit = omega (arith, value_above ds (v * 10 + (d - 48))) in
       rw (digit_yes d (All-head IsDigit d ds a), digit_goes s v d m) (digits_run s ds (v * 10 + (d - 48)) (at + 1) (All-tail IsDigit d ds a) l)
 
+  -- in these digits of a side
   abbrev pub side_state : Side → List ℕ → State
   side_state s [] = State.AtHeader (header.Gap s)
   side_state s (d ∷ ds) = State.AtHeader (header.Digits s (number_value (d ∷ ds)))

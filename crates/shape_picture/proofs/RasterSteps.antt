@@ -1,4 +1,5 @@
--- One byte of the raster after another.
+-- Each step of the raster's machine keeps what is known of the pixels, or finds the fault that the byte decides.
+-- The steps are those of the code; the meanings are those of `Plain`.
 use Rattle.std.proofs.Common.{◌≡◌, ◌≢◌, ℕ, suc, ◌+◌, ◌-◌, ◌*◌, ◌<◌, ◌≤◌, Bool, true, false, cond, List, [], ◌∷◌, ◌++◌, length, set, map, replicate, Option, None, Some, Ok, Err, refl, sym, ap, ◌∙◌, inl, inr, ⊎_elim, arith}
 use Rattle.std.specs.Prelude.{◌&&◌, ◌==◌, slice_get, IsTrue}
 use Rattle.std.proofs.lemmas.Bool.{eqb-true, eqb-false, and_parts, and_cases, or_from, or_left, or_right, or_cases, cond_both, false≢true}
@@ -47,6 +48,7 @@ module _ (form : PlainForm) where
       let few : length (pixels_of raster) < number_value width * number_value height = omega (arith, h.pixels, h.fewer) in
       (e, (raster, (width, height, h.at, few), hash), or_from (is_pixel c) (is_white c) p w)
 
+  -- a byte more, within a comment or not
   pub piece_answer : (at n : ℕ) (comment : Bool) (front : List ℕ) (c : ℕ) (width height raster : List ℕ) → at ≡ length front → HasPixels form comment n front width height raster → PieceAnswer form front c width height raster (piece_of form comment n at c)
   piece_answer at n true front c width height raster e h =
       cond_both (is_line_end c) (Ok piece.Gap) (Ok piece.Comment) (PieceAnswer form front c width height raster)
@@ -61,6 +63,7 @@ module _ (form : PlainForm) where
       (λ p. (raster_byte form front width height raster c h.at (or_left (is_pixel c) (is_white c) p) (λ _. p), pixel_is c p))
       (λ p. bad_byte at n front c width height raster e h w k p)))
 
+  -- a raster with too few pixels is no whole picture and no fault
   pub raster_unfinished : (n : ℕ) (comment : Bool) (front width height raster : List ℕ) → HasPixels form comment n front width height raster → IsUnfinished form front
   raster_unfinished n true front width height raster h =
       let k = h.at.1 in inr (inr (inr (record { before = k.before; text = k.text; allowed = k.allowed; may = k.opens.may; no_end = k.no_end; front_is = k.front_is })))
@@ -86,6 +89,7 @@ pixels_next raster values c b e k =
     pixels_of-pixel raster c (rw k (code_not_white b)) ∙ rw (e, k) (sym (map_push pixel_code values b))
 
 module _ (form : PlainForm) (X Y : Picture) (comment : Bool) (n : ℕ) (front : List ℕ) (b : Bool) where
+  -- a pixel that is not the last
   pub pixel_next : (h : PictureSoFar form X comment n front) (c : ℕ) → RasterGoesOn form front c h.width h.height h.raster (piece.Pixel b) → Y.sides ≡ X.sides → Y.values ≡ put_value X.values n b → n + 1 < number_value h.width * number_value h.height → PictureSoFar form Y false (n + 1) (front ++ c ∷ [])
   pixel_next h c g s e l =
       let t = number_value h.width * number_value h.height in
@@ -135,6 +139,7 @@ module _ (form : PlainForm) (X Y : Picture) (comment : Bool) (n : ℕ) (front : 
       byte_then [] rest c = refl
       byte_then (x ∷ front) rest c = byte_then front rest c
 
+  -- the last pixel, on a desk
   pub pixel_last : (longest at : ℕ) (all left : Option (List ℕ)) (ahead : List ℕ) (h : PictureSoFar form X comment n front) (c : ℕ) → RasterGoesOn form front c h.width h.height h.raster (piece.Pixel b) → Y.sides ≡ X.sides → Y.values ≡ put_value X.values n b → n + 1 ≡ number_value h.width * number_value h.height → length front < longest → BytesTaken longest at all left ahead (front ++ c ∷ []) → PictureRead form longest all left Y
   pixel_last longest at all left ahead h c g s e l m t =
       record { spells = told all (ahead_of ahead left) t.takes; within = taken_within longest at all left ahead (front ++ c ∷ []) t }
@@ -143,6 +148,7 @@ module _ (form : PlainForm) (X Y : Picture) (comment : Bool) (n : ℕ) (front : 
       told all None k = rw k tt
       told all (Some xs) k = rw k (length front + 1, spelled longest xs h c g s e l m)
 
+-- white space, or the end of a comment
 pub gap_next : (form : PlainForm) (X : Picture) (comment : Bool) (n : ℕ) (front : List ℕ) (h : PictureSoFar form X comment n front) (c : ℕ) → RasterGoesOn form front c h.width h.height h.raster piece.Gap → PictureSoFar form X false n (front ++ c ∷ [])
 gap_next form X comment n front h c g = record {
   width = h.width;
@@ -156,6 +162,7 @@ gap_next form X comment n front h c g = record {
   values = h.values;
 }
 
+-- a byte of a comment
 pub comment_next : (form : PlainForm) (X : Picture) (comment : Bool) (n : ℕ) (front : List ℕ) (h : PictureSoFar form X comment n front) (c : ℕ) → RasterGoesOn form front c h.width h.height h.raster piece.Comment → PictureSoFar form X true n (front ++ c ∷ [])
 comment_next form X comment n front h c g = record {
   width = h.width;
@@ -169,13 +176,14 @@ comment_next form X comment n front h c g = record {
   values = h.values;
 }
 
+-- how many pixels there are in all
 pub total_is : (form : PlainForm) (X : Picture) (comment : Bool) (n : ℕ) (front : List ℕ) (h : PictureSoFar form X comment n front) → box_count X.sides ≡ number_value h.width * number_value h.height
 total_is form X comment n front h = ap box_count h.sides ∙ times_one (number_value h.width) (number_value h.height)
   where
     times_one : (a b : ℕ) → a * (b * 1) ≡ a * b
     times_one a b = grind arith
 
--- after the header
+-- no pixel yet, right after the header
 pub pixels_start : (form : PlainForm) (w h : ℕ) (X : Picture) (n : List ℕ) (front : List ℕ) → IsInGap form (coming.Raster w h) front → X ≡ blank n → n ≡ w ∷ h ∷ [] → PictureSoFar form X false 0 front
 pixels_start form w h X n front (width, height, a, b, r) e s =
     let sides : n ≡ number_value width ∷ number_value height ∷ [] = s ∙ rw (a, b) refl in

@@ -1,4 +1,5 @@
--- A file spells a picture or has a fault.
+-- A file spells a picture or has a fault: the machines are run over it, and each state's meaning is kept.
+-- The law's first half; the second is `AtMostOne`.
 use Rattle.std.proofs.Common.{◌≡◌, ℕ, ◌+◌, ◌*◌, ◌<◌, ◌≤◌, Bool, true, false, List, [], ◌∷◌, ◌++◌, length, Some, Ok, Err, Result, refl, sym, ap, ◌∙◌, subst, inl, inr, ⊎_elim, arith}
 use Rattle.std.specs.Prelude.{◌⊎◌}
 use Rattle.std.proofs.lemmas.Bool.{cases_lt}
@@ -22,6 +23,7 @@ use Rattle.shape_picture.proofs.ByteSteps.{short_fault, long_fault, byte_fault}
 use Rattle.shape_picture.proofs.RasterSteps.{piece_answer, raster_unfinished, gap_next, comment_next, pixel_next, put_value, spelled, pixels_start}
 
 module _ (form : PlainForm) (longest : ℕ) (bytes : List ℕ) where
+  -- the bytes have an answer
   abbrev HasAnswer : Type 0
   HasAnswer = SpellsSome form longest bytes ⊎ HasFault form longest bytes
 
@@ -62,6 +64,7 @@ module _ (form : PlainForm) (longest : ℕ) (bytes : List ℕ) where
       ⊎_elim (λ m. by_piece rest go X comment n front c h m (one_more front rest c e) (piece_of form comment n (length front) c) (piece_answer form (length front) n comment front c h.width h.height h.raster refl h.within))
       (λ m. long_answer front (c ∷ rest) e (omega arith) u) (cases_lt (length front) longest)
 
+  -- what the rest of the file gives from within the header
   abbrev FromHeader : List ℕ → Type 0
   FromHeader rest = (s : Header) (front : List ℕ) → HeaderReached form s front → length front ≤ longest → bytes ≡ front ++ rest → HasAnswer
 

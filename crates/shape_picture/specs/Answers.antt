@@ -4,7 +4,7 @@ use Rattle.std.specs.Prelude.{◌≡◌, ℕ, ◌≤◌, ◌^◌, Bool, true, fa
 use Rattle.shape_terms.specs.Pictures.{Picture}
 use Rattle.shape_desk.specs.declared.desk.Place.{Place}
 use Rattle.shape_desk.specs.declared.desk.Place.TheVariants as place
-use Rattle.shape_desk.specs.Desk.{Files, Rose, Takes, KeepsOutput}
+use Rattle.shape_desk.specs.Desk.{Files, Rose, Takes, KeepsOutput, KeepsPlace}
 use Rattle.shape_desk.specs.Line.{IfTold}
 use Rattle.shape_picture.specs.declared.form.PlainForm.{PlainForm}
 use Rattle.shape_picture.specs.declared.fault.PictureFault.{PictureFault}
@@ -53,8 +53,7 @@ HasFault form longest bytes = (f : PictureFault) × PlainFault form longest byte
 pub record OnlyReads {D : Type 0} (files : D → Option Files) (left : D → Place → Option (List ℕ)) (written : D → Option (List ℕ)) (begun : D → Place → Bool) (read_faults write_faults : D → ℕ) (old new : D) : Type 0 where
   pub still_begun : begun new place.Picture ≡ true
   pub later : read_faults old ≤ read_faults new
-  pub same_report : left new place.Report ≡ left old place.Report
-  pub same_begun : begun new place.Report ≡ begun old place.Report
+  pub report : KeepsPlace left begun place.Report old new
   pub output : KeepsOutput files written write_faults old new
 
 -- at most so many bytes were taken from those left, also those that were read ahead

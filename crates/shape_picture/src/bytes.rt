@@ -41,7 +41,8 @@ fn fill<D: Desk>(buf: &mut [u8], desk: &mut D, most: u64) -> Result<usize, Faile
     ensures end { IfOk result (λ n. n ≡ 0 → IsEnd (D.left desk.old Picture)) }
     ensures cause { OnErr result (Rose (D.read_faults desk.old) (D.read_faults desk.new)) }
     ensures kept { OnErr result (D.left desk.new Picture ≡ D.left desk.old Picture) }
-    ensures reads { OnlyReads D.files D.left D.written D.begun D.read_faults D.write_faults desk.old desk.new }
+    ensures reads { OnlyReads D.files D.left D.written D.begun D.read_faults D.write_faults
+        desk.old desk.new }
 {
     let want = most.min(512) as usize;
     desk.read(Place::Picture, &mut buf[..want])
@@ -70,7 +71,8 @@ impl ByteReader {
         ensures end { OnOk result (self.new ≡ [] → IsEnd (D.left desk.new Picture)) }
         ensures cause { OnErr result (Rose (D.read_faults desk.old) (D.read_faults desk.new)) }
         ensures room { length self.new ≤ max (length self.old) most }
-        ensures reads { OnlyReads D.files D.left D.written D.begun D.read_faults D.write_faults desk.old desk.new }
+        ensures reads { OnlyReads D.files D.left D.written D.begun D.read_faults D.write_faults
+            desk.old desk.new }
     {
         if self.start < self.end {
             return Ok(());
@@ -102,9 +104,14 @@ impl ByteReader {
     pub fn next<D: Desk>(&mut self, desk: &mut D, most: u64) -> Result<Option<u8>, Failed>
         requires most { 1 ≤ most }
         requires begun { D.begun desk.old Picture ≡ true }
-        ensures next { NextByte (ahead_of self.old (D.left desk.old Picture)) (ahead_of self.new (D.left desk.new Picture)) (D.read_faults desk.old) (D.read_faults desk.new) result }
-        ensures room { MatchResult result (λ o. length self.new + length (option_to_list o) ≤ max (length self.old) most) (λ _. length self.new ≤ max (length self.old) most) }
-        ensures reads { OnlyReads D.files D.left D.written D.begun D.read_faults D.write_faults desk.old desk.new }
+        ensures next { NextByte
+            (ahead_of self.old (D.left desk.old Picture)) (ahead_of self.new (D.left desk.new Picture))
+            (D.read_faults desk.old) (D.read_faults desk.new) result }
+        ensures room { MatchResult result
+            (λ o. length self.new + length (option_to_list o) ≤ max (length self.old) most)
+            (λ _. length self.new ≤ max (length self.old) most) }
+        ensures reads { OnlyReads D.files D.left D.written D.begun D.read_faults D.write_faults
+            desk.old desk.new }
     {
         match self.refill(desk, most) {
             Ok(()) => Ok(self.pop()),

@@ -29,9 +29,13 @@ fn next_byte<D: Desk>(
 ) -> Result<u8, PictureError>
     requires more { at < longest }
     requires begun { D.begun desk.old Picture ≡ true }
-    ensures answer { (form : PlainForm) (all : Option (List ℕ)) (front : List ℕ) → BytesTaken longest at all (D.left desk.old Picture) bytes.old front → IsUnfinished form front
-        → NextByteAnswer form longest at all (D.left desk.new Picture) bytes.new front (D.read_faults desk.old) (D.read_faults desk.new) result }
-    ensures reads { OnlyReads D.files D.left D.written D.begun D.read_faults D.write_faults desk.old desk.new }
+    ensures answer { (form : PlainForm) (all : Option (List ℕ)) (front : List ℕ)
+        → BytesTaken longest at all (D.left desk.old Picture) bytes.old front
+        → IsUnfinished form front
+        → NextByteAnswer form longest at all (D.left desk.new Picture) bytes.new front
+        (D.read_faults desk.old) (D.read_faults desk.new) result }
+    ensures reads { OnlyReads D.files D.left D.written D.begun D.read_faults D.write_faults
+        desk.old desk.new }
 {
     match bytes.next(desk, longest - at) {
         Ok(Some(c)) => Ok(c),
@@ -53,9 +57,13 @@ fn next_header<D: Desk>(
     requires small { IsSmall form header }
     requires more { at < longest }
     requires begun { D.begun desk.old Picture ≡ true }
-    ensures answer { (all : Option (List ℕ)) (front : List ℕ) → BytesTaken longest at all (D.left desk.old Picture) bytes.old front → HeaderReached form header front
-        → NextHeaderAnswer form longest at all (D.left desk.new Picture) bytes.new (D.read_faults desk.old) (D.read_faults desk.new) result }
-    ensures reads { OnlyReads D.files D.left D.written D.begun D.read_faults D.write_faults desk.old desk.new }
+    ensures answer { (all : Option (List ℕ)) (front : List ℕ)
+        → BytesTaken longest at all (D.left desk.old Picture) bytes.old front
+        → HeaderReached form header front
+        → NextHeaderAnswer form longest at all (D.left desk.new Picture) bytes.new
+        (D.read_faults desk.old) (D.read_faults desk.new) result }
+    ensures reads { OnlyReads D.files D.left D.written D.begun D.read_faults D.write_faults
+        desk.old desk.new }
 {
     match next_byte(longest, at, bytes, desk) {
         Ok(c) => match step(form, at, header, c) {
@@ -78,9 +86,14 @@ fn next_piece<D: Desk>(
 ) -> Result<Piece, PictureError>
     requires more { at < longest }
     requires begun { D.begun desk.old Picture ≡ true }
-    ensures answer { (all : Option (List ℕ)) (front width height raster : List ℕ) → BytesTaken longest at all (D.left desk.old Picture) bytes.old front → HasPixels form comment count front width height raster
-        → NextPieceAnswer form longest at all (D.left desk.new Picture) bytes.new front width height raster (D.read_faults desk.old) (D.read_faults desk.new) result }
-    ensures reads { OnlyReads D.files D.left D.written D.begun D.read_faults D.write_faults desk.old desk.new }
+    ensures answer { (all : Option (List ℕ)) (front width height raster : List ℕ)
+        → BytesTaken longest at all (D.left desk.old Picture) bytes.old front
+        → HasPixels form comment count front width height raster
+        → NextPieceAnswer form longest at all (D.left desk.new Picture) bytes.new
+        front width height raster
+        (D.read_faults desk.old) (D.read_faults desk.new) result }
+    ensures reads { OnlyReads D.files D.left D.written D.begun D.read_faults D.write_faults
+        desk.old desk.new }
 {
     match next_byte(longest, at, bytes, desk) {
         Ok(c) => match piece_at(form, comment, count, at, c) {
@@ -109,8 +122,11 @@ fn read_header<D: Desk>(
     requires limit { form.limit ≤ 2 ^ 20 }
     requires begun { D.begun desk.old Picture ≡ true }
     requires none_ahead { bytes.old ≡ [] }
-    ensures answer { HeaderAnswer form longest (D.left desk.old Picture) (D.left desk.new Picture) bytes.new (D.read_faults desk.old) (D.read_faults desk.new) result }
-    ensures reads { OnlyReads D.files D.left D.written D.begun D.read_faults D.write_faults desk.old desk.new }
+    ensures answer { HeaderAnswer form longest
+        (D.left desk.old Picture) (D.left desk.new Picture) bytes.new
+        (D.read_faults desk.old) (D.read_faults desk.new) result }
+    ensures reads { OnlyReads D.files D.left D.written D.begun D.read_faults D.write_faults
+        desk.old desk.new }
 {
     let mut header = Header::Start;
     let mut at: u64 = 0;
@@ -158,9 +174,12 @@ fn read_raster<D: Desk>(
     desk: &mut D,
 ) -> Result<Grid<P2>, PictureError>
     requires begun { D.begun desk.old Picture ≡ true }
-    ensures answer { (all : Option (List ℕ)) → RasterSoFar form longest from grid false 0 all (D.left desk.old Picture) bytes.old
-        → PictureAnswer form longest all (D.left desk.new Picture) (D.read_faults desk.old) (D.read_faults desk.new) result }
-    ensures reads { OnlyReads D.files D.left D.written D.begun D.read_faults D.write_faults desk.old desk.new }
+    ensures answer { (all : Option (List ℕ))
+        → RasterSoFar form longest from grid false 0 all (D.left desk.old Picture) bytes.old
+        → PictureAnswer form longest all (D.left desk.new Picture)
+        (D.read_faults desk.old) (D.read_faults desk.new) result }
+    ensures reads { OnlyReads D.files D.left D.written D.begun D.read_faults D.write_faults
+        desk.old desk.new }
 {
     let total = grid.sides().count();
     let mut at = from;
@@ -200,8 +219,10 @@ fn read_within<D: Desk>(
 ) -> Result<Grid<P2>, PictureError>
     requires limit { form.limit ≤ most_side }
     requires begun { D.begun desk.old Picture ≡ true }
-    ensures answer { PictureAnswer form longest (D.left desk.old Picture) (D.left desk.new Picture) (D.read_faults desk.old) (D.read_faults desk.new) result }
-    ensures reads { OnlyReads D.files D.left D.written D.begun D.read_faults D.write_faults desk.old desk.new }
+    ensures answer { PictureAnswer form longest (D.left desk.old Picture) (D.left desk.new Picture)
+        (D.read_faults desk.old) (D.read_faults desk.new) result }
+    ensures reads { OnlyReads D.files D.left D.written D.begun D.read_faults D.write_faults
+        desk.old desk.new }
 {
     let mut bytes = match ByteReader::new(alloc) {
         Ok(bytes) => bytes,
@@ -223,33 +244,42 @@ pub const MOST_SIDE: u32 = P2::MAX_SIDE as u32;
 /// How many bytes a plain PBM has at most, up to and with its last pixel.
 pub const MOST_BYTES: u64 = 1 << 25;
 
+// Plain PBM with comments.
+const WHOLE_FORM: PlainForm = PlainForm {
+    limit: MOST_SIDE,
+    comments: true,
+};
+
+// Plain PBM without comments.
+const BARE_FORM: PlainForm = PlainForm {
+    limit: MOST_SIDE,
+    comments: false,
+};
+
 /// Reads the plain PBM at the front of the picture's place.
 ///
 /// What follows the last pixel is not looked at, but may have been taken from the desk. It takes memory for 512 bytes
 /// and the grid.
 pub fn read_plain<D: Desk>(alloc: Global, desk: &mut D) -> Result<Grid<P2>, PictureError>
     requires { D.begun desk.old Picture ≡ true }
-    ensures answer { PictureAnswer whole_form most_bytes (D.left desk.old Picture) (D.left desk.new Picture) (D.read_faults desk.old) (D.read_faults desk.new) result }
-    ensures reads { OnlyReads D.files D.left D.written D.begun D.read_faults D.write_faults desk.old desk.new }
+    ensures answer { PictureAnswer whole_form most_bytes
+        (D.left desk.old Picture) (D.left desk.new Picture)
+        (D.read_faults desk.old) (D.read_faults desk.new) result }
+    ensures reads { OnlyReads D.files D.left D.written D.begun D.read_faults D.write_faults
+        desk.old desk.new }
 {
-    let form = PlainForm {
-        limit: MOST_SIDE,
-        comments: true,
-    };
-    read_within(alloc, form, MOST_BYTES, desk)
+    read_within(alloc, WHOLE_FORM, MOST_BYTES, desk)
 }
 
 /// Reads the plain PBM without comments at the front of the picture's place. Every other file is `NotPlain`.
 pub fn read_bare<D: Desk>(alloc: Global, desk: &mut D) -> Result<Grid<P2>, PictureError>
     requires { D.begun desk.old Picture ≡ true }
-    ensures answer { BareAnswer most_bytes (D.left desk.old Picture) (D.left desk.new Picture) (D.read_faults desk.old) (D.read_faults desk.new) result }
-    ensures reads { OnlyReads D.files D.left D.written D.begun D.read_faults D.write_faults desk.old desk.new }
+    ensures answer { BareAnswer most_bytes (D.left desk.old Picture) (D.left desk.new Picture)
+        (D.read_faults desk.old) (D.read_faults desk.new) result }
+    ensures reads { OnlyReads D.files D.left D.written D.begun D.read_faults D.write_faults
+        desk.old desk.new }
 {
-    let form = PlainForm {
-        limit: MOST_SIDE,
-        comments: false,
-    };
-    match read_within(alloc, form, MOST_BYTES, desk) {
+    match read_within(alloc, BARE_FORM, MOST_BYTES, desk) {
         Ok(grid) => Ok(grid),
         Err(PictureError::Bad(_)) => Err(PictureError::Bad(PictureFault::NotPlain)),
         Err(error) => Err(error),
@@ -307,13 +337,7 @@ mod tests {
         match reader {
             Reader::Plain => read_plain(alloc, &mut desk),
             Reader::Bare => read_bare(alloc, &mut desk),
-            Reader::Within(longest) => {
-                let form = PlainForm {
-                    limit: MOST_SIDE,
-                    comments: true,
-                };
-                read_within(alloc, form, longest, &mut desk)
-            }
+            Reader::Within(longest) => read_within(alloc, WHOLE_FORM, longest, &mut desk),
         }
     }
 

@@ -13,3 +13,4 @@ pub mod SectionLines
 pub mod HoldsShows
 pub mod Checking
 pub mod GoodSteps
+pub mod ShortLines

@@ -1,6 +1,6 @@
 use Rattle.std.proofs.Common.{map}
 use Rattle.shape_terms.specs.Pictures.{objects_from}
-use Rattle.shape_dist.specs.FieldLoop.{IsFieldSoFar}
+use Rattle.shape_dist.proofs.FieldSteps.{IsFieldSoFar}
 use Rattle.shape_dist.proofs.field.nearest.Given as goal
 
 abbrev pub invariant-loop-p : goal.invariant-loop-p

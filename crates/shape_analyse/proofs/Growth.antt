@@ -1,0 +1,117 @@
+-- A report grows by one good line at a time, and at its end it holds.
+-- One law for each kind of line that is added.
+use Rattle.std.proofs.Common.{◌≡◌, ◌+◌, ◌<◌, ◌≤◌, ℕ, zero, suc, ℤ, pos, negsuc, ◌≤ℤ◌, List, [], ◌∷◌, ◌++◌, length, map, refl, sym, ap, ◌∙◌, subst, arith, Some}
+use Rattle.std.specs.Prelude.{All, FitsSigned, codes, slice_get, nat_abs}
+use Rattle.std.specs.Int.{w32}
+use Rattle.std.proofs.lemmas.Int.{ints}
+use Rattle.std.proofs.lemmas.List.{append-nil, length-append}
+use Rattle.std.proofs.lemmas.List.Elements.{All-nil, All-cons, All-push, All-head, All-tail, All-from_get_or}
+use Rattle.shape_terms.specs.Points.{Point, coordinate, AreSides, sides_of}
+use Rattle.shape_terms.specs.Pictures.{Picture, object_points, Least}
+use Rattle.shape_terms.specs.Distances.{NearFact, IsField, IsFramed}
+use Rattle.shape_terms.specs.Lines.{Line, spelling, text_of, IsLineOf, IsShortPoint, IsWeight, IsName}
+use Rattle.shape_terms.specs.Good.{section, section_lines, GoodSoFar, GoodAfter}
+use Rattle.shape_terms.specs.Holds.{Holds}
+use Rattle.shape_terms.proofs.Checking.{good_push}
+use Rattle.shape_terms.proofs.GoodSteps.{come_none, come_more, come_past, good_at, section_push, section_skip}
+use Rattle.shape_terms.proofs.ShortLines.{short_line, within_short, distance_fits}
+use Rattle.shape_terms.proofs.Boxes.{abs_is}
+use Rattle.shape_analyse.specs.Growing.{IsGrowing}
+
+-- ---- the first line
+
+sides_are : (greatest : ℤ) (n : Point) → AreSides greatest n → n ≡ map pos (sides_of n)
+sides_are g [] h = refl
+sides_are g (x ∷ n) h =
+    let e : x ≡ pos (nat_abs x) = sym (abs_is x (let f = (h 0 (omega arith)).0 in omega (arith, ints))) in
+    let r = sides_are g n (λ k l. h (suc k) (omega arith)) in
+    λ i. e i ∷ r i
+
+sides_fit : (greatest : ℤ) (n : Point) → AreSides greatest n → greatest ≤ℤ pos 2048 → All (FitsSigned w32) n
+sides_fit g n h m = All-from_get_or (FitsSigned w32) n (pos 0) (λ k l. let c = h k l in fits (coordinate n k) c.0 (omega (arith, ints, c.1)))
+  where
+    fits : (z : ℤ) → pos 1 ≤ℤ z → z ≤ℤ pos 2048 → FitsSigned w32 z
+    fits (pos n) l h = record { sfits = omega (arith, ints) }
+    fits (negsuc n) l h = absurd (omega (arith, ints))
+
+pub heading_fits : (greatest : ℤ) (d : ℕ) (n : Point) (rule : List ℕ) → AreSides greatest n → greatest ≤ℤ pos 2048 → length n ≡ d → IsName rule → IsLineOf d (Line.Shape n rule)
+heading_fits g d n rule h m e k = (record { axes = e; fits = sides_fit g n h m }, k)
+
+push_none : (X : Picture) (l : Line) → GoodAfter X [] l → GoodSoFar X (l ∷ [])
+push_none X l g = good_push X [] l (λ k m e. cc) g
+
+pub growing_none : (greatest : ℤ) (X : Picture) (n : Point) (rule : List ℕ) → AreSides greatest n → sides_of n ≡ X.sides → length X.sides ≤ 3 → IsLineOf (length X.sides) (Line.Shape n rule) → rule ≡ codes "none" → IsGrowing X 0 (Line.Shape n rule ∷ [])
+growing_none g X n rule h e three fields r =
+    let l = Line.Shape n rule in
+    let claim : n ≡ map pos X.sides = sides_are g n h ∙ ap (map pos) e in
+    let good : GoodAfter X [] l = good_at X [] l (come_none X) (refl, claim, r) in
+    record {
+      fields = All-cons (IsLineOf (length X.sides)) l [] fields (All-nil (IsLineOf (length X.sides)));
+      short = All-cons (λ m. length (spelling m) ≤ 1024) l [] (short_line (length X.sides) l three fields) (All-nil (λ m. length (spelling m) ≤ 1024));
+      good = push_none X l good;
+      come = come_past X 0 (l ∷ []) (come_more X 0 [] l (come_none X) refl) refl;
+      nears = refl;
+    }
+
+-- ---- the `near` lines
+
+pub growing_more : (X : Picture) (n : ℕ) (lines : List Line) (p q : Point) (s : ℕ) → IsGrowing X n lines → length X.sides ≤ 3 → IsLineOf (length X.sides) (Line.Near p q s) → slice_get (object_points X) n ≡ Some p → Least X p q s → IsGrowing X (n + 1) (lines ++ Line.Near p q s ∷ [])
+growing_more X n lines p q s h three fields there least =
+    let l = Line.Near p q s in
+    let d = length X.sides in
+    let good : GoodAfter X lines l = good_at X lines l h.come (ap (slice_get (object_points X)) h.nears ∙ there, least) in
+    record {
+      fields = All-push (IsLineOf d) lines l h.fields fields;
+      short = All-push (λ m. length (spelling m) ≤ 1024) lines l h.short (short_line d l three fields);
+      good = good_push X lines l h.good good;
+      come = come_more X 1 lines l h.come refl;
+      nears = ap length (section_push 1 lines l refl) ∙ length-append (section_lines 1 lines) (l ∷ []) ∙ ap (λ k. k + 1) h.nears;
+    }
+
+-- ---- the last line
+
+pub growing_done : (X : Picture) (n : ℕ) (lines : List Line) → IsGrowing X n lines → length X.sides ≤ 3 → n ≡ length (object_points X) → Holds X (text_of (lines ++ Line.End ∷ []))
+growing_done X n lines h three all =
+    let d = length X.sides in
+    let come = come_past X 1 lines h.come (h.nears ∙ all) in
+    let good : GoodAfter X lines Line.End = good_at X lines Line.End come (none_ended lines h.come.order) in
+    (lines, record {
+      split = sym (append-nil (text_of (lines ++ Line.End ∷ [])));
+      fields = All-push (IsLineOf d) lines Line.End h.fields tt;
+      short = All-push (λ m. length (spelling m) ≤ 1024) lines Line.End h.short (short_line d Line.End three tt);
+      good = good_push X lines Line.End h.good good;
+    })
+  where
+    none_ended : (lines : List Line) → All (λ e. section e ≤ 1) lines → section_lines 2 lines ≡ []
+    none_ended [] a = refl
+    none_ended (Line.Shape sides rule ∷ lines) a = none_ended lines (All-tail (λ e. section e ≤ 1) (Line.Shape sides rule) lines a)
+    none_ended (Line.Near p q s ∷ lines) a = none_ended lines (All-tail (λ e. section e ≤ 1) (Line.Near p q s) lines a)
+    none_ended (Line.End ∷ lines) a = absurd (let h = All-head (λ e. section e ≤ 1) Line.End lines a in omega arith)
+
+-- ---- what is read off the field
+
+-- the i-th fact is about the i-th object point, has a nearest background point, and fits its line
+pub record IsFactAt (X : Picture) (i : ℕ) (f : NearFact) : Type 0 where
+  pub there : slice_get (object_points X) i ≡ Some f.p
+  pub least : Least X f.p f.q f.s
+  pub fields : IsLineOf (length X.sides) (Line.Near f.p f.q f.s)
+
+get_map : {A B : Type 0} (f : A → B) (xs : List A) (i : ℕ) (x : A) → slice_get xs i ≡ Some x → slice_get (map f xs) i ≡ Some (f x)
+get_map f [] i x e = cc
+get_map f (y ∷ xs) zero x e = let h : y ≡ x = cc in ap (λ z. Some (f z)) h
+get_map f (y ∷ xs) (suc i) x e = get_map f xs i x e
+
+all_get : {A : Type 0} (P : A → Type 0) (xs : List A) (i : ℕ) (x : A) → All P xs → slice_get xs i ≡ Some x → P x
+all_get P [] i x a e = cc
+all_get P (y ∷ xs) zero x a e = let h : y ≡ x = cc in subst P h (All-head P y xs a)
+all_get P (y ∷ xs) (suc i) x a e = all_get P xs i x (All-tail P y xs a) e
+
+pub fact_at : (X : Picture) (facts : List NearFact) (i : ℕ) (f : NearFact) (d : ℕ) → IsField X facts → All IsFramed facts → slice_get facts i ≡ Some f → length X.sides ≡ d → d ≤ 3 → length f.p ≡ d → length f.q ≡ d → IsFactAt X i f
+fact_at X facts i f d field framed e axes three lp lq =
+    let least = all_get (λ f. Least X f.p f.q f.s) facts i f field.least e in
+    let near = all_get IsFramed facts i f framed e in
+    record {
+      there = ap (λ ps. slice_get ps i) (sym field.points) ∙ get_map (λ (g : NearFact). g.p) facts i f e;
+      least = least;
+      fields = (within_short (length X.sides) f.p (lp ∙ sym axes) near.p, within_short (length X.sides) f.q (lq ∙ sym axes) near.q, subst IsWeight (sym least.distance) (distance_fits f.p f.q (omega arith) near.p near.q));
+    }

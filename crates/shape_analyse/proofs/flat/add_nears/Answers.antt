@@ -1,0 +1,20 @@
+use Rattle.std.proofs.Common.{◌≡◌, ◌+◌, ◌≤◌, length, arith, rules, subst, sym}
+use Rattle.shape_terms.specs.Lines.{Line, IsLineOf}
+use Rattle.shape_terms.specs.Pictures.{object_points}
+use Rattle.shape_analyse.specs.Growing.{IsGrowing}
+use Rattle.shape_analyse.proofs.Growth.{fact_at, growing_more}
+use Rattle.shape_analyse.proofs.flat.add_nears.Goals as goal
+
+pub add-requires : goal.add-requires
+add-requires g c =
+    let near = c.near-near.result in
+    let fact = fact_at c.args.grid.now c.args.field.now c.loop-i.i (record { p = g.P.Point.coords near.p; q = g.P.Point.coords near.q; s = near.s }) g.P.Point.DIM c.requires.field c.requires.framed c.near-near.ensures c.requires.axes c.requires.few (g.met.P.Point.axes near.p) (g.met.P.Point.axes near.q) in
+    subst (λ d. IsLineOf d (Line.Near (g.P.Point.coords near.p) (g.P.Point.coords near.q) near.s)) c.requires.axes fact.fields
+
+pub loop-i-preserved : goal.loop-i-preserved
+loop-i-preserved g c =
+    let near = c.near-near.result in
+    let fact = fact_at c.args.grid.now c.args.field.now c.loop-i.i (record { p = g.P.Point.coords near.p; q = g.P.Point.coords near.q; s = near.s }) g.P.Point.DIM c.requires.field c.requires.framed c.near-near.ensures c.requires.axes c.requires.few (g.met.P.Point.axes near.p) (g.met.P.Point.axes near.q) in
+    let three : length c.args.grid.now.sides ≤ 3 = omega (arith, c.requires.axes, c.requires.few) in
+    subst (IsGrowing c.args.grid.now (c.loop-i.i + 1)) (sym c.in-Ok.ensures.ok)
+    (growing_more c.args.grid.now c.loop-i.i c.loop-i.report (g.P.Point.coords near.p) (g.P.Point.coords near.q) near.s c.loop-i.invariant three fact.fields fact.there fact.least)

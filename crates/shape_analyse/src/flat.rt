@@ -1,0 +1,102 @@
+//! The report of a picture, section by section.
+//! The parts that serve every dimension are generic; `analyse_flat` puts them together for flat pictures.
+ghost use Rattle.std.specs.Prelude.{◌≡◌, ◌≤◌, IfOk, OnOk, length, codes, All};
+ghost use Rattle.shape_terms.specs.Lines.{text_of};
+ghost use Rattle.shape_terms.specs.Pictures.{object_points};
+ghost use Rattle.shape_terms.specs.Distances.{IsField, IsFramed};
+ghost use Rattle.shape_terms.specs.Holds.{Holds};
+ghost use Rattle.shape_rules.specs.Names.{word_of};
+ghost use Rattle.shape_analyse.specs.Growing.{IsGrowing};
+
+use shape_dist::{Field, nearest};
+use shape_grid::Grid;
+use shape_report::{Line, Report};
+use shape_rules::Name;
+use shape_space::{NoMemory, P2, Point};
+use std::alloc::Global;
+
+// The name of the rule that keeps no point.
+fn no_rule() -> Name
+    ensures { word_of result ≡ codes "none" }
+{
+    match Name::new(b"none") {
+        Some(name) => name,
+        None => unreachable!(),
+    }
+}
+
+// The report that has its `shape` line alone.
+fn open<P: Point>(alloc: Global, grid: &Grid<P>) -> Result<Report<P>, NoMemory>
+    ensures open { IfOk result (IsGrowing grid.now 0) }
+    ensures axes { length grid.now.sides ≡ P.DIM }
+    ensures few { P.DIM ≤ 3 }
+{
+    let sides = grid.sides().lengths;
+    let head = Line::Shape {
+        sides,
+        rule: no_rule(),
+    };
+    match Report::new(alloc, head) {
+        Ok(report) => Ok(report),
+        Err(e) => Err(e),
+    }
+}
+
+// Adds the `near` line of each object point.
+fn add_nears<P: Point>(
+    grid: &Grid<P>,
+    field: &Field<P>,
+    report: &mut Report<P>,
+) -> Result<(), NoMemory>
+    requires axes { length grid.now.sides ≡ P.DIM }
+    requires few { P.DIM ≤ 3 }
+    requires field { IsField grid.now field.now }
+    requires framed { All IsFramed field.now }
+    requires open { IsGrowing grid.now 0 report.old }
+    ensures { OnOk result (IsGrowing grid.now (length (object_points grid.now)) report.new) }
+{
+    for i in 0..field.len() {
+        let near = field.near(i);
+        let line = Line::Near {
+            p: near.p,
+            q: near.q,
+            s: near.s,
+        };
+        match report.add(line) {
+            Ok(()) => {}
+            Err(e) => return Err(e),
+        }
+    }
+    Ok(())
+}
+
+// The report of a picture of any dimension.
+fn analyse<P: Point>(alloc: Global, grid: &Grid<P>) -> Result<Report<P>, NoMemory>
+    ensures { IfOk result (λ r. Holds grid.now (text_of r)) }
+{
+    let mut report = match open(alloc, grid) {
+        Ok(report) => report,
+        Err(e) => return Err(e),
+    };
+    let field = match nearest(alloc, grid) {
+        Ok(field) => field,
+        Err(e) => return Err(e),
+    };
+    match add_nears(grid, &field, &mut report) {
+        Ok(()) => {}
+        Err(e) => return Err(e),
+    }
+    match report.add(Line::End) {
+        Ok(()) => Ok(report),
+        Err(e) => Err(e),
+    }
+}
+
+/// The report of a flat picture. Its lines, spelled, hold of the picture.
+///
+/// The distances cost a search of the framed box for each object point.
+pub fn analyse_flat(alloc: Global, grid: &Grid<P2>) -> Result<Report<P2>, NoMemory>
+    ensures { IfOk result (λ r. Holds grid.now (text_of r)) }
+{
+    analyse(alloc, grid)
+}

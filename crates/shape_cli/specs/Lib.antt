@@ -1,0 +1,3 @@
+pub mod Outcomes
+pub mod Commands
+pub mod Runs

@@ -1,0 +1,55 @@
+-- What the program shows of each outcome.
+-- The table of statuses, texts and numbers, one case a line.
+use Rattle.std.specs.Prelude.{ℕ, List, [], codes, Option, None, Some}
+use Rattle.shape_picture.specs.declared.fault.PictureFault.{PictureFault}
+use Rattle.shape_picture.specs.declared.fault.PictureFault.TheVariants as fault
+use Rattle.shape_picture.specs.declared.fault.PictureError.{PictureError}
+use Rattle.shape_picture.specs.declared.fault.PictureError.TheVariants as error
+use Rattle.shape_cli.specs.declared.outcome.Outcome.{Outcome}
+use Rattle.shape_cli.specs.declared.outcome.Outcome.TheVariants as outcome
+
+-- the exit status
+abbrev pub status_of : Outcome → ℕ
+status_of outcome.Done = 0
+status_of outcome.Usage = 2
+status_of (outcome.Picture f) = 3
+status_of outcome.ReadFault = 4
+status_of outcome.WriteFault = 5
+status_of outcome.NoMemory = 6
+
+abbrev pub fault_message : PictureFault → List ℕ
+fault_message fault.NotPlain = codes "not a plain PBM"
+fault_message (fault.BadNumber i) = codes "bad header byte at"
+fault_message fault.ZeroSide = codes "a side is zero"
+fault_message (fault.SideTooLarge v) = codes "a side is too large:"
+fault_message (fault.BadByte i) = codes "bad pixel at"
+fault_message (fault.Short i) = codes "picture ends early at"
+fault_message fault.TooLong = codes "picture is too long"
+
+-- the text on standard error
+abbrev pub message_of : Outcome → List ℕ
+message_of outcome.Done = []
+message_of outcome.Usage = codes "usage: analyse pbm FILE RULE, analyse raw X Y Z FILE RULE, check pbm FILE REPORT, check raw X Y Z FILE REPORT, trial pbm SEED SIDE, trial raw SEED SIDE"
+message_of (outcome.Picture f) = fault_message f
+message_of outcome.ReadFault = codes "read failed"
+message_of outcome.WriteFault = codes "write failed"
+message_of outcome.NoMemory = codes "no memory"
+
+-- the number of a fault: the place of a byte, or the value of a side
+abbrev pub fault_place : PictureFault → Option ℕ
+fault_place (fault.BadNumber i) = Some i
+fault_place (fault.SideTooLarge v) = Some v
+fault_place (fault.BadByte i) = Some i
+fault_place (fault.Short i) = Some i
+fault_place _ = None
+
+-- the number behind the text
+abbrev pub number_of : Outcome → Option ℕ
+number_of (outcome.Picture f) = fault_place f
+number_of _ = None
+
+-- the outcome where there is no picture
+abbrev pub refusal_of : PictureError → Outcome
+refusal_of (error.Bad f) = outcome.Picture f
+refusal_of error.ReadFault = outcome.ReadFault
+refusal_of error.NoMemory = outcome.NoMemory

@@ -1,0 +1,10 @@
+//! The top call of the program: it does what the words of a command line say.
+//! Everything that a user sees is an `Outcome`, or what was written to the desk.
+#![tactic(auto)]
+
+mod outcome;
+mod top;
+mod words;
+
+pub use outcome::Outcome;
+pub use top::run;

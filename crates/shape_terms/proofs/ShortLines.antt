@@ -1,0 +1,90 @@
+-- The lines of a report are short, and the points and distances of a framed box fit their fields.
+-- One clause for each kind of line, with a generous bound on its words.
+use Rattle.std.proofs.Common.{◌≡◌, ◌+◌, ◌*◌, ◌^◌, ◌<◌, ◌≤◌, ℕ, zero, suc, ℤ, pos, negsuc, ◌-ℤ◌, ◌≤ℤ◌, List, [], ◌∷◌, ◌++◌, length, get_or, map, refl, sym, ap, ◌∙◌, subst, arith, lit<, length-append}
+use Rattle.std.specs.Prelude.{All, FitsSigned, nat_abs, codes}
+use Rattle.std.specs.Int.{w32}
+use Rattle.std.specs.List.{join_with_byte}
+use Rattle.std.specs.Fmt.{decimal, signed_decimal}
+use Rattle.std.proofs.lemmas.Fmt.{length-decimal-le, length_signed_le}
+use Rattle.std.proofs.lemmas.Int.{ints}
+use Rattle.std.proofs.lemmas.Nat.{mul-le}
+use Rattle.std.proofs.lemmas.List.Elements.{All-nil, All-cons, All-head, All-tail, All-from_get_or}
+use Rattle.shape_terms.specs.Points.{Point, coordinate, squared_distance}
+use Rattle.shape_terms.specs.FramedBox.{IsWithin}
+use Rattle.shape_terms.specs.Lines.{Line, line_words, number_words, kind_word, spelling, IsLineOf, IsShortPoint, IsWeight}
+use Rattle.shape_terms.proofs.SquaredDistances.{squared_distance-cons, square_apart}
+
+-- ---- words
+
+-- the bytes of words, each with a blank
+total : List (List ℕ) → ℕ
+total [] = 0
+total (w ∷ ws) = length w + 1 + total ws
+
+total-append : (xs ys : List (List ℕ)) → total (xs ++ ys) ≡ total xs + total ys
+unfolding total
+total-append [] ys = omega arith
+total-append (x ∷ xs) ys = omega (arith, total-append xs ys)
+
+joined_short : (ws : List (List ℕ)) → length (join_with_byte 32 ws) ≤ total ws
+unfolding total
+joined_short [] = omega arith
+joined_short (w ∷ []) = omega arith
+joined_short (w ∷ v ∷ ws) = omega (arith, joined_short (v ∷ ws), length-append w (32 ∷ join_with_byte 32 (v ∷ ws)))
+
+number_short : (z : ℤ) → FitsSigned w32 z → length (signed_decimal z) ≤ 12
+number_short (pos n) h = omega (arith, length-decimal-le 11 n (lit< tt) (omega (arith, h.sfits)) (omega (arith, h.sfits)))
+number_short (negsuc n) h =
+    let l : length (decimal (suc n)) ≤ 11 = length-decimal-le 11 (suc n) (lit< tt) (omega (arith, h.sfits)) (omega (arith, h.sfits)) in
+    omega arith
+
+numbers_short : (p : Point) → All (FitsSigned w32) p → total (number_words p) ≤ 13 * length p
+unfolding total
+numbers_short [] a = omega arith
+numbers_short (x ∷ p) a = omega (arith, number_short x (All-head (FitsSigned w32) x p a), numbers_short p (All-tail (FitsSigned w32) x p a))
+
+kind_short : (n : ℕ) → length (kind_word n) ≡ 3
+kind_short zero = refl
+kind_short (suc zero) = refl
+kind_short (suc (suc zero)) = refl
+kind_short (suc (suc (suc n))) = refl
+
+weight_short : (s : ℕ) → IsWeight s → length (decimal s) ≤ 19
+weight_short s h = length-decimal-le 19 s (lit< tt) (omega arith) (omega arith)
+
+-- no line of a report of two or three axes is longer than 1024 bytes
+pub short_line : (d : ℕ) (l : Line) → d ≤ 3 → IsLineOf d l → length (spelling l) ≤ 1024
+unfolding total
+short_line d (Line.Shape sides rule) h a =
+    let j = joined_short (line_words (Line.Shape sides rule)) in
+    let t = total-append (number_words sides) (rule ∷ []) in
+    omega (arith, j, t, numbers_short sides a.0.fits, kind_short (length sides), a.0.axes, a.1.few)
+short_line d (Line.Near p q s) h a =
+    let j = joined_short (line_words (Line.Near p q s)) in
+    let t = total-append (number_words p) (number_words q ++ decimal s ∷ []) in
+    let u = total-append (number_words q) (decimal s ∷ []) in
+    omega (arith, j, t, u, numbers_short p a.0.fits, numbers_short q a.1.fits, weight_short s a.2, a.0.axes, a.1.axes)
+short_line d Line.End h a = let j = joined_short (line_words Line.End) in omega arith
+
+-- ---- fields
+
+pub within_fits : (p : Point) → IsWithin (negsuc 0) (pos 4096) p → All (FitsSigned w32) p
+within_fits p h = All-from_get_or (FitsSigned w32) p (pos 0) (λ k l. let c = h k l in fits (coordinate p k) c.0 c.1)
+  where
+    fits : (z : ℤ) → negsuc 0 ≤ℤ z → z ≤ℤ pos 4096 → FitsSigned w32 z
+    fits (pos n) l h = record { sfits = omega (arith, ints) }
+    fits (negsuc n) l h = record { sfits = omega (arith, ints) }
+
+pub within_short : (d : ℕ) (p : Point) → length p ≡ d → IsWithin (negsuc 0) (pos 4096) p → IsShortPoint d p
+within_short d p e h = record { axes = e; fits = within_fits p h }
+
+distance_bound : (p q : Point) → IsWithin (negsuc 0) (pos 4096) p → IsWithin (negsuc 0) (pos 4096) q → squared_distance p q ≤ 16785409 * length p
+distance_bound [] q a b = omega arith
+distance_bound (x ∷ p) [] a b = omega arith
+distance_bound (x ∷ p) (y ∷ q) a b =
+    let s = square_apart x y (nat_abs (x -ℤ y)) refl (a 0 (omega arith)) (b 0 (omega arith)) in
+    let r = distance_bound p q (λ k l. a (suc k) (omega arith)) (λ k l. b (suc k) (omega arith)) in
+    omega (arith, squared_distance-cons x y p q, s, r)
+
+pub distance_fits : (p q : Point) → length p ≤ 3 → IsWithin (negsuc 0) (pos 4096) p → IsWithin (negsuc 0) (pos 4096) q → IsWeight (squared_distance p q)
+distance_fits p q h a b = omega (arith, distance_bound p q a b)
