@@ -1,0 +1,3 @@
+pub mod NextAnswers
+pub mod Going
+pub mod Stages

@@ -1,0 +1,13 @@
+//! The checker: whether a report holds of a picture, and else which of its lines is the first bad one.
+//! It goes through the report line by line and stands on no crate that analyses pictures.
+#![tactic(auto)]
+
+mod answer;
+mod check;
+mod law;
+mod next;
+mod progress;
+
+pub use answer::{CheckFault, Judgement};
+pub use check::check_flat;
+pub use law::holding_shows;

@@ -1,0 +1,47 @@
+//! The next line of the report that is checked.
+//! A line that is too long, has no LF or is no line's spelling is bad whatever stands before it.
+ghost use Rattle.std.specs.Prelude.{◌≡◌, ◌≤◌, true};
+ghost use Rattle.shape_desk.specs.Desk.{KeepsPlace, KeepsOutput};
+ghost use Rattle.shape_desk.specs.Line.{ahead_of};
+ghost use Rattle.shape_desk.specs.declared.desk.Place.TheVariants.{Picture, Report};
+ghost use Rattle.shape_check.specs.Next.{NextAnswer};
+
+use crate::answer::CheckFault;
+use shape_desk::{Desk, LineFault, LineReader};
+use shape_report::{Line, read_claim};
+use shape_space::Point;
+
+// What comes next in a report.
+#[derive(Clone, Copy)]
+pub(crate) enum Next<P> {
+    // A line, spelled right.
+    Claim(Line<P>),
+    // No line, though bytes are left.
+    Bad,
+    // The end of the file.
+    End,
+}
+
+// Takes the next line.
+pub(crate) fn next_claim<P: Point, D: Desk>(
+    reader: &mut LineReader,
+    desk: &mut D,
+) -> Result<Next<P>, CheckFault>
+    requires { D.begun desk.old Report ≡ true }
+    ensures answer { NextAnswer P.DIM P.coords (ahead_of reader.old.ahead (D.left desk.old Report)) (ahead_of reader.new.ahead (D.left desk.new Report)) (D.read_faults desk.old) (D.read_faults desk.new) result }
+    ensures begun { D.begun desk.new Report ≡ true }
+    ensures later { D.read_faults desk.old ≤ D.read_faults desk.new }
+    ensures picture { KeepsPlace D.left D.begun Picture desk.old desk.new }
+    ensures output { KeepsOutput D.files D.written D.write_faults desk.old desk.new }
+{
+    match reader.next_line(desk) {
+        Ok(Some(_)) => match read_claim(reader.line()) {
+            Some(line) => Ok(Next::Claim(line)),
+            None => Ok(Next::Bad),
+        },
+        Ok(None) => Ok(Next::End),
+        Err(LineFault::Read) => Err(CheckFault::ReadFault),
+        Err(LineFault::TooLong) => Ok(Next::Bad),
+        Err(LineFault::NoLf) => Ok(Next::Bad),
+    }
+}

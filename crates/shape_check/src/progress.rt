@@ -1,0 +1,112 @@
+//! How far a report was judged: which line is good next.
+//! A further section brings a stage and a judge here; the judges know the claims of their sections.
+ghost use Rattle.std.specs.Prelude.{◌≡◌, ◌<◌, ◌↔◌, [], ◌∷◌, ◌++◌, List, IsTrue, IfOk, codes, ◌^◌, ◌≤◌};
+ghost use Rattle.std.specs.Bool.{OnTrue};
+ghost use Rattle.shape_terms.specs.Points.{sides_of};
+ghost use Rattle.shape_terms.specs.Lines as Terms;
+ghost use Rattle.shape_terms.specs.Good.{GoodAfter};
+ghost use Rattle.shape_rules.specs.Names.{word_of};
+ghost use Rattle.shape_report.specs.LineOf.{line_of};
+
+use judge_field::FieldJudge;
+use shape_grid::Grid;
+use shape_report::Line;
+use shape_rules::Name;
+use shape_space::{NoMemory, Point, Sides};
+use std::alloc::Global;
+
+// How far the sections of a report have come.
+#[derive(Clone, Copy)]
+pub(crate) enum Stage {
+    // No line was taken.
+    Start,
+    // The `shape` line was taken, and then `near` lines.
+    Nears,
+    // The line `end` was taken.
+    Ended,
+}
+
+// A judge of the lines of a whole report, as they come. After a line that is not good it is only dropped.
+#[derive(Drop)]
+pub(crate) struct Progress<P: Point> {
+    pub sides: Sides<P>,
+    pub stage: Stage,
+    pub field: FieldJudge<P>,
+    pub ghost same_sides: { sides_of (P.coords sides.lengths) ≡ field.picture.sides },
+}
+
+// Whether a rule is the one that thins nothing.
+fn is_none(rule: &Name) -> bool
+    ensures { IsTrue result ↔ (word_of rule.now ≡ codes "none") }
+{
+    rule.word() == b"none".as_slice()
+}
+
+impl<P: Point> Progress<P> {
+    ghost use Rattle.shape_check.specs.Follows.{Follows, lines_left};
+    ghost use Rattle.shape_check.specs.declared.progress.Stage.TheVariants.{Ended};
+
+    // Nothing was judged yet.
+    pub fn new(alloc: Global, grid: &Grid<P>) -> Result<Progress<P>, NoMemory>
+        ensures picture { IfOk result (λ p. p.field.picture ≡ grid.now) }
+        ensures follows { IfOk result (λ p. Follows p.stage p.field []) }
+        ensures few { IfOk result (λ p. lines_left p.stage p.field < 2 ^ 61) }
+    {
+        match FieldJudge::new(alloc, grid) {
+            Ok(field) => Ok(Progress {
+                sides: grid.sides(),
+                stage: Stage::Start,
+                field,
+            }),
+            Err(NoMemory) => Err(NoMemory),
+        }
+    }
+
+    // Whether a line is good as the first one: it gives the sides of the picture and the rule `none`.
+    fn is_first(&self, line: &Line<P>) -> bool
+        ensures { IsTrue result ↔ GoodAfter self.now.field.picture [] (line_of P.coords line.now) }
+    {
+        match line {
+            Line::Shape { sides, rule } => {
+                if *sides != self.sides.lengths {
+                    return false;
+                }
+                is_none(rule)
+            }
+            Line::Near { .. } => false,
+            Line::End => false,
+        }
+    }
+
+    // Takes the next line: whether it is good after those that were taken.
+    pub fn take(&mut self, line: &Line<P>) -> bool
+        ensures picture { self.new.field.picture ≡ self.old.field.picture }
+        ensures answer { (lines : List Terms.Line) → Follows self.old.stage self.old.field lines → (IsTrue result ↔ GoodAfter self.old.field.picture lines (line_of P.coords line.now)) }
+        ensures follows { (lines : List Terms.Line) → Follows self.old.stage self.old.field lines → OnTrue result (Follows self.new.stage self.new.field (lines ++ line_of P.coords line.now ∷ [])) }
+        ensures fewer { OnTrue result (lines_left self.new.stage self.new.field < lines_left self.old.stage self.old.field) }
+    {
+        match self.stage {
+            Stage::Start => {
+                let good = self.is_first(line);
+                self.stage = Stage::Nears;
+                good
+            }
+            Stage::Nears => match line {
+                Line::Shape { .. } => false,
+                Line::Near { .. } => self.field.near(line),
+                Line::End => {
+                    self.stage = Stage::Ended;
+                    self.field.near_done()
+                }
+            },
+            Stage::Ended => false,
+        }
+    }
+
+    // Whether the line `end` was taken.
+    pub fn has_ended(&self) -> bool
+        ensures { IsTrue result ↔ (self.now.stage ≡ Ended) }
+    {
+        matches!(self.stage, Stage::Ended)
+    }
+}
