@@ -5,12 +5,16 @@ use Rattle.shape_picture.specs.declared.fault.PictureFault.{PictureFault}
 use Rattle.shape_picture.specs.declared.fault.PictureFault.TheVariants as fault
 use Rattle.shape_picture.specs.declared.fault.PictureError.{PictureError}
 use Rattle.shape_picture.specs.declared.fault.PictureError.TheVariants as error
+use Rattle.shape_check.specs.declared.answer.Judgement.{Judgement}
+use Rattle.shape_check.specs.declared.answer.Judgement.TheVariants as judgement
 use Rattle.shape_cli.specs.declared.outcome.Outcome.{Outcome}
 use Rattle.shape_cli.specs.declared.outcome.Outcome.TheVariants as outcome
 
 -- the exit status
 abbrev pub status_of : Outcome → ℕ
 status_of outcome.Done = 0
+status_of outcome.Yes = 0
+status_of (outcome.No k) = 1
 status_of outcome.Usage = 2
 status_of (outcome.Picture f) = 3
 status_of outcome.ReadFault = 4
@@ -29,6 +33,8 @@ fault_message fault.TooLong = codes "picture is too long"
 -- the text on standard error
 abbrev pub message_of : Outcome → List ℕ
 message_of outcome.Done = []
+message_of outcome.Yes = []
+message_of (outcome.No k) = []
 message_of outcome.Usage = codes "usage: analyse pbm FILE RULE, analyse raw X Y Z FILE RULE, check pbm FILE REPORT, check raw X Y Z FILE REPORT, trial pbm SEED SIDE, trial raw SEED SIDE"
 message_of (outcome.Picture f) = fault_message f
 message_of outcome.ReadFault = codes "read failed"
@@ -53,3 +59,8 @@ abbrev pub refusal_of : PictureError → Outcome
 refusal_of (error.Bad f) = outcome.Picture f
 refusal_of error.ReadFault = outcome.ReadFault
 refusal_of error.NoMemory = outcome.NoMemory
+
+-- the outcome of a verdict that was written
+abbrev pub outcome_of : Judgement → Outcome
+outcome_of judgement.Yes = outcome.Yes
+outcome_of (judgement.No k) = outcome.No k

@@ -2,8 +2,11 @@
 //! Everything that a user sees is an `Outcome`, or what was written to the desk.
 #![tactic(auto)]
 
+mod analysis;
 mod outcome;
+mod picture;
 mod top;
+mod verdict;
 mod words;
 
 pub use outcome::Outcome;

@@ -10,6 +10,10 @@ use shape_picture::{PictureError, PictureFault};
 pub enum Outcome {
     /// The whole report was written.
     Done,
+    /// The report holds of the picture, and `yes` was written.
+    Yes,
+    /// The report does not hold: this is its first bad line, from 1 on, and `no` and its number were written.
+    No { line: u64 },
     /// The words are of no form.
     Usage,
     /// The file spells no picture.
@@ -29,6 +33,8 @@ impl Outcome {
     {
         match self {
             Outcome::Done => 0,
+            Outcome::Yes => 0,
+            Outcome::No { line: _ } => 1,
             Outcome::Usage => 2,
             Outcome::Picture(_) => 3,
             Outcome::ReadFault => 4,
@@ -43,6 +49,8 @@ impl Outcome {
     {
         match self {
             Outcome::Done => "",
+            Outcome::Yes => "",
+            Outcome::No { line: _ } => "",
             Outcome::Usage => {
                 "usage: analyse pbm FILE RULE, analyse raw X Y Z FILE RULE, check pbm FILE REPORT, check raw X Y Z FILE REPORT, trial pbm SEED SIDE, trial raw SEED SIDE"
             }
@@ -90,8 +98,8 @@ fn fault_number(fault: PictureFault) -> Option<u64>
     }
 }
 
-/// The outcome where there is no picture.
-pub fn refused(error: PictureError) -> Outcome
+// The outcome where there is no picture.
+pub(crate) fn refused(error: PictureError) -> Outcome
     ensures { result ≡ refusal_of error }
 {
     match error {

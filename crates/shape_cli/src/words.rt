@@ -8,6 +8,8 @@ ghost use Rattle.shape_cli.specs.Commands.{words_of, command_of, IsNoForm};
 pub enum Command<'a> {
     /// The analysis of the plain PBM in a file, with the rule `none`.
     Analyse { file: &'a [u8] },
+    /// The check of the report in a file against the plain PBM in another.
+    Check { file: &'a [u8], report: &'a [u8] },
 }
 
 // Whether a word is this text.
@@ -26,6 +28,12 @@ pub fn read_words(words: &[Vec<u8>]) -> Option<Command<'_>>
             if is_text(first, b"analyse") && is_text(second, b"pbm") && is_text(last, b"none") => {
             Some(Command::Analyse {
                 file: file.as_slice(),
+            })
+        }
+        [first, second, file, report] if is_text(first, b"check") && is_text(second, b"pbm") => {
+            Some(Command::Check {
+                file: file.as_slice(),
+                report: report.as_slice(),
             })
         }
         _ => None,

@@ -1,0 +1,38 @@
+-- What is left at a place that was begun is the file with the name.
+-- Laws of what a desk tells, over plain values.
+use Rattle.std.proofs.Common.{◌≡◌, ◌⊎◌, inl, inr, ◌≤◌, ℕ, List, arith, subst, sym}
+use Rattle.std.specs.Prelude.{Option, None, Some, IsSome, MatchOption, Result, Ok, Err}
+use Rattle.shape_terms.specs.Pictures.{Picture}
+use Rattle.shape_terms.specs.Holds.{Holds}
+use Rattle.shape_terms.proofs.HoldsShows.{holds_shows}
+use Rattle.shape_desk.specs.Desk.{Files, Rose, IsAtFront}
+use Rattle.shape_desk.specs.Line.{IfTold}
+use Rattle.shape_check.specs.Checks.{Checks}
+use Rattle.shape_check.specs.declared.answer.Judgement.{Judgement}
+use Rattle.shape_check.specs.declared.answer.Judgement.TheVariants as judgement
+use Rattle.shape_check.specs.declared.answer.CheckFault.{CheckFault}
+use Rattle.shape_check.specs.declared.answer.CheckFault.TheVariants as check
+use Rattle.shape_cli.specs.Runs.{OfFile, Judged}
+
+-- what holds of the bytes left where they are told holds of the file
+pub of_file : (files : Option Files) (name : List ℕ) (left : Option (List ℕ)) (P : List ℕ → Type 0) → IsAtFront files name left → IfTold left P → OfFile files name P
+of_file None name left P a h = tt
+of_file (Some files) name None P a h = absurd (none a.1)
+  where
+    none : IsSome {T = List ℕ} None → ⊥
+    none s = cc
+of_file (Some files) name (Some bytes) P a h = subst (λ (o : Option (List ℕ)). MatchOption o ⊥ P) a.0 h
+
+rose_earlier : (before middle now : ℕ) → before ≤ middle → Rose middle now → Rose before now
+rose_earlier before middle now l h = omega arith
+
+-- what is left at a place holds more weakly
+pub weaker : (left : Option (List ℕ)) (P Q : List ℕ → Type 0) → ((bytes : List ℕ) → P bytes → Q bytes) → IfTold left P → IfTold left Q
+weaker None P Q f h = tt
+weaker (Some bytes) P Q f h = f bytes h
+
+pub judged : (X : Picture) (files : Option Files) (report : List ℕ) (left : Option (List ℕ)) (before middle now : ℕ) (r : Result Judgement CheckFault) → IsAtFront files report left → before ≤ middle → Checks X left middle now r → Judged X files report before now r
+judged X files report left before middle now (Ok judgement.Yes) a l h = (tt, of_file files report left _ a (weaker left (Holds X) _ (λ bytes k. (k, holds_shows X bytes k)) h))
+judged X files report left before middle now (Ok (judgement.No k)) a l h = (h.0, of_file files report left _ a h.1)
+judged X files report left before middle now (Err check.ReadFault) a l h = inl (rose_earlier before middle now l h)
+judged X files report left before middle now (Err check.NoMemory) a l h = tt
