@@ -74,13 +74,15 @@ pub growing_done : (X : Picture) (n : ℕ) (lines : List Line) → IsGrowing X n
 growing_done X n lines h three all =
     let d = length X.sides in
     let come = come_past X 1 lines h.come (h.nears ∙ all) in
-    let good : GoodAfter X lines Line.End = good_at X lines Line.End come (none_ended lines h.come.order) in
-    (lines, record {
-      split = sym (append-nil (text_of (lines ++ Line.End ∷ [])));
-      fields = All-push (IsLineOf d) lines Line.End h.fields tt;
-      short = All-push (λ m. length (spelling m) ≤ 1024) lines Line.End h.short (short_line d Line.End three tt);
-      good = good_push X lines Line.End h.good good;
-    })
+    let good : GoodAfter X lines Line.End = good_at X lines Line.End come (none_ended lines h.come.order) in (
+      lines,
+      record {
+        split = sym (append-nil (text_of (lines ++ Line.End ∷ [])));
+        fields = All-push (IsLineOf d) lines Line.End h.fields tt;
+        short = All-push (λ m. length (spelling m) ≤ 1024) lines Line.End h.short (short_line d Line.End three tt);
+        good = good_push X lines Line.End h.good good;
+      },
+    )
   where
     none_ended : (lines : List Line) → All (λ e. section e ≤ 1) lines → section_lines 2 lines ≡ []
     none_ended [] a = refl

@@ -5,3 +5,6 @@
 mod flat;
 
 pub use flat::analyse_flat;
+
+#[cfg(test)]
+mod tests;

@@ -48,6 +48,84 @@ fn one_pixel(rt: HostRuntime) -> Result<(), Fail> {
     Ok(())
 }
 
+// The outcome of the check of a report against a picture.
+fn checked(alloc: Global, picture: &[u8], report: &[u8]) -> Result<Outcome, Fail> {
+    let mut files = Vec::new(alloc);
+    files.push((b"a.pbm".to_vec(alloc)?, picture.to_vec(alloc)?))?;
+    files.push((b"a.report".to_vec(alloc)?, report.to_vec(alloc)?))?;
+    let Ok(mut desk) = MemoryDesk::new(alloc, files, Vec::new(alloc), Vec::new(alloc), 100, 30)
+    else {
+        return Err(Fail::from(AllocError));
+    };
+    Ok(run(alloc, &words(alloc, "check pbm a.pbm a.report")?, &mut desk))
+}
+
+#[test]
+fn reports_of_one_pixel(rt: HostRuntime) -> Result<(), Fail> {
+    let alloc = rt.alloc();
+    let table = [
+        (
+            b"shape 1 pbm 1 1 none\nnear 0 0 0 -1 1\nend\n".as_slice(),
+            Outcome::Yes,
+        ),
+        (
+            b"shape 1 pbm 1 1 none\nnear 0 0 1 0 1\nend\n".as_slice(),
+            Outcome::Yes,
+        ),
+        (
+            b"shape 1 pbm 1 1 none\nnear 0 0 0 -1 2\nend\n".as_slice(),
+            Outcome::No { line: 2 },
+        ),
+        (
+            b"shape 1 pbm 1 1 none\nnear 00 0 0 -1 1\nend\n".as_slice(),
+            Outcome::No { line: 2 },
+        ),
+        (
+            b"shape 1 pbm 1 1 none\nnear 0 0 0 -1 1\n".as_slice(),
+            Outcome::No { line: 3 },
+        ),
+        (
+            b"shape 1 pbm 1 1 none\nnear 0 0 0 -1 1\nend".as_slice(),
+            Outcome::No { line: 3 },
+        ),
+        (
+            b"shape 1 pbm 1 1 none\nnear 0 0 0 -1 1\nend\nx".as_slice(),
+            Outcome::No { line: 4 },
+        ),
+        (
+            b"shape 1 pbm 1 1 zzz\nnear 0 0 0 -1 1\nend\n".as_slice(),
+            Outcome::No { line: 1 },
+        ),
+        (
+            b"shape 1 pbm 1 1 none\r\nnear 0 0 0 -1 1\r\nend\r\n".as_slice(),
+            Outcome::No { line: 1 },
+        ),
+        (b"".as_slice(), Outcome::No { line: 1 }),
+    ];
+    for (report, outcome) in table {
+        assert_eq!(rt; checked(alloc, b"P1 1 1 1", report)?, outcome);
+    }
+    Ok(())
+}
+
+#[test]
+fn analyses_are_checked(rt: HostRuntime) -> Result<(), Fail> {
+    let alloc = rt.alloc();
+    let pictures = [
+        b"P1 4 3 000000000000".as_slice(),
+        b"P1 4 3 111111111111".as_slice(),
+        b"P1 4 3 101001011010".as_slice(),
+        b"P1 5 5 11111 10001 10101 10001 11111".as_slice(),
+    ];
+    for picture in pictures {
+        let mut desk = desk(alloc, picture, &[], &[])?;
+        let words = words(alloc, "analyse pbm a.pbm none")?;
+        assert_eq!(rt; run(alloc, &words, &mut desk), Outcome::Done);
+        assert_eq!(rt; checked(alloc, picture, desk.output())?, Outcome::Yes);
+    }
+    Ok(())
+}
+
 #[test]
 fn a_failed_write(rt: HostRuntime) -> Result<(), Fail> {
     let alloc = rt.alloc();
@@ -96,6 +174,9 @@ fn refusals(rt: HostRuntime) -> Result<(), Fail> {
             Outcome::Picture(PictureFault::NotPlain),
         ),
         ("analyse pbm nofile none", one, Outcome::ReadFault),
+        ("check pbm nofile a.pbm", one, Outcome::ReadFault),
+        ("check pbm a.pbm nofile", one, Outcome::ReadFault),
+        ("check pbm a.pbm", one, Outcome::Usage),
         ("analyse pbm a.pbm zzz", one, Outcome::Usage),
         ("analyse raw 0 2 2 a none", one, Outcome::Usage),
         ("trial pbm 01 4", one, Outcome::Usage),

@@ -5,3 +5,6 @@
 mod grid;
 
 pub use grid::{Grid, Objects};
+
+#[cfg(test)]
+mod tests;

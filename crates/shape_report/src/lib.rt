@@ -14,3 +14,6 @@ pub use read::read_claim;
 pub use report::Report;
 pub use spell::put_claim;
 pub use write::{WriteFault, report_bytes, write_report};
+
+#[cfg(test)]
+mod tests;

@@ -112,10 +112,7 @@ impl Pending {
 /// Writes every line of a report with its LF. It takes no memory.
 ///
 /// A fault comes only from a write that failed; a front of the text was written then.
-pub fn write_report<P: Point, D: Desk>(
-    report: &Report<P>,
-    desk: &mut D,
-) -> Result<(), WriteFault>
+pub fn write_report<P: Point, D: Desk>(report: &Report<P>, desk: &mut D) -> Result<(), WriteFault>
     ensures text { PutsText (D.written desk.old) (D.written desk.new) result (text_of report.now) }
     ensures cause { HasCause (D.write_faults desk.old) (D.write_faults desk.new) result }
     ensures places { KeepsPlaces D.files D.left D.begun D.read_faults desk.old desk.new }

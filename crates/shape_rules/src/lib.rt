@@ -5,3 +5,6 @@
 mod name;
 
 pub use name::Name;
+
+#[cfg(test)]
+mod tests;

@@ -13,3 +13,6 @@ pub use sides::{Sides, raster_order};
 /// Memory was wanted and there was none.
 #[derive(Clone, Copy, Debug, PartialEq, Eq)]
 pub struct NoMemory;
+
+#[cfg(test)]
+mod tests;
