@@ -6,3 +6,6 @@ mod judge;
 mod least;
 
 pub use judge::FieldJudge;
+
+#[cfg(test)]
+mod tests;

@@ -11,3 +11,6 @@ mod progress;
 pub use answer::{CheckFault, Judgement};
 pub use check::check_flat;
 pub use law::holding_shows;
+
+#[cfg(test)]
+mod tests;
