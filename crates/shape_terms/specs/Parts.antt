@@ -1,6 +1,6 @@
 -- Components of sets, and the numbers of components of a picture's object and background.
 -- A set is a predicate and an adjacency a relation; no way of finding components is told here.
-use Rattle.std.specs.Prelude.{◌≡◌, ℕ, ◌<◌, ◌≤◌, false, List, length, slice_index, IsTrue, ℤ, pos, negsuc, ◌≤ℤ◌}
+use Rattle.std.specs.Prelude.{◌≡◌, ℕ, ◌<◌, ◌≤◌, false, List, length, slice_index, IsTrue, pos, negsuc, ◌≤ℤ◌}
 use Rattle.std.specs.List.{AllZip}
 use Rattle.shape_terms.specs.Points.{Point, box_count, raster_number, raster_point}
 use Rattle.shape_terms.specs.Pictures.{Picture, at, object_points, IsBackground}
