@@ -18,5 +18,7 @@ pub mod Members
 pub mod Paths
 pub mod PartCount
 pub mod AdjacencySymmetric
+pub mod ApartLists
 pub mod NearNeighbours
 pub mod SideNeighbours
+pub mod NeighbourNumbers

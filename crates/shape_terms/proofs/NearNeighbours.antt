@@ -10,6 +10,7 @@ use Rattle.std.proofs.lemmas.List.Elements.{All-from_recursion}
 use Rattle.std.proofs.lemmas.List.Kept.{AllPairs-cons}
 use Rattle.shape_terms.specs.Points.{Point}
 use Rattle.shape_terms.specs.Adjacency.{moved, cube_steps, near_steps, near_points, Near}
+use Rattle.shape_terms.proofs.ApartLists.{Apart, same_step, apart_pairs}
 use Rattle.shape_terms.proofs.Members.{Contains-map, Contains-flat_map, Contains-filter}
 
 sum_abs-cons : (y : ℤ) (v : Point) → sum (map nat_abs (y ∷ v)) ≡ nat_abs y + sum (map nat_abs v)
@@ -132,11 +133,6 @@ near_listed p q h = of_step (step_to p q h.1)
 
 -- ---- each of them stands there once
 
--- no element is equal to a later one
-Apart : List Point → Type 0
-Apart [] = ⊤
-Apart (x ∷ xs) = AllByRecursion (λ y. x ≢ y) xs × Apart xs
-
 other_tails : (a : ℤ) (v : Point) (vs : List Point) → AllByRecursion (λ w. v ≢ w) vs → AllByRecursion (λ u. (a ∷ v) ≢ u) (flat_map (λ w. (negsuc 0 ∷ w) ∷ (pos 0 ∷ w) ∷ (pos 1 ∷ w) ∷ []) vs)
 other_tails a v [] h = tt
 other_tails a v (w ∷ vs) h = ((λ e. h.0 (tail_of (negsuc 0) w e)), ((λ e. h.0 (tail_of (pos 0) w e)), ((λ e. h.0 (tail_of (pos 1) w e)), other_tails a v vs h.1)))
@@ -160,20 +156,6 @@ unfolding Apart
 apart_cube zero = (tt, tt)
 apart_cube (suc d) = apart_flat (cube_steps d) (apart_cube d)
 
--- two steps that lead to one point are one
-same_step : (p v w : Point) → length v ≡ length p → length w ≡ length p → moved p v ≡ moved p w → v ≡ w
-same_step [] [] [] l k e = refl
-same_step [] [] (z ∷ w) l k e = absurd (omega arith)
-same_step [] (y ∷ v) w l k e = absurd (omega arith)
-same_step (x ∷ p) [] w l k e = absurd (omega arith)
-same_step (x ∷ p) (y ∷ v) [] l k e = absurd (omega arith)
-same_step (x ∷ p) (y ∷ v) (z ∷ w) l k e =
-    let a : x +ℤ y ≡ x +ℤ z = cc in
-    let b : moved p v ≡ moved p w = cc in
-    let f : y ≡ z = omega (arith, ints) in
-    let g : v ≡ w = same_step p v w (omega arith) (omega arith) b in
-    λ i. f i ∷ g i
-
 apart_near : (p : Point) (vs : List Point) → AllByRecursion (IsSmall (length p)) vs → Apart vs → Apart (map (moved p) (filter (λ v. not (sum (map nat_abs v) == 0)) vs))
 unfolding Apart IsSmall
 apart_near p [] a h = tt
@@ -194,11 +176,6 @@ apart_near p (v ∷ vs) a h = by_test (not (sum (map nat_abs v) == 0)) (apart_ne
     by_test true r = (apart_from vs a.1 h.0, r)
     by_test false r = r
 
-pairs_of : (xs : List Point) → Apart xs → AllPairs (λ x y. x ≢ y) xs
-unfolding Apart
-pairs_of [] h = λ i j d a b. absurd (omega arith)
-pairs_of (x ∷ xs) h = AllPairs-cons (λ x y. x ≢ y) x xs (All-from_recursion (λ y. x ≢ y) xs h.0) (pairs_of xs h.1)
-
 -- each near neighbour of a point is listed once
 pub near_points_distinct : (p : Point) → AllPairs (λ x y. x ≢ y) (near_points p)
-near_points_distinct p = pairs_of (near_points p) (apart_near p (cube_steps (length p)) (all_cube (length p)) (apart_cube (length p)))
+near_points_distinct p = apart_pairs (near_points p) (apart_near p (cube_steps (length p)) (all_cube (length p)) (apart_cube (length p)))

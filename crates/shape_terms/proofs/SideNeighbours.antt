@@ -1,13 +1,15 @@
 -- The side neighbours of a point are exactly its Side points, each once.
 -- Laws for any number of axes.
-use Rattle.std.proofs.Common.{◌≡◌, ℕ, zero, suc, ◌+◌, ◌≤◌, ◌<◌, refl, ap, sym, ◌∙◌, subst, arith, [], ◌∷◌, length, map, inl, inr, lit<}
-use Rattle.std.specs.Prelude.{◌⊎◌, ℤ, pos, negsuc, ◌+ℤ◌, ◌-ℤ◌, nat_abs, Contains, All}
+use Rattle.std.proofs.Common.{◌≡◌, ℕ, zero, suc, ◌+◌, ◌≤◌, ◌<◌, refl, ap, sym, ◌∙◌, subst, arith, [], ◌∷◌, length, map, inl, inr, lit<, List}
+use Rattle.std.specs.Prelude.{◌≢◌, AllPairs, ◌⊎◌, ℤ, pos, negsuc, ◌+ℤ◌, ◌-ℤ◌, nat_abs, Contains, All}
 use Rattle.std.specs.List.{AllByRecursion, range_with_len, flat_map}
 use Rattle.std.proofs.lemmas.Int.{ints}
 use Rattle.std.proofs.lemmas.List.Sums.{sum_by-cons}
 use Rattle.std.proofs.lemmas.List.Elements.{All-from_recursion}
-use Rattle.shape_terms.specs.Points.{Point, axis_distances}
+use Rattle.shape_terms.specs.Points.{Point, coordinate, axis_distances}
 use Rattle.shape_terms.specs.Adjacency.{moved, along, origin, city_distance, side_steps, side_points, Side}
+use native.Mathlib.Decide.{ℕ_discrete}
+use Rattle.shape_terms.proofs.ApartLists.{Apart, apart_points, apart_pairs}
 use Rattle.shape_terms.proofs.Members.{Contains-map, Contains-flat_map, Contains-range}
 
 city-cons : (x y : ℤ) (p q : Point) → city_distance (x ∷ p) (y ∷ q) ≡ nat_abs (x -ℤ y) + city_distance p q
@@ -117,3 +119,90 @@ side_listed p q h = of_axis (axis_of p q h)
         subst (λ w. Contains (side_points p) w) e (Contains-map (moved p) (side_steps (length p)) (moved (origin (length p)) (along k n))
         (Contains-flat_map (λ j. moved (origin (length p)) (along j (negsuc 0)) ∷ moved (origin (length p)) (along j (pos 1)) ∷ []) (range_with_len 0 (length p)) k (moved (origin (length p)) (along k n))
         (Contains-range (length p) k b) (among k n (unit_sign n a))))
+
+-- ---- each of them stands there once
+
+step_here : (d k : ℕ) (n : ℤ) → k < d → coordinate (moved (origin d) (along k n)) k ≡ n
+step_here zero k n h = absurd (omega arith)
+step_here (suc d) zero n h = omega (arith, ints)
+step_here (suc d) (suc k) n h = step_here d k n (omega arith)
+
+step_elsewhere : (d j k : ℕ) (n : ℤ) → j ≢ k → coordinate (moved (origin d) (along k n)) j ≡ pos 0
+step_elsewhere zero zero zero n h = absurd (h refl)
+step_elsewhere zero (suc j) zero n h = refl
+step_elsewhere zero zero (suc k) n h = refl
+step_elsewhere zero (suc j) (suc k) n h = still_zero j k n (λ e. h (ap suc e))
+  where
+    still_zero : (j k : ℕ) (n : ℤ) → j ≢ k → coordinate (along k n) j ≡ pos 0
+    still_zero zero zero n h = absurd (h refl)
+    still_zero (suc j) zero n h = refl
+    still_zero zero (suc k) n h = refl
+    still_zero (suc j) (suc k) n h = still_zero j k n (λ e. h (ap suc e))
+step_elsewhere (suc d) zero zero n h = absurd (h refl)
+step_elsewhere (suc d) (suc j) zero n h = rw (no_step (origin d)) (origin_zero d j)
+  where
+    origin_zero : (d j : ℕ) → coordinate (origin d) j ≡ pos 0
+    origin_zero zero j = refl
+    origin_zero (suc d) zero = refl
+    origin_zero (suc d) (suc j) = origin_zero d j
+step_elsewhere (suc d) zero (suc k) n h = refl
+step_elsewhere (suc d) (suc j) (suc k) n h = step_elsewhere d j k n (λ e. h (ap suc e))
+
+-- steps along two axes, and to two sides of one, differ
+other_step : (d j k : ℕ) (n m : ℤ) → j < d → k < d → (n ≡ pos 0 → ⊥) → (j ≡ k → n ≡ m → ⊥) → moved (origin d) (along j n) ≢ moved (origin d) (along k m)
+other_step d j k n m l r some other e = elim (ℕ_discrete j k) [
+    yes i ↦ (
+      let a = step_here d j n l in
+      let b = step_here d k m r in
+      let c : coordinate (moved (origin d) (along j n)) j ≡ coordinate (moved (origin d) (along k m)) k = ap (λ (v : Point). coordinate v j) e ∙ ap (coordinate (moved (origin d) (along k m))) i in
+      other i (sym a ∙ (c ∙ b)))
+  | no i ↦ (
+      let a = step_here d j n l in
+      let b = step_elsewhere d j k m i in
+      let c : coordinate (moved (origin d) (along j n)) j ≡ coordinate (moved (origin d) (along k m)) j = ap (λ (v : Point). coordinate v j) e in
+      some (sym a ∙ (c ∙ b)))
+  ]
+
+axis_steps : ℕ → ℕ → List Point
+axis_steps d k = moved (origin d) (along k (negsuc 0)) ∷ moved (origin d) (along k (pos 1)) ∷ []
+
+later_steps : (d j : ℕ) (n : ℤ) → j < d → (n ≡ pos 0 → ⊥) → (a m : ℕ) → j < a → a + m ≤ d → AllByRecursion (λ y. moved (origin d) (along j n) ≢ y) (flat_map (axis_steps d) (range_with_len a m))
+unfolding axis_steps
+later_steps d j n l some a zero h b = tt
+later_steps d j n l some a (suc m) h b =
+    (other_step d j a n (negsuc 0) l (omega arith) some (λ e. absurd (omega arith)), (other_step d j a n (pos 1) l (omega arith) some (λ e. absurd (omega arith)), later_steps d j n l some (a + 1) m (omega arith) (omega arith)))
+
+apart_steps : (d a m : ℕ) → a + m ≤ d → Apart (flat_map (axis_steps d) (range_with_len a m))
+unfolding axis_steps Apart
+apart_steps d a zero h = tt
+apart_steps d a (suc m) h = (
+  (other_step d a a (negsuc 0) (pos 1) (omega arith) (omega arith) below (λ i e. sides e), later_steps d a (negsuc 0) (omega arith) below (a + 1) m (omega arith) (omega arith)),
+  (later_steps d a (pos 1) (omega arith) above (a + 1) m (omega arith) (omega arith), apart_steps d (a + 1) m (omega arith)),
+)
+  where
+    below : negsuc 0 ≡ pos 0 → ⊥
+    below e = cc
+    above : pos 1 ≡ pos 0 → ⊥
+    above e = omega (arith, ints)
+    sides : negsuc 0 ≡ pos 1 → ⊥
+    sides e = cc
+
+length_step : (d k : ℕ) (n : ℤ) → k < d → length (moved (origin d) (along k n)) ≡ d
+length_step zero k n h = absurd (omega arith)
+length_step (suc d) zero n h = ap suc (ap length (no_step (origin d)) ∙ length_origin d)
+  where
+    length_origin : (d : ℕ) → length (origin d) ≡ d
+    length_origin zero = refl
+    length_origin (suc d) = ap suc (length_origin d)
+length_step (suc d) (suc k) n h = ap suc (length_step d k n (omega arith))
+
+step_lengths : (d a m : ℕ) → a + m ≤ d → AllByRecursion (λ v. length v ≡ d) (flat_map (axis_steps d) (range_with_len a m))
+unfolding axis_steps
+step_lengths d a zero h = tt
+step_lengths d a (suc m) h = (length_step d a (negsuc 0) (omega arith), (length_step d a (pos 1) (omega arith), step_lengths d (a + 1) m (omega arith)))
+
+-- each side neighbour of a point is listed once
+pub side_points_distinct : (p : Point) → AllPairs (λ x y. x ≢ y) (side_points p)
+unfolding axis_steps
+side_points_distinct p = apart_pairs (side_points p) (apart_points p (side_steps (length p)) (step_lengths (length p) 0 (length p) (omega arith)) (apart_steps (length p) 0 (length p) (omega arith)))
+

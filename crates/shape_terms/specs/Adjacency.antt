@@ -1,6 +1,6 @@
 -- Steps between points, and the two adjacencies: that of object points and that of background points.
 -- Every definition serves each number of axes; sets of points and their components stand in `Parts`.
-use Rattle.std.specs.Prelude.{◌≡◌, ◌≢◌, ℕ, zero, suc, ◌≤◌, ◌==◌, not, List, [], ◌∷◌, map, length, filter, sum, ℤ, pos, negsuc, ◌+ℤ◌, ◌-ℤ◌, nat_abs}
+use Rattle.std.specs.Prelude.{◌≡◌, ◌≢◌, ℕ, zero, suc, ◌≤◌, ◌==◌, not, List, [], ◌∷◌, map, length, slice_index_or, filter, sum, ℤ, pos, negsuc, ◌+ℤ◌, ◌-ℤ◌, nat_abs}
 use Rattle.std.specs.List.{AllZip, range_with_len, flat_map}
 use Rattle.shape_terms.specs.Points.{Point, axis_distances}
 
@@ -61,3 +61,10 @@ near_points p = map (moved p) (near_steps (length p))
 
 abbrev pub side_points : Point → List Point
 side_points p = map (moved p) (side_steps (length p))
+
+-- the near and the side neighbour of a point with the number k
+abbrev pub near_point : Point → ℕ → Point
+near_point p k = slice_index_or (near_points p) k []
+
+abbrev pub side_point : Point → ℕ → Point
+side_point p k = slice_index_or (side_points p) k []
