@@ -14,3 +14,11 @@ pub mod HoldsShows
 pub mod Checking
 pub mod GoodSteps
 pub mod ShortLines
+pub mod Members
+pub mod Paths
+pub mod PartCount
+pub mod AdjacencySymmetric
+pub mod ApartLists
+pub mod NearNeighbours
+pub mod SideNeighbours
+pub mod NeighbourNumbers

@@ -1,6 +1,8 @@
 pub mod Points
 pub mod Pictures
 pub mod FramedBox
+pub mod Adjacency
+pub mod Parts
 pub mod Distances
 pub mod Lines
 pub mod Good

@@ -1,0 +1,3 @@
+pub mod Flooding
+pub mod Links
+pub mod Labelling

@@ -1,0 +1,6 @@
+//! Pairings of adjacency, and the components of a picture's object and background.
+//! Everything here is generic over the dimension.
+#![tactic(auto)]
+
+mod flood;
+mod net;
