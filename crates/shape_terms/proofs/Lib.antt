@@ -14,3 +14,16 @@ pub mod HoldsShows
 pub mod Checking
 pub mod GoodSteps
 pub mod ShortLines
+pub mod CrackOrder
+pub mod Turning
+pub mod Edges
+pub mod Successor
+pub mod Pigeon
+pub mod Orbits
+pub mod Numbered
+pub mod Walks
+pub mod Tracing
+pub mod Leaving
+pub mod SameCycles
+pub mod Found
+pub mod Marking
