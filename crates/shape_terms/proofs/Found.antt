@@ -8,7 +8,7 @@ use Rattle.std.proofs.lemmas.List.Quantifiers.{all_pairs_push}
 use native.Mathlib.Decide.{dec_lt, ℕ_discrete}
 use Rattle.shape_terms.specs.Points.{box_count}
 use Rattle.shape_terms.specs.Pictures.{Picture}
-use Rattle.shape_terms.specs.Contours.{Crack, IsCrack, successor, CrackBefore, Follow, IsCycle, BeginsLeast, AreCycles, first_of_cycle}
+use Rattle.shape_terms.specs.Contours.{Crack, IsCrack, CrackBefore, Follow, IsCycle, BeginsLeast, AreCycles, first_of_cycle}
 use Rattle.shape_terms.proofs.Successor.{successor_crack}
 use Rattle.shape_terms.specs.CrackNumbers.{crack_number, numbered, MarksCycle}
 use Rattle.shape_terms.proofs.Numbered.{is_numbered, number_below, number_rises}
@@ -109,10 +109,7 @@ module _ (X : Picture) (axes : length X.sides ≡ 2) where
       where
         meets : (ys : List Crack) → IsCycle X ys → Contains ys x → Contains ys s
         meets [] y q = absurd y
-        meets (d ∷ ys) y q = reaches X (Contains (d ∷ ys)) (λ c z. cycle_on' d ys y c z) s (s ∷ xs) cyc.1 x j q
-          where
-            cycle_on' : (d : Crack) (ys : List Crack) → IsCycle X (d ∷ ys) → (c : Crack) → Contains (d ∷ ys) c → Contains (d ∷ ys) (successor X c)
-            cycle_on' d ys y c z = cycle_on X d ys y c z
+        meets (d ∷ ys) y q = reaches X (Contains (d ∷ ys)) (cycle_on X d ys y) s (s ∷ xs) cyc.1 x j q
 
     after : (x : Crack) → Contains xs x → CrackBefore s x
     after x j =

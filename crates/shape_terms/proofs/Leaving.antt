@@ -4,7 +4,7 @@ use Rattle.std.proofs.Common.{◌≡◌, ◌≢◌, ℕ, zero, suc, ◌+◌, ◌
 use Rattle.std.specs.Prelude.{◌&&◌, not}
 use Rattle.std.proofs.lemmas.Int.{ints}
 use Rattle.shape_terms.specs.Points.{Point, coordinate}
-use Rattle.shape_terms.specs.Steps.{moved}
+use Rattle.shape_terms.specs.Steps.{moved, AreClose}
 use Rattle.shape_terms.specs.Pictures.{Picture, at}
 use Rattle.shape_terms.specs.Contours.{Crack, normal, forward, ahead, across, successor, IsCrack, stays}
 use Rattle.shape_terms.proofs.Successor.{Place, point, step, moved_step, two_axes, object_axes}
@@ -49,3 +49,50 @@ leaves_pixel X axes c k h =
     let b : across c ≢ c.pixel = subst (λ (p : Point). moved (moved p (normal c.side)) (forward c.side) ≢ p) (sym e)
     (subst (λ (p : Point). moved p (forward c.side) ≢ point t.0) (sym (moved_step c.side t.0)) (subst (λ (p : Point). p ≢ point t.0) (sym (moved_step ((c.side + 1) % 4) (step c.side t.0))) (corner_away c.side t.0 k.side))) in
     other_pixel (at X (across c)) (at X (ahead c)) (record { pixel = across c; side = (c.side + 3) % 4 }) (record { pixel = ahead c; side = c.side }) (record { pixel = c.pixel; side = (c.side + 1) % 4 }) b a h
+
+-- ---- how far the next pixel is
+any_close : (b a : Bool) (p : Point) (B A c : Crack) → AreClose p B.pixel → AreClose p A.pixel → AreClose p c.pixel → AreClose p (cond b B (cond a A c)).pixel
+any_close true a p B A c l m n = l
+any_close false true p B A c l m n = m
+any_close false false p B A c l m n = n
+
+pub close_itself : (p : Point) → AreClose p p
+close_itself p k = omega (arith, ints)
+
+step_close : (d : ℕ) (p : Place) → AreClose (point p) (point (step d p))
+step_close zero p zero = omega (arith, ints)
+step_close zero p (suc zero) = omega (arith, ints)
+step_close zero p (suc (suc k)) = omega (arith, ints)
+step_close (suc zero) p zero = omega (arith, ints)
+step_close (suc zero) p (suc zero) = omega (arith, ints)
+step_close (suc zero) p (suc (suc k)) = omega (arith, ints)
+step_close (suc (suc zero)) p zero = omega (arith, ints)
+step_close (suc (suc zero)) p (suc zero) = omega (arith, ints)
+step_close (suc (suc zero)) p (suc (suc k)) = omega (arith, ints)
+step_close (suc (suc (suc d))) p zero = omega (arith, ints)
+step_close (suc (suc (suc d))) p (suc zero) = omega (arith, ints)
+step_close (suc (suc (suc d))) p (suc (suc k)) = omega (arith, ints)
+
+corner_close : (d : ℕ) (p : Place) → d < 4 → AreClose (point p) (point (step ((d + 1) % 4) (step d p)))
+corner_close zero p l zero = omega (arith, ints)
+corner_close zero p l (suc zero) = omega (arith, ints)
+corner_close zero p l (suc (suc k)) = omega (arith, ints)
+corner_close (suc zero) p l zero = omega (arith, ints)
+corner_close (suc zero) p l (suc zero) = omega (arith, ints)
+corner_close (suc zero) p l (suc (suc k)) = omega (arith, ints)
+corner_close (suc (suc zero)) p l zero = omega (arith, ints)
+corner_close (suc (suc zero)) p l (suc zero) = omega (arith, ints)
+corner_close (suc (suc zero)) p l (suc (suc k)) = omega (arith, ints)
+corner_close (suc (suc (suc zero))) p l zero = omega (arith, ints)
+corner_close (suc (suc (suc zero))) p l (suc zero) = omega (arith, ints)
+corner_close (suc (suc (suc zero))) p l (suc (suc k)) = omega (arith, ints)
+corner_close (suc (suc (suc (suc d)))) p l k = absurd (omega arith)
+
+pub successor_close : (X : Picture) → length X.sides ≡ 2 → (c : Crack) → IsCrack X c → AreClose c.pixel (successor X c).pixel
+successor_close X axes c k =
+    let t = two_axes c.pixel (object_axes X c.pixel k.pixel ∙ axes) in
+    let e = t.1 in
+    let a : AreClose c.pixel (ahead c) = subst (λ (p : Point). AreClose p (moved p (forward c.side))) (sym e) (subst (AreClose (point t.0)) (sym (moved_step ((c.side + 1) % 4) t.0)) (step_close ((c.side + 1) % 4) t.0)) in
+    let b : AreClose c.pixel (across c) = subst (λ (p : Point). AreClose p (moved (moved p (normal c.side)) (forward c.side))) (sym e)
+    (subst (λ (p : Point). AreClose (point t.0) (moved p (forward c.side))) (sym (moved_step c.side t.0)) (subst (AreClose (point t.0)) (sym (moved_step ((c.side + 1) % 4) (step c.side t.0))) (corner_close c.side t.0 k.side))) in
+    any_close (at X (across c)) (at X (ahead c)) c.pixel (record { pixel = across c; side = (c.side + 3) % 4 }) (record { pixel = ahead c; side = c.side }) (record { pixel = c.pixel; side = (c.side + 1) % 4 }) b a (close_itself c.pixel)

@@ -27,3 +27,4 @@ pub mod Leaving
 pub mod SameCycles
 pub mod Found
 pub mod Marking
+pub mod ClosedPaths

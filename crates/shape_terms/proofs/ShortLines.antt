@@ -1,13 +1,14 @@
 -- The lines of a report are short, and the points and distances of a framed box fit their fields.
 -- One clause for each kind of line, with a generous bound on its words.
-use Rattle.std.proofs.Common.{◌≡◌, ◌+◌, ◌*◌, ◌≤◌, ℕ, zero, suc, ℤ, pos, negsuc, ◌-ℤ◌, ◌≤ℤ◌, List, [], ◌∷◌, ◌++◌, length, refl, arith, lit<, length-append}
-use Rattle.std.specs.Prelude.{All, FitsSigned, nat_abs}
+use Rattle.std.proofs.Common.{◌≡◌, ◌+◌, ◌*◌, ◌^◌, ◌<◌, ◌≤◌, ℕ, zero, suc, ℤ, pos, negsuc, ◌-ℤ◌, ◌≤ℤ◌, List, [], ◌∷◌, ◌++◌, length, get_or, map, refl, sym, ap, ◌∙◌, subst, arith, lit<, length-append}
+use Rattle.std.specs.Prelude.{All, FitsSigned, nat_abs, codes}
 use Rattle.std.specs.Int.{w32}
 use Rattle.std.specs.List.{join_with_byte}
 use Rattle.std.specs.Fmt.{decimal, signed_decimal}
-use Rattle.std.proofs.lemmas.Fmt.{length-decimal-le}
+use Rattle.std.proofs.lemmas.Fmt.{length-decimal-le, length_signed_le}
 use Rattle.std.proofs.lemmas.Int.{ints}
-use Rattle.std.proofs.lemmas.List.Elements.{All-head, All-tail, All-from_get_or}
+use Rattle.std.proofs.lemmas.Nat.{mul-le}
+use Rattle.std.proofs.lemmas.List.Elements.{All-nil, All-cons, All-head, All-tail, All-from_get_or}
 use Rattle.shape_terms.specs.Points.{Point, coordinate, squared_distance}
 use Rattle.shape_terms.specs.FramedBox.{IsWithin}
 use Rattle.shape_terms.specs.Lines.{Line, line_words, number_words, kind_word, spelling, IsLineOf, IsShortPoint, IsWeight}

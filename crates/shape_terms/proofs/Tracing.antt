@@ -71,7 +71,7 @@ traced_more X axes start c steps points k t away = record {
       ∙ (sym (left_pixels-push X (walk X start steps) c) ∙ ap (left_pixels X) (sym (walk-more X start c steps t.reached.here)));
 }
 
-not_zero : (n : ℕ) → (suc n == 0) ≡ false
+pub not_zero : (n : ℕ) → (suc n == 0) ≡ false
 not_zero n = grind (arith, nat_tests)
 
 -- the points of the contour, where those left are some, and where there are none

@@ -44,7 +44,7 @@ walk-get X zero c i d l = absurd (omega arith)
 walk-get X (suc n) c zero d l = refl
 walk-get X (suc n) c (suc i) d l = walk-get X n (successor X c) i d (omega arith) ∙ iterate-shift X i c
 
-walk_follow : (X : Picture) (f : Crack) (n : ℕ) (c : Crack) → iterate (successor X) (suc n) c ≡ f → Follow X f (walk X c (suc n))
+pub walk_follow : (X : Picture) (f : Crack) (n : ℕ) (c : Crack) → iterate (successor X) (suc n) c ≡ f → Follow X f (walk X c (suc n))
 walk_follow X f zero c h = h
 walk_follow X f (suc n) c h = (refl, walk_follow X f n (successor X c) (iterate-shift X (suc n) c ∙ h))
 
