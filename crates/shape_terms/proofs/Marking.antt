@@ -4,7 +4,7 @@ use Rattle.std.proofs.Common.{◌≡◌, ℕ, zero, suc, ◌+◌, ◌<◌, Bool,
 use native.Mathlib.Decide.{dec_lt, ℕ_discrete}
 use Rattle.shape_terms.specs.Pictures.{Picture}
 use Rattle.shape_terms.specs.Contours.{Crack, IsCrack, successor}
-use Rattle.shape_terms.specs.CrackNumbers.{crack_number, Marks, MarksCycle}
+use Rattle.shape_terms.specs.CrackNumbers.{crack_number, IsMarkedBesides, MarksCycle}
 use Rattle.shape_terms.proofs.Turning.{iterate}
 use Rattle.shape_terms.proofs.Walks.{walk, walk-get, length-walk}
 use Rattle.shape_terms.proofs.Tracing.{Reached, reached_first, reached_more}
@@ -17,13 +17,13 @@ pub record Marking (X : Picture) (start c : Crack) (steps : ℕ) (old new : ℕ 
   pub none : (j : ℕ) → new j ≡ true → (old j ≡ true) ⊎ ((i : ℕ) × (i < steps) × (crack_number X.sides (iterate (successor X) i start) ≡ j))
 
 -- one more mark
-marks_kept : (n : ℕ) (old new : ℕ → Bool) → Marks n old new → (j : ℕ) → old j ≡ true → new j ≡ true
+marks_kept : (n : ℕ) (old new : ℕ → Bool) → IsMarkedBesides n old new → (j : ℕ) → old j ≡ true → new j ≡ true
 marks_kept n old new m j e = elim (ℕ_discrete j n) [ yes q ↦ subst (λ v. new v ≡ true) (sym q) m.marked | no q ↦ m.others j q ∙ e ]
 
-marks_none : (n : ℕ) (old new : ℕ → Bool) → Marks n old new → (j : ℕ) → new j ≡ true → (old j ≡ true) ⊎ (n ≡ j)
+marks_none : (n : ℕ) (old new : ℕ → Bool) → IsMarkedBesides n old new → (j : ℕ) → new j ≡ true → (old j ≡ true) ⊎ (n ≡ j)
 marks_none n old new m j e = elim (ℕ_discrete j n) [ yes q ↦ inr (sym q) | no q ↦ inl (sym (m.others j q) ∙ e) ]
 
-pub marking_first : (X : Picture) (start : Crack) (old new : ℕ → Bool) → Marks (crack_number X.sides start) old new → Marking X start (successor X start) 1 old new
+pub marking_first : (X : Picture) (start : Crack) (old new : ℕ → Bool) → IsMarkedBesides (crack_number X.sides start) old new → Marking X start (successor X start) 1 old new
 marking_first X start old new m = record {
   reached = reached_first X start;
   kept = marks_kept (crack_number X.sides start) old new m;
@@ -35,7 +35,7 @@ marking_first X start old new m = record {
     added zero h = m.marked
     added (suc i) h = absurd (omega arith)
 
-pub marking_more : (X : Picture) → length X.sides ≡ 2 → (start c : Crack) (steps : ℕ) (old mid new : ℕ → Bool) → IsCrack X start → Marking X start c steps old mid → (c ≡ start → ⊥) → Marks (crack_number X.sides c) mid new
+pub marking_more : (X : Picture) → length X.sides ≡ 2 → (start c : Crack) (steps : ℕ) (old mid new : ℕ → Bool) → IsCrack X start → Marking X start c steps old mid → (c ≡ start → ⊥) → IsMarkedBesides (crack_number X.sides c) mid new
     → Marking X start (successor X c) (steps + 1) old new
 marking_more X axes start c steps old mid new k m away s = record {
   reached = reached_more X axes start c steps k m.reached away;

@@ -13,7 +13,7 @@ abbrev pub numbered : List ℕ → ℕ → Crack
 numbered sides i = record { pixel = raster_point sides (i / 4); side = i % 4 }
 
 -- the number n is marked, and nothing else is changed
-pub record Marks (n : ℕ) (old new : ℕ → Bool) : Type 0 where
+pub record IsMarkedBesides (n : ℕ) (old new : ℕ → Bool) : Type 0 where
   pub marked : new n ≡ true
   pub others : (j : ℕ) → j ≢ n → new j ≡ old j
 
