@@ -1,2 +1,4 @@
 pub mod Pixels
 pub mod MarkSteps
+pub mod CrackValues
+pub mod Rounds

@@ -1,6 +1,6 @@
 //! One contour: the points of the cycle of cracks that begins with a crack, found by following it round.
 //! Another way of keeping the points changes nothing outside this file.
-ghost use Rattle.std.specs.Prelude.{◌≡◌, ◌<◌, ◌++◌, [], ◌∷◌, map, if◌then◌else◌, Some, slice_get, IfOk, length};
+ghost use Rattle.std.specs.Prelude.{◌≡◌, ◌<◌, ◌++◌, [], ◌∷◌, map, if◌then◌else◌, Some, slice_get, IfOk, OnOk, length};
 ghost use Rattle.shape_terms.specs.Contours.{IsCrack, stays, successor as successor_of};
 ghost use Rattle.shape_terms.specs.Traces.{IsContourFrom, IsClosedPath};
 ghost use Rattle.shape_crack.specs.Terms.{point_of, crack_of};
@@ -59,4 +59,41 @@ impl Contour {
     {
         self.points[i as usize]
     }
+}
+
+// The crack after `c`. Where it has another pixel, the pixel of `c` is put last.
+fn advance(points: &mut Vec<P2>, grid: &Grid<P2>, c: Crack) -> Result<Crack, NoMemory>
+    requires { IsCrack grid.now (crack_of c) }
+    ensures next { IfOk result (λ n. crack_of n ≡ successor_of grid.now (crack_of c)) }
+    ensures points { OnOk result (map point_of points.new.items
+        ≡ map point_of points.old.items ++ (if stays grid.now (crack_of c) then [] else point_of c.p ∷ [])) }
+{
+    let _sides = grid.sides();
+    let next = successor(grid, c);
+    if next.p != c.p && points.push(c.p).is_err() {
+        return Err(NoMemory);
+    }
+    Ok(next)
+}
+
+/// The contour that begins with a crack, which need not be the least of its cycle.
+///
+/// It takes memory for the points alone, and time by the number of cracks.
+pub fn trace(alloc: Global, grid: &Grid<P2>, start: Crack) -> Result<Contour, NoMemory>
+    requires { IsCrack grid.now (crack_of start) }
+    ensures { IfOk result (IsContourFrom grid.now (crack_of start)) }
+{
+    let _sides = grid.sides();
+    let mut points = Vec::new(alloc);
+    let mut c = advance(&mut points, grid, start)?;
+    // No crack comes twice before the first one, so the steps are at most as many as there are cracks.
+    let mut steps: u32 = 1;
+    while c != start {
+        c = advance(&mut points, grid, c)?;
+        steps += 1;
+    }
+    if points.is_empty() && points.push(start.p).is_err() {
+        return Err(NoMemory);
+    }
+    Ok(Contour { start, points })
 }

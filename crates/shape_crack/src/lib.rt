@@ -6,5 +6,5 @@ mod contour;
 mod crack;
 mod marks;
 
-pub use contour::{Contour, GREATEST_SIDE};
+pub use contour::{Contour, GREATEST_SIDE, trace};
 pub use crack::{Crack, successor};
