@@ -22,3 +22,17 @@ pub mod ApartLists
 pub mod NearNeighbours
 pub mod SideNeighbours
 pub mod NeighbourNumbers
+pub mod CrackOrder
+pub mod Turning
+pub mod Edges
+pub mod Successor
+pub mod Pigeon
+pub mod Orbits
+pub mod Numbered
+pub mod Walks
+pub mod Tracing
+pub mod Leaving
+pub mod SameCycles
+pub mod Found
+pub mod Marking
+pub mod ClosedPaths

@@ -9,3 +9,7 @@ pub mod Good
 pub mod Holds
 pub mod Shows
 pub mod Progress
+pub mod Steps
+pub mod Contours
+pub mod Traces
+pub mod CrackNumbers

@@ -1,0 +1,4 @@
+pub mod Pixels
+pub mod MarkSteps
+pub mod CrackValues
+pub mod Rounds

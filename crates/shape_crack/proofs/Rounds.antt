@@ -1,0 +1,50 @@
+-- A walk along the cracks that came back to its start: the contour that it gives.
+-- Stated of the pixels that were put down on the way; how they are kept belongs elsewhere.
+use Rattle.std.proofs.Common.{◌≡◌, ◌<◌, ◌≤◌, ◌^◌, ℕ, suc, pos, refl, ap, sym, ◌∙◌, subst, arith, List, [], ◌∷◌, ◌++◌, length, map}
+use Rattle.std.specs.Prelude.{nat_abs}
+use Rattle.std.proofs.lemmas.Int.{ints}
+use Rattle.shape_space.specs.declared.point.P2.{P2}
+use Rattle.shape_terms.specs.Points.{Point, AreSides, sides_of, box_count}
+use Rattle.shape_terms.specs.Pictures.{Picture}
+use Rattle.shape_terms.specs.Contours.{Crack, IsCrack, contour_points}
+use Rattle.shape_terms.specs.Traces.{IsClosedPath, IsContourFrom}
+use Rattle.shape_terms.proofs.Walks.{walk}
+use Rattle.shape_terms.proofs.Tracing.{Reached, Tracing, reached_few, reached_cycle, first-walk, traced_some, traced_none}
+use Rattle.shape_terms.proofs.ClosedPaths.{closed_path}
+use Rattle.shape_crack.specs.Terms.{point_of}
+
+-- steps that have not come back are fewer than there are cracks
+pub few_steps : (X : Picture) → length X.sides ≡ 2 → box_count X.sides ≤ 2 ^ 23 → (start c : Crack) (steps : ℕ) → IsCrack X start → Reached X start c steps → (c ≡ start → ⊥) → steps < 33554432
+few_steps X axes few start c steps k r away = let l = reached_few X axes start c steps k r away in omega arith
+
+length-pixels : (xs : List P2) → length (map point_of xs) ≡ length xs
+length-pixels [] = refl
+length-pixels (x ∷ xs) = ap suc (length-pixels xs)
+
+none_left : (xs : List P2) (p : P2) → length xs ≡ 0 → xs ++ p ∷ [] ≡ p ∷ []
+none_left [] p e = refl
+none_left (x ∷ xs) p e = absurd (omega arith)
+
+-- the points of the contour where some pixels were left
+pub some_points : (X : Picture) (start c : Crack) (steps : ℕ) (points : List P2) → Tracing X start c steps (map point_of points) → 1 ≤ length points → map point_of points ≡ contour_points X (walk X start steps)
+some_points X start c steps points t l = traced_some X start steps (map point_of points) t.points_are (omega (arith, length-pixels points))
+
+-- and where none were
+pub one_point : (X : Picture) (start c : Crack) (steps : ℕ) (points : List P2) (p : P2) → Tracing X start c steps (map point_of points) → length points ≡ 0 → start.pixel ≡ point_of p → map point_of (points ++ p ∷ []) ≡ contour_points X (walk X start steps)
+one_point X start c steps points p t l e =
+    ap (map point_of) (none_left points p l) ∙ (ap (λ (x : Point). x ∷ []) (sym e) ∙ traced_none X start steps (map point_of points) t.points_are (length-pixels points ∙ l) t.reached.some)
+
+module _ (X : Picture) (axes : length X.sides ≡ 2) (start c : Crack) (steps : ℕ) (k : IsCrack X start) (r : Reached X start c steps) (same : c ≡ start) where
+  pub contour_from : (points : List Point) → points ≡ contour_points X (walk X start steps) → IsContourFrom X start (record { start = start; points = points })
+  contour_from points e = record {
+    cracks = walk X start steps;
+    cycle = reached_cycle X axes start c steps k r same;
+    first = first-walk X start steps r.some;
+    contour = (let f = first-walk X start steps r.some in λ i. record { start = sym f i; points = e i });
+  }
+
+  pub path_from : (greatest : ℕ) (n : P2) → AreSides (pos greatest) (point_of n) → greatest ≤ 2048 → sides_of (point_of n) ≡ X.sides → (points : List Point) → points ≡ contour_points X (walk X start steps) → IsClosedPath greatest points
+  path_from greatest n s g e points f =
+      let x = s 0 (omega arith) in
+      let y = s 1 (omega arith) in
+      subst (IsClosedPath greatest) (sym f) (closed_path X (nat_abs n.x) (nat_abs n.y) greatest (sym e) (omega (arith, ints)) (omega (arith, ints)) g start c steps k r same)

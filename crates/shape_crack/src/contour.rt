@@ -1,0 +1,99 @@
+//! One contour: the points of the cycle of cracks that begins with a crack, found by following it round.
+//! Another way of keeping the points changes nothing outside this file.
+ghost use Rattle.std.specs.Prelude.{◌≡◌, ◌<◌, ◌++◌, [], ◌∷◌, map, if◌then◌else◌, Some, slice_get, IfOk, OnOk, length};
+ghost use Rattle.shape_terms.specs.Contours.{IsCrack, stays, successor as successor_of};
+ghost use Rattle.shape_terms.specs.Traces.{IsContourFrom, IsClosedPath};
+ghost use Rattle.shape_crack.specs.Terms.{point_of, crack_of};
+
+use crate::crack::{Crack, successor};
+use shape_grid::Grid;
+use shape_space::{NoMemory, P2, Point};
+use std::alloc::Global;
+use std::marker::Model;
+
+/// The greatest side of a flat picture: the coordinates of a contour's points are below it.
+pub const GREATEST_SIDE: u32 = P2::MAX_SIDE as u32;
+
+/// The points of a cycle of cracks, in order: the pixels from which the cycle goes on to another pixel, or the one pixel that it stays at.
+///
+/// A pixel may come several times, where the object is thin.
+#[derive(Drop)]
+pub struct Contour {
+    start: Crack,
+    points: Vec<P2>,
+}
+
+impl Model for Contour {
+    ghost use Rattle.std.specs.Prelude.{map};
+    ghost use Rattle.shape_terms.specs.Traces.{Contour as Trace, IsClosedPath};
+    ghost use Rattle.shape_crack.specs.Terms.{point_of, crack_of};
+    ghost use Rattle.shape_crack.specs.declared.contour.TheConstants.{GREATEST_SIDE};
+
+    ghost Value = { Trace };
+
+    ghost view = { λ k. record { start = crack_of k.start; points = map point_of k.points.items } };
+
+    ghost invariant = { λ k. IsClosedPath GREATEST_SIDE (map point_of k.points.items) };
+}
+
+impl Contour {
+    /// The crack that the contour begins with.
+    pub fn start(&self) -> Crack
+        ensures { crack_of result ≡ self.now.start }
+    {
+        self.start
+    }
+
+    /// The number of points.
+    pub fn len(&self) -> u32
+        ensures value { result ≡ length self.now.points }
+        ensures path { IsClosedPath GREATEST_SIDE self.now.points }
+    {
+        self.points.len() as u32
+    }
+
+    /// The point at a place, from 0 on.
+    pub fn point(&self, i: u32) -> P2
+        requires { i < length self.now.points }
+        ensures value { slice_get self.now.points i ≡ Some (point_of result) }
+    {
+        self.points[i as usize]
+    }
+}
+
+// The crack after `c`. Where it has another pixel, the pixel of `c` is put last.
+fn advance(points: &mut Vec<P2>, grid: &Grid<P2>, c: Crack) -> Result<Crack, NoMemory>
+    requires { IsCrack grid.now (crack_of c) }
+    ensures next { IfOk result (λ n. crack_of n ≡ successor_of grid.now (crack_of c)) }
+    ensures points { OnOk result (map point_of points.new.items
+        ≡ map point_of points.old.items ++ (if stays grid.now (crack_of c) then [] else point_of c.p ∷ [])) }
+{
+    let _sides = grid.sides();
+    let next = successor(grid, c);
+    if next.p != c.p && points.push(c.p).is_err() {
+        return Err(NoMemory);
+    }
+    Ok(next)
+}
+
+/// The contour that begins with a crack, which need not be the least of its cycle.
+///
+/// It takes memory for the points alone, and time by the number of cracks.
+pub fn trace(alloc: Global, grid: &Grid<P2>, start: Crack) -> Result<Contour, NoMemory>
+    requires { IsCrack grid.now (crack_of start) }
+    ensures { IfOk result (IsContourFrom grid.now (crack_of start)) }
+{
+    let _sides = grid.sides();
+    let mut points = Vec::new(alloc);
+    let mut c = advance(&mut points, grid, start)?;
+    // No crack comes twice before the first one, so the steps are at most as many as there are cracks.
+    let mut steps: u32 = 1;
+    while c != start {
+        c = advance(&mut points, grid, c)?;
+        steps += 1;
+    }
+    if points.is_empty() && points.push(start.p).is_err() {
+        return Err(NoMemory);
+    }
+    Ok(Contour { start, points })
+}
