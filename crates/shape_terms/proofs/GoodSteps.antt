@@ -21,11 +21,15 @@ section_skip k lines l e = filter-append (λ m. section m == k) lines (l ∷ [])
 -- an earlier section stays as it is
 complete_kept : (X : Picture) (lines : List Line) (l : Line) (j : ℕ) → j < section l → IsComplete X j lines → IsComplete X j (lines ++ l ∷ [])
 complete_kept X lines (Line.Shape sides rule) j h c = absurd (omega arith)
+complete_kept X lines (Line.Parts n o b) zero h c = ap length (section_skip 0 lines (Line.Parts n o b) refl) ∙ c
+complete_kept X lines (Line.Parts n o b) (suc j) h c = absurd (omega arith)
 complete_kept X lines (Line.Near p q s) zero h c = ap length (section_skip 0 lines (Line.Near p q s) refl) ∙ c
-complete_kept X lines (Line.Near p q s) (suc j) h c = absurd (omega arith)
+complete_kept X lines (Line.Near p q s) (suc zero) h c = ap length (section_skip 1 lines (Line.Near p q s) refl) ∙ c
+complete_kept X lines (Line.Near p q s) (suc (suc j)) h c = absurd (omega arith)
 complete_kept X lines Line.End zero h c = ap length (section_skip 0 lines Line.End refl) ∙ c
 complete_kept X lines Line.End (suc zero) h c = ap length (section_skip 1 lines Line.End refl) ∙ c
-complete_kept X lines Line.End (suc (suc j)) h c = absurd (omega arith)
+complete_kept X lines Line.End (suc (suc zero)) h c = ap length (section_skip 2 lines Line.End refl) ∙ c
+complete_kept X lines Line.End (suc (suc (suc j))) h c = absurd (omega arith)
 
 -- ---- how far the lines have come
 
@@ -61,6 +65,7 @@ good_at X lines l h c = record { order = h.order; complete = h.complete; claim =
 -- only a `shape` line is good first
 pub first_is_shape : (X : Picture) (l : Line) → GoodAfter X [] l → section l ≡ 0
 first_is_shape X (Line.Shape sides rule) g = refl
+first_is_shape X (Line.Parts n o b) g = absurd (let c : 0 ≡ 1 = g.complete 0 (omega arith) in omega arith)
 first_is_shape X (Line.Near p q s) g = absurd (let c : 0 ≡ 1 = g.complete 0 (omega arith) in omega arith)
 first_is_shape X Line.End g = absurd (let c : 0 ≡ 1 = g.complete 0 (omega arith) in omega arith)
 
@@ -72,14 +77,32 @@ no_second_shape X lines sides rule c g =
     let e : length (section_lines 0 lines) ≡ 0 = ap (λ ls. length (section_lines 0 ls)) g.claim.0 in
     omega arith
 
+-- ---- the second line
+
+-- only a `parts` line is good after the `shape` line
+pub second_is_parts : (X : Picture) (lines : List Line) (l : Line) → IsComplete X 0 lines → section_lines 1 lines ≡ [] → GoodAfter X lines l → section l ≡ 1
+second_is_parts X lines (Line.Shape sides rule) c e g = absurd (no_second_shape X lines sides rule c g)
+second_is_parts X lines (Line.Parts n o b) c e g = refl
+second_is_parts X lines (Line.Near p q s) c e g = absurd (let one : length (section_lines 1 lines) ≡ 1 = g.complete 1 (omega arith) in let none : length (section_lines 1 lines) ≡ 0 = ap length e in omega arith)
+second_is_parts X lines Line.End c e g = absurd (let one : length (section_lines 1 lines) ≡ 1 = g.complete 1 (omega arith) in let none : length (section_lines 1 lines) ≡ 0 = ap length e in omega arith)
+
+-- ---- after the `parts` line
+
+-- no second `parts` line is good
+pub no_second_parts : (X : Picture) (lines : List Line) (n o b : ℕ) → IsComplete X 1 lines → GoodAfter X lines (Line.Parts n o b) → ⊥
+no_second_parts X lines n o b c g =
+    let one : length (section_lines 1 lines) ≡ 1 = c in
+    let none : length (section_lines 1 lines) ≡ 0 = ap length g.claim.0 in
+    omega arith
+
 -- where no line is of a later section, none is `end`
-pub not_ended : (X : Picture) (k : ℕ) (lines front : List Line) → k < 2 → HasCome X k lines → lines ≡ front ++ Line.End ∷ [] → ⊥
+pub not_ended : (X : Picture) (k : ℕ) (lines front : List Line) → k < 3 → HasCome X k lines → lines ≡ front ++ Line.End ∷ [] → ⊥
 not_ended X k lines front h c e =
     let n = length front in
     let inside : n < length lines = rw e (omega (arith, length-append front (Line.End ∷ []))) in
     let o : section (get_or lines n Line.End) ≤ k = c.order n Line.End inside in
     let t : get_or lines n Line.End ≡ Line.End = rw e (at_end front) in
-    let s : section (get_or lines n Line.End) ≡ 2 = ap section t in
+    let s : section (get_or lines n Line.End) ≡ 3 = ap section t in
     omega arith
   where
     at_end : (xs : List Line) → get_or (xs ++ Line.End ∷ []) (length xs) Line.End ≡ Line.End
@@ -88,15 +111,16 @@ not_ended X k lines front h c e =
 
 -- ---- after `end`
 
-end_among : (lines : List Line) (k : ℕ) → k < 2 → All (λ e. section e ≤ k) (lines ++ Line.End ∷ []) → ⊥
-end_among [] k h a = let o : 2 ≤ k = a 0 Line.End (omega arith) in omega arith
+end_among : (lines : List Line) (k : ℕ) → k < 3 → All (λ e. section e ≤ k) (lines ++ Line.End ∷ []) → ⊥
+end_among [] k h a = let o : 3 ≤ k = a 0 Line.End (omega arith) in omega arith
 end_among (l ∷ lines) k h a = end_among lines k h (λ i d m. a (suc i) d (omega arith))
 
 -- no line is good after `end`
 pub none_after_end : (X : Picture) (lines : List Line) (l : Line) → GoodAfter X (lines ++ Line.End ∷ []) l → ⊥
 none_after_end X lines (Line.Shape sides rule) g = end_among lines 0 (omega arith) g.order
-none_after_end X lines (Line.Near p q s) g = end_among lines 1 (omega arith) g.order
+none_after_end X lines (Line.Parts n o b) g = end_among lines 1 (omega arith) g.order
+none_after_end X lines (Line.Near p q s) g = end_among lines 2 (omega arith) g.order
 none_after_end X lines Line.End g =
-    let e : section_lines 2 lines ++ Line.End ∷ [] ≡ [] = sym (section_push 2 lines Line.End refl) ∙ g.claim in
+    let e : section_lines 3 lines ++ Line.End ∷ [] ≡ [] = sym (section_push 3 lines Line.End refl) ∙ g.claim in
     let n = ap length e in
-    omega (arith, length-append (section_lines 2 lines) (Line.End ∷ []))
+    omega (arith, length-append (section_lines 3 lines) (Line.End ∷ []))

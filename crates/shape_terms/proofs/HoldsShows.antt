@@ -1,7 +1,8 @@
 -- A report that holds shows what it says: the claims of its lines, one after another, are facts about the whole picture.
 -- One lemma for each section, which speaks of the section's own list of lines.
-use Rattle.std.proofs.Common.{◌≡◌, ℕ, zero, suc, List, [], ◌∷◌, ◌++◌, length, map, take, ap, sym, ◌∙◌, refl, subst, arith, Some, true}
+use Rattle.std.proofs.Common.{◌≡◌, ℕ, zero, suc, ◌<◌, List, [], ◌∷◌, ◌++◌, length, map, take, ap, sym, ◌∙◌, refl, subst, arith, Some, true, false}
 use Rattle.std.specs.Prelude.{filter_map, slice_get, All, ◌==◌}
+use Rattle.std.proofs.lemmas.Bool.{eqb-true}
 use Rattle.std.proofs.lemmas.List.{append-nil}
 use Rattle.std.proofs.lemmas.List.Elements.{All-nil, All-cons}
 use Rattle.shape_terms.specs.Points.{Point}
@@ -10,25 +11,56 @@ use Rattle.shape_terms.specs.Distances.{NearFact, IsField}
 use Rattle.shape_terms.specs.Lines.{Line, text_of}
 use Rattle.shape_terms.specs.Good.{section, section_lines, NearClaim, GoodAfter, GoodSoFar}
 use Rattle.shape_terms.specs.Holds.{Holds}
-use Rattle.shape_terms.specs.Shows.{near_fact, TextShows}
+use Rattle.shape_terms.specs.Shows.{parts_fact, ShowsParts, near_fact, TextShows}
 use Rattle.shape_terms.proofs.SectionLines.{stood}
+use Rattle.shape_terms.proofs.GoodSteps.{section_skip}
+
+-- ---- counts
+
+facts_parts : (lines : List Line) → filter_map parts_fact lines ≡ filter_map parts_fact (section_lines 1 lines)
+facts_parts [] = refl
+facts_parts (Line.Shape sides rule ∷ lines) = facts_parts lines
+facts_parts (Line.Parts n o b ∷ lines) = ap (λ l. record { points = n; object = o; background = b } ∷ l) (facts_parts lines)
+facts_parts (Line.Near p q s ∷ lines) = facts_parts lines
+facts_parts (Line.End ∷ lines) = facts_parts lines
+
+-- one line whose claim is true, whatever stood before it
+one_shows : (X : Picture) (lines : List Line) → length lines ≡ 1 → ((l : Line) → slice_get lines 0 ≡ Some l → (section l ≡ 1) × (earlier : List Line) × GoodAfter X earlier l) → ShowsParts X (filter_map parts_fact lines)
+one_shows X [] e h = absurd (omega arith)
+one_shows X (l ∷ m ∷ lines) e h = absurd (omega arith)
+one_shows X (Line.Shape sides rule ∷ []) e h = absurd (let k : 0 ≡ 1 = (h (Line.Shape sides rule) refl).0 in omega arith)
+one_shows X (Line.Parts n o b ∷ []) e h =
+    let g = h (Line.Parts n o b) refl in
+    let claim = g.2.claim in
+    record { fact = record { points = n; object = o; background = b }; once = refl; counts = claim.1 }
+one_shows X (Line.Near p q s ∷ []) e h = absurd (let k : 2 ≡ 1 = (h (Line.Near p q s) refl).0 in omega arith)
+one_shows X (Line.End ∷ []) e h = absurd (let k : 3 ≡ 1 = (h Line.End refl).0 in omega arith)
+
+-- good lines with one `parts` line say the counts of the picture once
+lines_parts : (X : Picture) (lines : List Line) → GoodSoFar X lines → length (section_lines 1 lines) ≡ 1 → ShowsParts X (filter_map parts_fact lines)
+lines_parts X lines good e =
+    subst (ShowsParts X) (sym (facts_parts lines)) (one_shows X (section_lines 1 lines) e (λ l m.
+    let s = stood (λ k. section k == 1) lines 0 l m in
+    (eqb-true (section l) 1 s.passes, take s.place lines, good s.place l s.there)))
 
 -- ---- nearest background points
 
 -- each `near` line is good after the `near` lines before it
-nears_good : (X : Picture) (lines : List Line) → GoodSoFar X lines → (j : ℕ) (l : Line) → slice_get (section_lines 1 lines) j ≡ Some l → NearClaim X (take j (section_lines 1 lines)) l
+nears_good : (X : Picture) (lines : List Line) → GoodSoFar X lines → (j : ℕ) (l : Line) → slice_get (section_lines 2 lines) j ≡ Some l → NearClaim X (take j (section_lines 2 lines)) l
 nears_good X lines good j l e =
-    let s = stood (λ m. section m == 1) lines j l e in
+    let s = stood (λ m. section m == 2) lines j l e in
     subst (λ ls. NearClaim X ls l) s.before (claim l s.passes (good s.place l s.there))
   where
-    claim : (m : Line) → (section m == 1) ≡ true → {ls : List Line} → GoodAfter X ls m → NearClaim X (section_lines 1 ls) m
+    claim : (m : Line) → (section m == 2) ≡ true → {ls : List Line} → GoodAfter X ls m → NearClaim X (section_lines 2 ls) m
     claim (Line.Shape sides rule) p g = cc
+    claim (Line.Parts n o c) p g = cc
     claim (Line.Near a b s) p g = g.claim
     claim Line.End p g = cc
 
-facts_nears : (lines : List Line) → filter_map near_fact lines ≡ filter_map near_fact (section_lines 1 lines)
+facts_nears : (lines : List Line) → filter_map near_fact lines ≡ filter_map near_fact (section_lines 2 lines)
 facts_nears [] = refl
 facts_nears (Line.Shape sides rule ∷ lines) = facts_nears lines
+facts_nears (Line.Parts n o b ∷ lines) = facts_nears lines
 facts_nears (Line.Near p q s ∷ lines) = ap (λ l. record { p = p; q = q; s = s } ∷ l) (facts_nears lines)
 facts_nears (Line.End ∷ lines) = facts_nears lines
 
@@ -45,6 +77,7 @@ near_facts X [] [] e h = (refl, All-nil (λ f. Least X f.p f.q f.s))
 near_facts X [] (p ∷ points) e h = absurd (omega arith)
 near_facts X (l ∷ lines) [] e h = absurd (omega arith)
 near_facts X (Line.Shape sides rule ∷ lines) (p ∷ points) e h = absurd (h 0 (Line.Shape sides rule) refl)
+near_facts X (Line.Parts n o b ∷ lines) (p ∷ points) e h = absurd (h 0 (Line.Parts n o b) refl)
 near_facts X (Line.End ∷ lines) (p ∷ points) e h = absurd (h 0 Line.End refl)
 near_facts X (Line.Near a b s ∷ lines) (p ∷ points) e h =
     let first = h 0 (Line.Near a b s) refl in
@@ -54,6 +87,7 @@ near_facts X (Line.Near a b s ∷ lines) (p ∷ points) e h =
   where
     later : (j : ℕ) (l : Line) → NearAt X (p ∷ points) (suc j) l → NearAt X points j l
     later j (Line.Shape sides rule) n = n
+    later j (Line.Parts a o c) n = n
     later j (Line.Near x y z) n = n
     later j Line.End n = n
 
@@ -64,13 +98,14 @@ length_below (m ∷ lines) (suc j) l e = ap suc (length_below lines j l e)
 
 at_place : (X : Picture) (lines : List Line) (j : ℕ) (l : Line) → length lines ≡ j → NearClaim X lines l → NearAt X (object_points X) j l
 at_place X lines j (Line.Shape sides rule) e n = n
+at_place X lines j (Line.Parts k o b) e n = n
 at_place X lines j (Line.Near p q s) e n = (ap (slice_get (object_points X)) (sym e) ∙ n.0, n.1)
 at_place X lines j Line.End e n = n
 
 -- good lines in which each object point has its `near` line make the field
-pub lines_field : (X : Picture) (lines : List Line) → GoodSoFar X lines → length (section_lines 1 lines) ≡ length (object_points X) → IsField X (filter_map near_fact lines)
+pub lines_field : (X : Picture) (lines : List Line) → GoodSoFar X lines → length (section_lines 2 lines) ≡ length (object_points X) → IsField X (filter_map near_fact lines)
 lines_field X lines good e =
-    let facts = near_facts X (section_lines 1 lines) (object_points X) e (λ j l m. at_place X (take j (section_lines 1 lines)) j l (length_below (section_lines 1 lines) j l m) (nears_good X lines good j l m)) in
+    let facts = near_facts X (section_lines 2 lines) (object_points X) e (λ j l m. at_place X (take j (section_lines 2 lines)) j l (length_below (section_lines 2 lines) j l m) (nears_good X lines good j l m)) in
     subst (IsField X) (sym (facts_nears lines)) (record { points = facts.0; least = facts.1 })
 
 -- ---- the whole report
@@ -83,20 +118,28 @@ take_front : (lines more : List Line) → take (length lines) (lines ++ more) �
 take_front [] more = refl
 take_front (m ∷ lines) more = ap (λ l. m ∷ l) (take_front lines more)
 
-end_adds_none : (lines : List Line) → section_lines 1 (lines ++ Line.End ∷ []) ≡ section_lines 1 lines
-end_adds_none [] = refl
-end_adds_none (Line.Shape sides rule ∷ lines) = end_adds_none lines
-end_adds_none (Line.Near p q s ∷ lines) = ap (λ l. Line.Near p q s ∷ l) (end_adds_none lines)
-end_adds_none (Line.End ∷ lines) = end_adds_none lines
+end_adds_none : (k : ℕ) (lines : List Line) → k < 3 → section_lines k (lines ++ Line.End ∷ []) ≡ section_lines k lines
+end_adds_none k lines h = section_skip k lines Line.End (other k h)
+  where
+    other : (k : ℕ) → k < 3 → (3 == k) ≡ false
+    other zero h = refl
+    other (suc zero) h = refl
+    other (suc (suc zero)) h = refl
+    other (suc (suc (suc k))) h = absurd (omega arith)
 
 pub holds_shows : (X : Picture) (text : List ℕ) → Holds X text → TextShows X text
 holds_shows X text (lines, b) =
     let all = lines ++ Line.End ∷ [] in
     let end = b.good (length lines) Line.End (get_last lines Line.End) in
-    let complete : length (section_lines 1 lines) ≡ length (object_points X) = ap (λ ls. length (section_lines 1 ls)) (sym (take_front lines (Line.End ∷ []))) ∙ end.complete 1 (omega arith) in
+    let front = take_front lines (Line.End ∷ []) in
+    let one : length (section_lines 1 lines) ≡ 1 = ap (λ ls. length (section_lines 1 ls)) (sym front) ∙ end.complete 1 (omega arith) in
+    let complete : length (section_lines 2 lines) ≡ length (object_points X) = ap (λ ls. length (section_lines 2 ls)) (sym front) ∙ end.complete 2 (omega arith) in
     record {
       lines = all;
       fields = b.fields;
       text_is = b.split ∙ append-nil (text_of all);
-      shows = record { nears = lines_field X all b.good (ap length (end_adds_none lines) ∙ complete) };
+      shows = record {
+        parts = lines_parts X all b.good (ap length (end_adds_none 1 lines (omega arith)) ∙ one);
+        nears = lines_field X all b.good (ap length (end_adds_none 2 lines (omega arith)) ∙ complete);
+      };
     }

@@ -47,6 +47,14 @@ words_injective d (Line.Shape s w) (Line.Shape s' w') a b e =
     let f = coordinates_same s s' a.0.fits b.0.fits c.0 in
     let g : w ≡ w' = let h = c.1 in cc in
     λ i. Line.Shape (f i) (g i)
+words_injective d (Line.Parts n o c) (Line.Parts n' o' c') a b e =
+    let f : decimal n ≡ decimal n' = cc in
+    let g : decimal o ≡ decimal o' = cc in
+    let h : decimal c ≡ decimal c' = cc in
+    let fn = decimal_injective n n' (omega (arith, a.0)) (omega (arith, b.0)) f in
+    let fo = decimal_injective o o' (omega (arith, a.1)) (omega (arith, b.1)) g in
+    let fc = decimal_injective c c' (omega (arith, a.2)) (omega (arith, b.2)) h in
+    λ i. Line.Parts (fn i) (fo i) (fc i)
 words_injective d (Line.Near p q s) (Line.Near p' q' s') a b e =
     let c = cut p p' (number_words q ++ decimal s ∷ []) (number_words q' ++ decimal s' ∷ []) (a.0.axes ∙ sym b.0.axes) cc in
     let c' = cut q q' (decimal s ∷ []) (decimal s' ∷ []) (a.1.axes ∙ sym b.1.axes) c.1 in

@@ -10,7 +10,7 @@ use Rattle.std.proofs.lemmas.Int.{ints}
 use Rattle.std.proofs.lemmas.List.Elements.{All-head, All-tail, All-from_get_or}
 use Rattle.shape_terms.specs.Points.{Point, coordinate, squared_distance}
 use Rattle.shape_terms.specs.FramedBox.{IsWithin}
-use Rattle.shape_terms.specs.Lines.{Line, line_words, number_words, kind_word, spelling, IsLineOf, IsShortPoint, IsWeight}
+use Rattle.shape_terms.specs.Lines.{Line, line_words, number_words, kind_word, spelling, IsLineOf, IsShortPoint, IsCount, IsWeight}
 use Rattle.shape_terms.proofs.SquaredDistances.{squared_distance-cons, square_apart}
 
 -- ---- words
@@ -51,6 +51,9 @@ kind_short (suc (suc (suc n))) = refl
 weight_short : (s : ℕ) → IsWeight s → length (decimal s) ≤ 19
 weight_short s h = length-decimal-le 19 s (lit< tt) (omega arith) (omega arith)
 
+count_short : (n : ℕ) → IsCount n → length (decimal n) ≤ 10
+count_short n h = length-decimal-le 10 n (lit< tt) (omega arith) (omega arith)
+
 -- no line of a report of two or three axes is longer than 1024 bytes
 pub short_line : (d : ℕ) (l : Line) → d ≤ 3 → IsLineOf d l → length (spelling l) ≤ 1024
 unfolding total
@@ -58,6 +61,9 @@ short_line d (Line.Shape sides rule) h a =
     let j = joined_short (line_words (Line.Shape sides rule)) in
     let t = total-append (number_words sides) (rule ∷ []) in
     omega (arith, j, t, numbers_short sides a.0.fits, kind_short (length sides), a.0.axes, a.1.few)
+short_line d (Line.Parts n o b) h a =
+    let j = joined_short (line_words (Line.Parts n o b)) in
+    omega (arith, j, count_short n a.0, count_short o a.1, count_short b a.2)
 short_line d (Line.Near p q s) h a =
     let j = joined_short (line_words (Line.Near p q s)) in
     let t = total-append (number_words p) (number_words q ++ decimal s ∷ []) in

@@ -9,6 +9,7 @@ use Rattle.shape_terms.specs.Points.{Point}
 -- a line of a report. The sides stand as a point; a picture of two sides is a `pbm`, one of three a `raw`
 pub data Line : Type 0 where
   Shape : (sides : Point) → (rule : List ℕ) → Line
+  Parts : (points object background : ℕ) → Line
   Near : (p q : Point) → (s : ℕ) → Line
   End : Line
 
@@ -23,6 +24,7 @@ number_words numbers = map signed_decimal numbers
 
 abbrev pub line_words : Line → List (List ℕ)
 line_words (Shape sides rule) = codes "shape" ∷ codes "1" ∷ kind_word (length sides) ∷ (number_words sides ++ rule ∷ [])
+line_words (Parts n o b) = codes "parts" ∷ decimal n ∷ decimal o ∷ decimal b ∷ []
 line_words (Near p q s) = codes "near" ∷ (number_words p ++ (number_words q ++ decimal s ∷ []))
 line_words End = codes "end" ∷ []
 
@@ -35,6 +37,10 @@ abbrev pub text_of : List Line → List ℕ
 text_of lines = flat_map (λ l. spelling l ++ 10 ∷ []) lines
 
 -- ---- fields in range
+
+-- a number of 32 bits, as counts are
+abbrev pub IsCount : ℕ → Type 0
+IsCount n = n < 2 ^ 32
 
 -- a number of 63 bits, as weights and squared distances are
 abbrev pub IsWeight : ℕ → Type 0
@@ -54,5 +60,6 @@ pub record IsName (word : List ℕ) : Type 0 where
 -- the line is one of the reports of pictures with d axes, and its fields are in range
 abbrev pub IsLineOf : ℕ → Line → Type 0
 IsLineOf d (Line.Shape sides rule) = IsShortPoint d sides × IsName rule
+IsLineOf d (Line.Parts n o b) = IsCount n × IsCount o × IsCount b
 IsLineOf d (Line.Near p q s) = IsShortPoint d p × IsShortPoint d q × IsWeight s
 IsLineOf d Line.End = Unit {0}

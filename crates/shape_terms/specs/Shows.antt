@@ -1,9 +1,20 @@
 -- What a report says of a picture, in geometry alone.
 -- No line, spelling or judge stands in what is shown, only in how it is read off the lines.
-use Rattle.std.specs.Prelude.{◌≡◌, ℕ, List, length, filter_map, Option, Some, None, All}
+use Rattle.std.specs.Prelude.{◌≡◌, ℕ, List, [], ◌∷◌, length, filter_map, Option, Some, None, All}
 use Rattle.shape_terms.specs.Pictures.{Picture}
+use Rattle.shape_terms.specs.Parts.{Counts}
 use Rattle.shape_terms.specs.Distances.{NearFact, IsField}
 use Rattle.shape_terms.specs.Lines.{Line, text_of, IsLineOf}
+
+-- what a `parts` line says of the picture: how many object points it has, and how many components its object and its background
+pub record PartsFact : Type 0 where
+  pub points : ℕ
+  pub object : ℕ
+  pub background : ℕ
+
+abbrev pub parts_fact : Line → Option PartsFact
+parts_fact (Line.Parts n o b) = Some (record { points = n; object = o; background = b })
+parts_fact _ = None
 
 -- what a `near` line says of one object point
 abbrev pub near_fact : Line → Option NearFact
@@ -12,13 +23,21 @@ near_fact _ = None
 
 -- the report's content: what its lines say, section by section
 pub record Content : Type 0 where
+  pub parts : List PartsFact
   pub nears : List NearFact
 
 abbrev pub content_of : List Line → Content
-content_of lines = record { nears = filter_map near_fact lines }
+content_of lines = record { parts = filter_map parts_fact lines; nears = filter_map near_fact lines }
 
--- each object point stands there once, in raster order, with a nearest background point of the whole space
+-- the counts of the picture, said once
+pub record ShowsParts (X : Picture) (facts : List PartsFact) : Type 0 where
+  pub fact : PartsFact
+  pub once : facts ≡ fact ∷ []
+  pub counts : Counts X fact.points fact.object fact.background
+
+-- the counts of the picture; and each object point once, in raster order, with a nearest background point of the whole space
 pub record Shows (X : Picture) (content : Content) : Type 0 where
+  pub parts : ShowsParts X content.parts
   pub nears : IsField X content.nears
 
 -- the text is made of lines that show of the picture what they say
