@@ -9,7 +9,7 @@ use Rattle.std.proofs.lemmas.List.{length-map, map-append, take_more_set, length
 use Rattle.std.proofs.lemmas.List.Elements.{All-get_or, All-push}
 use Rattle.std.proofs.lemmas.Fmt.{decimal_is_IsNumeral, decimal_injective}
 use Rattle.std.proofs.Math.Seq.{drop-cons}
-use Rattle.shape_terms.specs.Lines.{number_words, IsShortPoint, IsWeight}
+use Rattle.shape_terms.specs.Lines.{number_words, IsShortPoint, IsCount, IsWeight}
 use Rattle.shape_desk.specs.Number.{number_front, SpellsNumber}
 use Rattle.shape_desk.proofs.Numbers.{number_front-signed_decimal, no_minus}
 use Rattle.shape_report.specs.Reading.{BeginsWithField, NoField, ReadsField}
@@ -48,20 +48,37 @@ read_short words left word z v (Err d) w f s e t = λ y rest g h.
     let k : word ≡ signed_decimal y = cc in
     t (subst (FitsSigned w32) (same_number y z (wider y g) f (sym k ∙ s) ∙ sym e) g)
 
-not_negative : (v : ℤ) → FitsUnsignedBits 64 v → v ≡ pos (nat_abs v)
-not_negative (pos n) f = refl
-not_negative (negsuc n) f = absurd f
+not_negative : (bits : ℕ) (v : ℤ) → FitsUnsignedBits bits v → v ≡ pos (nat_abs v)
+not_negative bits (pos n) f = refl
+not_negative bits (negsuc n) f = absurd f
+
+-- a word that spells a number of 64 bits is a count exactly where that number fits
+pub read_count : {E : Type 0} (words left : List (List ℕ)) (word : List ℕ) (z v : ℤ) (t : Result ℕ E) → words ≡ word ∷ left → FitsSigned w64 z → word ≡ signed_decimal z → v ≡ z → OkIff t (FitsUnsignedBits 32 v) (nat_abs v)
+    → ReadsField (λ n. n) IsCount (λ n. decimal n ∷ []) words left (result_ok t)
+read_count words left word z v (Ok n) w f s e t =
+    let same : v ≡ pos n = not_negative 32 v t.0 ∙ ap pos (sym t.1) in
+    record { range = subst (FitsUnsignedBits 32) same t.0; split = w ∙ ap (λ l. l ∷ left) (s ∙ ap signed_decimal (sym e ∙ same)) }
+read_count words left word z v (Err d) w f s e t = λ n rest g h.
+    let k : word ≡ decimal n = cc in
+    let m : v ≡ pos n = e ∙ same_number z (pos n) f (record { sfits = omega (arith, g) }) (sym s ∙ k) in
+    t (subst (FitsUnsignedBits 32) (sym m) g)
 
 -- a word that spells a number of 64 bits is a weight exactly where that number is not negative
 pub read_weight : {E : Type 0} (words left : List (List ℕ)) (word : List ℕ) (z v : ℤ) (t : Result ℕ E) → words ≡ word ∷ left → FitsSigned w64 z → word ≡ signed_decimal z → v ≡ z → OkIff t (FitsUnsignedBits 64 v) (nat_abs v)
     → ReadsField (λ n. n) IsWeight (λ n. decimal n ∷ []) words left (result_ok t)
 read_weight words left word z v (Ok n) w f s e t =
-    let k : z ≡ pos n = sym e ∙ not_negative v t.0 ∙ ap pos (sym t.1) in
+    let k : z ≡ pos n = sym e ∙ not_negative 64 v t.0 ∙ ap pos (sym t.1) in
     record { range = omega (arith, (subst (FitsSigned w64) k f).sfits); split = w ∙ ap (λ l. l ∷ left) (s ∙ ap signed_decimal k) }
 read_weight words left word z v (Err d) w f s e t = λ n rest g h.
     let k : word ≡ decimal n = cc in
     let m : v ≡ pos n = e ∙ same_number z (pos n) f (record { sfits = omega (arith, g) }) (sym s ∙ k) in
     t (subst (FitsUnsignedBits 64) (sym m) (omega (arith, g)))
+
+-- a word that spells no number of 64 bits is no count
+pub no_count : (words left : List (List ℕ)) (word : List ℕ) → words ≡ word ∷ left → ((z : ℤ) → FitsSigned w64 z → word ≢ signed_decimal z) → NoField IsCount (λ n. decimal n ∷ []) words
+no_count words left word w h n rest g e =
+    let k : word ≡ decimal n = cc in
+    h (pos n) (record { sfits = omega (arith, g) }) k
 
 -- a word that spells no number of 64 bits is no weight
 pub no_weight : (words left : List (List ℕ)) (word : List ℕ) → words ≡ word ∷ left → ((z : ℤ) → FitsSigned w64 z → word ≢ signed_decimal z) → NoField IsWeight (λ n. decimal n ∷ []) words

@@ -6,7 +6,7 @@ use Rattle.std.specs.Fmt.{decimal}
 use Rattle.std.specs.List.{join_with_byte}
 use Rattle.shape_terms.specs.Points.{Point}
 use Rattle.shape_terms.specs.Lines as Terms
-use Rattle.shape_terms.specs.Lines.{line_words, spelling, number_words, kind_word, IsLineOf, IsShortPoint, IsName, IsWeight}
+use Rattle.shape_terms.specs.Lines.{line_words, spelling, number_words, kind_word, IsLineOf, IsShortPoint, IsName, IsCount, IsWeight}
 use Rattle.shape_terms.proofs.Spelled.{words_of_line}
 use Rattle.shape_report.specs.declared.line.Line.{Line}
 use Rattle.shape_report.specs.LineOf.{line_of}
@@ -29,6 +29,12 @@ shape_only d words h (Terms.Line.Shape sides rule) a e =
     h sides rule a.0 a.1 (sym f ∙ ap (λ n. codes "1" ∷ kind_word n ∷ (number_words sides ++ rule ∷ [])) a.0.axes)
 shape_only d words h _ a e = let f = ap first_code e in absurd (omega arith)
 
+-- only a `parts` line has these words
+pub parts_only : (d : ℕ) (words : List (List ℕ)) → ((n o b : ℕ) → IsCount n → IsCount o → IsCount b → words ≢ decimal n ∷ decimal o ∷ decimal b ∷ [])
+    → (l : Terms.Line) → IsLineOf d l → line_words l ≢ codes "parts" ∷ words
+parts_only d words h (Terms.Line.Parts n o b) a e = let f : decimal n ∷ decimal o ∷ decimal b ∷ [] ≡ words = cc in h n o b a.0 a.1 a.2 (sym f)
+parts_only d words h _ a e = let f = ap first_code e in absurd (omega arith)
+
 -- only a `near` line has these words
 pub near_only : (d : ℕ) (words : List (List ℕ)) → ((p q : Point) (s : ℕ) → IsShortPoint d p → IsShortPoint d q → IsWeight s → words ≢ number_words p ++ (number_words q ++ decimal s ∷ []))
     → (l : Terms.Line) → IsLineOf d l → line_words l ≢ codes "near" ∷ words
@@ -39,6 +45,7 @@ near_only d words h _ a e = let f = ap first_code e in absurd (omega arith)
 
 split_spelling : (d : ℕ) (l : Terms.Line) → IsLineOf d l → split_words (spelling l) ≡ line_words l
 split_spelling d (Terms.Line.Shape sides rule) a = split_words-join _ _ (words_of_line d (Terms.Line.Shape sides rule) a)
+split_spelling d (Terms.Line.Parts n o b) a = split_words-join _ _ (words_of_line d (Terms.Line.Parts n o b) a)
 split_spelling d (Terms.Line.Near p q s) a = split_words-join _ _ (words_of_line d (Terms.Line.Near p q s) a)
 split_spelling d Terms.Line.End a = split_words-join _ _ (words_of_line d Terms.Line.End a)
 

@@ -8,7 +8,7 @@ use Rattle.std.proofs.lemmas.List.{append-nil}
 use Rattle.std.proofs.lemmas.Grind.{flat_map-append}
 use Rattle.shape_terms.specs.Points.{Point}
 use Rattle.shape_terms.specs.Lines.{Line, spelling, kind_word, number_words}
-use Rattle.shape_report.specs.Texts.{behind_blanks, shape_text, near_text}
+use Rattle.shape_report.specs.Texts.{behind_blanks, shape_text, parts_text, near_text}
 
 pub join_is : (w : List ℕ) (ws : List (List ℕ)) → join_with_byte 32 (w ∷ ws) ≡ w ++ behind_blanks ws
 join_is w [] = sym (append-nil w)
@@ -20,6 +20,9 @@ last_word ws w = flat_map-append (λ (v : List ℕ). 32 ∷ v) ws (w ∷ []) ∙
 pub shape_spelled : (sides : Point) (rule : List ℕ) → shape_text sides rule ≡ spelling (Line.Shape sides rule)
 shape_spelled sides rule = sym (join_is (codes "shape") (codes "1" ∷ kind_word (length sides) ∷ (number_words sides ++ rule ∷ []))
     ∙ rw (last_word (number_words sides) rule) (sym (simp append_assoc)))
+
+pub parts_spelled : (n o b : ℕ) → parts_text n o b ≡ spelling (Line.Parts n o b)
+parts_spelled n o b = ap (λ t. codes "parts" ++ 32 ∷ t) (append_assoc (decimal n) (32 ∷ decimal o) (32 ∷ decimal b))
 
 pub near_spelled : (p q : Point) (s : ℕ) → near_text p q s ≡ spelling (Line.Near p q s)
 near_spelled p q s = sym (join_is (codes "near") (number_words p ++ (number_words q ++ decimal s ∷ []))

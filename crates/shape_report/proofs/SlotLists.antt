@@ -1,16 +1,17 @@
 -- The lines that slots stand for stay the same when a line is put behind those of its kind.
--- One lemma for each kind that has a list of its own.
+-- A further kind of line brings one lemma `.._extends` and one `.._last`; the other laws serve every kind.
 use Rattle.std.proofs.Common.{◌≡◌, ℕ, zero, suc, ◌<◌, ℤ, List, [], ◌∷◌, ◌++◌, length, map, refl, sym, ap, ◌∙◌, subst, arith, Some}
-use Rattle.std.specs.Prelude.{All, slice_get, Option}
+use Rattle.std.specs.Prelude.{All, slice_get}
 use Rattle.std.specs.Option.{option_map_or}
 use Rattle.std.proofs.lemmas.List.{map-append, length-append}
-use Rattle.std.proofs.lemmas.List.Elements.{All-head, All-tail, All-nil, All-cons, All-append, All-weaker}
+use Rattle.std.proofs.lemmas.List.Elements.{All-head, All-tail, All-nil, All-cons, All-push}
 use Rattle.shape_terms.specs.Lines as Terms
 use Rattle.shape_report.specs.declared.report.Heading.{Heading}
+use Rattle.shape_report.specs.declared.report.PartCount.{PartCount}
 use Rattle.shape_report.specs.declared.report.Distance.{Distance}
 use Rattle.shape_report.specs.declared.report.Slot.{Slot}
-use Rattle.shape_report.specs.declared.report.Slot.TheVariants.{Shape, Near, End}
-use Rattle.shape_report.specs.Slots.{heading_line, distance_line, line_in, IsPlaced, IsSlotIn}
+use Rattle.shape_report.specs.declared.report.Slot.TheVariants.{Shape, Parts, Near, End}
+use Rattle.shape_report.specs.Slots.{Shelves, heading_line, count_line, distance_line, line_in, IsPlaced, IsSlotIn}
 
 get_front : {A : Type 0} (xs ys : List A) (i : ℕ) → i < length xs → slice_get (xs ++ ys) i ≡ slice_get xs i
 get_front [] ys i l = absurd (omega arith)
@@ -21,89 +22,116 @@ get_last : {A : Type 0} (xs : List A) (x : A) → slice_get (xs ++ x ∷ []) (le
 get_last [] x = refl
 get_last (y ∷ xs) x = get_last xs x
 
-module _ {P : Type 0} (d : ℕ) (coords : P → List ℤ) where
-  heading_keeps : (hs : List (Heading P)) (h : Heading P) (ds : List (Distance P)) (s : Slot) → IsPlaced hs ds s → line_in coords (hs ++ h ∷ []) ds s ≡ line_in coords hs ds s
-  heading_keeps hs h ds (Shape i) l = ap (λ o. option_map_or (heading_line coords) o Terms.Line.End) (get_front hs (h ∷ []) i l)
-  heading_keeps hs h ds (Near i) l = refl
-  heading_keeps hs h ds End l = refl
+-- the last of the lines of a kind
+last_line : {A : Type 0} (f : A → Terms.Line) (xs ys : List A) (x : A) (place : ℕ) → ys ≡ xs ++ x ∷ [] → place ≡ length xs → option_map_or f (slice_get ys place) Terms.Line.End ≡ f x
+last_line f xs ys x place e l = rw (e, l) (ap (λ o. option_map_or f o Terms.Line.End) (get_last xs x))
 
-  distance_keeps : (hs : List (Heading P)) (ds : List (Distance P)) (e : Distance P) (s : Slot) → IsPlaced hs ds s → line_in coords hs (ds ++ e ∷ []) s ≡ line_in coords hs ds s
-  distance_keeps hs ds e (Shape i) l = refl
-  distance_keeps hs ds e (Near i) l = ap (λ o. option_map_or (distance_line coords) o Terms.Line.End) (get_front ds (e ∷ []) i l)
-  distance_keeps hs ds e End l = refl
+-- an earlier one stays
+same_line : {A : Type 0} (f : A → Terms.Line) (xs ys : List A) (x : A) (i : ℕ) → ys ≡ xs ++ x ∷ [] → i < length xs → option_map_or f (slice_get ys i) Terms.Line.End ≡ option_map_or f (slice_get xs i) Terms.Line.End
+same_line f xs ys x i e l = rw e (ap (λ o. option_map_or f o Terms.Line.End) (get_front xs (x ∷ []) i l))
 
-  pub headings_kept : (hs : List (Heading P)) (h : Heading P) (ds : List (Distance P)) (slots : List Slot) → All (λ s. IsSlotIn d coords hs ds s) slots → map (line_in coords (hs ++ h ∷ []) ds) slots ≡ map (line_in coords hs ds) slots
-  headings_kept hs h ds [] a = refl
-  headings_kept hs h ds (s ∷ slots) a =
-      let e = heading_keeps hs h ds s (All-head (λ s. IsSlotIn d coords hs ds s) s slots a).placed in
-      let r = headings_kept hs h ds slots (All-tail (λ s. IsSlotIn d coords hs ds s) s slots a) in
+longer : {A : Type 0} (xs ys : List A) (x : A) (i : ℕ) → ys ≡ xs ++ x ∷ [] → i < length xs → i < length ys
+longer xs ys x i e l = rw e (omega (arith, length-append xs (x ∷ [])))
+
+-- the place of the last one
+pub last_place : {A : Type 0} (xs ys : List A) (x : A) (place : ℕ) → ys ≡ xs ++ x ∷ [] → place ≡ length xs → place < length ys
+last_place xs ys x place e l = rw e (omega (arith, length-append xs (x ∷ [])))
+
+-- each slot that has a place keeps it, and the line that it stands for
+pub record Extends {P : Type 0} (coords : P → List ℤ) (old new : Shelves P) : Type 0 where
+  pub placed : (s : Slot) → IsPlaced old s → IsPlaced new s
+  pub same : (s : Slot) → IsPlaced old s → line_in coords new s ≡ line_in coords old s
+
+-- ---- one lemma for each kind
+
+module _ {P : Type 0} (coords : P → List ℤ) where
+  pub heading_extends : (hs hs2 : List (Heading P)) (h : Heading P) (cs : List PartCount) (ds : List (Distance P)) → hs2 ≡ hs ++ h ∷ [] → Extends coords (record { headings = hs; counts = cs; distances = ds }) (record { headings = hs2; counts = cs; distances = ds })
+  heading_extends hs hs2 h cs ds e = record { placed = placed; same = same }
+    where
+      old : Shelves P
+      old = record { headings = hs; counts = cs; distances = ds }
+      new : Shelves P
+      new = record { headings = hs2; counts = cs; distances = ds }
+      placed : (s : Slot) → IsPlaced old s → IsPlaced new s
+      placed (Shape i) l = longer hs hs2 h i e l
+      placed (Parts i) l = l
+      placed (Near i) l = l
+      placed End l = l
+      same : (s : Slot) → IsPlaced old s → line_in coords new s ≡ line_in coords old s
+      same (Shape i) l = same_line (heading_line coords) hs hs2 h i e l
+      same (Parts i) l = refl
+      same (Near i) l = refl
+      same End l = refl
+
+  pub count_extends : (hs : List (Heading P)) (cs cs2 : List PartCount) (c : PartCount) (ds : List (Distance P)) → cs2 ≡ cs ++ c ∷ [] → Extends coords (record { headings = hs; counts = cs; distances = ds }) (record { headings = hs; counts = cs2; distances = ds })
+  count_extends hs cs cs2 c ds e = record { placed = placed; same = same }
+    where
+      old : Shelves P
+      old = record { headings = hs; counts = cs; distances = ds }
+      new : Shelves P
+      new = record { headings = hs; counts = cs2; distances = ds }
+      placed : (s : Slot) → IsPlaced old s → IsPlaced new s
+      placed (Shape i) l = l
+      placed (Parts i) l = longer cs cs2 c i e l
+      placed (Near i) l = l
+      placed End l = l
+      same : (s : Slot) → IsPlaced old s → line_in coords new s ≡ line_in coords old s
+      same (Shape i) l = refl
+      same (Parts i) l = same_line count_line cs cs2 c i e l
+      same (Near i) l = refl
+      same End l = refl
+
+  pub distance_extends : (hs : List (Heading P)) (cs : List PartCount) (ds ds2 : List (Distance P)) (d : Distance P) → ds2 ≡ ds ++ d ∷ [] → Extends coords (record { headings = hs; counts = cs; distances = ds }) (record { headings = hs; counts = cs; distances = ds2 })
+  distance_extends hs cs ds ds2 d e = record { placed = placed; same = same }
+    where
+      old : Shelves P
+      old = record { headings = hs; counts = cs; distances = ds }
+      new : Shelves P
+      new = record { headings = hs; counts = cs; distances = ds2 }
+      placed : (s : Slot) → IsPlaced old s → IsPlaced new s
+      placed (Shape i) l = l
+      placed (Parts i) l = l
+      placed (Near i) l = longer ds ds2 d i e l
+      placed End l = l
+      same : (s : Slot) → IsPlaced old s → line_in coords new s ≡ line_in coords old s
+      same (Shape i) l = refl
+      same (Parts i) l = refl
+      same (Near i) l = same_line (distance_line coords) ds ds2 d i e l
+      same End l = refl
+
+  pub heading_last : (hs hs2 : List (Heading P)) (h : Heading P) (place : ℕ) → hs2 ≡ hs ++ h ∷ [] → place ≡ length hs → option_map_or (heading_line coords) (slice_get hs2 place) Terms.Line.End ≡ heading_line coords h
+  heading_last hs hs2 h place e l = last_line (heading_line coords) hs hs2 h place e l
+
+  pub count_last : (cs cs2 : List PartCount) (c : PartCount) (place : ℕ) → cs2 ≡ cs ++ c ∷ [] → place ≡ length cs → option_map_or count_line (slice_get cs2 place) Terms.Line.End ≡ count_line c
+  count_last cs cs2 c place e l = last_line count_line cs cs2 c place e l
+
+  pub distance_last : (ds ds2 : List (Distance P)) (d : Distance P) (place : ℕ) → ds2 ≡ ds ++ d ∷ [] → place ≡ length ds → option_map_or (distance_line coords) (slice_get ds2 place) Terms.Line.End ≡ distance_line coords d
+  distance_last ds ds2 d place e l = last_line (distance_line coords) ds ds2 d place e l
+
+-- ---- slots of every kind
+
+module _ {P : Type 0} (d : ℕ) (coords : P → List ℤ) (old new : Shelves P) where
+  lines_kept : (slots : List Slot) → Extends coords old new → All (IsSlotIn d coords old) slots → map (line_in coords new) slots ≡ map (line_in coords old) slots
+  lines_kept [] x a = refl
+  lines_kept (s ∷ slots) x a =
+      let e = x.same s (All-head (IsSlotIn d coords old) s slots a).placed in
+      let r = lines_kept slots x (All-tail (IsSlotIn d coords old) s slots a) in
       λ i. e i ∷ r i
 
-  pub distances_kept : (hs : List (Heading P)) (ds : List (Distance P)) (e : Distance P) (slots : List Slot) → All (λ s. IsSlotIn d coords hs ds s) slots → map (line_in coords hs (ds ++ e ∷ [])) slots ≡ map (line_in coords hs ds) slots
-  distances_kept hs ds e [] a = refl
-  distances_kept hs ds e (s ∷ slots) a =
-      let f = distance_keeps hs ds e s (All-head (λ s. IsSlotIn d coords hs ds s) s slots a).placed in
-      let r = distances_kept hs ds e slots (All-tail (λ s. IsSlotIn d coords hs ds s) s slots a) in
-      λ i. f i ∷ r i
+  slots_kept : (slots : List Slot) → Extends coords old new → All (IsSlotIn d coords old) slots → All (IsSlotIn d coords new) slots
+  slots_kept [] x a = All-nil (IsSlotIn d coords new)
+  slots_kept (s ∷ slots) x a =
+      let h = All-head (IsSlotIn d coords old) s slots a in
+      let r = slots_kept slots x (All-tail (IsSlotIn d coords old) s slots a) in
+      All-cons (IsSlotIn d coords new) s slots (record { placed = x.placed s h.placed; fields = subst (Terms.IsLineOf d) (sym (x.same s h.placed)) h.fields }) r
 
-  -- a heading put last, and then its slot
-  pub heading_kept : (hs hs2 : List (Heading P)) (h : Heading P) (ds : List (Distance P)) (slots slots2 : List Slot) (now : List Terms.Line) → All (λ s. IsSlotIn d coords hs ds s) slots → map (line_in coords hs ds) slots ≡ now
-      → hs2 ≡ hs ++ h ∷ [] → slots2 ≡ slots → map (line_in coords hs2 ds) slots2 ≡ now
-  heading_kept hs hs2 h ds slots slots2 now a v e f = rw (e, f) (headings_kept hs h ds slots a ∙ v)
+  -- the lists have a further line, and there is no slot for it yet
+  pub line_kept : (slots slots2 : List Slot) (now : List Terms.Line) → Extends coords old new → All (IsSlotIn d coords old) slots → map (line_in coords old) slots ≡ now → slots2 ≡ slots → map (line_in coords new) slots2 ≡ now
+  line_kept slots slots2 now x a v e = rw e (lines_kept slots x a ∙ v)
 
-  pub heading_added : (hs hs2 : List (Heading P)) (h : Heading P) (ds : List (Distance P)) (slots slots2 : List Slot) (place : ℕ) (now : List Terms.Line) → All (λ s. IsSlotIn d coords hs ds s) slots → map (line_in coords hs ds) slots ≡ now
-      → hs2 ≡ hs ++ h ∷ [] → slots2 ≡ slots ++ Shape place ∷ [] → place ≡ length hs → map (line_in coords hs2 ds) slots2 ≡ now ++ heading_line coords h ∷ []
-  heading_added hs hs2 h ds slots slots2 place now a v e f l =
-      let g : slice_get (hs ++ h ∷ []) place ≡ Some h = ap (slice_get (hs ++ h ∷ [])) l ∙ get_last hs h in
-      rw (e, f) (map-append (line_in coords (hs ++ h ∷ []) ds) slots (Shape place ∷ [])
-      ∙ ap (λ ls. ls ++ option_map_or (heading_line coords) (slice_get (hs ++ h ∷ []) place) Terms.Line.End ∷ []) (headings_kept hs h ds slots a ∙ v)
-      ∙ ap (λ o. now ++ option_map_or (heading_line coords) o Terms.Line.End ∷ []) g)
+  -- with its slot
+  pub line_added : (slots slots2 : List Slot) (s : Slot) (l : Terms.Line) (now : List Terms.Line) → Extends coords old new → All (IsSlotIn d coords old) slots → map (line_in coords old) slots ≡ now → slots2 ≡ slots ++ s ∷ [] → line_in coords new s ≡ l → map (line_in coords new) slots2 ≡ now ++ l ∷ []
+  line_added slots slots2 s l now x a v e is = rw e (map-append (line_in coords new) slots (s ∷ []) ∙ ap (λ ls. ls ++ line_in coords new s ∷ []) (lines_kept slots x a ∙ v) ∙ ap (λ m. now ++ m ∷ []) is)
 
-  pub heading_placed : (hs hs2 : List (Heading P)) (h : Heading P) (ds : List (Distance P)) (slots slots2 : List Slot) (place : ℕ) → All (λ s. IsSlotIn d coords hs ds s) slots
-      → hs2 ≡ hs ++ h ∷ [] → slots2 ≡ slots ++ Shape place ∷ [] → place ≡ length hs → Terms.IsLineOf d (heading_line coords h) → All (λ s. IsSlotIn d coords hs2 ds s) slots2
-  heading_placed hs hs2 h ds slots slots2 place a e f l k =
-      let g : slice_get (hs ++ h ∷ []) place ≡ Some h = ap (slice_get (hs ++ h ∷ [])) l ∙ get_last hs h in
-      let last : IsSlotIn d coords (hs ++ h ∷ []) ds (Shape place) = record {
-        placed = omega (arith, length-append hs (h ∷ []));
-        fields = subst (λ o. Terms.IsLineOf d (option_map_or (heading_line coords) o Terms.Line.End)) (sym g) k;
-      } in
-      rw (e, f) (All-append (λ s. IsSlotIn d coords (hs ++ h ∷ []) ds s) slots (Shape place ∷ []) (All-weaker (λ s. IsSlotIn d coords hs ds s) (λ s. IsSlotIn d coords (hs ++ h ∷ []) ds s) (λ s p. still hs h ds s p) slots a) (All-cons (λ s. IsSlotIn d coords (hs ++ h ∷ []) ds s) (Shape place) [] last (All-nil (λ s. IsSlotIn d coords (hs ++ h ∷ []) ds s))))
-    where
-      still : (hs : List (Heading P)) (h : Heading P) (ds : List (Distance P)) (s : Slot) → IsSlotIn d coords hs ds s → IsSlotIn d coords (hs ++ h ∷ []) ds s
-      still hs h ds s p = record { placed = placed s p.placed; fields = subst (Terms.IsLineOf d) (sym (heading_keeps hs h ds s p.placed)) p.fields }
-        where
-          placed : (s : Slot) → IsPlaced hs ds s → IsPlaced (hs ++ h ∷ []) ds s
-          placed (Shape i) l = omega (arith, length-append hs (h ∷ []))
-          placed (Near i) l = l
-          placed End l = l
-
-  -- a distance put last, and then its slot
-  pub distance_kept : (hs : List (Heading P)) (ds ds2 : List (Distance P)) (e : Distance P) (slots slots2 : List Slot) (now : List Terms.Line) → All (λ s. IsSlotIn d coords hs ds s) slots → map (line_in coords hs ds) slots ≡ now
-      → ds2 ≡ ds ++ e ∷ [] → slots2 ≡ slots → map (line_in coords hs ds2) slots2 ≡ now
-  distance_kept hs ds ds2 e slots slots2 now a v f g = rw (f, g) (distances_kept hs ds e slots a ∙ v)
-
-  pub distance_added : (hs : List (Heading P)) (ds ds2 : List (Distance P)) (e : Distance P) (slots slots2 : List Slot) (place : ℕ) (now : List Terms.Line) → All (λ s. IsSlotIn d coords hs ds s) slots → map (line_in coords hs ds) slots ≡ now
-      → ds2 ≡ ds ++ e ∷ [] → slots2 ≡ slots ++ Near place ∷ [] → place ≡ length ds → map (line_in coords hs ds2) slots2 ≡ now ++ distance_line coords e ∷ []
-  distance_added hs ds ds2 e slots slots2 place now a v f g l =
-      let h : slice_get (ds ++ e ∷ []) place ≡ Some e = ap (slice_get (ds ++ e ∷ [])) l ∙ get_last ds e in
-      rw (f, g) (map-append (line_in coords hs (ds ++ e ∷ [])) slots (Near place ∷ [])
-      ∙ ap (λ ls. ls ++ option_map_or (distance_line coords) (slice_get (ds ++ e ∷ []) place) Terms.Line.End ∷ []) (distances_kept hs ds e slots a ∙ v)
-      ∙ ap (λ o. now ++ option_map_or (distance_line coords) o Terms.Line.End ∷ []) h)
-
-  pub distance_placed : (hs : List (Heading P)) (ds ds2 : List (Distance P)) (e : Distance P) (slots slots2 : List Slot) (place : ℕ) → All (λ s. IsSlotIn d coords hs ds s) slots
-      → ds2 ≡ ds ++ e ∷ [] → slots2 ≡ slots ++ Near place ∷ [] → place ≡ length ds → Terms.IsLineOf d (distance_line coords e) → All (λ s. IsSlotIn d coords hs ds2 s) slots2
-  distance_placed hs ds ds2 e slots slots2 place a f g l k =
-      let h : slice_get (ds ++ e ∷ []) place ≡ Some e = ap (slice_get (ds ++ e ∷ [])) l ∙ get_last ds e in
-      let last : IsSlotIn d coords hs (ds ++ e ∷ []) (Near place) = record {
-        placed = omega (arith, length-append ds (e ∷ []));
-        fields = subst (λ o. Terms.IsLineOf d (option_map_or (distance_line coords) o Terms.Line.End)) (sym h) k;
-      } in
-      rw (f, g) (All-append (λ s. IsSlotIn d coords hs (ds ++ e ∷ []) s) slots (Near place ∷ []) (All-weaker (λ s. IsSlotIn d coords hs ds s) (λ s. IsSlotIn d coords hs (ds ++ e ∷ []) s) (λ s p. still hs ds e s p) slots a) (All-cons (λ s. IsSlotIn d coords hs (ds ++ e ∷ []) s) (Near place) [] last (All-nil (λ s. IsSlotIn d coords hs (ds ++ e ∷ []) s))))
-    where
-      still : (hs : List (Heading P)) (ds : List (Distance P)) (e : Distance P) (s : Slot) → IsSlotIn d coords hs ds s → IsSlotIn d coords hs (ds ++ e ∷ []) s
-      still hs ds e s p = record { placed = placed s p.placed; fields = subst (Terms.IsLineOf d) (sym (distance_keeps hs ds e s p.placed)) p.fields }
-        where
-          placed : (s : Slot) → IsPlaced hs ds s → IsPlaced hs (ds ++ e ∷ []) s
-          placed (Shape i) l = l
-          placed (Near i) l = omega (arith, length-append ds (e ∷ []))
-          placed End l = l
+  pub line_placed : (slots slots2 : List Slot) (s : Slot) (l : Terms.Line) → Extends coords old new → All (IsSlotIn d coords old) slots → slots2 ≡ slots ++ s ∷ [] → line_in coords new s ≡ l → IsPlaced new s → Terms.IsLineOf d l → All (IsSlotIn d coords new) slots2
+  line_placed slots slots2 s l x a e is p f = rw e (All-push (IsSlotIn d coords new) slots s (slots_kept slots x a) (record { placed = p; fields = subst (Terms.IsLineOf d) (sym is) f }))

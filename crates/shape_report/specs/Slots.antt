@@ -6,9 +6,19 @@ use Rattle.shape_terms.specs.Lines as Terms
 use Rattle.shape_terms.specs.Lines.{IsLineOf}
 use Rattle.shape_rules.specs.Names.{word_of}
 use Rattle.shape_report.specs.declared.report.Heading.{Heading}
+use Rattle.shape_report.specs.declared.report.PartCount.{PartCount}
 use Rattle.shape_report.specs.declared.report.Distance.{Distance}
 use Rattle.shape_report.specs.declared.report.Slot.{Slot}
-use Rattle.shape_report.specs.declared.report.Slot.TheVariants.{Shape, Near, End}
+use Rattle.shape_report.specs.declared.report.Slot.TheVariants.{Shape, Parts, Near, End}
+
+-- the lists of a report, one for each kind of line with fields
+pub record Shelves (P : Type 0) : Type 0 where
+  pub headings : List (Heading P)
+  pub counts : List PartCount
+  pub distances : List (Distance P)
+
+abbrev pub count_line : PartCount → Terms.Line
+count_line c = Terms.Line.Parts c.points c.object c.background
 
 module _ {P : Type 0} where
   abbrev pub heading_line : (P → List ℤ) → Heading P → Terms.Line
@@ -18,18 +28,20 @@ module _ {P : Type 0} where
   distance_line coords d = Terms.Line.Near (coords d.p) (coords d.q) d.s
 
   -- the line that a slot stands for
-  abbrev pub line_in : (P → List ℤ) → List (Heading P) → List (Distance P) → Slot → Terms.Line
-  line_in coords hs ds (Shape i) = option_map_or (heading_line coords) (slice_get hs i) Terms.Line.End
-  line_in coords hs ds (Near i) = option_map_or (distance_line coords) (slice_get ds i) Terms.Line.End
-  line_in coords hs ds End = Terms.Line.End
+  abbrev pub line_in : (P → List ℤ) → Shelves P → Slot → Terms.Line
+  line_in coords kept (Shape i) = option_map_or (heading_line coords) (slice_get kept.headings i) Terms.Line.End
+  line_in coords kept (Parts i) = option_map_or count_line (slice_get kept.counts i) Terms.Line.End
+  line_in coords kept (Near i) = option_map_or (distance_line coords) (slice_get kept.distances i) Terms.Line.End
+  line_in coords kept End = Terms.Line.End
 
   -- the slot's place is one of its kind
-  abbrev pub IsPlaced : List (Heading P) → List (Distance P) → Slot → Type 0
-  IsPlaced hs ds (Shape i) = i < length hs
-  IsPlaced hs ds (Near i) = i < length ds
-  IsPlaced hs ds End = Unit {0}
+  abbrev pub IsPlaced : Shelves P → Slot → Type 0
+  IsPlaced kept (Shape i) = i < length kept.headings
+  IsPlaced kept (Parts i) = i < length kept.counts
+  IsPlaced kept (Near i) = i < length kept.distances
+  IsPlaced kept End = Unit {0}
 
   -- the slot stands for a line of the reports of pictures with d axes
-  pub record IsSlotIn (d : ℕ) (coords : P → List ℤ) (hs : List (Heading P)) (ds : List (Distance P)) (s : Slot) : Type 0 where
-    pub placed : IsPlaced hs ds s
-    pub fields : IsLineOf d (line_in coords hs ds s)
+  pub record IsSlotIn (d : ℕ) (coords : P → List ℤ) (kept : Shelves P) (s : Slot) : Type 0 where
+    pub placed : IsPlaced kept s
+    pub fields : IsLineOf d (line_in coords kept s)

@@ -9,9 +9,12 @@ use Rattle.shape_terms.specs.Lines.{kind_word, number_words}
 abbrev pub behind_blanks : List (List ℕ) → List ℕ
 behind_blanks words = flat_map (λ w. 32 ∷ w) words
 
--- the text of a `shape` line and of a `near` line
+-- the text of a `shape` line, of a `parts` line and of a `near` line
 abbrev pub shape_text : Point → List ℕ → List ℕ
 shape_text sides rule = codes "shape 1 " ++ kind_word (length sides) ++ behind_blanks (number_words sides) ++ 32 ∷ rule
+
+abbrev pub parts_text : (points object background : ℕ) → List ℕ
+parts_text n o b = codes "parts" ++ 32 ∷ decimal n ++ 32 ∷ decimal o ++ 32 ∷ decimal b
 
 abbrev pub near_text : Point → Point → ℕ → List ℕ
 near_text p q s = codes "near" ++ behind_blanks (number_words p) ++ behind_blanks (number_words q) ++ 32 ∷ decimal s

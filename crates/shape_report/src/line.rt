@@ -7,6 +7,12 @@ use shape_rules::Name;
 pub enum Line<P> {
     /// The sides of the picture and the rule of the thinning.
     Shape { sides: P, rule: Name },
+    /// The numbers of object points, of components of the object, and of components of the background in the framed box.
+    Parts {
+        points: u32,
+        object: u32,
+        background: u32,
+    },
     /// An object point, a nearest background point, and the square of their distance.
     Near { p: P, q: P, s: u64 },
     /// The last line.

@@ -4,7 +4,7 @@ ghost use Rattle.std.specs.Prelude.{◌≡◌, ◌≢◌, ◌∷◌, [], List, �
 ghost use Rattle.std.specs.Int.{w32};
 ghost use Rattle.std.specs.Fmt.{signed_decimal};
 ghost use Rattle.shape_terms.specs.Lines as Terms;
-ghost use Rattle.shape_terms.specs.Lines.{number_words, spelling, IsLineOf, IsShortPoint, IsName, IsWeight};
+ghost use Rattle.shape_terms.specs.Lines.{number_words, spelling, IsLineOf, IsShortPoint, IsName, IsCount, IsWeight};
 ghost use Rattle.shape_rules.specs.Names.{word_of};
 ghost use Rattle.shape_report.specs.LineOf.{line_of};
 ghost use Rattle.shape_report.specs.Reading.{ReadsField, ReadsNumberWord, ReadsWords};
@@ -29,6 +29,13 @@ fn coordinate(words: &mut Words) -> Option<i32>
     ensures { ReadsField (λ z. z) (FitsSigned w32) (λ z. signed_decimal z ∷ []) words.old words.new result }
 {
     i32::try_from(number(words.next_word()?)?).ok()
+}
+
+// Reads a count.
+fn count(words: &mut Words) -> Option<u32>
+    ensures { ReadsField (λ n. n) IsCount (λ n. decimal n ∷ []) words.old words.new result }
+{
+    u32::try_from(number(words.next_word()?)?).ok()
 }
 
 // Reads a weight or a squared distance.
@@ -68,6 +75,21 @@ fn shape<P: Point>(words: &mut Words) -> Option<Line<P>>
     Some(Line::Shape { sides, rule })
 }
 
+// Reads the words of a `parts` line behind the first.
+fn parts<P: Point>(words: &mut Words) -> Option<Line<P>>
+    ensures { ReadsWords P.DIM P.coords (codes "parts" ∷ words.old) result }
+{
+    let points = count(words)?;
+    let object = count(words)?;
+    let background = count(words)?;
+    words.end()?;
+    Some(Line::Parts {
+        points,
+        object,
+        background,
+    })
+}
+
 // Reads the words of a `near` line behind the first.
 fn near<P: Point>(words: &mut Words) -> Option<Line<P>>
     ensures { ReadsWords P.DIM P.coords (codes "near" ∷ words.old) result }
@@ -93,6 +115,7 @@ fn line<P: Point>(words: &mut Words) -> Option<Line<P>>
 {
     match words.next_word()? {
         b"shape" => shape(words),
+        b"parts" => parts(words),
         b"near" => near(words),
         b"end" => end(words),
         _ => None,

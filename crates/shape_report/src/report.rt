@@ -18,6 +18,14 @@ pub struct Heading<P> {
     pub rule: Name,
 }
 
+/// What a `parts` line says.
+#[derive(Clone, Copy)]
+pub struct PartCount {
+    pub points: u32,
+    pub object: u32,
+    pub background: u32,
+}
+
 /// What a `near` line says.
 #[derive(Clone, Copy)]
 pub struct Distance<P> {
@@ -30,6 +38,7 @@ pub struct Distance<P> {
 #[derive(Clone, Copy)]
 pub enum Slot {
     Shape(u32),
+    Parts(u32),
     Near(u32),
     End,
 }
@@ -39,6 +48,7 @@ pub enum Slot {
 pub struct Report<P: Point> {
     slots: Vec<Slot>,
     headings: Vec<Heading<P>>,
+    counts: Vec<PartCount>,
     distances: Vec<Distance<P>>,
 }
 
@@ -49,13 +59,13 @@ impl<P: Point> Model for Report<P> {
 
     ghost Value = { List Line };
 
-    ghost view = { λ r. map (line_in P.coords r.headings.items r.distances.items) r.slots.items };
+    ghost view = { λ r. map (line_in P.coords (record { headings = r.headings.items; counts = r.counts.items; distances = r.distances.items })) r.slots.items };
 
-    ghost invariant = { λ r. All (λ s. IsSlotIn P.DIM P.coords r.headings.items r.distances.items s) r.slots.items };
+    ghost invariant = { λ r. All (IsSlotIn P.DIM P.coords (record { headings = r.headings.items; counts = r.counts.items; distances = r.distances.items })) r.slots.items };
 }
 
 impl<P: Point> Report<P> {
-    ghost use Rattle.shape_report.specs.Slots.{heading_line, distance_line};
+    ghost use Rattle.shape_report.specs.Slots.{heading_line, count_line, distance_line};
     /// The report that has a first line alone.
     pub fn new(alloc: Global, head: Line<P>) -> Result<Report<P>, NoMemory>
         requires { IsLineOf P.DIM (line_of P.coords head) }
@@ -64,6 +74,7 @@ impl<P: Point> Report<P> {
         let mut report = Report {
             slots: Vec::new(alloc),
             headings: Vec::new(alloc),
+            counts: Vec::new(alloc),
             distances: Vec::new(alloc),
         };
         match report.add(head) {
@@ -80,6 +91,15 @@ impl<P: Point> Report<P> {
     {
         match line {
             Line::Shape { sides, rule } => self.add_heading(Heading { sides, rule }),
+            Line::Parts {
+                points,
+                object,
+                background,
+            } => self.add_count(PartCount {
+                points,
+                object,
+                background,
+            }),
             Line::Near { p, q, s } => self.add_distance(Distance { p, q, s }),
             Line::End => self.add_end(),
         }
@@ -98,6 +118,24 @@ impl<P: Point> Report<P> {
             return Err(NoMemory);
         }
         if self.slots.push(Slot::Shape(place)).is_err() {
+            return Err(NoMemory);
+        }
+        Ok(())
+    }
+
+    // Puts a `parts` line last.
+    fn add_count(&mut self, count: PartCount) -> Result<(), NoMemory>
+        requires { IsLineOf P.DIM (count_line count) }
+        ensures ok { OnOk result (self.new ≡ self.old ++ count_line count ∷ []) }
+        ensures err { OnErr result (self.new ≡ self.old) }
+    {
+        let Ok(place) = u32::try_from(self.counts.len()) else {
+            return Err(NoMemory);
+        };
+        if self.counts.push(count).is_err() {
+            return Err(NoMemory);
+        }
+        if self.slots.push(Slot::Parts(place)).is_err() {
             return Err(NoMemory);
         }
         Ok(())
@@ -151,6 +189,14 @@ impl<P: Point> Report<P> {
                 Line::Shape {
                     sides: heading.sides,
                     rule: heading.rule,
+                }
+            }
+            Slot::Parts(place) => {
+                let count = self.counts[place as usize];
+                Line::Parts {
+                    points: count.points,
+                    object: count.object,
+                    background: count.background,
                 }
             }
             Slot::Near(place) => {

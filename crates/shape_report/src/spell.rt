@@ -5,7 +5,7 @@ ghost use Rattle.std.specs.Fmt.{decimal, signed_decimal};
 ghost use Rattle.shape_terms.specs.Lines.{number_words, kind_word, spelling, IsLineOf, IsWeight};
 ghost use Rattle.shape_rules.specs.Names.{word_of};
 ghost use Rattle.shape_report.specs.LineOf.{line_of};
-ghost use Rattle.shape_report.specs.Texts.{behind_blanks, shape_text, near_text};
+ghost use Rattle.shape_report.specs.Texts.{behind_blanks, shape_text, parts_text, near_text};
 
 use crate::line::Line;
 use shape_desk::{put_number, put_word};
@@ -58,6 +58,19 @@ pub(crate) fn kind<P: Point>() -> &'static [u8]
     if P::DIM == 2 { b"pbm" } else { b"raw" }
 }
 
+// Puts the words of a `parts` line.
+fn put_parts(points: u32, object: u32, background: u32, buf: &mut [u8]) -> usize
+    requires { length buf.old ≡ 1024 }
+    ensures text { take result buf.new ≡ parts_text points object background }
+    ensures room { result ≤ 1024 }
+    ensures length { length buf.new ≡ length buf.old }
+{
+    let end = put_word(b"parts", buf, 0);
+    let end = put_field(i64::from(points), buf, end);
+    let end = put_field(i64::from(object), buf, end);
+    put_field(i64::from(background), buf, end)
+}
+
 // Puts the words of a `near` line.
 fn put_near<P: Point>(p: P, q: P, s: u64, buf: &mut [u8]) -> usize
     requires room { length buf.old ≡ 1024 }
@@ -82,6 +95,11 @@ pub fn put_claim<P: Point>(line: &Line<P>, buf: &mut [u8; 1024]) -> usize
 {
     match line {
         Line::Shape { sides, rule } => put_shape(*sides, rule.word(), buf),
+        Line::Parts {
+            points,
+            object,
+            background,
+        } => put_parts(*points, *object, *background, buf),
         Line::Near { p, q, s } => put_near(*p, *q, *s, buf),
         Line::End => put_word(b"end", buf, 0),
     }
