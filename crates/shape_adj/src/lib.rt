@@ -4,3 +4,6 @@
 
 mod flood;
 mod net;
+mod pairing;
+
+pub use pairing::Pairing;
