@@ -1,3 +1,4 @@
 pub mod Flood
 pub mod Net
+pub mod Places
 pub mod Plane
