@@ -1,4 +1,3 @@
 pub mod Flood
-pub mod Net
-pub mod Places
+pub mod Labels
 pub mod Plane

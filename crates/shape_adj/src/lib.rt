@@ -3,7 +3,9 @@
 #![tactic(auto)]
 
 mod flood;
+mod frame;
 mod net;
 mod pairing;
+mod places;
 
 pub use pairing::Pairing;

@@ -22,3 +22,7 @@ pub mod ApartLists
 pub mod NearNeighbours
 pub mod SideNeighbours
 pub mod NeighbourNumbers
+pub mod PartsAlong
+pub mod FramedNumbers
+pub mod ObjectPlaces
+pub mod BackgroundPlaces

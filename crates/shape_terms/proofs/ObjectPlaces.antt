@@ -9,16 +9,13 @@ use Rattle.shape_terms.specs.Parts.{Object, NamesParts}
 use Rattle.shape_terms.proofs.Boxes.{raster_below, raster_point_in, raster_number-raster_point, raster_point-raster_number}
 use Rattle.shape_terms.proofs.AdjacencySymmetric.{near_sym}
 use Rattle.shape_terms.proofs.NeighbourNumbers.{near_number, near_of_number}
-use Rattle.shape_adj.specs.Net.{IsNet}
-use Rattle.shape_adj.specs.Places.{place_if, ObjectPlace, NearPlaces, object_place, object_link}
-use Rattle.shape_adj.proofs.Along.{parts_along}
+use Rattle.shape_terms.specs.Net.{IsNet}
+use Rattle.shape_terms.specs.Places.{place_if, ObjectPlace, NearPlaces, object_place, object_link}
+use Rattle.shape_terms.proofs.PartsAlong.{parts_along}
 
 pub length-raster_point : (sides : List ℕ) (i : ℕ) → length (raster_point sides i) ≡ length sides
 length-raster_point [] i = refl
-length-raster_point (n ∷ sides) i = ap suc' (length-raster_point sides (i / n))
-  where
-    suc' : ℕ → ℕ
-    suc' m = ℕ.suc m
+length-raster_point (n ∷ sides) i = omega (arith, length-raster_point sides (i / n))
 
 -- an object point lies in the box
 pub object_in_box : (X : Picture) (p : Point) → Object X p → IsTrue (in_box X.sides p)

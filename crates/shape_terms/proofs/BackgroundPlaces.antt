@@ -10,11 +10,11 @@ use Rattle.shape_terms.specs.Parts.{InFrame, FramedBackground, NamesParts}
 use Rattle.shape_terms.proofs.FramedBoxes.{length-framed_point}
 use Rattle.shape_terms.proofs.AdjacencySymmetric.{side_sym}
 use Rattle.shape_terms.proofs.NeighbourNumbers.{side_number, side_of_number}
-use Rattle.shape_adj.specs.Net.{IsNet}
-use Rattle.shape_adj.specs.Places.{place_if, in_frame, framed_number, BackgroundPlace, SidePlaces, background_place, background_link}
-use Rattle.shape_adj.proofs.Along.{parts_along}
-use Rattle.shape_adj.proofs.Frames.{in_frame_length, frame_tested, frame_is, framed_number_below, framed_point-framed_number, framed_point_in, framed_number-framed_point}
-use Rattle.shape_adj.proofs.ObjectPlaces.{place_there, place_named}
+use Rattle.shape_terms.specs.Net.{IsNet}
+use Rattle.shape_terms.specs.Places.{place_if, in_frame, framed_number, BackgroundPlace, SidePlaces, background_place, background_link}
+use Rattle.shape_terms.proofs.PartsAlong.{parts_along}
+use Rattle.shape_terms.proofs.FramedNumbers.{in_frame_length, frame_tested, frame_is, framed_number_below, framed_point-framed_number, framed_point_in, framed_number-framed_point}
+use Rattle.shape_terms.proofs.ObjectPlaces.{place_there, place_named}
 
 not_false : (b : Bool) → not b ≡ true → b ≡ false
 not_false true e = cc
