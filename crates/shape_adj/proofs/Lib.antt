@@ -1,3 +1,4 @@
 pub mod Flooding
 pub mod Links
 pub mod Labelling
+pub mod FlatSteps

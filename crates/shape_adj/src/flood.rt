@@ -4,7 +4,7 @@ ghost use Rattle.std.specs.Prelude.{◌≡◌, ◌⊎◌, ◌+◌, ◌≤◌, �
 ghost use Rattle.std.specs.List.{Contains};
 ghost use Rattle.shape_terms.specs.Parts.{NamesParts, InOrder};
 ghost use Rattle.shape_adj.specs.Flood.{Flooded};
-ghost use Rattle.shape_adj.specs.Net.{Spreading, zeros, Kept};
+ghost use Rattle.shape_adj.specs.Labels.{Spreading, zeros, Kept};
 
 use crate::net::Net;
 use std::alloc::{AllocError, Global};

@@ -2,5 +2,14 @@
 //! Everything here is generic over the dimension.
 #![tactic(auto)]
 
+mod counts;
 mod flood;
+mod frame;
 mod net;
+mod pairing;
+mod picture;
+mod places;
+
+pub use counts::Parts;
+pub use pairing::Pairing;
+pub use picture::parts;

@@ -1,7 +1,7 @@
 //! A set whose points are told by numbers, with links between them.
 //! The flood needs no more of a picture than this; a further kind of set is one more `impl`.
 ghost use Rattle.std.specs.Prelude.{◌≡◌, ◌<◌, ◌↔◌, ℕ, Option, IsTrue};
-ghost use Rattle.shape_adj.specs.Net.{IsNet};
+ghost use Rattle.shape_terms.specs.Net.{IsNet};
 
 /// A set of numbered places, and for each of them links that lead to the adjacent places of the set.
 pub trait Net {

@@ -36,3 +36,7 @@ pub mod SameCycles
 pub mod Found
 pub mod Marking
 pub mod ClosedPaths
+pub mod PartsAlong
+pub mod FramedNumbers
+pub mod ObjectPlaces
+pub mod BackgroundPlaces

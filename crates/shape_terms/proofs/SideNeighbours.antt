@@ -2,12 +2,12 @@
 -- Laws for any number of axes.
 use Rattle.std.proofs.Common.{◌≡◌, ℕ, zero, suc, ◌+◌, ◌≤◌, ◌<◌, refl, ap, sym, ◌∙◌, subst, arith, [], ◌∷◌, length, map, inl, inr, lit<, List}
 use Rattle.std.specs.Prelude.{◌≢◌, AllPairs, ◌⊎◌, ℤ, pos, negsuc, ◌+ℤ◌, ◌-ℤ◌, nat_abs, Contains, All}
-use Rattle.std.specs.List.{AllByRecursion, range_with_len, flat_map}
+use Rattle.std.specs.List.{AllZip, AllByRecursion, range_with_len, flat_map}
 use Rattle.std.proofs.lemmas.Int.{ints}
 use Rattle.std.proofs.lemmas.List.Sums.{sum_by-cons}
 use Rattle.std.proofs.lemmas.List.Elements.{All-from_recursion}
 use Rattle.shape_terms.specs.Points.{Point, coordinate, axis_distances}
-use Rattle.shape_terms.specs.Adjacency.{moved, along, origin, city_distance, side_steps, side_points, Side}
+use Rattle.shape_terms.specs.Adjacency.{moved, along, origin, city_distance, side_steps, side_points, Near, Side}
 use native.Mathlib.Decide.{ℕ_discrete}
 use Rattle.shape_terms.proofs.ApartLists.{Apart, apart_points, apart_pairs}
 use Rattle.shape_terms.proofs.Members.{Contains-map, Contains-flat_map, Contains-range}
@@ -206,3 +206,13 @@ pub side_points_distinct : (p : Point) → AllPairs (λ x y. x ≢ y) (side_poin
 unfolding axis_steps
 side_points_distinct p = apart_pairs (side_points p) (apart_points p (side_steps (length p)) (step_lengths (length p) 0 (length p) (omega arith)) (apart_steps (length p) 0 (length p) (omega arith)))
 
+-- ---- a side neighbour is near
+
+close_by : (p q : Point) → length p ≡ length q → city_distance p q ≤ 1 → AllZip (λ x y. nat_abs (x -ℤ y) ≤ 1) p q
+close_by [] [] l h = tt
+close_by [] (y ∷ q) l h = absurd (omega arith)
+close_by (x ∷ p) [] l h = absurd (omega arith)
+close_by (x ∷ p) (y ∷ q) l h = let s = city-cons x y p q in (omega arith, close_by p q (omega arith) (omega arith))
+
+pub side_is_near : (p q : Point) → Side p q → Near p q
+side_is_near p q h = ((λ e. let a : city_distance p q ≡ 0 = ap (city_distance p) (sym e) ∙ none_apart p in let b = h.1 in omega arith), close_by p q h.0 (let b = h.1 in omega arith))

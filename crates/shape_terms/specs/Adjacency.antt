@@ -1,6 +1,6 @@
 -- Steps between points, and the two adjacencies: that of object points and that of background points.
 -- Every definition serves each number of axes; sets of points and their components stand in `Parts`.
-use Rattle.std.specs.Prelude.{◌≡◌, ◌≢◌, ℕ, zero, suc, ◌≤◌, ◌==◌, not, List, [], ◌∷◌, map, length, slice_index_or, filter, sum, ℤ, pos, negsuc, ◌+ℤ◌, ◌-ℤ◌, nat_abs}
+use Rattle.std.specs.Prelude.{◌≡◌, ◌≢◌, ℕ, zero, suc, ◌<◌, ◌≤◌, ◌==◌, not, List, [], ◌∷◌, map, length, slice_index_or, filter, sum, ℤ, pos, negsuc, ◌+ℤ◌, ◌-ℤ◌, nat_abs}
 use Rattle.std.specs.List.{AllZip, range_with_len, flat_map}
 use Rattle.shape_terms.specs.Points.{Point, axis_distances}
 
@@ -36,6 +36,10 @@ Near p q = (p ≢ q) × AllZip (λ x y. nat_abs (x -ℤ y) ≤ 1) p q
 abbrev pub Side : Point → Point → Type 0
 Side p q = (length p ≡ length q) × (city_distance p q ≡ 1)
 
+-- near points of which at most two coordinates differ: all near ones in the plane, 18 of 26 in space
+abbrev pub Round : Point → Point → Type 0
+Round p q = Near p q × (city_distance p q ≤ 2)
+
 -- ---- neighbours in order
 
 -- the steps with every coordinate -1, 0 or 1, in raster order
@@ -55,6 +59,20 @@ near_steps d = filter (λ v. not (step_length v == 0)) (cube_steps d)
 abbrev pub side_steps : ℕ → List Point
 side_steps d = flat_map (λ k. moved (origin d) (along k (negsuc 0)) ∷ moved (origin d) (along k (pos 1)) ∷ []) (range_with_len 0 d)
 
+-- the near and the side step with the number k
+abbrev pub near_step : ℕ → ℕ → Point
+near_step d k = slice_index_or (near_steps d) k []
+
+abbrev pub side_step : ℕ → ℕ → Point
+side_step d k = slice_index_or (side_steps d) k []
+
+-- the near and the side neighbour of a point with the number k
+abbrev pub near_point : Point → ℕ → Point
+near_point p k = moved p (near_step (length p) k)
+
+abbrev pub side_point : Point → ℕ → Point
+side_point p k = moved p (side_step (length p) k)
+
 -- the near and the side neighbours of a point, in the order of their numbers
 abbrev pub near_points : Point → List Point
 near_points p = map (moved p) (near_steps (length p))
@@ -62,9 +80,8 @@ near_points p = map (moved p) (near_steps (length p))
 abbrev pub side_points : Point → List Point
 side_points p = map (moved p) (side_steps (length p))
 
--- the near and the side neighbour of a point with the number k
-abbrev pub near_point : Point → ℕ → Point
-near_point p k = slice_index_or (near_points p) k []
-
-abbrev pub side_point : Point → ℕ → Point
-side_point p k = slice_index_or (side_points p) k []
+-- the numbers below n are those of exactly the points that R holds of from p, and each such point has one number
+pub record Lists (R : Point → Point → Type 0) (neighbour : Point → ℕ → Point) (n : ℕ) (p : Point) : Type 0 where
+  pub each : (q : Point) → R p q → (k : ℕ) × (k < n) × (neighbour p k ≡ q)
+  pub only : (k : ℕ) → k < n → R p (neighbour p k)
+  pub once : (j k : ℕ) → j < n → k < n → neighbour p j ≡ neighbour p k → j ≡ k

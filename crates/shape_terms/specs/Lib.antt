@@ -3,6 +3,8 @@ pub mod Pictures
 pub mod FramedBox
 pub mod Adjacency
 pub mod Parts
+pub mod Net
+pub mod Places
 pub mod Distances
 pub mod Lines
 pub mod Good

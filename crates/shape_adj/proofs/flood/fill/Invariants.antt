@@ -1,5 +1,5 @@
 use Rattle.std.proofs.Common.{◌+◌, vec_len}
-use Rattle.shape_adj.specs.Net.{zeros}
+use Rattle.shape_adj.specs.Labels.{zeros}
 use Rattle.shape_adj.proofs.Labelling.{Filling}
 use Rattle.shape_adj.proofs.flood.fill.Given as goal
 

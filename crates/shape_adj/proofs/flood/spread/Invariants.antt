@@ -1,5 +1,5 @@
 use Rattle.std.proofs.Common.{◌+◌, vec_len}
-use Rattle.shape_adj.specs.Net.{zeros}
+use Rattle.shape_adj.specs.Labels.{zeros}
 use Rattle.shape_adj.proofs.Links.{Followed}
 use Rattle.shape_adj.proofs.flood.spread.Given as goal
 

@@ -1,14 +1,7 @@
--- Sets of numbered places whose adjacent places are told by links, and labels on such places.
+-- Lists of labels, one for each place, while a component is being labelled.
 -- Contracts of the flood cite these; which points the places stand for does not matter here.
-use Rattle.std.specs.Prelude.{◌≡◌, ℕ, suc, ◌+◌, ◌<◌, ◌≤◌, ◌==◌, List, [], ◌∷◌, cond, slice_index, Option, Some}
+use Rattle.std.specs.Prelude.{◌≡◌, ℕ, suc, ◌+◌, ◌≤◌, ◌==◌, List, [], ◌∷◌, cond, slice_index}
 use Rattle.shape_adj.specs.Flood.{Flooding}
-
--- the set O has only places below size, and the d links of each of its places lead to the adjacent places of O
-pub record IsNet (size : ℕ) (O : ℕ → Type 0) (R : ℕ → ℕ → Type 0) (d : ℕ) (next : ℕ → ℕ → Option ℕ) : Type 0 where
-  pub bounded : (i : ℕ) → O i → i < size
-  pub symmetric : (i j : ℕ) → R i j → R j i
-  pub sound : (i k j : ℕ) → k < d → next i k ≡ Some j → O j × R i j
-  pub complete : (i j : ℕ) → O i → O j → R i j → (k : ℕ) × (k < d) × (next i k ≡ Some j)
 
 -- a component is being labelled t, and W holds the places whose links are still to be followed
 abbrev pub Spreading : (ℕ → Type 0) → (ℕ → ℕ → Type 0) → ℕ → (ℕ → Type 0) → List ℕ → Type 0

@@ -1,0 +1,35 @@
+//! The components of a picture.
+//! What a component is stands in the definitions; how it is found, in the flood.
+ghost use Rattle.std.specs.Prelude.{IfOk, length};
+ghost use Rattle.shape_terms.specs.Pictures.{object_points};
+ghost use Rattle.shape_terms.specs.Parts.{HasParts, Counts};
+
+use crate::counts::Parts;
+use crate::flood::label_components;
+use crate::net::Net;
+use crate::pairing::Pairing;
+use crate::places::{Background, Object};
+use shape_grid::Grid;
+use shape_space::NoMemory;
+use std::alloc::Global;
+
+// How many components a net has.
+fn component_count<N: Net>(alloc: Global, net: &N) -> Result<u32, NoMemory>
+    ensures { IfOk result (λ n. HasParts (N.Adjacent net.now) (N.Holds net.now) n) }
+{
+    match label_components(alloc, net) {
+        Ok(components) => Ok(components.count),
+        Err(_) => Err(NoMemory),
+    }
+}
+
+/// Counts the components of the object in the box and of the background in the framed box.
+///
+/// It takes memory for a few bytes a point, and no more stack for a larger picture.
+pub fn parts<P: Pairing>(alloc: Global, grid: &Grid<P>) -> Result<Parts, NoMemory>
+    ensures { IfOk result (λ p. Counts grid.now (length (object_points grid.now)) p.object p.background) }
+{
+    let object = component_count(alloc, &Object { grid })?;
+    let background = component_count(alloc, &Background { grid })?;
+    Ok(Parts { object, background })
+}
