@@ -90,6 +90,7 @@ impl<P: Point> FieldJudge<P> {
         match *line {
             Line::Near { p, q, s } => self.take_near(p, q, s),
             Line::Shape { .. } => false,
+            Line::Parts { .. } => false,
             Line::End => false,
         }
     }

@@ -8,6 +8,7 @@ use Rattle.std.proofs.lemmas.List.{append-nil, length-append}
 use Rattle.std.proofs.lemmas.List.Elements.{All-nil, All-cons, All-push, All-head, All-tail, All-from_get_or}
 use Rattle.shape_terms.specs.Points.{Point, coordinate, AreSides, sides_of}
 use Rattle.shape_terms.specs.Pictures.{Picture, object_points, Least}
+use Rattle.shape_terms.specs.Parts.{Counts}
 use Rattle.shape_terms.specs.Distances.{NearFact, IsField, IsFramed}
 use Rattle.shape_terms.specs.Lines.{Line, spelling, text_of, IsLineOf, IsShortPoint, IsWeight, IsName}
 use Rattle.shape_terms.specs.Good.{section, section_lines, GoodSoFar, GoodAfter}
@@ -18,7 +19,7 @@ use Rattle.shape_terms.proofs.ShortLines.{short_line, within_short, distance_fit
 use Rattle.shape_terms.proofs.Boxes.{abs_is}
 use Rattle.shape_analyse.specs.Growing.{IsGrowing}
 
--- ---- the first line
+-- ---- the first two lines
 
 sides_are : (greatest : ℤ) (n : Point) → AreSides greatest n → n ≡ map pos (sides_of n)
 sides_are g [] h = refl
@@ -40,16 +41,20 @@ heading_fits g d n rule h m e k = (record { axes = e; fits = sides_fit g n h m }
 push_none : (X : Picture) (l : Line) → GoodAfter X [] l → GoodSoFar X (l ∷ [])
 push_none X l g = good_push X [] l (λ k m e. cc) g
 
-pub growing_none : (greatest : ℤ) (X : Picture) (n : Point) (rule : List ℕ) → AreSides greatest n → sides_of n ≡ X.sides → length X.sides ≤ 3 → IsLineOf (length X.sides) (Line.Shape n rule) → rule ≡ codes "none" → IsGrowing X 0 (Line.Shape n rule ∷ [])
-growing_none g X n rule h e three fields r =
-    let l = Line.Shape n rule in
-    let claim : n ≡ map pos X.sides = sides_are g n h ∙ ap (map pos) e in
+pub growing_none : (greatest : ℤ) (X : Picture) (sides : Point) (rule : List ℕ) (n o b : ℕ) → AreSides greatest sides → sides_of sides ≡ X.sides → length X.sides ≤ 3 → IsLineOf (length X.sides) (Line.Shape sides rule) → rule ≡ codes "none" → IsLineOf (length X.sides) (Line.Parts n o b) → Counts X n o b → IsGrowing X 0 (Line.Shape sides rule ∷ Line.Parts n o b ∷ [])
+growing_none g X sides rule n o b h e three first r second counts =
+    let d = length X.sides in
+    let l = Line.Shape sides rule in
+    let m = Line.Parts n o b in
+    let claim : sides ≡ map pos X.sides = sides_are g sides h ∙ ap (map pos) e in
+    let come = come_past X 0 (l ∷ []) (come_more X 0 [] l (come_none X) refl) refl in
     let good : GoodAfter X [] l = good_at X [] l (come_none X) (refl, claim, r) in
+    let next : GoodAfter X (l ∷ []) m = good_at X (l ∷ []) m come (refl, counts) in
     record {
-      fields = All-cons (IsLineOf (length X.sides)) l [] fields (All-nil (IsLineOf (length X.sides)));
-      short = All-cons (λ m. length (spelling m) ≤ 1024) l [] (short_line (length X.sides) l three fields) (All-nil (λ m. length (spelling m) ≤ 1024));
-      good = push_none X l good;
-      come = come_past X 0 (l ∷ []) (come_more X 0 [] l (come_none X) refl) refl;
+      fields = All-cons (IsLineOf d) l (m ∷ []) first (All-cons (IsLineOf d) m [] second (All-nil (IsLineOf d)));
+      short = All-cons (λ k. length (spelling k) ≤ 1024) l (m ∷ []) (short_line d l three first) (All-cons (λ k. length (spelling k) ≤ 1024) m [] (short_line d m three second) (All-nil (λ k. length (spelling k) ≤ 1024)));
+      good = good_push X (l ∷ []) m (push_none X l good) next;
+      come = come_past X 1 (l ∷ m ∷ []) (come_more X 1 (l ∷ []) m come refl) refl;
       nears = refl;
     }
 
@@ -64,8 +69,8 @@ growing_more X n lines p q s h three fields there least =
       fields = All-push (IsLineOf d) lines l h.fields fields;
       short = All-push (λ m. length (spelling m) ≤ 1024) lines l h.short (short_line d l three fields);
       good = good_push X lines l h.good good;
-      come = come_more X 1 lines l h.come refl;
-      nears = ap length (section_push 1 lines l refl) ∙ length-append (section_lines 1 lines) (l ∷ []) ∙ ap (λ k. k + 1) h.nears;
+      come = come_more X 2 lines l h.come refl;
+      nears = ap length (section_push 2 lines l refl) ∙ length-append (section_lines 2 lines) (l ∷ []) ∙ ap (λ k. k + 1) h.nears;
     }
 
 -- ---- the last line
@@ -73,7 +78,7 @@ growing_more X n lines p q s h three fields there least =
 pub growing_done : (X : Picture) (n : ℕ) (lines : List Line) → IsGrowing X n lines → length X.sides ≤ 3 → n ≡ length (object_points X) → Holds X (text_of (lines ++ Line.End ∷ []))
 growing_done X n lines h three all =
     let d = length X.sides in
-    let come = come_past X 1 lines h.come (h.nears ∙ all) in
+    let come = come_past X 2 lines h.come (h.nears ∙ all) in
     let good : GoodAfter X lines Line.End = good_at X lines Line.End come (none_ended lines h.come.order) in (
       lines,
       record {
@@ -84,11 +89,12 @@ growing_done X n lines h three all =
       },
     )
   where
-    none_ended : (lines : List Line) → All (λ e. section e ≤ 1) lines → section_lines 2 lines ≡ []
+    none_ended : (lines : List Line) → All (λ e. section e ≤ 2) lines → section_lines 3 lines ≡ []
     none_ended [] a = refl
-    none_ended (Line.Shape sides rule ∷ lines) a = none_ended lines (All-tail (λ e. section e ≤ 1) (Line.Shape sides rule) lines a)
-    none_ended (Line.Near p q s ∷ lines) a = none_ended lines (All-tail (λ e. section e ≤ 1) (Line.Near p q s) lines a)
-    none_ended (Line.End ∷ lines) a = absurd (let h = All-head (λ e. section e ≤ 1) Line.End lines a in omega arith)
+    none_ended (Line.Shape sides rule ∷ lines) a = none_ended lines (All-tail (λ e. section e ≤ 2) (Line.Shape sides rule) lines a)
+    none_ended (Line.Parts k o b ∷ lines) a = none_ended lines (All-tail (λ e. section e ≤ 2) (Line.Parts k o b) lines a)
+    none_ended (Line.Near p q s ∷ lines) a = none_ended lines (All-tail (λ e. section e ≤ 2) (Line.Near p q s) lines a)
+    none_ended (Line.End ∷ lines) a = absurd (let h = All-head (λ e. section e ≤ 2) Line.End lines a in omega arith)
 
 -- ---- what is read off the field
 

@@ -6,10 +6,10 @@ use Rattle.shape_terms.specs.Lines.{Line, spelling, IsLineOf}
 use Rattle.shape_terms.specs.Good.{GoodSoFar, section_lines}
 use Rattle.shape_terms.specs.Progress.{HasCome}
 
--- the `shape` line and n `near` lines, all of them good
+-- the `shape` line, the `parts` line and n `near` lines, all of them good
 pub record IsGrowing (X : Picture) (n : ℕ) (lines : List Line) : Type 0 where
   pub fields : All (IsLineOf (length X.sides)) lines
   pub short : All (λ l. length (spelling l) ≤ 1024) lines
   pub good : GoodSoFar X lines
-  pub come : HasCome X 1 lines
-  pub nears : length (section_lines 1 lines) ≡ n
+  pub come : HasCome X 2 lines
+  pub nears : length (section_lines 2 lines) ≡ n

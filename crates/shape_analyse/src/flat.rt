@@ -8,6 +8,7 @@ ghost use Rattle.shape_terms.specs.Holds.{Holds};
 ghost use Rattle.shape_rules.specs.Names.{word_of};
 ghost use Rattle.shape_analyse.specs.Growing.{IsGrowing};
 
+use shape_adj::{Pairing, parts};
 use shape_dist::{Field, nearest};
 use shape_grid::Grid;
 use shape_report::{Line, Report};
@@ -25,8 +26,8 @@ fn no_rule() -> Name
     }
 }
 
-// The report that has its `shape` line alone.
-fn open<P: Point>(alloc: Global, grid: &Grid<P>) -> Result<Report<P>, NoMemory>
+// The report that has its `shape` line and its `parts` line alone.
+fn open<P: Pairing>(alloc: Global, grid: &Grid<P>) -> Result<Report<P>, NoMemory>
     ensures open { IfOk result (IsGrowing grid.now 0) }
     ensures axes { length grid.now.sides ≡ P.DIM }
     ensures few { P.DIM ≤ 3 }
@@ -36,10 +37,13 @@ fn open<P: Point>(alloc: Global, grid: &Grid<P>) -> Result<Report<P>, NoMemory>
         sides,
         rule: no_rule(),
     };
-    match Report::new(alloc, head) {
-        Ok(report) => Ok(report),
-        Err(e) => Err(e),
-    }
+    let counted = parts(alloc, grid)?;
+    let counts = Line::Parts {
+        points: grid.count(),
+        object: counted.object,
+        background: counted.background,
+    };
+    Report::new(alloc, head, counts)
 }
 
 // Adds the `near` line of each object point.
@@ -71,25 +75,14 @@ fn add_nears<P: Point>(
 }
 
 // The report of a picture of any dimension.
-fn analyse<P: Point>(alloc: Global, grid: &Grid<P>) -> Result<Report<P>, NoMemory>
+fn analyse<P: Pairing>(alloc: Global, grid: &Grid<P>) -> Result<Report<P>, NoMemory>
     ensures { IfOk result (λ r. Holds grid.now (text_of r)) }
 {
-    let mut report = match open(alloc, grid) {
-        Ok(report) => report,
-        Err(e) => return Err(e),
-    };
-    let field = match nearest(alloc, grid) {
-        Ok(field) => field,
-        Err(e) => return Err(e),
-    };
-    match add_nears(grid, &field, &mut report) {
-        Ok(()) => {}
-        Err(e) => return Err(e),
-    }
-    match report.add(Line::End) {
-        Ok(()) => Ok(report),
-        Err(e) => Err(e),
-    }
+    let mut report = open(alloc, grid)?;
+    let field = nearest(alloc, grid)?;
+    add_nears(grid, &field, &mut report)?;
+    report.add(Line::End)?;
+    Ok(report)
 }
 
 /// The report of a flat picture. Its lines, spelled, hold of the picture.

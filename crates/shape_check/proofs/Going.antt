@@ -11,7 +11,7 @@ use Rattle.shape_terms.proofs.Checking.{begins_none, begins_next, first_bad, no_
 use Rattle.shape_terms.proofs.GoodSteps.{not_ended}
 use Rattle.judge_field.specs.FieldState.{FieldState}
 use Rattle.shape_check.specs.declared.progress.Stage.{Stage}
-use Rattle.shape_check.specs.declared.progress.Stage.TheVariants.{Start, Nears, Ended}
+use Rattle.shape_check.specs.declared.progress.Stage.TheVariants.{Start, Opened, Nears, Ended}
 use Rattle.shape_check.specs.Next.{TakesClaim, IsBad}
 use Rattle.shape_check.specs.Follows.{Follows}
 
@@ -37,10 +37,11 @@ going_start text stage s f = record {
 
 -- lines without `end` do not stop the text
 goes_on : (stage : Stage) (s : FieldState) (lines : List Line) → (stage ≡ Ended → ⊥) → Follows stage s lines → (front : List Line) → lines ≡ front ++ Line.End ∷ [] → ⊥
-goes_on Start s lines h f front e =
+goes_on (Start t) s lines h f front e =
     let n = ap length (sym f.0 ∙ e) in
     omega (arith, length-append front (Line.End ∷ []))
-goes_on Nears s lines h f front e = not_ended s.picture 1 lines front (omega arith) f.0 e
+goes_on (Opened t) s lines h f front e = not_ended s.picture 1 lines front (omega arith) f.0 e
+goes_on Nears s lines h f front e = not_ended s.picture 2 lines front (omega arith) f.0 e
 goes_on Ended s lines h f front e = h refl
 
 -- the end of the text after `end`

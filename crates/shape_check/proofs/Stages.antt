@@ -1,18 +1,22 @@
 -- When the next line is good, at each stage of a check, and which lines that stands for.
 -- Laws over pictures and lines; a further stage brings a law for each kind of line that may come there.
-use Rattle.std.proofs.Common.{◌≡◌, ◌≢◌, ℕ, suc, ◌≤◌, Bool, true, false, refl, sym, ap, ◌∙◌, subst, arith, List, [], ◌∷◌, ◌++◌, map}
+use Rattle.std.proofs.Common.{◌≡◌, ◌≢◌, ℕ, suc, ◌≤◌, Bool, true, false, refl, sym, ap, ◌∙◌, subst, arith, List, [], ◌∷◌, ◌++◌, length, map}
 use Rattle.std.specs.Prelude.{ℤ, pos, ◌↔◌, IsTrue, All, codes}
 use Rattle.std.specs.Bool.{OnTrue}
 use Rattle.std.proofs.lemmas.Int.{ints}
 use Rattle.std.proofs.lemmas.List.Elements.{All-head, All-tail}
 use Rattle.shape_terms.specs.Points.{Point, AreSides, sides_of}
 use Rattle.shape_terms.specs.Pictures.{Picture}
+use Rattle.shape_terms.specs.Adjacency.{Near, Side}
+use Rattle.shape_terms.specs.Parts.{Counts, Object, FramedBackground}
 use Rattle.shape_terms.specs.Lines.{Line}
 use Rattle.shape_terms.specs.Good.{section, section_lines, NearsComplete, GoodAfter}
 use Rattle.shape_terms.proofs.Boxes.{abs_is}
-use Rattle.shape_terms.proofs.GoodSteps.{come_none, come_more, come_past, good_at, section_push, none_after_end}
+use Rattle.shape_terms.proofs.PartCount.{one_count}
+use Rattle.shape_terms.proofs.GoodSteps.{come_none, come_more, come_past, good_at, section_push, section_skip, first_is_shape, second_is_parts, none_after_end}
 use Rattle.judge_field.specs.FieldState.{FieldState, StandsFor}
-use Rattle.shape_check.specs.declared.progress.Stage.TheVariants.{Nears, Ended}
+use Rattle.shape_check.specs.declared.progress.Tally.{Tally}
+use Rattle.shape_check.specs.declared.progress.Stage.TheVariants.{Start, Opened, Nears, Ended}
 use Rattle.shape_check.specs.Follows.{Follows}
 
 -- ---- the first line
@@ -36,27 +40,76 @@ first_same X g box sides rule b h e same r = (
 pub first_other : (X : Picture) (greatest : ℤ) (box sides : Point) (rule : List ℕ) → AreSides greatest box → sides_of box ≡ X.sides → sides ≢ box → GoodAfter X [] (Line.Shape sides rule) → ⊥
 first_other X g box sides rule h e other good = other (good.claim.1 ∙ ap (map pos) (sym e) ∙ sides_back g box h)
 
--- ---- after the `shape` line
+-- the first line leaves the counts to be given
+pub shape_follows : (b : Bool) (s : FieldState) (lines : List Line) (t : Tally) (l : Line) → Follows (Start t) s lines → (IsTrue b ↔ GoodAfter s.picture [] l) → OnTrue b (Follows (Opened t) s (lines ++ l ∷ []))
+shape_follows false s lines t l f r = tt
+shape_follows true s lines t (Line.Shape sides rule) f r =
+    let l = Line.Shape sides rule in
+    subst (λ ls. Follows (Opened t) s (ls ++ l ∷ [])) (sym f.0) (come_past s.picture 0 (l ∷ []) (come_more s.picture 0 [] l (come_none s.picture) refl) refl, refl, f.1, f.2)
+shape_follows true s lines t (Line.Parts n o c) f r = absurd (let e : 1 ≡ 0 = first_is_shape s.picture (Line.Parts n o c) (r.0 refl) in omega arith)
+shape_follows true s lines t (Line.Near p q n) f r = absurd (let e : 2 ≡ 0 = first_is_shape s.picture (Line.Near p q n) (r.0 refl) in omega arith)
+shape_follows true s lines t Line.End f r = absurd (let e : 3 ≡ 0 = first_is_shape s.picture Line.End (r.0 refl) in omega arith)
+
+-- ---- the second line
+
+-- the counts of a picture are what they are
+pub counts_same : (X : Picture) (n o c m k d : ℕ) → Counts X n o c → Counts X m k d → (n ≡ m) × (o ≡ k) × (c ≡ d)
+counts_same X n o c m k d a b = (a.points ∙ sym b.points, one_count Near (Object X) o k a.object b.object, one_count Side (FramedBackground X) c d a.background b.background)
+
+-- three tests of equal numbers tell whether these are the counts
+pub counts_test : (X : Picture) (n o c m k d : ℕ) (b : Bool) → Counts X n o c → (IsTrue b ↔ ((m ≡ n) × (k ≡ o) × (d ≡ c))) → (IsTrue b ↔ Counts X m k d)
+counts_test X n o c m k d b counts r = (
+  λ t.
+      let e = r.0 t in
+      rw (e.0, e.1, e.2) counts,
+  λ other.
+      let e = counts_same X m k d n o c other counts in
+      r.1 e,
+)
+
+-- the `parts` line is good where its counts are those that are kept
+pub parts_good : (b : Bool) (s : FieldState) (lines : List Line) (t : Tally) (n o c : ℕ) → Follows (Opened t) s lines → (IsTrue b ↔ ((n ≡ t.points) × (o ≡ t.object) × (c ≡ t.background))) → (IsTrue b ↔ GoodAfter s.picture lines (Line.Parts n o c))
+parts_good b s lines t n o c f r =
+    let test = counts_test s.picture t.points t.object t.background n o c b f.3 r in (
+      λ yes. good_at s.picture lines (Line.Parts n o c) f.0 (f.1, test.0 yes),
+      λ good. test.1 good.claim.1,
+    )
+
+pub parts_follows : (b : Bool) (s : FieldState) (lines : List Line) (t : Tally) (n o c : ℕ) → Follows (Opened t) s lines → OnTrue b (Follows Nears s (lines ++ Line.Parts n o c ∷ []))
+parts_follows true s lines t n o c f =
+    let l = Line.Parts n o c in
+    let one : length (section_lines 1 (lines ++ l ∷ [])) ≡ 1 = ap length (section_push 1 lines l refl) ∙ ap (λ ls. length (ls ++ l ∷ [])) f.1 in (
+      come_past s.picture 1 (lines ++ l ∷ []) (come_more s.picture 1 lines l f.0 refl) one,
+      subst (StandsFor s) (sym (section_skip 2 lines l refl)) f.2,
+    )
+parts_follows false s lines t n o c f = tt
+
+-- no other line is good there
+pub other_good : (s : FieldState) (lines : List Line) (t : Tally) (l : Line) → Follows (Opened t) s lines → (section l ≡ 1 → ⊥) → GoodAfter s.picture lines l → ⊥
+other_good s lines t l f other good = other (second_is_parts s.picture lines l (f.0.complete 0 (omega arith)) f.1 good)
+
+-- ---- after the `parts` line
 
 -- a `near` line that the judge took
-pub near_follows : (b : Bool) (s s2 : FieldState) (lines : List Line) (p q : Point) (n : ℕ) → s2.picture ≡ s.picture → Follows Nears s lines → OnTrue b (StandsFor s2 (section_lines 1 lines ++ Line.Near p q n ∷ [])) → OnTrue b (Follows Nears s2 (lines ++ Line.Near p q n ∷ []))
+pub near_follows : (b : Bool) (s s2 : FieldState) (lines : List Line) (p q : Point) (n : ℕ) → s2.picture ≡ s.picture → Follows Nears s lines → OnTrue b (StandsFor s2 (section_lines 2 lines ++ Line.Near p q n ∷ [])) → OnTrue b (Follows Nears s2 (lines ++ Line.Near p q n ∷ []))
 near_follows true s s2 lines p q n same f st = (
-  rw same (come_more s.picture 1 lines (Line.Near p q n) f.0 refl),
-  rw (section_push 1 lines (Line.Near p q n) refl) st,
+  rw same (come_more s.picture 2 lines (Line.Near p q n) f.0 refl),
+  rw (section_push 2 lines (Line.Near p q n) refl) st,
 )
 near_follows false s s2 lines p q n same f st = tt
 
-none_later : (lines : List Line) → All (λ e. section e ≤ 1) lines → section_lines 2 lines ≡ []
+none_later : (lines : List Line) → All (λ e. section e ≤ 2) lines → section_lines 3 lines ≡ []
 none_later [] a = refl
-none_later (Line.Shape sides rule ∷ lines) a = none_later lines (All-tail (λ e. section e ≤ 1) (Line.Shape sides rule) lines a)
-none_later (Line.Near p q s ∷ lines) a = none_later lines (All-tail (λ e. section e ≤ 1) (Line.Near p q s) lines a)
-none_later (Line.End ∷ lines) a = absurd (let h : 2 ≤ 1 = All-head (λ e. section e ≤ 1) Line.End lines a in omega arith)
+none_later (Line.Shape sides rule ∷ lines) a = none_later lines (All-tail (λ e. section e ≤ 2) (Line.Shape sides rule) lines a)
+none_later (Line.Parts n o c ∷ lines) a = none_later lines (All-tail (λ e. section e ≤ 2) (Line.Parts n o c) lines a)
+none_later (Line.Near p q s ∷ lines) a = none_later lines (All-tail (λ e. section e ≤ 2) (Line.Near p q s) lines a)
+none_later (Line.End ∷ lines) a = absurd (let h : 3 ≤ 2 = All-head (λ e. section e ≤ 2) Line.End lines a in omega arith)
 
 -- `end` is good where each object point has its line
-pub end_good : (b : Bool) (s : FieldState) (lines : List Line) → Follows Nears s lines → (IsTrue b ↔ NearsComplete s.picture (section_lines 1 lines)) → (IsTrue b ↔ GoodAfter s.picture lines Line.End)
+pub end_good : (b : Bool) (s : FieldState) (lines : List Line) → Follows Nears s lines → (IsTrue b ↔ NearsComplete s.picture (section_lines 2 lines)) → (IsTrue b ↔ GoodAfter s.picture lines Line.End)
 end_good b s lines f r = (
-  λ t. good_at s.picture lines Line.End (come_past s.picture 1 lines f.0 (r.0 t)) (none_later lines f.0.order),
-  λ good. r.1 (good.complete 1 (omega arith)),
+  λ t. good_at s.picture lines Line.End (come_past s.picture 2 lines f.0 (r.0 t)) (none_later lines f.0.order),
+  λ good. r.1 (good.complete 2 (omega arith)),
 )
 
 pub end_follows : (b : Bool) (lines : List Line) → OnTrue b ((front : List Line) × (lines ++ Line.End ∷ [] ≡ front ++ Line.End ∷ []))

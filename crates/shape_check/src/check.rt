@@ -10,6 +10,7 @@ ghost use Rattle.shape_check.specs.Checks.{Checks};
 use crate::answer::{CheckFault, Judgement};
 use crate::next::{Next, next_claim};
 use crate::progress::Progress;
+use shape_adj::Pairing;
 use shape_desk::{Desk, LineReader};
 use shape_grid::Grid;
 use shape_space::{NoMemory, P2, Point};
@@ -53,7 +54,7 @@ fn check_lines<P: Point, D: Desk>(
 }
 
 // Checks a report of any dimension.
-fn check<P: Point, D: Desk>(
+fn check<P: Pairing, D: Desk>(
     alloc: Global,
     grid: &Grid<P>,
     desk: &mut D,

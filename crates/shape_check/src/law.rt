@@ -4,8 +4,8 @@ ghost use Rattle.shape_terms.specs.Pictures.{Picture};
 ghost use Rattle.shape_terms.specs.Holds.{Holds};
 ghost use Rattle.shape_terms.specs.Shows.{TextShows};
 
-/// A report that holds of a picture shows what it says: a nearest background point of the whole space for each object
-/// point, in raster order. The body does nothing: what counts is the clause.
+/// A report that holds of a picture shows what it says: the counts of the picture, and a nearest
+/// background point of the whole space for each object point, in raster order. The body does nothing: what counts is the clause.
 pub fn holding_shows()
     ensures { (X : Picture) (text : List ℕ) → Holds X text → TextShows X text }
 {}

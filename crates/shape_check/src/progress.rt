@@ -9,18 +9,29 @@ ghost use Rattle.shape_rules.specs.Names.{word_of};
 ghost use Rattle.shape_report.specs.LineOf.{line_of};
 
 use judge_field::FieldJudge;
+use shape_adj::{Pairing, parts};
 use shape_grid::Grid;
 use shape_report::Line;
 use shape_rules::Name;
 use shape_space::{NoMemory, Point, Sides};
 use std::alloc::Global;
 
+// The counts of a picture: object points, components of the object, components of the background.
+#[derive(Clone, Copy)]
+pub(crate) struct Tally {
+    pub points: u32,
+    pub object: u32,
+    pub background: u32,
+}
+
 // How far the sections of a report have come.
 #[derive(Clone, Copy)]
 pub(crate) enum Stage {
-    // No line was taken.
-    Start,
-    // The `shape` line was taken, and then `near` lines.
+    // No line was taken. The picture has these counts.
+    Start(Tally),
+    // The `shape` line was taken, and the next one has to give these counts.
+    Opened(Tally),
+    // The `parts` line was taken, and then `near` lines.
     Nears,
     // The line `end` was taken.
     Ended,
@@ -33,6 +44,13 @@ pub(crate) struct Progress<P: Point> {
     pub stage: Stage,
     pub field: FieldJudge<P>,
     pub ghost same_sides: { sides_of (P.coords sides.lengths) ≡ field.picture.sides },
+}
+
+// Whether counts are these.
+fn is_tally(tally: Tally, points: u32, object: u32, background: u32) -> bool
+    ensures { IsTrue result ↔ ((points ≡ tally.points) × (object ≡ tally.object) × (background ≡ tally.background)) }
+{
+    points == tally.points && object == tally.object && background == tally.background
 }
 
 // Whether a rule is the one that thins nothing.
@@ -48,18 +66,23 @@ impl<P: Point> Progress<P> {
 
     // Nothing was judged yet.
     pub fn new(alloc: Global, grid: &Grid<P>) -> Result<Progress<P>, NoMemory>
+    where
+        P: Pairing,
         ensures picture { IfOk result (λ p. p.field.picture ≡ grid.now) }
         ensures follows { IfOk result (λ p. Follows p.stage p.field []) }
         ensures few { IfOk result (λ p. lines_left p.stage p.field < 2 ^ 61) }
     {
-        match FieldJudge::new(alloc, grid) {
-            Ok(field) => Ok(Progress {
-                sides: grid.sides(),
-                stage: Stage::Start,
-                field,
+        let parts = parts(alloc, grid)?;
+        let field = FieldJudge::new(alloc, grid)?;
+        Ok(Progress {
+            sides: grid.sides(),
+            stage: Stage::Start(Tally {
+                points: grid.count(),
+                object: parts.object,
+                background: parts.background,
             }),
-            Err(NoMemory) => Err(NoMemory),
-        }
+            field,
+        })
     }
 
     // Whether a line is good as the first one: it gives the sides of the picture and the rule `none`.
@@ -73,6 +96,7 @@ impl<P: Point> Progress<P> {
                 }
                 is_none(rule)
             }
+            Line::Parts { .. } => false,
             Line::Near { .. } => false,
             Line::End => false,
         }
@@ -86,13 +110,28 @@ impl<P: Point> Progress<P> {
         ensures fewer { OnTrue result (lines_left self.new.stage self.new.field < lines_left self.old.stage self.old.field) }
     {
         match self.stage {
-            Stage::Start => {
+            Stage::Start(tally) => {
                 let good = self.is_first(line);
-                self.stage = Stage::Nears;
+                self.stage = Stage::Opened(tally);
                 good
             }
+            Stage::Opened(tally) => match *line {
+                Line::Parts {
+                    points,
+                    object,
+                    background,
+                } => {
+                    let good = is_tally(tally, points, object, background);
+                    self.stage = Stage::Nears;
+                    good
+                }
+                Line::Shape { .. } => false,
+                Line::Near { .. } => false,
+                Line::End => false,
+            },
             Stage::Nears => match line {
                 Line::Shape { .. } => false,
+                Line::Parts { .. } => false,
                 Line::Near { .. } => self.field.near(line),
                 Line::End => {
                     self.stage = Stage::Ended;

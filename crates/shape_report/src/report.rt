@@ -66,10 +66,11 @@ impl<P: Point> Model for Report<P> {
 
 impl<P: Point> Report<P> {
     ghost use Rattle.shape_report.specs.Slots.{heading_line, count_line, distance_line};
-    /// The report that has a first line alone.
-    pub fn new(alloc: Global, head: Line<P>) -> Result<Report<P>, NoMemory>
-        requires { IsLineOf P.DIM (line_of P.coords head) }
-        ensures { IfOk result (λ r. r ≡ line_of P.coords head ∷ []) }
+    /// The report that has its first two lines alone.
+    pub fn new(alloc: Global, head: Line<P>, parts: Line<P>) -> Result<Report<P>, NoMemory>
+        requires head { IsLineOf P.DIM (line_of P.coords head) }
+        requires parts { IsLineOf P.DIM (line_of P.coords parts) }
+        ensures { IfOk result (λ r. r ≡ line_of P.coords head ∷ line_of P.coords parts ∷ []) }
     {
         let mut report = Report {
             slots: Vec::new(alloc),
@@ -77,10 +78,9 @@ impl<P: Point> Report<P> {
             counts: Vec::new(alloc),
             distances: Vec::new(alloc),
         };
-        match report.add(head) {
-            Ok(()) => Ok(report),
-            Err(e) => Err(e),
-        }
+        report.add(head)?;
+        report.add(parts)?;
+        Ok(report)
     }
 
     /// Puts a line last.

@@ -9,7 +9,7 @@ use std::test::Fail;
 #[test]
 fn a_small_report(rt: HostRuntime) -> Result<(), Fail> {
     let alloc = rt.alloc();
-    let text = b"shape 1 pbm 2 1 few\nnear 0 0 -1 0 1\nend\n".as_slice();
+    let text = b"shape 1 pbm 2 1 few\nparts 1 1 1\nnear 0 0 -1 0 1\nend\n".as_slice();
     let Some(rule) = Name::new(b"few") else {
         return Err(Fail::from(AllocError));
     };
@@ -17,7 +17,12 @@ fn a_small_report(rt: HostRuntime) -> Result<(), Fail> {
         sides: P2 { x: 2, y: 1 },
         rule,
     };
-    let Ok(mut report) = Report::new(alloc, head) else {
+    let parts = Line::Parts {
+        points: 1,
+        object: 1,
+        background: 1,
+    };
+    let Ok(mut report) = Report::new(alloc, head, parts) else {
         return Err(Fail::from(AllocError));
     };
     let near = Line::Near {
@@ -26,9 +31,9 @@ fn a_small_report(rt: HostRuntime) -> Result<(), Fail> {
         s: 1,
     };
     assert!(rt; report.add(near).is_ok() && report.add(Line::End).is_ok());
-    assert_eq!(rt; report.len(), 3);
-    if 1 < report.len() {
-        assert!(rt; matches!(report.line(1), Line::Near { s: 1, .. }));
+    assert_eq!(rt; report.len(), 4);
+    if 2 < report.len() {
+        assert!(rt; matches!(report.line(2), Line::Near { s: 1, .. }));
     }
     let Ok(bytes) = report_bytes(alloc, &report) else {
         return Err(Fail::from(AllocError));

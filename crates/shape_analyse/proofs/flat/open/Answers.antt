@@ -1,18 +1,24 @@
-use Rattle.std.proofs.Common.{◌≡◌, ◌≤◌, length, inl, inr, arith, rules, subst, sym, ◌∙◌, ap, codes}
+use Rattle.std.proofs.Common.{◌≡◌, ◌≤◌, length, inl, inr, arith, rules, subst, sym, ◌∙◌, ap, codes, ◌∷◌, []}
+use Rattle.std.proofs.lemmas.Result.{IfOk-weaker}
 use Rattle.shape_terms.specs.Lines.{Line, IsName, IsLineOf}
+use Rattle.shape_terms.specs.Parts.{Counts}
 use Rattle.shape_rules.specs.Names.{word_of}
 use Rattle.shape_analyse.specs.Growing.{IsGrowing}
 use Rattle.shape_analyse.proofs.Growth.{heading_fits, growing_none}
 use Rattle.shape_analyse.proofs.flat.open.Goals as goal
 
-pub returns-in-Ok-clause-open : goal.returns-in-Ok-clause-open
-returns-in-Ok-clause-open g c =
+pub returns-clause-open : goal.returns-clause-open
+returns-clause-open g c =
     let X = c.args.grid.now in
     let s = c.sides-sides.result in
     let w = c.sides-sides.ensures.picture in
-    let n = g.P.Point.coords s.lengths in
+    let sides = g.P.Point.coords s.lengths in
     let rule = c.no_rule.result in
-    let axes : length n ≡ length X.sides = g.met.P.Point.axes s.lengths ∙ sym w.axes in
+    let n = c.count.result in
+    let parts = c.in_ok-counted.counted in
+    let axes : length sides ≡ length X.sides = g.met.P.Point.axes s.lengths ∙ sym w.axes in
     let three : length X.sides ≤ 3 = elim g.met.P.Point.two_or_three [ inl d ↦ omega (arith, w.axes, d) | inr d ↦ omega (arith, w.axes, d) ] in
-    let fields = heading_fits g.P.Point.MAX_SIDE (length X.sides) n (word_of rule) s.in_range g.met.P.Point.flat_side axes rule.is_name in
-    subst (IsGrowing X 0) (sym c.in-Ok.ensures) (growing_none g.P.Point.MAX_SIDE X n (word_of rule) s.in_range c.sides-sides.ensures.value three fields c.no_rule.ensures)
+    let first = heading_fits g.P.Point.MAX_SIDE (length X.sides) sides (word_of rule) s.in_range g.met.P.Point.flat_side axes rule.is_name in
+    let second : IsLineOf (length X.sides) (Line.Parts n parts.object parts.background) = search rules in
+    let counts : Counts X n parts.object parts.background = rw c.count.ensures c.in_ok-counted.ensures in
+    IfOk-weaker c.new.result _ (IsGrowing X 0) (λ r e. subst (IsGrowing X 0) (sym e) (growing_none g.P.Point.MAX_SIDE X sides (word_of rule) n parts.object parts.background s.in_range c.sides-sides.ensures.value three first c.no_rule.ensures second counts)) c.new.ensures
