@@ -7,7 +7,7 @@ use Rattle.shape_terms.specs.Holds.{Holds, FirstBad}
 use Rattle.shape_terms.specs.Shows.{TextShows}
 use Rattle.shape_desk.specs.Desk.{Files, Rose, IsMissing, Puts, PutsFront}
 use Rattle.shape_picture.specs.Plain.{PlainFault}
-use Rattle.shape_picture.specs.Answers.{whole_form, most_bytes, SpellsPicture}
+use Rattle.shape_picture.specs.Answers.{most_side, most_bytes, SpellsPicture}
 use Rattle.shape_picture.specs.declared.fault.PictureFault.{PictureFault}
 use Rattle.shape_picture.specs.declared.fault.PictureError.{PictureError}
 use Rattle.shape_picture.specs.declared.fault.PictureError.TheVariants as error
@@ -36,11 +36,11 @@ FileIs (Some files) name P = MatchOption (files name) ⊥ P
 
 -- a front of the file spells the picture
 abbrev pub IsPictureOf : Option Files → List ℕ → Picture → Type 0
-IsPictureOf files file X = OfFile files file (SpellsPicture whole_form most_bytes X)
+IsPictureOf files file X = OfFile files file (SpellsPicture most_side most_bytes X)
 
 -- the bytes of the file have the fault
 abbrev pub IsFaultOf : Option Files → List ℕ → PictureFault → Type 0
-IsFaultOf files file f = OfFile files file (λ bytes. PlainFault whole_form most_bytes bytes f)
+IsFaultOf files file f = OfFile files file (λ bytes. PlainFault most_side most_bytes bytes f)
 
 -- ---- words
 

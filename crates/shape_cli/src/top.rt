@@ -3,7 +3,7 @@
 ghost use Rattle.std.specs.Prelude.{◌≡◌, ◌≤◌, ◌↔◌, ◌⊎◌, ℕ, List, ⊤, map, codes};
 ghost use Rattle.shape_desk.specs.Desk.{Rose, IsMissing};
 ghost use Rattle.shape_picture.specs.Plain.{PlainFault};
-ghost use Rattle.shape_picture.specs.Answers.{whole_form, most_bytes, SpellsSome};
+ghost use Rattle.shape_picture.specs.Answers.{most_side, most_bytes, SpellsSome};
 ghost use Rattle.shape_picture.specs.declared.fault.PictureFault.{PictureFault};
 ghost use Rattle.shape_check.specs.declared.answer.Judgement.TheVariants as judgement;
 ghost use Rattle.shape_cli.specs.Commands.{IsNoForm, Asked, words_of};
@@ -52,18 +52,18 @@ pub fn run<D: Desk>(alloc: Global, words: &[Vec<u8>], desk: &mut D) -> Outcome
 
     // Words of a form, an accepted picture, a report that is there and no risen count give an answer, but for want of memory.
     ensures analyse_complete { (file : List ℕ) → map (λ w. w.items) words.now ≡ words_of (Asked.AnalyseFlat file (codes "none"))
-        → FileIs (D.files desk.old) file (SpellsSome whole_form most_bytes)
+        → FileIs (D.files desk.old) file (SpellsSome most_side most_bytes)
         → (Rose (D.read_faults desk.old) (D.read_faults desk.new) → ⊥) → (Rose (D.write_faults desk.old) (D.write_faults desk.new) → ⊥) → IsAnalysed result }
     ensures check_complete { (file report : List ℕ) → map (λ w. w.items) words.now ≡ words_of (Asked.CheckFlat file report)
-        → FileIs (D.files desk.old) file (SpellsSome whole_form most_bytes) → FileIs (D.files desk.old) report (λ _. ⊤)
+        → FileIs (D.files desk.old) file (SpellsSome most_side most_bytes) → FileIs (D.files desk.old) report (λ _. ⊤)
         → (Rose (D.read_faults desk.old) (D.read_faults desk.new) → ⊥) → (Rose (D.write_faults desk.old) (D.write_faults desk.new) → ⊥) → IsJudged result }
 
     // Words of a form and a picture with a fault give that fault where no count rose, but for want of memory.
     ensures analyse_refused { (file : List ℕ) (f : PictureFault) → map (λ w. w.items) words.now ≡ words_of (Asked.AnalyseFlat file (codes "none"))
-        → FileIs (D.files desk.old) file (λ bytes. PlainFault whole_form most_bytes bytes f)
+        → FileIs (D.files desk.old) file (λ bytes. PlainFault most_side most_bytes bytes f)
         → (Rose (D.read_faults desk.old) (D.read_faults desk.new) → ⊥) → IsRefused f result }
     ensures check_refused { (file report : List ℕ) (f : PictureFault) → map (λ w. w.items) words.now ≡ words_of (Asked.CheckFlat file report)
-        → FileIs (D.files desk.old) file (λ bytes. PlainFault whole_form most_bytes bytes f)
+        → FileIs (D.files desk.old) file (λ bytes. PlainFault most_side most_bytes bytes f)
         → (Rose (D.read_faults desk.old) (D.read_faults desk.new) → ⊥) → IsRefused f result }
 {
     match read_words(words) {
