@@ -1,6 +1,6 @@
 -- What is left at a place that was begun is the file with the name.
 -- Laws of what a desk tells, over plain values.
-use Rattle.std.proofs.Common.{◌≡◌, ◌⊎◌, inl, inr, ◌≤◌, ℕ, List, arith, subst, sym}
+use Rattle.std.proofs.Common.{inl, ◌≤◌, ℕ, List, arith, subst}
 use Rattle.std.specs.Prelude.{Option, None, Some, IsSome, MatchOption, Result, Ok, Err}
 use Rattle.shape_terms.specs.Pictures.{Picture}
 use Rattle.shape_terms.specs.Holds.{Holds}

@@ -1,13 +1,14 @@
 -- What a run has done to the desk, outcome by outcome.
 -- Clauses on the bytes of files hold where the desk tells its files.
-use Rattle.std.specs.Prelude.{◌≡◌, ◌⊎◌, ℕ, List, ◌++◌, codes, ⊤, Option, None, Some, IsSome, MatchOption, Result, Ok, Err}
+use Rattle.std.specs.Prelude.{◌≡◌, ◌⊎◌, ℕ, List, ◌++◌, codes, ⊤, Option, None, Some, MatchOption, Result, Ok, Err}
 use Rattle.std.specs.Fmt.{decimal}
 use Rattle.shape_terms.specs.Pictures.{Picture}
 use Rattle.shape_terms.specs.Holds.{Holds, FirstBad}
 use Rattle.shape_terms.specs.Shows.{TextShows}
 use Rattle.shape_desk.specs.Desk.{Files, Rose, IsMissing, Puts, PutsFront}
-use Rattle.shape_picture.specs.Answers.{bare_form, most_bytes, SpellsPicture, SpellsSome, SpellsNone}
-use Rattle.shape_picture.specs.declared.fault.PictureFault.TheVariants as fault
+use Rattle.shape_picture.specs.Plain.{PlainFault}
+use Rattle.shape_picture.specs.Answers.{most_side, most_bytes, SpellsPicture}
+use Rattle.shape_picture.specs.declared.fault.PictureFault.{PictureFault}
 use Rattle.shape_picture.specs.declared.fault.PictureError.{PictureError}
 use Rattle.shape_picture.specs.declared.fault.PictureError.TheVariants as error
 use Rattle.shape_check.specs.Checks.{IsLineNumber}
@@ -15,7 +16,7 @@ use Rattle.shape_check.specs.declared.answer.Judgement.{Judgement}
 use Rattle.shape_check.specs.declared.answer.Judgement.TheVariants as judgement
 use Rattle.shape_check.specs.declared.answer.CheckFault.{CheckFault}
 use Rattle.shape_check.specs.declared.answer.CheckFault.TheVariants as check
-use Rattle.shape_cli.specs.Commands.{Asked, words_of, IsInRange}
+use Rattle.shape_cli.specs.Commands.{Asked, words_of}
 use Rattle.shape_cli.specs.declared.outcome.Outcome.{Outcome}
 use Rattle.shape_cli.specs.declared.outcome.Outcome.TheVariants as outcome
 use Rattle.shape_cli.specs.declared.analysis.Unwritten.{Unwritten}
@@ -35,7 +36,11 @@ FileIs (Some files) name P = MatchOption (files name) ⊥ P
 
 -- a front of the file spells the picture
 abbrev pub IsPictureOf : Option Files → List ℕ → Picture → Type 0
-IsPictureOf files file X = OfFile files file (SpellsPicture bare_form most_bytes X)
+IsPictureOf files file X = OfFile files file (SpellsPicture most_side most_bytes X)
+
+-- the bytes of the file have the fault
+abbrev pub IsFaultOf : Option Files → List ℕ → PictureFault → Type 0
+IsFaultOf files file f = OfFile files file (λ bytes. PlainFault most_side most_bytes bytes f)
 
 -- ---- words
 
@@ -49,16 +54,17 @@ Checks words P = (file : List ℕ) × (report : List ℕ) × (words ≡ words_of
 
 -- ---- the picture
 
--- what the reading of a picture's file gives: the picture that a front of it spells, or the cause of the refusal
+-- what the reading of a picture's file gives: the picture that a front of it spells, the fault that its bytes have, or
+-- the cause of the failure
 abbrev pub Opened : Option Files → List ℕ → ℕ → ℕ → Result Picture PictureError → Type 0
 Opened files file before now (Ok X) = IsPictureOf files file X
-Opened files file before now (Err (error.Bad f)) = (f ≡ fault.NotPlain) × OfFile files file (SpellsNone bare_form most_bytes)
+Opened files file before now (Err (error.Bad f)) = IsFaultOf files file f
 Opened files file before now (Err error.ReadFault) = Rose before now ⊎ IsMissing files file
 Opened files file before now (Err error.NoMemory) = ⊤
 
--- the fault of a file that spells no picture
+-- a refused picture has the fault that is told
 abbrev pub RefusesPicture : Option Files → List ℕ → Outcome → Type 0
-RefusesPicture files file (outcome.Picture f) = (f ≡ fault.NotPlain) × OfFile files file (SpellsNone bare_form most_bytes)
+RefusesPicture files file (outcome.Picture f) = IsFaultOf files file f
 RefusesPicture files file _ = ⊤
 
 -- ---- the report of an analysis
@@ -144,6 +150,12 @@ IsSilent (outcome.Picture f) = ⊤
 IsSilent outcome.ReadFault = ⊤
 IsSilent outcome.WriteFault = ⊥
 IsSilent outcome.NoMemory = ⊤
+
+-- the outcome where the picture has the fault
+abbrev pub IsRefused : PictureFault → Outcome → Type 0
+IsRefused f (outcome.Picture g) = g ≡ f
+IsRefused f outcome.NoMemory = ⊤
+IsRefused f _ = ⊥
 
 -- the outcome of an analysis that met no fault
 abbrev pub IsAnalysed : Outcome → Type 0

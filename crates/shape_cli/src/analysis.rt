@@ -2,8 +2,10 @@
 //! The report is built whole before its first byte is written.
 ghost use Rattle.std.specs.Prelude.{◌≡◌, ◌≤◌, ◌⊎◌, ℕ};
 ghost use Rattle.shape_desk.specs.Desk.{Rose, IsMissing, KeepsPlaces};
-ghost use Rattle.shape_picture.specs.Answers.{bare_form, most_bytes, SpellsSome};
-ghost use Rattle.shape_cli.specs.Runs.{FileIs, RefusesPicture, Written, WroteFor, CutFor, IsSilent, IsAnalysed};
+ghost use Rattle.shape_picture.specs.Plain.{PlainFault};
+ghost use Rattle.shape_picture.specs.Answers.{most_side, most_bytes, SpellsSome};
+ghost use Rattle.shape_picture.specs.declared.fault.PictureFault.{PictureFault};
+ghost use Rattle.shape_cli.specs.Runs.{FileIs, RefusesPicture, Written, WroteFor, CutFor, IsSilent, IsRefused, IsAnalysed};
 
 use crate::outcome::{Outcome, refused};
 use crate::picture::open_picture;
@@ -44,7 +46,8 @@ pub(crate) fn analyse_file<D: Desk>(alloc: Global, file: &[u8], desk: &mut D) ->
     ensures read_fault { result ≡ Outcome.ReadFault → Rose (D.read_faults desk.old) (D.read_faults desk.new) ⊎ IsMissing (D.files desk.old) file.now }
     ensures write_fault { result ≡ Outcome.WriteFault → CutFor (D.files desk.old) file.now (D.written desk.old) (D.written desk.new) (D.write_faults desk.old) (D.write_faults desk.new) }
     ensures done { result ≡ Outcome.Done → WroteFor (D.files desk.old) file.now (D.written desk.old) (D.written desk.new) }
-    ensures complete { FileIs (D.files desk.old) file.now (SpellsSome bare_form most_bytes) → (Rose (D.read_faults desk.old) (D.read_faults desk.new) → ⊥) → (Rose (D.write_faults desk.old) (D.write_faults desk.new) → ⊥) → IsAnalysed result }
+    ensures complete { FileIs (D.files desk.old) file.now (SpellsSome most_side most_bytes) → (Rose (D.read_faults desk.old) (D.read_faults desk.new) → ⊥) → (Rose (D.write_faults desk.old) (D.write_faults desk.new) → ⊥) → IsAnalysed result }
+    ensures refused { (f : PictureFault) → FileIs (D.files desk.old) file.now (λ bytes. PlainFault most_side most_bytes bytes f) → (Rose (D.read_faults desk.old) (D.read_faults desk.new) → ⊥) → IsRefused f result }
     ensures silent { IsSilent result → D.written desk.new ≡ D.written desk.old }
     ensures files { D.files desk.new ≡ D.files desk.old }
     ensures read_later { D.read_faults desk.old ≤ D.read_faults desk.new }

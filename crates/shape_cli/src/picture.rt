@@ -5,7 +5,7 @@ ghost use Rattle.shape_cli.specs.Runs.{Opened};
 
 use shape_desk::{Desk, Place};
 use shape_grid::Grid;
-use shape_picture::{PictureError, read_bare};
+use shape_picture::{PictureError, read_plain};
 use shape_space::P2;
 use std::alloc::Global;
 
@@ -20,7 +20,7 @@ pub(crate) fn open_picture<D: Desk>(
     ensures output { KeepsOutput D.files D.written D.write_faults desk.old desk.new }
 {
     match desk.begin(Place::Picture, file) {
-        Ok(()) => read_bare(alloc, desk),
+        Ok(()) => read_plain(alloc, desk),
         Err(_) => Err(PictureError::ReadFault),
     }
 }

@@ -112,6 +112,7 @@ fn reports_of_one_pixel(rt: HostRuntime) -> Result<(), Fail> {
 fn analyses_are_checked(rt: HostRuntime) -> Result<(), Fail> {
     let alloc = rt.alloc();
     let pictures = [
+        b"P1 # c\n1 1 1".as_slice(),
         b"P1 4 3 000000000000".as_slice(),
         b"P1 4 3 111111111111".as_slice(),
         b"P1 4 3 101001011010".as_slice(),
@@ -146,32 +147,37 @@ fn refusals(rt: HostRuntime) -> Result<(), Fail> {
         (
             plain,
             b"".as_slice(),
-            Outcome::Picture(PictureFault::NotPlain),
+            Outcome::Picture(PictureFault::Short { at: 0 }),
         ),
         (
             plain,
             b"P1 3 1 1 0".as_slice(),
-            Outcome::Picture(PictureFault::NotPlain),
+            Outcome::Picture(PictureFault::Short { at: 10 }),
         ),
         (
             plain,
             b"P1 1 1 a".as_slice(),
-            Outcome::Picture(PictureFault::NotPlain),
+            Outcome::Picture(PictureFault::BadByte { at: 7 }),
         ),
         (
             plain,
             b"P1 0 1 1".as_slice(),
-            Outcome::Picture(PictureFault::NotPlain),
+            Outcome::Picture(PictureFault::ZeroSide),
         ),
         (
             plain,
             b"P1 1025 1 1".as_slice(),
+            Outcome::Picture(PictureFault::SideTooLarge { value: 1025 }),
+        ),
+        (
+            plain,
+            b"P4 1 1 x".as_slice(),
             Outcome::Picture(PictureFault::NotPlain),
         ),
         (
             plain,
-            b"P1 # \n1 1 1".as_slice(),
-            Outcome::Picture(PictureFault::NotPlain),
+            b"P1 2x2 1".as_slice(),
+            Outcome::Picture(PictureFault::BadNumber { at: 4 }),
         ),
         ("analyse pbm nofile none", one, Outcome::ReadFault),
         ("check pbm nofile a.pbm", one, Outcome::ReadFault),

@@ -2,11 +2,12 @@
 //! What each outcome means for the desk stands in `specs/Runs.antt`.
 ghost use Rattle.std.specs.Prelude.{◌≡◌, ◌≤◌, ◌↔◌, ◌⊎◌, ℕ, List, ⊤, map, codes};
 ghost use Rattle.shape_desk.specs.Desk.{Rose, IsMissing};
-ghost use Rattle.shape_picture.specs.Answers.{bare_form, most_bytes, SpellsSome};
+ghost use Rattle.shape_picture.specs.Plain.{PlainFault};
+ghost use Rattle.shape_picture.specs.Answers.{most_side, most_bytes, SpellsSome};
 ghost use Rattle.shape_picture.specs.declared.fault.PictureFault.{PictureFault};
 ghost use Rattle.shape_check.specs.declared.answer.Judgement.TheVariants as judgement;
 ghost use Rattle.shape_cli.specs.Commands.{IsNoForm, Asked, words_of};
-ghost use Rattle.shape_cli.specs.Runs.{FileIs, Analyses, Checks, RefusesPicture, WroteFor, CutFor, GaveVerdict, CutVerdict, LacksReport, IsSilent, IsAnalysed, IsJudged};
+ghost use Rattle.shape_cli.specs.Runs.{FileIs, Analyses, Checks, RefusesPicture, WroteFor, CutFor, GaveVerdict, CutVerdict, LacksReport, IsSilent, IsRefused, IsAnalysed, IsJudged};
 
 use crate::analysis::analyse_file;
 use crate::outcome::Outcome;
@@ -23,7 +24,7 @@ pub fn run<D: Desk>(alloc: Global, words: &[Vec<u8>], desk: &mut D) -> Outcome
     ensures usage { (result ≡ Outcome.Usage) ↔ IsNoForm (map (λ w. w.items) words.now) }
     ensures untouched { result ≡ Outcome.Usage → desk.new ≡ desk.old }
 
-    // A picture is refused exactly where no front of its file spells one.
+    // A refused picture has the fault that is told, which is the only one that its file has.
     ensures picture { (f : PictureFault) → result ≡ Outcome.Picture f → Analyses (map (λ w. w.items) words.now) (λ file. RefusesPicture (D.files desk.old) file result)
         ⊎ Checks (map (λ w. w.items) words.now) (λ file report. RefusesPicture (D.files desk.old) file result) }
 
@@ -51,11 +52,19 @@ pub fn run<D: Desk>(alloc: Global, words: &[Vec<u8>], desk: &mut D) -> Outcome
 
     // Words of a form, an accepted picture, a report that is there and no risen count give an answer, but for want of memory.
     ensures analyse_complete { (file : List ℕ) → map (λ w. w.items) words.now ≡ words_of (Asked.AnalyseFlat file (codes "none"))
-        → FileIs (D.files desk.old) file (SpellsSome bare_form most_bytes)
+        → FileIs (D.files desk.old) file (SpellsSome most_side most_bytes)
         → (Rose (D.read_faults desk.old) (D.read_faults desk.new) → ⊥) → (Rose (D.write_faults desk.old) (D.write_faults desk.new) → ⊥) → IsAnalysed result }
     ensures check_complete { (file report : List ℕ) → map (λ w. w.items) words.now ≡ words_of (Asked.CheckFlat file report)
-        → FileIs (D.files desk.old) file (SpellsSome bare_form most_bytes) → FileIs (D.files desk.old) report (λ _. ⊤)
+        → FileIs (D.files desk.old) file (SpellsSome most_side most_bytes) → FileIs (D.files desk.old) report (λ _. ⊤)
         → (Rose (D.read_faults desk.old) (D.read_faults desk.new) → ⊥) → (Rose (D.write_faults desk.old) (D.write_faults desk.new) → ⊥) → IsJudged result }
+
+    // Words of a form and a picture with a fault give that fault where no count rose, but for want of memory.
+    ensures analyse_refused { (file : List ℕ) (f : PictureFault) → map (λ w. w.items) words.now ≡ words_of (Asked.AnalyseFlat file (codes "none"))
+        → FileIs (D.files desk.old) file (λ bytes. PlainFault most_side most_bytes bytes f)
+        → (Rose (D.read_faults desk.old) (D.read_faults desk.new) → ⊥) → IsRefused f result }
+    ensures check_refused { (file report : List ℕ) (f : PictureFault) → map (λ w. w.items) words.now ≡ words_of (Asked.CheckFlat file report)
+        → FileIs (D.files desk.old) file (λ bytes. PlainFault most_side most_bytes bytes f)
+        → (Rose (D.read_faults desk.old) (D.read_faults desk.new) → ⊥) → IsRefused f result }
 {
     match read_words(words) {
         Some(Command::Analyse { file }) => analyse_file(alloc, file, desk),

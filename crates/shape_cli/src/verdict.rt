@@ -2,9 +2,11 @@
 //! The report is judged line by line; nothing of it is kept.
 ghost use Rattle.std.specs.Prelude.{◌≡◌, ◌≤◌, ◌⊎◌, ℕ, length, take, ⊤};
 ghost use Rattle.shape_desk.specs.Desk.{Rose, IsMissing, PutsText, HasCause, KeepsOutput, KeepsPlaces};
-ghost use Rattle.shape_picture.specs.Answers.{bare_form, most_bytes, SpellsSome};
+ghost use Rattle.shape_picture.specs.Plain.{PlainFault};
+ghost use Rattle.shape_picture.specs.Answers.{most_side, most_bytes, SpellsSome};
+ghost use Rattle.shape_picture.specs.declared.fault.PictureFault.{PictureFault};
 ghost use Rattle.shape_check.specs.declared.answer.Judgement.TheVariants as judgement;
-ghost use Rattle.shape_cli.specs.Runs.{FileIs, RefusesPicture, Judged, IsCounted, verdict_text, GaveVerdict, CutVerdict, LacksReport, IsSilent, IsJudged};
+ghost use Rattle.shape_cli.specs.Runs.{FileIs, RefusesPicture, Judged, IsCounted, verdict_text, GaveVerdict, CutVerdict, LacksReport, IsSilent, IsRefused, IsJudged};
 ghost use Rattle.shape_cli.specs.Outcomes.{outcome_of};
 
 use crate::outcome::{Outcome, refused};
@@ -85,7 +87,8 @@ pub(crate) fn check_file<D: Desk>(
     ensures write_fault { result ≡ Outcome.WriteFault → CutVerdict (D.files desk.old) file.now report.now (D.written desk.old) (D.written desk.new) (D.write_faults desk.old) (D.write_faults desk.new) }
     ensures yes { result ≡ Outcome.Yes → GaveVerdict (D.files desk.old) file.now report.now (D.written desk.old) (D.written desk.new) judgement.Yes }
     ensures no { (k : ℕ) → result ≡ Outcome.No k → GaveVerdict (D.files desk.old) file.now report.now (D.written desk.old) (D.written desk.new) (judgement.No k) }
-    ensures complete { FileIs (D.files desk.old) file.now (SpellsSome bare_form most_bytes) → FileIs (D.files desk.old) report.now (λ _. ⊤) → (Rose (D.read_faults desk.old) (D.read_faults desk.new) → ⊥) → (Rose (D.write_faults desk.old) (D.write_faults desk.new) → ⊥) → IsJudged result }
+    ensures complete { FileIs (D.files desk.old) file.now (SpellsSome most_side most_bytes) → FileIs (D.files desk.old) report.now (λ _. ⊤) → (Rose (D.read_faults desk.old) (D.read_faults desk.new) → ⊥) → (Rose (D.write_faults desk.old) (D.write_faults desk.new) → ⊥) → IsJudged result }
+    ensures refused { (f : PictureFault) → FileIs (D.files desk.old) file.now (λ bytes. PlainFault most_side most_bytes bytes f) → (Rose (D.read_faults desk.old) (D.read_faults desk.new) → ⊥) → IsRefused f result }
     ensures silent { IsSilent result → D.written desk.new ≡ D.written desk.old }
     ensures files { D.files desk.new ≡ D.files desk.old }
     ensures read_later { D.read_faults desk.old ≤ D.read_faults desk.new }

@@ -1,18 +1,15 @@
 -- A file spells at most one picture or has at most one fault, and not both: each answer is read off one state.
--- The law's second half; `told_none` says it of a file that a desk tells.
-use Rattle.std.proofs.Common.{◌≡◌, ℕ, zero, suc, ◌+◌, ◌*◌, ◌<◌, ◌≤◌, Bool, true, false, List, [], ◌∷◌, ◌++◌, length, map, take, drop, Option, None, Some, All, refl, sym, ap, ◌∙◌, subst, inl, inr, ⊎_elim, arith}
+-- The law's second half, which the machine of `Machine` decides.
+use Rattle.std.proofs.Common.{◌≡◌, ℕ, zero, suc, ◌+◌, ◌*◌, ◌<◌, ◌≤◌, Bool, true, false, List, [], ◌∷◌, ◌++◌, length, map, take, drop, Some, All, refl, sym, ap, ◌∙◌, subst, inl, inr, ⊎_elim, arith}
 use Rattle.std.specs.Prelude.{◌||◌, ◌⊎◌, IsTrue, slice_get}
 use Rattle.std.proofs.lemmas.Bool.{cases_lt}
 use Rattle.std.proofs.lemmas.List.{append_assoc, length-map, length-take-le, length_push, take-append-drop, take-take, take_all, take_at}
 use Rattle.std.proofs.lemmas.List.Elements.{All-take, All-same}
-use Rattle.shape_picture.specs.declared.form.PlainForm.{PlainForm}
 use Rattle.shape_terms.specs.Points.{box_count}
 use Rattle.shape_terms.specs.Pictures.{Picture}
 use Rattle.shape_picture.specs.declared.fault.PictureFault.{PictureFault}
 use Rattle.shape_picture.specs.declared.fault.PictureFault.TheVariants as fault
 use Rattle.shape_picture.specs.Plain.{is_white, is_pixel, pixel_code, pixels_of, number_value, Plain, PlainFault, DecidesFault}
-use Rattle.shape_desk.specs.Line.{IfTold}
-use Rattle.shape_picture.specs.Answers.{SpellsNone}
 use Rattle.shape_picture.proofs.Grammar.{pixels_of-pixel}
 use Rattle.shape_picture.proofs.Machine.{State, run, state_of, onward, run_full, run_stop, IsOpenState}
 use Rattle.shape_picture.proofs.FrontStates.{not_white_of_pixel, heading_run, in_raster_run, open_of, decided_step}
@@ -72,10 +69,10 @@ same_by_parts f a c b d x y = cc
 same_picture : (X Y : Picture) → X.sides ≡ Y.sides → X.values ≡ Y.values → X ≡ Y
 same_picture X Y s c = same_by_parts (λ s c. record { sides = s; values = c }) X.sides Y.sides X.values Y.values s c
 
-module _ (form : PlainForm) (longest : ℕ) (bytes : List ℕ) where
+module _ (limit longest : ℕ) (bytes : List ℕ) where
   -- the state after as many bytes as are looked at
   abbrev end_state : State
-  end_state = state_of form (take longest bytes)
+  end_state = state_of limit (take longest bytes)
 
   -- ---- a picture
 
@@ -92,11 +89,11 @@ module _ (form : PlainForm) (longest : ℕ) (bytes : List ℕ) where
   times_one : (a b : ℕ) → a * (b * 1) ≡ a * b
   times_one a b = grind arith
 
-  whole_pixels : (X : Picture) (m : ℕ) (p : Plain form longest bytes X m) → length (pixels_of p.raster) ≡ number_value p.width * number_value p.height
+  whole_pixels : (X : Picture) (m : ℕ) (p : Plain limit longest bytes X m) → length (pixels_of p.raster) ≡ number_value p.width * number_value p.height
   whole_pixels X m p = ap length p.values ∙ length-map X.values pixel_code ∙ p.filled ∙ ap box_count p.sides ∙ times_one (number_value p.width) (number_value p.height)
 
   -- from the last pixel on
-  whole_from : (X : Picture) (m n : ℕ) → Plain form longest bytes X m → m ≤ n → IsWholePicture X (state_of form (take n bytes))
+  whole_from : (X : Picture) (m n : ℕ) → Plain limit longest bytes X m → m ≤ n → IsWholePicture X (state_of limit (take n bytes))
   whole_from X m n p l =
       let e = whole_pixels X m p in
       let w = number_value p.width in
@@ -106,16 +103,16 @@ module _ (form : PlainForm) (longest : ℕ) (bytes : List ℕ) where
         w = w;
         h = h;
         pixels = pixels_of p.raster;
-        is = ap (state_of form) split ∙ onward form (take m bytes) (drop m (take n bytes))
-            ∙ ap (λ (s : State). run form (length (take m bytes)) s (drop m (take n bytes))) (in_raster_run form (take m bytes) p.width p.height p.raster p.front (omega arith))
-            ∙ run_full form (drop m (take n bytes)) (length (take m bytes)) w h false (pixels_of p.raster) (omega arith);
+        is = ap (state_of limit) split ∙ onward limit (take m bytes) (drop m (take n bytes))
+            ∙ ap (λ (s : State). run limit (length (take m bytes)) s (drop m (take n bytes))) (in_raster_run limit (take m bytes) p.width p.height p.raster p.front (omega arith))
+            ∙ run_full limit (drop m (take n bytes)) (length (take m bytes)) w h false (pixels_of p.raster) (omega arith);
         full = omega arith;
         sides = p.sides;
         values = p.values;
       }
 
-  whole_not_open : (X : Picture) (s : State) → IsWholePicture X s → IsOpenState form s → ⊥
-  whole_not_open X s h o = let l = subst (IsOpenState form) h.is o in omega (arith, h.full)
+  whole_not_open : (X : Picture) (s : State) → IsWholePicture X s → IsOpenState limit s → ⊥
+  whole_not_open X s h o = let l = subst (IsOpenState limit) h.is o in omega (arith, h.full)
 
   whole_not_stop : (X : Picture) (s : State) (f : PictureFault) → IsWholePicture X s → s ≡ State.AtFault f → ⊥
   whole_not_stop X s f h e = let k : State.AtRaster false h.w h.h h.pixels ≡ State.AtFault f = sym h.is ∙ e in cc
@@ -136,7 +133,7 @@ module _ (form : PlainForm) (longest : ℕ) (bytes : List ℕ) where
   some_product : (a b : ℕ) → 1 ≤ a → 1 ≤ b → 0 < a * b
   some_product a b l m = grind arith
 
-  open_last : (X : Picture) (m : ℕ) (p : Plain form longest bytes X m) → IsOpenState form (state_of form (take p.last.0 bytes))
+  open_last : (X : Picture) (m : ℕ) (p : Plain limit longest bytes X m) → IsOpenState limit (state_of limit (take p.last.0 bytes))
   open_last X m p =
       let k = p.last.0 in
       let c = p.last.2.0 in
@@ -159,24 +156,24 @@ module _ (form : PlainForm) (longest : ℕ) (bytes : List ℕ) where
       let pixels : pixels_of p.raster ≡ pixels_of r.front ++ r.last ∷ [] = ap pixels_of r.is ∙ pixels_of-pixel r.front r.last (not_white_of_pixel r.last pixel) in
       let one_less : length (pixels_of r.front) + 1 ≡ w * h = sym (length_push (pixels_of r.front) r.last) ∙ sym (ap length pixels) ∙ e in
       let all : All (λ c. IsTrue (is_pixel c || is_white c)) r.front = All-same (λ c. IsTrue (is_pixel c || is_white c)) r.front (take (length r.front) p.raster) (sym (ap (take (length r.front)) r.is ∙ take_at r.front (r.last ∷ []) (length r.front) refl)) (All-take (λ c. IsTrue (is_pixel c || is_white c)) (length r.front) p.raster i.bytes) in
-      let state : state_of form (take k bytes) ≡ State.AtRaster false w h (pixels_of r.front) = ap (state_of form) before ∙ heading_run form i.before p.width p.height i.gap r.front i.in_height i.height_done i.is_gap all (omega (arith, one_less)) in
+      let state : state_of limit (take k bytes) ≡ State.AtRaster false w h (pixels_of r.front) = ap (state_of limit) before ∙ heading_run limit i.before p.width p.height i.gap r.front i.in_height i.height_done i.is_gap all (omega (arith, one_less)) in
       let less : length (pixels_of r.front) < w * h = omega (arith, one_less) in
-      subst (IsOpenState form) (sym state) less
+      subst (IsOpenState limit) (sym state) less
 
   -- ---- a fault
 
   abbrev Ends : PictureFault → Type 0
-  Ends f = (end_state ≡ State.AtFault f) ⊎ (IsOpenState form end_state × (((length bytes < longest) × (f ≡ fault.Short (length bytes))) ⊎ ((longest ≤ length bytes) × (f ≡ fault.TooLong))))
+  Ends f = (end_state ≡ State.AtFault f) ⊎ (IsOpenState limit end_state × (((length bytes < longest) × (f ≡ fault.Short (length bytes))) ⊎ ((longest ≤ length bytes) × (f ≡ fault.TooLong))))
 
-  decided_end : (i c : ℕ) (f : PictureFault) → i < longest → slice_get bytes i ≡ Some c → DecidesFault form (take i bytes) c f → end_state ≡ State.AtFault f
+  decided_end : (i c : ℕ) (f : PictureFault) → i < longest → slice_get bytes i ≡ Some c → DecidesFault limit (take i bytes) c f → end_state ≡ State.AtFault f
   decided_end i c f l g d =
       let r = split_got (take longest bytes) i c (got_taken bytes i longest l ∙ g) in
       let t : take i (take longest bytes) ≡ take i bytes = take-take i longest bytes (omega arith) in
       let rest = drop (suc i) (take longest bytes) in
-      ap (state_of form) (r.0 ∙ ap (λ (x : List ℕ). x ++ c ∷ rest) t) ∙ onward form (take i bytes) (c ∷ rest)
-      ∙ ap (λ (s : State). run form (length (take i bytes) + 1) s rest) (decided_step form (take i bytes) c f d) ∙ run_stop form rest (length (take i bytes) + 1) f
+      ap (state_of limit) (r.0 ∙ ap (λ (x : List ℕ). x ++ c ∷ rest) t) ∙ onward limit (take i bytes) (c ∷ rest)
+      ∙ ap (λ (s : State). run limit (length (take i bytes) + 1) s rest) (decided_step limit (take i bytes) c f d) ∙ run_stop limit rest (length (take i bytes) + 1) f
 
-  ends : (f : PictureFault) → PlainFault form longest bytes f → Ends f
+  ends : (f : PictureFault) → PlainFault limit longest bytes f → Ends f
   ends fault.NotPlain (i, c, l, g, d) = inl (decided_end i c fault.NotPlain l g d)
   ends (fault.BadNumber n) (i, c, l, g, d) = inl (decided_end i c (fault.BadNumber n) l g d)
   ends fault.ZeroSide (i, c, l, g, d) = inl (decided_end i c fault.ZeroSide l g d)
@@ -184,27 +181,27 @@ module _ (form : PlainForm) (longest : ℕ) (bytes : List ℕ) where
   ends (fault.BadByte n) (i, c, l, g, d) = inl (decided_end i c (fault.BadByte n) l g d)
   ends (fault.Short n) (e, l, u) =
       let t : take longest bytes ≡ bytes = take_all longest bytes (omega arith) in
-      inr (rw t (open_of form bytes u), inl (omega arith, ap fault.Short e))
-  ends fault.TooLong (l, u) = inr (open_of form (take longest bytes) u, inr (l, refl))
+      inr (rw t (open_of limit bytes u), inl (omega arith, ap fault.Short e))
+  ends fault.TooLong (l, u) = inr (open_of limit (take longest bytes) u, inr (l, refl))
 
-  stop_not_open : (s : State) (f : PictureFault) → s ≡ State.AtFault f → IsOpenState form s → ⊥
-  stop_not_open s f e o = subst (IsOpenState form) e o
+  stop_not_open : (s : State) (f : PictureFault) → s ≡ State.AtFault f → IsOpenState limit s → ⊥
+  stop_not_open s f e o = subst (IsOpenState limit) e o
 
   -- ---- the laws
 
-  pub one_picture : (X Y : Picture) (m n : ℕ) → Plain form longest bytes X m → Plain form longest bytes Y n → X ≡ Y
+  pub one_picture : (X Y : Picture) (m n : ℕ) → Plain limit longest bytes X m → Plain limit longest bytes Y n → X ≡ Y
   one_picture X Y m n p q = same_whole X Y end_state (whole_from X m longest p p.short) (whole_from Y n longest q q.short)
 
-  not_later : (X Y : Picture) (m n : ℕ) → Plain form longest bytes X m → Plain form longest bytes Y n → m < n → ⊥
+  not_later : (X Y : Picture) (m n : ℕ) → Plain limit longest bytes X m → Plain limit longest bytes Y n → m < n → ⊥
   not_later X Y m n p q l =
       let k = q.last.0 in
-      whole_not_open X (state_of form (take k bytes)) (whole_from X m k p (omega (arith, q.last.1))) (open_last Y n q)
+      whole_not_open X (state_of limit (take k bytes)) (whole_from X m k p (omega (arith, q.last.1))) (open_last Y n q)
 
-  pub one_length : (X Y : Picture) (m n : ℕ) → Plain form longest bytes X m → Plain form longest bytes Y n → m ≡ n
+  pub one_length : (X Y : Picture) (m n : ℕ) → Plain limit longest bytes X m → Plain limit longest bytes Y n → m ≡ n
   one_length X Y m n p q =
       ⊎_elim (λ l. absurd (not_later X Y m n p q l)) (λ l. ⊎_elim (λ k. absurd (not_later Y X n m q p k)) (λ k. omega arith) (cases_lt n m)) (cases_lt m n)
 
-  pub not_both : (X : Picture) (m : ℕ) (f : PictureFault) → Plain form longest bytes X m → PlainFault form longest bytes f → ⊥
+  pub not_both : (X : Picture) (m : ℕ) (f : PictureFault) → Plain limit longest bytes X m → PlainFault limit longest bytes f → ⊥
   not_both X m f p g =
       let w = whole_from X m longest p p.short in
       ⊎_elim (λ e. whole_not_stop X end_state f w e) (λ o. whole_not_open X end_state w o.0) (ends f g)
@@ -218,10 +215,5 @@ module _ (form : PlainForm) (longest : ℕ) (bytes : List ℕ) where
   same_fault f g (inr (o, inr a)) (inr (p, inl b)) = absurd (omega (arith, a.0, b.0))
   same_fault f g (inr (o, inr a)) (inr (p, inr b)) = a.1 ∙ sym b.1
 
-  pub one_fault : (f g : PictureFault) → PlainFault form longest bytes f → PlainFault form longest bytes g → f ≡ g
+  pub one_fault : (f g : PictureFault) → PlainFault limit longest bytes f → PlainFault limit longest bytes g → f ≡ g
   one_fault f g a b = same_fault f g (ends f a) (ends g b)
-
--- a file with a fault spells no picture
-pub told_none : (form : PlainForm) (longest : ℕ) (all : Option (List ℕ)) (f : PictureFault) → IfTold all (λ bytes. PlainFault form longest bytes f) → IfTold all (SpellsNone form longest)
-told_none form longest None f h = tt
-told_none form longest (Some bytes) f h = λ s. not_both form longest bytes s.0 s.1.0 f s.1.1 h

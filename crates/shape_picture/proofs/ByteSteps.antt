@@ -3,7 +3,6 @@
 use Rattle.std.proofs.Common.{◌≡◌, ℕ, ◌+◌, ◌-◌, ◌<◌, ◌≤◌, max, List, [], ◌∷◌, ◌++◌, length, take, Option, None, Some, Ok, Err, refl, sym, arith}
 use Rattle.std.specs.Prelude.{slice_get}
 use Rattle.std.proofs.lemmas.List.{append_assoc, append-nil, length-append, take_at}
-use Rattle.shape_picture.specs.declared.form.PlainForm.{PlainForm}
 use Rattle.shape_desk.specs.Desk.{Takes, IsEnd, Rose}
 use Rattle.shape_desk.specs.Line.{IfTold, ahead_of}
 use Rattle.shape_picture.specs.declared.fault.PictureFault.{PictureFault}
@@ -34,23 +33,23 @@ byte_at : (front rest : List ℕ) (c : ℕ) → slice_get (front ++ c ∷ rest) 
 byte_at [] rest c = refl
 byte_at (x ∷ front) rest c = byte_at front rest c
 
-module _ (form : PlainForm) (longest : ℕ) where
-  short_bytes : (front : List ℕ) (at : ℕ) → length front ≡ at → at < longest → IsUnfinished form front → PlainFault form longest front (fault.Short at)
+module _ (limit longest : ℕ) where
+  short_bytes : (front : List ℕ) (at : ℕ) → length front ≡ at → at < longest → IsUnfinished limit front → PlainFault limit longest front (fault.Short at)
   short_bytes front at e l u = (sym e, l, u)
 
   -- the file ends too early
-  pub short_fault : (all left : Option (List ℕ)) (front : List ℕ) (at : ℕ) → Takes all left front → IsEnd left → length front ≡ at → at < longest → IsUnfinished form front → IfTold all (λ bytes. PlainFault form longest bytes (fault.Short at))
+  pub short_fault : (all left : Option (List ℕ)) (front : List ℕ) (at : ℕ) → Takes all left front → IsEnd left → length front ≡ at → at < longest → IsUnfinished limit front → IfTold all (λ bytes. PlainFault limit longest bytes (fault.Short at))
   short_fault all None front at e z l m u = rw e tt
   short_fault all (Some xs) front at e z l m u = rw (e, z, append-nil front) (sym l, m, u)
 
   -- the greatest length is reached
-  pub long_fault : (all left : Option (List ℕ)) (front : List ℕ) → Takes all left front → length front ≡ longest → IsUnfinished form front → IfTold all (λ bytes. PlainFault form longest bytes fault.TooLong)
+  pub long_fault : (all left : Option (List ℕ)) (front : List ℕ) → Takes all left front → length front ≡ longest → IsUnfinished limit front → IfTold all (λ bytes. PlainFault limit longest bytes fault.TooLong)
   long_fault all None front e l u = rw e tt
   long_fault all (Some xs) front e l u =
       let t : take longest (front ++ xs) ≡ front = take_at front xs longest l in
       rw e (omega (arith, length-append front xs), rw t u)
 
-  decided : (front rest : List ℕ) (c : ℕ) (f : PictureFault) → length front < longest → DecidesFault form front c f → PlainFault form longest (front ++ c ∷ rest) f
+  decided : (front rest : List ℕ) (c : ℕ) (f : PictureFault) → length front < longest → DecidesFault limit front c f → PlainFault limit longest (front ++ c ∷ rest) f
   decided front rest c fault.NotPlain l d = (length front, c, l, byte_at front rest c, rw (take_at front (c ∷ rest) (length front) refl) d)
   decided front rest c (fault.BadNumber i) l d = (length front, c, l, byte_at front rest c, rw (take_at front (c ∷ rest) (length front) refl) d)
   decided front rest c fault.ZeroSide l d = (length front, c, l, byte_at front rest c, rw (take_at front (c ∷ rest) (length front) refl) d)
@@ -60,11 +59,11 @@ module _ (form : PlainForm) (longest : ℕ) where
   decided front rest c fault.TooLong l d = absurd d
 
   -- the byte just taken decides
-  pub byte_fault : (all left : Option (List ℕ)) (front : List ℕ) (c : ℕ) (f : PictureFault) → Takes all left (front ++ c ∷ []) → length front < longest → DecidesFault form front c f → IfTold all (λ bytes. PlainFault form longest bytes f)
+  pub byte_fault : (all left : Option (List ℕ)) (front : List ℕ) (c : ℕ) (f : PictureFault) → Takes all left (front ++ c ∷ []) → length front < longest → DecidesFault limit front c f → IfTold all (λ bytes. PlainFault limit longest bytes f)
   byte_fault all None front c f e l d = rw e tt
   byte_fault all (Some xs) front c f e l d = rw (e, append_assoc front (c ∷ []) xs) (decided front xs c f l d)
 
-module _ (form : PlainForm) (longest at : ℕ) (all old new : Option (List ℕ)) (before_ahead ahead front : List ℕ) (before now : ℕ) where
+module _ (limit longest at : ℕ) (all old new : Option (List ℕ)) (before_ahead ahead front : List ℕ) (before now : ℕ) where
   -- nothing more was taken
   pub still_taken : BytesTaken longest at all old before_ahead front → at < longest → ahead_of ahead new ≡ ahead_of before_ahead old → length ahead ≤ max (length before_ahead) (longest - at) → BytesTaken longest at all new ahead front
   still_taken h m e l = record {
@@ -73,33 +72,33 @@ module _ (form : PlainForm) (longest at : ℕ) (all old new : Option (List ℕ))
     room = omega (arith, h.room);
   }
 
-  pub ends_short : BytesTaken longest at all old before_ahead front → IsUnfinished form front → at < longest → (ahead_of ahead new ≡ ahead_of before_ahead old) × IsEnd (ahead_of ahead new) → length ahead ≤ max (length before_ahead) (longest - at) → ReadStopped form longest all new before now (error.Bad (fault.Short at))
+  pub ends_short : BytesTaken longest at all old before_ahead front → IsUnfinished limit front → at < longest → (ahead_of ahead new ≡ ahead_of before_ahead old) × IsEnd (ahead_of ahead new) → length ahead ≤ max (length before_ahead) (longest - at) → ReadStopped limit longest all new before now (error.Bad (fault.Short at))
   ends_short h u m e l =
       let t = still_taken h m e.0 l in
-      record { comes = short_fault form longest all (ahead_of ahead new) front at t.takes e.1 h.many m u; within = taken_within longest at all new ahead front t }
+      record { comes = short_fault limit longest all (ahead_of ahead new) front at t.takes e.1 h.many m u; within = taken_within longest at all new ahead front t }
 
-  pub ends_failed : BytesTaken longest at all old before_ahead front → at < longest → (ahead_of ahead new ≡ ahead_of before_ahead old) × Rose before now → length ahead ≤ max (length before_ahead) (longest - at) → ReadStopped form longest all new before now error.ReadFault
+  pub ends_failed : BytesTaken longest at all old before_ahead front → at < longest → (ahead_of ahead new ≡ ahead_of before_ahead old) × Rose before now → length ahead ≤ max (length before_ahead) (longest - at) → ReadStopped limit longest all new before now error.ReadFault
   ends_failed h m e l = record { comes = e.1; within = taken_within longest at all new ahead front (still_taken h m e.0 l) }
 
-pub stops_bad : (form : PlainForm) (longest at : ℕ) (all left : Option (List ℕ)) (ahead front : List ℕ) (c before now : ℕ) (f : PictureFault) → BytesTaken longest (at + 1) all left ahead (front ++ c ∷ []) → length front < longest → DecidesFault form front c f → ReadStopped form longest all left before now (error.Bad f)
-stops_bad form longest at all left ahead front c before now f h l d = record {
-  comes = byte_fault form longest all (ahead_of ahead left) front c f h.takes l d;
+pub stops_bad : (limit longest at : ℕ) (all left : Option (List ℕ)) (ahead front : List ℕ) (c before now : ℕ) (f : PictureFault) → BytesTaken longest (at + 1) all left ahead (front ++ c ∷ []) → length front < longest → DecidesFault limit front c f → ReadStopped limit longest all left before now (error.Bad f)
+stops_bad limit longest at all left ahead front c before now f h l d = record {
+  comes = byte_fault limit longest all (ahead_of ahead left) front c f h.takes l d;
   within = taken_within longest (at + 1) all left ahead (front ++ c ∷ []) h;
 }
 
-pub stops_long : (form : PlainForm) (longest at : ℕ) (all left : Option (List ℕ)) (ahead front : List ℕ) (before now : ℕ) → BytesTaken longest at all left ahead front → longest ≤ at → IsUnfinished form front → ReadStopped form longest all left before now (error.Bad fault.TooLong)
-stops_long form longest at all left ahead front before now h l u = record {
-  comes = long_fault form longest all (ahead_of ahead left) front h.takes (omega (arith, h.room, h.many)) u;
+pub stops_long : (limit longest at : ℕ) (all left : Option (List ℕ)) (ahead front : List ℕ) (before now : ℕ) → BytesTaken longest at all left ahead front → longest ≤ at → IsUnfinished limit front → ReadStopped limit longest all left before now (error.Bad fault.TooLong)
+stops_long limit longest at all left ahead front before now h l u = record {
+  comes = long_fault limit longest all (ahead_of ahead left) front h.takes (omega (arith, h.room, h.many)) u;
   within = taken_within longest at all left ahead front h;
 }
 
 -- an error of a later part is one of the whole
-pub stops_earlier : (form : PlainForm) (longest : ℕ) (all left : Option (List ℕ)) (before mid now : ℕ) (e : PictureError) → before ≤ mid → ReadStopped form longest all left mid now e → ReadStopped form longest all left before now e
-stops_earlier form longest all left before mid now (error.Bad f) l h = record { comes = h.comes; within = h.within }
-stops_earlier form longest all left before mid now error.ReadFault l h = record { comes = rose_earlier before mid now l h.comes; within = h.within }
-stops_earlier form longest all left before mid now error.NoMemory l h = record { comes = tt; within = h.within }
+pub stops_earlier : (limit longest : ℕ) (all left : Option (List ℕ)) (before mid now : ℕ) (e : PictureError) → before ≤ mid → ReadStopped limit longest all left mid now e → ReadStopped limit longest all left before now e
+stops_earlier limit longest all left before mid now (error.Bad f) l h = record { comes = h.comes; within = h.within }
+stops_earlier limit longest all left before mid now error.ReadFault l h = record { comes = rose_earlier before mid now l h.comes; within = h.within }
+stops_earlier limit longest all left before mid now error.NoMemory l h = record { comes = tt; within = h.within }
 
 -- an answer of a later part is one of the whole
-pub answer_earlier : (form : PlainForm) (longest : ℕ) (all left : Option (List ℕ)) (before mid now : ℕ) (r : Result Picture PictureError) → before ≤ mid → PictureAnswer form longest all left mid now r → PictureAnswer form longest all left before now r
-answer_earlier form longest all left before mid now (Ok X) l h = h
-answer_earlier form longest all left before mid now (Err e) l h = stops_earlier form longest all left before mid now e l h
+pub answer_earlier : (limit longest : ℕ) (all left : Option (List ℕ)) (before mid now : ℕ) (r : Result Picture PictureError) → before ≤ mid → PictureAnswer limit longest all left mid now r → PictureAnswer limit longest all left before now r
+answer_earlier limit longest all left before mid now (Ok X) l h = h
+answer_earlier limit longest all left before mid now (Err e) l h = stops_earlier limit longest all left before mid now e l h

@@ -5,7 +5,6 @@ use Rattle.std.specs.Prelude.{◌||◌, codes, IsTrue, slice_get, filter, not}
 use Rattle.std.proofs.lemmas.List.{append_assoc, append-nil}
 use Rattle.std.proofs.lemmas.List.Elements.{All-nil, All-push}
 use Rattle.std.proofs.lemmas.Grind.{fold-append}
-use Rattle.shape_picture.specs.declared.form.PlainForm.{PlainForm}
 use Rattle.shape_picture.specs.Plain.{is_white, is_line_end, is_pixel, IsDigit, IsGap, IsGapPiece, IsSide, IsInWidth, IsInHeight, IsInRaster, IsInPicture, number_value, pixels_of}
 use Rattle.shape_picture.specs.Header.{GapLeadsTo, CommentLeadsTo}
 
@@ -26,13 +25,13 @@ glue_text front a d c e = rw (e, append_assoc) refl
 -- ---- gaps
 
 -- a gap goes on by a piece
-pub gap_push : {form : PlainForm} {gap piece : List ℕ} → IsGap form gap → IsGapPiece form piece → IsGap form (gap ++ piece)
+pub gap_push : {gap piece : List ℕ} → IsGap gap → IsGapPiece piece → IsGap (gap ++ piece)
 gap_push {piece} (IsGap.one {piece = p} h) q = IsGap.more p piece h (IsGap.one q)
 gap_push {piece} (IsGap.more p gap h g) q = rw append_assoc (IsGap.more p (gap ++ piece) h (gap_push g q))
 
-module _ (form : PlainForm) where
+module _ (limit : ℕ) where
   -- the six places where a gap may begin or go on, and what it leads to
-  pub magic_opens : (front : List ℕ) → front ≡ codes "P1" → GapLeadsTo form (λ f. IsInWidth form f []) front
+  pub magic_opens : (front : List ℕ) → front ≡ codes "P1" → GapLeadsTo limit (λ f. IsInWidth limit f []) front
   magic_opens front e = record {
     may = inl e;
     onward = λ piece p. record {
@@ -44,7 +43,7 @@ module _ (form : PlainForm) where
     };
   }
 
-  pub width_opens : (front : List ℕ) → IsInWidth form front [] → GapLeadsTo form (λ f. IsInWidth form f []) front
+  pub width_opens : (front : List ℕ) → IsInWidth limit front [] → GapLeadsTo limit (λ f. IsInWidth limit f []) front
   width_opens front h = record {
     may = inr (inl ([], inl h, inl refl));
     onward = λ piece p. record {
@@ -56,7 +55,7 @@ module _ (form : PlainForm) where
     };
   }
 
-  pub width_done_opens : (front digits : List ℕ) → IsInWidth form front digits → IsSide form digits → GapLeadsTo form (λ f. IsInHeight form f digits []) front
+  pub width_done_opens : (front digits : List ℕ) → IsInWidth limit front digits → IsSide limit digits → GapLeadsTo limit (λ f. IsInHeight limit f digits []) front
   width_done_opens front digits h s = record {
     may = inr (inl (digits, inl h, inr s));
     onward = λ piece p. record {
@@ -71,7 +70,7 @@ module _ (form : PlainForm) where
     };
   }
 
-  pub height_opens : (front width : List ℕ) → IsInHeight form front width [] → GapLeadsTo form (λ f. IsInHeight form f width []) front
+  pub height_opens : (front width : List ℕ) → IsInHeight limit front width [] → GapLeadsTo limit (λ f. IsInHeight limit f width []) front
   height_opens front width h = record {
     may = inr (inl ([], inr (width, h), inl refl));
     onward = λ piece p. record {
@@ -86,7 +85,7 @@ module _ (form : PlainForm) where
     };
   }
 
-  pub height_done_opens : (front width digits : List ℕ) → IsInHeight form front width digits → IsSide form digits → GapLeadsTo form (λ f. IsInRaster form f width digits []) front
+  pub height_done_opens : (front width digits : List ℕ) → IsInHeight limit front width digits → IsSide limit digits → GapLeadsTo limit (λ f. IsInRaster limit f width digits []) front
   height_done_opens front width digits h s = record {
     may = inr (inl (digits, inr (width, h), inr s));
     onward = λ piece p. record {
@@ -105,10 +104,10 @@ module _ (form : PlainForm) where
   some_pixels : (w h : ℕ) → 1 ≤ w → 1 ≤ h → 0 < w * h
   some_pixels w h a b = grind arith
 
-  pub none_yet : (front width height : List ℕ) → IsInRaster form front width height [] → IsInPicture form front []
+  pub none_yet : (front width height : List ℕ) → IsInRaster limit front width height [] → IsInPicture limit front []
   none_yet front width height h = (width, height, h, some_pixels (number_value width) (number_value height) h.in_height.width_done.value.0 h.height_done.value.0)
 
-  pub raster_opens : (front width height : List ℕ) → IsInRaster form front width height [] → GapLeadsTo form (λ f. IsInRaster form f width height []) front
+  pub raster_opens : (front width height : List ℕ) → IsInRaster limit front width height [] → GapLeadsTo limit (λ f. IsInRaster limit f width height []) front
   raster_opens front width height h = record {
     may = inr (inr (none_yet front width height h));
     onward = λ piece p. record {
@@ -126,32 +125,30 @@ module _ (form : PlainForm) where
   -- ---- a byte more in a gap or a comment
 
   module _ (T : List ℕ → Type 0) where
-    pub open_white : (front : List ℕ) (c : ℕ) → GapLeadsTo form T front → is_white c ≡ true → T (front ++ c ∷ [])
+    pub open_white : (front : List ℕ) (c : ℕ) → GapLeadsTo limit T front → is_white c ≡ true → T (front ++ c ∷ [])
     open_white front c h w = h.onward (c ∷ []) (IsGapPiece.white c w)
 
-    pub open_comment : (front : List ℕ) (c : ℕ) → IsTrue form.comments → GapLeadsTo form T front → c ≡ 35 → CommentLeadsTo form T (front ++ c ∷ [])
-    open_comment front c y h e = record {
+    pub open_comment : (front : List ℕ) (c : ℕ) → GapLeadsTo limit T front → c ≡ 35 → CommentLeadsTo limit T (front ++ c ∷ [])
+    open_comment front c h e = record {
       before = front;
       text = [];
-      allowed = y;
       opens = h;
       no_end = All-nil (λ b. is_line_end b ≡ false);
       front_is = ap (λ (n : ℕ). front ++ n ∷ []) e;
     }
 
-    pub comment_more : (front : List ℕ) (c : ℕ) → CommentLeadsTo form T front → is_line_end c ≡ false → CommentLeadsTo form T (front ++ c ∷ [])
+    pub comment_more : (front : List ℕ) (c : ℕ) → CommentLeadsTo limit T front → is_line_end c ≡ false → CommentLeadsTo limit T (front ++ c ∷ [])
     comment_more front c h e = record {
       before = h.before;
       text = h.text ++ c ∷ [];
-      allowed = h.allowed;
       opens = h.opens;
       no_end = All-push (λ b. is_line_end b ≡ false) h.text c h.no_end e;
       front_is = glue_text front h.before h.text c h.front_is;
     }
 
-    pub comment_done : (front : List ℕ) (c : ℕ) → CommentLeadsTo form T front → is_line_end c ≡ true → T (front ++ c ∷ [])
+    pub comment_done : (front : List ℕ) (c : ℕ) → CommentLeadsTo limit T front → is_line_end c ≡ true → T (front ++ c ∷ [])
     comment_done front c h e =
-        rw (glue_text front h.before h.text c h.front_is) (h.opens.onward (35 ∷ (h.text ++ c ∷ [])) (IsGapPiece.comment h.allowed h.text c h.no_end e))
+        rw (glue_text front h.before h.text c h.front_is) (h.opens.onward (35 ∷ (h.text ++ c ∷ [])) (IsGapPiece.comment h.text c h.no_end e))
 
   -- ---- a digit more
 
@@ -159,7 +156,7 @@ module _ (form : PlainForm) where
   pub number_value-push : (digits : List ℕ) (c : ℕ) → number_value (digits ++ c ∷ []) ≡ number_value digits * 10 + (c - 48)
   number_value-push digits c = fold-append (λ n c. n * 10 + (c - 48)) 0 digits (c ∷ [])
 
-  pub width_digit : (front digits : List ℕ) (c : ℕ) → IsInWidth form front digits → IsDigit c → number_value digits * 10 + (c - 48) ≤ form.limit → IsInWidth form (front ++ c ∷ []) (digits ++ c ∷ [])
+  pub width_digit : (front digits : List ℕ) (c : ℕ) → IsInWidth limit front digits → IsDigit c → number_value digits * 10 + (c - 48) ≤ limit → IsInWidth limit (front ++ c ∷ []) (digits ++ c ∷ [])
   width_digit front digits c h d l = record {
     gap = h.gap;
     is_gap = h.is_gap;
@@ -168,7 +165,7 @@ module _ (form : PlainForm) where
     front_is = glue_byte front (codes "P1") h.gap digits c h.front_is;
   }
 
-  pub height_digit : (front width digits : List ℕ) (c : ℕ) → IsInHeight form front width digits → IsDigit c → number_value digits * 10 + (c - 48) ≤ form.limit → IsInHeight form (front ++ c ∷ []) width (digits ++ c ∷ [])
+  pub height_digit : (front width digits : List ℕ) (c : ℕ) → IsInHeight limit front width digits → IsDigit c → number_value digits * 10 + (c - 48) ≤ limit → IsInHeight limit (front ++ c ∷ []) width (digits ++ c ∷ [])
   height_digit front width digits c h d l = record {
     before = h.before;
     gap = h.gap;
@@ -187,7 +184,7 @@ module _ (form : PlainForm) where
   first_of_push (x ∷ raster) c h p d e = h d e
 
   -- a pixel or white space more
-  pub raster_byte : (front width height raster : List ℕ) (c : ℕ) → IsInRaster form front width height raster → (is_pixel c || is_white c) ≡ true → (raster ≡ [] → is_pixel c ≡ true) → IsInRaster form (front ++ c ∷ []) width height (raster ++ c ∷ [])
+  pub raster_byte : (front width height raster : List ℕ) (c : ℕ) → IsInRaster limit front width height raster → (is_pixel c || is_white c) ≡ true → (raster ≡ [] → is_pixel c ≡ true) → IsInRaster limit (front ++ c ∷ []) width height (raster ++ c ∷ [])
   raster_byte front width height raster c h b p = record {
     before = h.before;
     gap = h.gap;

@@ -1,10 +1,9 @@
 -- A file read by the two machines as one, whose states say all that is known of a front of it.
 -- Used by the law alone: each part of the grammar is run, so that a front leads to one state and two answers never fit.
 use Rattle.std.proofs.Common.{◌≡◌, ℕ, ◌+◌, ◌-◌, ◌*◌, ◌<◌, ◌≤◌, Bool, true, false, eqb, leb, fold, List, [], ◌∷◌, ◌++◌, length, Ok, Err, Result, All, refl, sym, ap, subst, ◌∙◌, ⊎_elim, arith}
-use Rattle.std.specs.Prelude.{◌||◌, ◌==◌, nat_lt, if◌then◌else◌, IsTrue, codes}
+use Rattle.std.specs.Prelude.{◌||◌, ◌==◌, nat_lt, if◌then◌else◌, codes}
 use Rattle.std.proofs.lemmas.Bool.{eqb-true, ne_eqb, or_cases, lt-ltb, le-ltb, le-leb, and_from}
 use Rattle.std.proofs.lemmas.List.Elements.{All-head, All-tail}
-use Rattle.shape_picture.specs.declared.form.PlainForm.{PlainForm}
 use Rattle.shape_picture.specs.declared.fault.PictureFault.{PictureFault}
 use Rattle.shape_picture.specs.declared.header.Side.{Side}
 use Rattle.shape_picture.specs.declared.header.Side.TheVariants as side
@@ -38,15 +37,15 @@ after_piece w h px c (Ok (piece.Pixel b)) = State.AtRaster false w h (px ++ c �
 after_piece w h px c (Err f) = State.AtFault f
 
 -- one byte more; a whole picture and a fault stay
-abbrev pub state_step : PlainForm → ℕ → State → ℕ → State
-state_step form at (State.AtHeader s) c = after_progress (header_step form at s c)
-state_step form at (State.AtRaster k w h px) c = if nat_lt (length px) (w * h) then after_piece w h px c (piece_of form k (length px) at c) else State.AtRaster k w h px
-state_step form at (State.AtFault f) c = State.AtFault f
+abbrev pub state_step : ℕ → ℕ → State → ℕ → State
+state_step limit at (State.AtHeader s) c = after_progress (header_step limit at s c)
+state_step limit at (State.AtRaster k w h px) c = if nat_lt (length px) (w * h) then after_piece w h px c (piece_of k (length px) at c) else State.AtRaster k w h px
+state_step limit at (State.AtFault f) c = State.AtFault f
 
 -- some bytes more, the first of them at this place
-abbrev pub run : PlainForm → ℕ → State → List ℕ → State
-run form at s [] = s
-run form at s (c ∷ cs) = run form (at + 1) (state_step form at s c) cs
+abbrev pub run : ℕ → ℕ → State → List ℕ → State
+run limit at s [] = s
+run limit at s (c ∷ cs) = run limit (at + 1) (state_step limit at s c) cs
 
 -- within the gap before what comes
 abbrev pub gap_state : Coming → State
@@ -64,19 +63,19 @@ white_not_digit c e =
 pub digit_yes : (c : ℕ) → IsDigit c → is_digit c ≡ true
 digit_yes c d = and_from (leb 48 c) (leb c 57) (le-leb 48 c d.0) (le-leb c 57 d.1)
 
-module _ (form : PlainForm) where
-  pub run-append : (xs ys : List ℕ) (at n : ℕ) (s : State) → n ≡ at + length xs → run form at s (xs ++ ys) ≡ run form n (run form at s xs) ys
-  run-append [] ys at n s e = let f : at ≡ n = omega arith in ap (λ (i : ℕ). run form i s ys) f
-  run-append (x ∷ xs) ys at n s e = run-append xs ys (at + 1) n (state_step form at s x) (omega arith)
+module _ (limit : ℕ) where
+  pub run-append : (xs ys : List ℕ) (at n : ℕ) (s : State) → n ≡ at + length xs → run limit at s (xs ++ ys) ≡ run limit n (run limit at s xs) ys
+  run-append [] ys at n s e = let f : at ≡ n = omega arith in ap (λ (i : ℕ). run limit i s ys) f
+  run-append (x ∷ xs) ys at n s e = run-append xs ys (at + 1) n (state_step limit at s x) (omega arith)
 
-  pub run_stop : (xs : List ℕ) (at : ℕ) (f : PictureFault) → run form at (State.AtFault f) xs ≡ State.AtFault f
+  pub run_stop : (xs : List ℕ) (at : ℕ) (f : PictureFault) → run limit at (State.AtFault f) xs ≡ State.AtFault f
   run_stop [] at f = refl
   run_stop (x ∷ xs) at f = run_stop xs (at + 1) f
 
-  pub full_step : (at c w h : ℕ) (k : Bool) (px : List ℕ) → w * h ≤ length px → state_step form at (State.AtRaster k w h px) c ≡ State.AtRaster k w h px
+  pub full_step : (at c w h : ℕ) (k : Bool) (px : List ℕ) → w * h ≤ length px → state_step limit at (State.AtRaster k w h px) c ≡ State.AtRaster k w h px
   full_step at c w h k px l = rw (le-ltb (length px) (w * h) l) refl
 
-  pub run_full : (xs : List ℕ) (at w h : ℕ) (k : Bool) (px : List ℕ) → w * h ≤ length px → run form at (State.AtRaster k w h px) xs ≡ State.AtRaster k w h px
+  pub run_full : (xs : List ℕ) (at w h : ℕ) (k : Bool) (px : List ℕ) → w * h ≤ length px → run limit at (State.AtRaster k w h px) xs ≡ State.AtRaster k w h px
   run_full [] at w h k px l = refl
   run_full (x ∷ xs) at w h k px l = rw (full_step at x w h k px l) (run_full xs (at + 1) w h k px l)
 
@@ -90,13 +89,13 @@ module _ (form : PlainForm) where
 
   -- a comment whose end leads to the gap before what comes
   pub record IsCommentState (t : Coming) (s : State) : Type 0 where
-    pub stays : (at c : ℕ) → is_line_end c ≡ false → state_step form at s c ≡ s
-    pub ends : (at c : ℕ) → is_line_end c ≡ true → state_step form at s c ≡ gap_state t
+    pub stays : (at c : ℕ) → is_line_end c ≡ false → state_step limit at s c ≡ s
+    pub ends : (at c : ℕ) → is_line_end c ≡ true → state_step limit at s c ≡ gap_state t
 
   -- a gap may begin or go on, and leads to what comes
   pub record OpensGap (t : Coming) (s : State) : Type 0 where
-    pub white : (at c : ℕ) → is_white c ≡ true → state_step form at s c ≡ gap_state t
-    pub hash : (at : ℕ) → IsTrue form.comments → IsCommentState t (state_step form at s 35) × IsOpenState (state_step form at s 35)
+    pub white : (at c : ℕ) → is_white c ≡ true → state_step limit at s c ≡ gap_state t
+    pub hash : (at : ℕ) → IsCommentState t (state_step limit at s 35) × IsOpenState (state_step limit at s 35)
 
   head_comment : (t : Coming) → IsCommentState t (State.AtHeader (header.Comment t))
   head_comment t = record { stays = λ at c e. rw e refl; ends = λ at c e. rw e refl }
@@ -104,38 +103,38 @@ module _ (form : PlainForm) where
   pix_comment : (w h : ℕ) → 0 < w * h → IsCommentState (coming.Raster w h) (State.AtRaster true w h [])
   pix_comment w h l = let n = lt-ltb 0 (w * h) l in record { stays = λ at c e. rw (n, e) refl; ends = λ at c e. rw (n, e) refl }
 
-  comment_at : (t : Coming) (s k : State) (at : ℕ) → state_step form at s 35 ≡ k → IsCommentState t k → IsOpenState k → IsCommentState t (state_step form at s 35) × IsOpenState (state_step form at s 35)
+  comment_at : (t : Coming) (s k : State) (at : ℕ) → state_step limit at s 35 ≡ k → IsCommentState t k → IsOpenState k → IsCommentState t (state_step limit at s 35) × IsOpenState (state_step limit at s 35)
   comment_at t s k at e c o = (subst (IsCommentState t) (sym e) c, subst IsOpenState (sym e) o)
 
   pub magic_to : OpensGap coming.Width (State.AtHeader header.Magic)
-  magic_to = record { white = λ at c e. rw e refl; hash = λ at y. comment_at coming.Width (State.AtHeader header.Magic) (State.AtHeader (header.Comment coming.Width)) at (rw y refl) (head_comment coming.Width) tt }
+  magic_to = record { white = λ at c e. rw e refl; hash = λ at. comment_at coming.Width (State.AtHeader header.Magic) (State.AtHeader (header.Comment coming.Width)) at refl (head_comment coming.Width) tt }
 
   pub gap_to : (s : Side) → OpensGap (before_side s) (State.AtHeader (header.Gap s))
-  gap_to s = record { white = λ at c e. rw (white_not_digit c e, e) refl; hash = λ at y. comment_at (before_side s) (State.AtHeader (header.Gap s)) (State.AtHeader (header.Comment (before_side s))) at (rw y refl) (head_comment (before_side s)) tt }
+  gap_to s = record { white = λ at c e. rw (white_not_digit c e, e) refl; hash = λ at. comment_at (before_side s) (State.AtHeader (header.Gap s)) (State.AtHeader (header.Comment (before_side s))) at refl (head_comment (before_side s)) tt }
 
   pub digits_to : (s : Side) (v : ℕ) → 1 ≤ v → OpensGap (after_side s v) (State.AtHeader (header.Digits s v))
   digits_to s v l =
       let n : eqb v 0 ≡ false = ne_eqb v 0 (λ e. omega arith) in
-      record { white = λ at c e. rw (white_not_digit c e, n, e) refl; hash = λ at y. comment_at (after_side s v) (State.AtHeader (header.Digits s v)) (State.AtHeader (header.Comment (after_side s v))) at (rw (n, y) refl) (head_comment (after_side s v)) tt }
+      record { white = λ at c e. rw (white_not_digit c e, n, e) refl; hash = λ at. comment_at (after_side s v) (State.AtHeader (header.Digits s v)) (State.AtHeader (header.Comment (after_side s v))) at (rw n refl) (head_comment (after_side s v)) tt }
 
   pub raster_to : (w h : ℕ) → 0 < w * h → OpensGap (coming.Raster w h) (State.AtRaster false w h [])
   raster_to w h l =
       let n = lt-ltb 0 (w * h) l in
-      record { white = λ at c e. rw (n, e) refl; hash = λ at y. comment_at (coming.Raster w h) (State.AtRaster false w h []) (State.AtRaster true w h []) at (rw (n, y) refl) (pix_comment w h l) l }
+      record { white = λ at c e. rw (n, e) refl; hash = λ at. comment_at (coming.Raster w h) (State.AtRaster false w h []) (State.AtRaster true w h []) at (rw n refl) (pix_comment w h l) l }
 
-  pub text_run : (t : Coming) (s : State) (text : List ℕ) (at : ℕ) → IsCommentState t s → All (λ b. is_line_end b ≡ false) text → run form at s text ≡ s
+  pub text_run : (t : Coming) (s : State) (text : List ℕ) (at : ℕ) → IsCommentState t s → All (λ b. is_line_end b ≡ false) text → run limit at s text ≡ s
   text_run t s [] at k a = refl
   text_run t s (x ∷ text) at k a =
       rw (k.stays at x (All-head (λ b. is_line_end b ≡ false) x text a)) (text_run t s text (at + 1) k (All-tail (λ b. is_line_end b ≡ false) x text a))
 
-  piece_run : (t : Coming) (s : State) (p : List ℕ) (at : ℕ) → OpensGap t s → IsGapPiece form p → run form at s p ≡ gap_state t
+  piece_run : (t : Coming) (s : State) (p : List ℕ) (at : ℕ) → OpensGap t s → IsGapPiece p → run limit at s p ≡ gap_state t
   piece_run t s _ at o (IsGapPiece.white c w) = o.white at c w
-  piece_run t s _ at o (IsGapPiece.comment y text c a e) =
-      let k = (o.hash at y).0 in
-      run-append text (c ∷ []) (at + 1) (at + 1 + length text) (state_step form at s 35) refl
-      ∙ rw (text_run t (state_step form at s 35) text (at + 1) k a) (k.ends (at + 1 + length text) c e)
+  piece_run t s _ at o (IsGapPiece.comment text c a e) =
+      let k = (o.hash at).0 in
+      run-append text (c ∷ []) (at + 1) (at + 1 + length text) (state_step limit at s 35) refl
+      ∙ rw (text_run t (state_step limit at s 35) text (at + 1) k a) (k.ends (at + 1 + length text) c e)
 
-  pub gap_run : (t : Coming) (s : State) (gap : List ℕ) (at : ℕ) → OpensGap t (gap_state t) → OpensGap t s → IsGap form gap → run form at s gap ≡ gap_state t
+  pub gap_run : (t : Coming) (s : State) (gap : List ℕ) (at : ℕ) → OpensGap t (gap_state t) → OpensGap t s → IsGap gap → run limit at s gap ≡ gap_state t
   gap_run t s _ at again o (IsGap.one {piece = p} h) = piece_run t s p at o h
   gap_run t s _ at again o (IsGap.more p gap h g) =
       run-append p gap at (at + length p) s refl ∙ rw (piece_run t s p at o h) (gap_run t (gap_state t) gap (at + length p) again again g)
@@ -149,13 +148,13 @@ module _ (form : PlainForm) where
   value_above [] v = omega arith
   value_above (d ∷ ds) v = let k = value_above ds (v * 10 + (d - 48)) in omega arith
 
-  pub digit_goes : (s : Side) (v c : ℕ) → v * 10 + (c - 48) ≤ form.limit → digit_step form s v c ≡ Ok (progress.More (header.Digits s (v * 10 + (c - 48))))
-  digit_goes s v c l = rw (le-ltb form.limit (v * 10 + (c - 48)) l) refl
+  pub digit_goes : (s : Side) (v c : ℕ) → v * 10 + (c - 48) ≤ limit → digit_step limit s v c ≡ Ok (progress.More (header.Digits s (v * 10 + (c - 48))))
+  digit_goes s v c l = rw (le-ltb limit (v * 10 + (c - 48)) l) refl
 
-  digits_run : (s : Side) (ds : List ℕ) (v at : ℕ) → All IsDigit ds → value_from v ds ≤ form.limit → run form at (State.AtHeader (header.Digits s v)) ds ≡ State.AtHeader (header.Digits s (value_from v ds))
+  digits_run : (s : Side) (ds : List ℕ) (v at : ℕ) → All IsDigit ds → value_from v ds ≤ limit → run limit at (State.AtHeader (header.Digits s v)) ds ≡ State.AtHeader (header.Digits s (value_from v ds))
   digits_run s [] v at a l = refl
   digits_run s (d ∷ ds) v at a l =
-      let m : v * 10 + (d - 48) ≤ form.limit = omega (arith, value_above ds (v * 10 + (d - 48))) in
+      let m : v * 10 + (d - 48) ≤ limit = omega (arith, value_above ds (v * 10 + (d - 48))) in
       rw (digit_yes d (All-head IsDigit d ds a), digit_goes s v d m) (digits_run s ds (v * 10 + (d - 48)) (at + 1) (All-tail IsDigit d ds a) l)
 
   -- in these digits of a side
@@ -163,36 +162,36 @@ module _ (form : PlainForm) where
   side_state s [] = State.AtHeader (header.Gap s)
   side_state s (d ∷ ds) = State.AtHeader (header.Digits s (number_value (d ∷ ds)))
 
-  pub side_run : (s : Side) (ds : List ℕ) (at : ℕ) → All IsDigit ds → number_value ds ≤ form.limit → run form at (State.AtHeader (header.Gap s)) ds ≡ side_state s ds
+  pub side_run : (s : Side) (ds : List ℕ) (at : ℕ) → All IsDigit ds → number_value ds ≤ limit → run limit at (State.AtHeader (header.Gap s)) ds ≡ side_state s ds
   side_run s [] at a l = refl
   side_run s (d ∷ ds) at a l =
-      let m : 0 * 10 + (d - 48) ≤ form.limit = omega (arith, value_above ds (0 * 10 + (d - 48))) in
+      let m : 0 * 10 + (d - 48) ≤ limit = omega (arith, value_above ds (0 * 10 + (d - 48))) in
       rw (digit_yes d (All-head IsDigit d ds a), digit_goes s 0 d m) (digits_run s ds (0 * 10 + (d - 48)) (at + 1) (All-tail IsDigit d ds a) l)
 
-  pub side_to : (s : Side) (ds : List ℕ) → IsSide form ds → OpensGap (after_side s (number_value ds)) (side_state s ds)
+  pub side_to : (s : Side) (ds : List ℕ) → IsSide limit ds → OpensGap (after_side s (number_value ds)) (side_state s ds)
   side_to s [] h = absurd (omega (arith, h.some))
   side_to s (d ∷ ds) h = digits_to s (number_value (d ∷ ds)) h.value.0
 
   -- the state after a front from the beginning
   abbrev pub state_of : List ℕ → State
-  state_of front = run form 0 (State.AtHeader header.Start) front
+  state_of front = run limit 0 (State.AtHeader header.Start) front
 
-  pub onward : (xs ys : List ℕ) → state_of (xs ++ ys) ≡ run form (length xs) (state_of xs) ys
+  pub onward : (xs ys : List ℕ) → state_of (xs ++ ys) ≡ run limit (length xs) (state_of xs) ys
   onward xs ys = run-append xs ys 0 (length xs) (State.AtHeader header.Start) (omega arith)
 
-  pub width_run : (front digits : List ℕ) → IsInWidth form front digits → state_of front ≡ side_state side.Width digits
+  pub width_run : (front digits : List ℕ) → IsInWidth limit front digits → state_of front ≡ side_state side.Width digits
   width_run front digits h =
       rw h.front_is
       (onward (codes "P1" ++ h.gap) digits
-      ∙ ap (λ (s : State). run form (length (codes "P1" ++ h.gap)) s digits) (onward (codes "P1") h.gap ∙ gap_run coming.Width (State.AtHeader header.Magic) h.gap 2 (gap_to side.Width) magic_to h.is_gap)
+      ∙ ap (λ (s : State). run limit (length (codes "P1" ++ h.gap)) s digits) (onward (codes "P1") h.gap ∙ gap_run coming.Width (State.AtHeader header.Magic) h.gap 2 (gap_to side.Width) magic_to h.is_gap)
       ∙ side_run side.Width digits (length (codes "P1" ++ h.gap)) h.digits_only h.within)
 
-  pub height_run : (front width digits : List ℕ) → IsInHeight form front width digits → state_of front ≡ side_state (side.Height (number_value width)) digits
+  pub height_run : (front width digits : List ℕ) → IsInHeight limit front width digits → state_of front ≡ side_state (side.Height (number_value width)) digits
   height_run front width digits h =
       let w = number_value width in
       rw h.front_is
       (onward (h.before ++ h.gap) digits
-      ∙ ap (λ (s : State). run form (length (h.before ++ h.gap)) s digits)
-      (onward h.before h.gap ∙ ap (λ (s : State). run form (length h.before) s h.gap) (width_run h.before width h.in_width)
+      ∙ ap (λ (s : State). run limit (length (h.before ++ h.gap)) s digits)
+      (onward h.before h.gap ∙ ap (λ (s : State). run limit (length h.before) s h.gap) (width_run h.before width h.in_width)
       ∙ gap_run (coming.Height w) (side_state side.Width width) h.gap (length h.before) (gap_to (side.Height w)) (side_to side.Width width h.width_done) h.is_gap)
       ∙ side_run (side.Height w) digits (length (h.before ++ h.gap)) h.digits_only h.within)

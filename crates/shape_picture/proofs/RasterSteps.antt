@@ -1,10 +1,9 @@
 -- Each step of the raster's machine keeps what is known of the pixels, or finds the fault that the byte decides.
 -- The steps are those of the code; the meanings are those of `Plain`.
 use Rattle.std.proofs.Common.{◌≡◌, ◌≢◌, ℕ, suc, ◌+◌, ◌-◌, ◌*◌, ◌<◌, ◌≤◌, Bool, true, false, cond, List, [], ◌∷◌, ◌++◌, length, set, map, replicate, Option, None, Some, Ok, Err, refl, sym, ap, ◌∙◌, inl, inr, ⊎_elim, arith}
-use Rattle.std.specs.Prelude.{◌&&◌, ◌==◌, slice_get, IsTrue}
-use Rattle.std.proofs.lemmas.Bool.{eqb-true, eqb-false, and_parts, and_cases, or_from, or_left, or_right, or_cases, cond_both, false≢true}
+use Rattle.std.specs.Prelude.{◌&&◌, ◌==◌, slice_get}
+use Rattle.std.proofs.lemmas.Bool.{eqb-true, eqb-false, and_parts, and_cases, or_from, or_left, or_right, or_cases, cond_both}
 use Rattle.std.proofs.lemmas.List.{append_assoc, append-nil, length-map, length_push, map_push, take_at, set_at}
-use Rattle.shape_picture.specs.declared.form.PlainForm.{PlainForm}
 use Rattle.shape_terms.specs.Points.{box_count}
 use Rattle.shape_terms.specs.Pictures.{Picture, blank}
 use Rattle.shape_desk.specs.Desk.{Takes}
@@ -32,41 +31,41 @@ code_pixel : (b : Bool) → is_pixel (pixel_code b) ≡ true
 code_pixel true = refl
 code_pixel false = refl
 
-module _ (form : PlainForm) where
-  white_goes : (front : List ℕ) (c : ℕ) (width height raster : List ℕ) → IsInRaster form front width height raster → is_white c ≡ true → RasterGoesOn form front c width height raster piece.Gap
-  white_goes front c width height [] h w = ([], open_white form (λ f. IsInRaster form f width height []) front c (raster_opens form front width height h) w, refl, λ _. refl)
+module _ (limit : ℕ) where
+  white_goes : (front : List ℕ) (c : ℕ) (width height raster : List ℕ) → IsInRaster limit front width height raster → is_white c ≡ true → RasterGoesOn limit front c width height raster piece.Gap
+  white_goes front c width height [] h w = ([], open_white limit (λ f. IsInRaster limit f width height []) front c (raster_opens limit front width height h) w, refl, λ _. refl)
   white_goes front c width height (x ∷ raster) h w =
-      (x ∷ raster ++ c ∷ [], raster_byte form front width height (x ∷ raster) c h (or_right (is_pixel c) (is_white c) w) (λ e. absurd (cc)), pixels_of-white (x ∷ raster) c w, λ e. absurd (cc))
+      (x ∷ raster ++ c ∷ [], raster_byte limit front width height (x ∷ raster) c h (or_right (is_pixel c) (is_white c) w) (λ e. absurd (cc)), pixels_of-white (x ∷ raster) c w, λ e. absurd (cc))
 
-  comment_goes : (front : List ℕ) (c : ℕ) (width height raster : List ℕ) → IsTrue form.comments → IsInRaster form front width height raster → raster ≡ [] → c ≡ 35 → RasterGoesOn form front c width height raster piece.Comment
-  comment_goes front c width height [] y h e k = (refl, (refl, open_comment form (λ f. IsInRaster form f width height []) front c y (raster_opens form front width height h) k))
-  comment_goes front c width height (x ∷ raster) y h e k = absurd (cc)
+  comment_goes : (front : List ℕ) (c : ℕ) (width height raster : List ℕ) → IsInRaster limit front width height raster → raster ≡ [] → c ≡ 35 → RasterGoesOn limit front c width height raster piece.Comment
+  comment_goes front c width height [] h e k = (refl, (refl, open_comment limit (λ f. IsInRaster limit f width height []) front c (raster_opens limit front width height h) k))
+  comment_goes front c width height (x ∷ raster) h e k = absurd (cc)
 
-  bad_byte : (at n : ℕ) (front : List ℕ) (c : ℕ) (width height raster : List ℕ) → at ≡ length front → HasPixels form false n front width height raster → is_white c ≡ false → (form.comments && ((n == 0) && (c == 35))) ≡ false → is_pixel c ≡ false → DecidesFault form front c (fault.BadByte at)
+  bad_byte : (at n : ℕ) (front : List ℕ) (c : ℕ) (width height raster : List ℕ) → at ≡ length front → HasPixels limit false n front width height raster → is_white c ≡ false → ((n == 0) && (c == 35)) ≡ false → is_pixel c ≡ false → DecidesFault limit front c (fault.BadByte at)
   bad_byte at n front c width height raster e h w k p =
-      let hash : IsTrue form.comments → raster ≡ [] → c ≢ 35 = λ y r. let k : ((n == 0) && (c == 35)) ≡ false = ⊎_elim (λ z. absurd (false≢true (sym z ∙ y))) (λ z. z) (and_cases form.comments ((n == 0) && (c == 35)) k) in ⊎_elim (λ z. absurd (eqb-false n 0 z (sym h.pixels ∙ ap (λ (l : List ℕ). length (pixels_of l)) r))) (λ z. eqb-false c 35 z) (and_cases (n == 0) (c == 35) k) in
+      let hash : raster ≡ [] → c ≢ 35 = λ r. ⊎_elim (λ z. absurd (eqb-false n 0 z (sym h.pixels ∙ ap (λ (l : List ℕ). length (pixels_of l)) r))) (λ z. eqb-false c 35 z) (and_cases (n == 0) (c == 35) k) in
       let few : length (pixels_of raster) < number_value width * number_value height = omega (arith, h.pixels, h.fewer) in
       (e, (raster, (width, height, h.at, few), hash), or_from (is_pixel c) (is_white c) p w)
 
   -- a byte more, within a comment or not
-  pub piece_answer : (at n : ℕ) (comment : Bool) (front : List ℕ) (c : ℕ) (width height raster : List ℕ) → at ≡ length front → HasPixels form comment n front width height raster → PieceAnswer form front c width height raster (piece_of form comment n at c)
+  pub piece_answer : (at n : ℕ) (comment : Bool) (front : List ℕ) (c : ℕ) (width height raster : List ℕ) → at ≡ length front → HasPixels limit comment n front width height raster → PieceAnswer limit front c width height raster (piece_of comment n at c)
   piece_answer at n true front c width height raster e h =
-      cond_both (is_line_end c) (Ok piece.Gap) (Ok piece.Comment) (PieceAnswer form front c width height raster)
-      (λ l. ([], comment_done form (λ f. IsInRaster form f width height []) front c h.at.1 l, rw h.at.0 refl, λ _. refl))
-      (λ l. (h.at.0, (h.at.0, comment_more form (λ f. IsInRaster form f width height []) front c h.at.1 l)))
+      cond_both (is_line_end c) (Ok piece.Gap) (Ok piece.Comment) (PieceAnswer limit front c width height raster)
+      (λ l. ([], comment_done limit (λ f. IsInRaster limit f width height []) front c h.at.1 l, rw h.at.0 refl, λ _. refl))
+      (λ l. (h.at.0, (h.at.0, comment_more limit (λ f. IsInRaster limit f width height []) front c h.at.1 l)))
   piece_answer at n false front c width height raster e h =
-      cond_both (is_white c) (Ok piece.Gap) _ (PieceAnswer form front c width height raster)
+      cond_both (is_white c) (Ok piece.Gap) _ (PieceAnswer limit front c width height raster)
       (λ w. white_goes front c width height raster h.at w)
-      (λ w. cond_both (form.comments && ((n == 0) && (c == 35))) (Ok piece.Comment) _ (PieceAnswer form front c width height raster)
-      (λ k. let y = and_parts form.comments ((n == 0) && (c == 35)) k in let q = and_parts (n == 0) (c == 35) y.1 in comment_goes front c width height raster y.0 h.at (h.none (eqb-true n 0 q.0)) (eqb-true c 35 q.1))
-      (λ k. cond_both (is_pixel c) (Ok (piece.Pixel (c == 49))) (Err (fault.BadByte at)) (PieceAnswer form front c width height raster)
-      (λ p. (raster_byte form front width height raster c h.at (or_left (is_pixel c) (is_white c) p) (λ _. p), pixel_is c p))
+      (λ w. cond_both ((n == 0) && (c == 35)) (Ok piece.Comment) _ (PieceAnswer limit front c width height raster)
+      (λ k. let q = and_parts (n == 0) (c == 35) k in comment_goes front c width height raster h.at (h.none (eqb-true n 0 q.0)) (eqb-true c 35 q.1))
+      (λ k. cond_both (is_pixel c) (Ok (piece.Pixel (c == 49))) (Err (fault.BadByte at)) (PieceAnswer limit front c width height raster)
+      (λ p. (raster_byte limit front width height raster c h.at (or_left (is_pixel c) (is_white c) p) (λ _. p), pixel_is c p))
       (λ p. bad_byte at n front c width height raster e h w k p)))
 
   -- a raster with too few pixels is no whole picture and no fault
-  pub raster_unfinished : (n : ℕ) (comment : Bool) (front width height raster : List ℕ) → HasPixels form comment n front width height raster → IsUnfinished form front
+  pub raster_unfinished : (n : ℕ) (comment : Bool) (front width height raster : List ℕ) → HasPixels limit comment n front width height raster → IsUnfinished limit front
   raster_unfinished n true front width height raster h =
-      let k = h.at.1 in inr (inr (inr (record { before = k.before; text = k.text; allowed = k.allowed; may = k.opens.may; no_end = k.no_end; front_is = k.front_is })))
+      let k = h.at.1 in inr (inr (inr (record { before = k.before; text = k.text; may = k.opens.may; no_end = k.no_end; front_is = k.front_is })))
   raster_unfinished n false front width height raster h =
       let few : length (pixels_of raster) < number_value width * number_value height = omega (arith, h.pixels, h.fewer) in
       inr (inr (inl (raster, (width, height, h.at, few))))
@@ -88,9 +87,9 @@ pixels_next : (raster : List ℕ) (values : List Bool) (c : ℕ) (b : Bool) → 
 pixels_next raster values c b e k =
     pixels_of-pixel raster c (rw k (code_not_white b)) ∙ rw (e, k) (sym (map_push pixel_code values b))
 
-module _ (form : PlainForm) (X Y : Picture) (comment : Bool) (n : ℕ) (front : List ℕ) (b : Bool) where
+module _ (limit : ℕ) (X Y : Picture) (comment : Bool) (n : ℕ) (front : List ℕ) (b : Bool) where
   -- a pixel that is not the last
-  pub pixel_next : (h : PictureSoFar form X comment n front) (c : ℕ) → RasterGoesOn form front c h.width h.height h.raster (piece.Pixel b) → Y.sides ≡ X.sides → Y.values ≡ put_value X.values n b → n + 1 < number_value h.width * number_value h.height → PictureSoFar form Y false (n + 1) (front ++ c ∷ [])
+  pub pixel_next : (h : PictureSoFar limit X comment n front) (c : ℕ) → RasterGoesOn limit front c h.width h.height h.raster (piece.Pixel b) → Y.sides ≡ X.sides → Y.values ≡ put_value X.values n b → n + 1 < number_value h.width * number_value h.height → PictureSoFar limit Y false (n + 1) (front ++ c ∷ [])
   pixel_next h c g s e l =
       let t = number_value h.width * number_value h.height in
       let p = pixels_next h.raster h.known c b h.pixels g.1 in
@@ -112,7 +111,7 @@ module _ (form : PlainForm) (X Y : Picture) (comment : Bool) (n : ℕ) (front : 
       }
 
   -- the last pixel was read
-  pub spelled : (longest : ℕ) (rest : List ℕ) (h : PictureSoFar form X comment n front) (c : ℕ) → RasterGoesOn form front c h.width h.height h.raster (piece.Pixel b) → Y.sides ≡ X.sides → Y.values ≡ put_value X.values n b → n + 1 ≡ number_value h.width * number_value h.height → length front < longest → Plain form longest ((front ++ c ∷ []) ++ rest) Y (length front + 1)
+  pub spelled : (longest : ℕ) (rest : List ℕ) (h : PictureSoFar limit X comment n front) (c : ℕ) → RasterGoesOn limit front c h.width h.height h.raster (piece.Pixel b) → Y.sides ≡ X.sides → Y.values ≡ put_value X.values n b → n + 1 ≡ number_value h.width * number_value h.height → length front < longest → Plain limit longest ((front ++ c ∷ []) ++ rest) Y (length front + 1)
   spelled longest rest h c g s e l m =
       let t = number_value h.width * number_value h.height in
       let p = pixels_next h.raster h.known c b h.pixels g.1 in
@@ -140,17 +139,17 @@ module _ (form : PlainForm) (X Y : Picture) (comment : Bool) (n : ℕ) (front : 
       byte_then (x ∷ front) rest c = byte_then front rest c
 
   -- the last pixel, on a desk
-  pub pixel_last : (longest at : ℕ) (all left : Option (List ℕ)) (ahead : List ℕ) (h : PictureSoFar form X comment n front) (c : ℕ) → RasterGoesOn form front c h.width h.height h.raster (piece.Pixel b) → Y.sides ≡ X.sides → Y.values ≡ put_value X.values n b → n + 1 ≡ number_value h.width * number_value h.height → length front < longest → BytesTaken longest at all left ahead (front ++ c ∷ []) → PictureRead form longest all left Y
+  pub pixel_last : (longest at : ℕ) (all left : Option (List ℕ)) (ahead : List ℕ) (h : PictureSoFar limit X comment n front) (c : ℕ) → RasterGoesOn limit front c h.width h.height h.raster (piece.Pixel b) → Y.sides ≡ X.sides → Y.values ≡ put_value X.values n b → n + 1 ≡ number_value h.width * number_value h.height → length front < longest → BytesTaken longest at all left ahead (front ++ c ∷ []) → PictureRead limit longest all left Y
   pixel_last longest at all left ahead h c g s e l m t =
       record { spells = told all (ahead_of ahead left) t.takes; within = taken_within longest at all left ahead (front ++ c ∷ []) t }
     where
-      told : (all rest : Option (List ℕ)) → Takes all rest (front ++ c ∷ []) → IfTold all (SpellsPicture form longest Y)
+      told : (all rest : Option (List ℕ)) → Takes all rest (front ++ c ∷ []) → IfTold all (SpellsPicture limit longest Y)
       told all None k = rw k tt
       told all (Some xs) k = rw k (length front + 1, spelled longest xs h c g s e l m)
 
 -- white space, or the end of a comment
-pub gap_next : (form : PlainForm) (X : Picture) (comment : Bool) (n : ℕ) (front : List ℕ) (h : PictureSoFar form X comment n front) (c : ℕ) → RasterGoesOn form front c h.width h.height h.raster piece.Gap → PictureSoFar form X false n (front ++ c ∷ [])
-gap_next form X comment n front h c g = record {
+pub gap_next : (limit : ℕ) (X : Picture) (comment : Bool) (n : ℕ) (front : List ℕ) (h : PictureSoFar limit X comment n front) (c : ℕ) → RasterGoesOn limit front c h.width h.height h.raster piece.Gap → PictureSoFar limit X false n (front ++ c ∷ [])
+gap_next limit X comment n front h c g = record {
   width = h.width;
   height = h.height;
   raster = g.0;
@@ -163,8 +162,8 @@ gap_next form X comment n front h c g = record {
 }
 
 -- a byte of a comment
-pub comment_next : (form : PlainForm) (X : Picture) (comment : Bool) (n : ℕ) (front : List ℕ) (h : PictureSoFar form X comment n front) (c : ℕ) → RasterGoesOn form front c h.width h.height h.raster piece.Comment → PictureSoFar form X true n (front ++ c ∷ [])
-comment_next form X comment n front h c g = record {
+pub comment_next : (limit : ℕ) (X : Picture) (comment : Bool) (n : ℕ) (front : List ℕ) (h : PictureSoFar limit X comment n front) (c : ℕ) → RasterGoesOn limit front c h.width h.height h.raster piece.Comment → PictureSoFar limit X true n (front ++ c ∷ [])
+comment_next limit X comment n front h c g = record {
   width = h.width;
   height = h.height;
   raster = h.raster;
@@ -177,15 +176,15 @@ comment_next form X comment n front h c g = record {
 }
 
 -- how many pixels there are in all
-pub total_is : (form : PlainForm) (X : Picture) (comment : Bool) (n : ℕ) (front : List ℕ) (h : PictureSoFar form X comment n front) → box_count X.sides ≡ number_value h.width * number_value h.height
-total_is form X comment n front h = ap box_count h.sides ∙ times_one (number_value h.width) (number_value h.height)
+pub total_is : (limit : ℕ) (X : Picture) (comment : Bool) (n : ℕ) (front : List ℕ) (h : PictureSoFar limit X comment n front) → box_count X.sides ≡ number_value h.width * number_value h.height
+total_is limit X comment n front h = ap box_count h.sides ∙ times_one (number_value h.width) (number_value h.height)
   where
     times_one : (a b : ℕ) → a * (b * 1) ≡ a * b
     times_one a b = grind arith
 
 -- no pixel yet, right after the header
-pub pixels_start : (form : PlainForm) (w h : ℕ) (X : Picture) (n : List ℕ) (front : List ℕ) → IsInGap form (coming.Raster w h) front → X ≡ blank n → n ≡ w ∷ h ∷ [] → PictureSoFar form X false 0 front
-pixels_start form w h X n front (width, height, a, b, r) e s =
+pub pixels_start : (limit w h : ℕ) (X : Picture) (n : List ℕ) (front : List ℕ) → IsInGap limit (coming.Raster w h) front → X ≡ blank n → n ≡ w ∷ h ∷ [] → PictureSoFar limit X false 0 front
+pixels_start limit w h X n front (width, height, a, b, r) e s =
     let sides : n ≡ number_value width ∷ number_value height ∷ [] = s ∙ rw (a, b) refl in
     let t = some_product (number_value width) (number_value height) r.in_height.width_done.value.0 r.height_done.value.0 in
     record {

@@ -1,19 +1,17 @@
 -- What a reader of plain PBM answers, and what it leaves of the desk: all that its callers have to read beside `Plain`.
 -- The words of the reader's parts stand in `Bytes`, `Header`, `Raster` and `Parts`.
-use Rattle.std.specs.Prelude.{◌≡◌, ℕ, ◌≤◌, ◌^◌, Bool, true, false, List, length, Option, Result, Ok, Err, ⊤}
+use Rattle.std.specs.Prelude.{◌≡◌, ℕ, ◌≤◌, ◌^◌, Bool, true, List, length, Option, Result, Ok, Err, ⊤}
 use Rattle.shape_terms.specs.Pictures.{Picture}
 use Rattle.shape_desk.specs.declared.desk.Place.{Place}
 use Rattle.shape_desk.specs.declared.desk.Place.TheVariants as place
 use Rattle.shape_desk.specs.Desk.{Files, Rose, Takes, KeepsOutput, KeepsPlace}
 use Rattle.shape_desk.specs.Line.{IfTold}
-use Rattle.shape_picture.specs.declared.form.PlainForm.{PlainForm}
 use Rattle.shape_picture.specs.declared.fault.PictureFault.{PictureFault}
-use Rattle.shape_picture.specs.declared.fault.PictureFault.TheVariants as fault
 use Rattle.shape_picture.specs.declared.fault.PictureError.{PictureError}
 use Rattle.shape_picture.specs.declared.fault.PictureError.TheVariants as error
 use Rattle.shape_picture.specs.Plain.{Plain, PlainFault}
 
--- ---- the forms
+-- ---- the limits
 
 -- the greatest side of a plain PBM
 abbrev pub most_side : ℕ
@@ -23,29 +21,19 @@ most_side = 1024
 abbrev pub most_bytes : ℕ
 most_bytes = 2 ^ 25
 
--- plain PBM with comments
-abbrev pub whole_form : PlainForm
-whole_form = record { limit = most_side; comments = true }
-
--- plain PBM without comments
-abbrev pub bare_form : PlainForm
-bare_form = record { limit = most_side; comments = false }
+-- ---- the bytes
 
 -- some front of the bytes spells the picture
-abbrev pub SpellsPicture : PlainForm → ℕ → Picture → List ℕ → Type 0
-SpellsPicture form longest X bytes = (m : ℕ) × Plain form longest bytes X m
+abbrev pub SpellsPicture : ℕ → ℕ → Picture → List ℕ → Type 0
+SpellsPicture limit longest X bytes = (m : ℕ) × Plain limit longest bytes X m
 
 -- some front of the bytes spells some picture
-abbrev pub SpellsSome : PlainForm → ℕ → List ℕ → Type 0
-SpellsSome form longest bytes = (X : Picture) × SpellsPicture form longest X bytes
-
--- no front of the bytes spells a picture
-abbrev pub SpellsNone : PlainForm → ℕ → List ℕ → Type 0
-SpellsNone form longest bytes = SpellsSome form longest bytes → ⊥
+abbrev pub SpellsSome : ℕ → ℕ → List ℕ → Type 0
+SpellsSome limit longest bytes = (X : Picture) × SpellsPicture limit longest X bytes
 
 -- the bytes have some fault
-abbrev pub HasFault : PlainForm → ℕ → List ℕ → Type 0
-HasFault form longest bytes = (f : PictureFault) × PlainFault form longest bytes f
+abbrev pub HasFault : ℕ → ℕ → List ℕ → Type 0
+HasFault limit longest bytes = (f : PictureFault) × PlainFault limit longest bytes f
 
 -- ---- the desk
 
@@ -67,30 +55,23 @@ pub record TakesAtMost (longest : ℕ) (old new : Option (List ℕ)) : Type 0 wh
 -- `before` and `now` are its numbers of faults of reading.
 
 -- a picture that a front of the bytes spells
-pub record PictureRead (form : PlainForm) (longest : ℕ) (all left : Option (List ℕ)) (X : Picture) : Type 0 where
-  pub spells : IfTold all (SpellsPicture form longest X)
+pub record PictureRead (limit longest : ℕ) (all left : Option (List ℕ)) (X : Picture) : Type 0 where
+  pub spells : IfTold all (SpellsPicture limit longest X)
   pub within : TakesAtMost longest all left
 
 -- when each error comes: a fault where the bytes have it, and a read that failed where a count of failed reads rose;
 -- want of memory may come at any time
-abbrev pub ErrorComes : PlainForm → ℕ → Option (List ℕ) → ℕ → ℕ → PictureError → Type 0
-ErrorComes form longest all before now (error.Bad f) = IfTold all (λ bytes. PlainFault form longest bytes f)
-ErrorComes form longest all before now error.ReadFault = Rose before now
-ErrorComes form longest all before now error.NoMemory = ⊤
+abbrev pub ErrorComes : ℕ → ℕ → Option (List ℕ) → ℕ → ℕ → PictureError → Type 0
+ErrorComes limit longest all before now (error.Bad f) = IfTold all (λ bytes. PlainFault limit longest bytes f)
+ErrorComes limit longest all before now error.ReadFault = Rose before now
+ErrorComes limit longest all before now error.NoMemory = ⊤
 
 -- an error that has its cause
-pub record ReadStopped (form : PlainForm) (longest : ℕ) (all left : Option (List ℕ)) (before now : ℕ) (e : PictureError) : Type 0 where
-  pub comes : ErrorComes form longest all before now e
+pub record ReadStopped (limit longest : ℕ) (all left : Option (List ℕ)) (before now : ℕ) (e : PictureError) : Type 0 where
+  pub comes : ErrorComes limit longest all before now e
   pub within : TakesAtMost longest all left
 
 -- the picture that the bytes spell, or the error
-abbrev pub PictureAnswer : PlainForm → ℕ → Option (List ℕ) → Option (List ℕ) → ℕ → ℕ → Result Picture PictureError → Type 0
-PictureAnswer form longest all left before now (Ok X) = PictureRead form longest all left X
-PictureAnswer form longest all left before now (Err e) = ReadStopped form longest all left before now e
-
--- the picture that the bytes spell without comments; its one fault is `NotPlain`, where they spell none
-abbrev pub BareAnswer : ℕ → Option (List ℕ) → Option (List ℕ) → ℕ → ℕ → Result Picture PictureError → Type 0
-BareAnswer longest all left before now (Ok X) = PictureRead bare_form longest all left X
-BareAnswer longest all left before now (Err (error.Bad f)) = (f ≡ fault.NotPlain) × IfTold all (SpellsNone bare_form longest) × TakesAtMost longest all left
-BareAnswer longest all left before now (Err error.ReadFault) = Rose before now × TakesAtMost longest all left
-BareAnswer longest all left before now (Err error.NoMemory) = TakesAtMost longest all left
+abbrev pub PictureAnswer : ℕ → ℕ → Option (List ℕ) → Option (List ℕ) → ℕ → ℕ → Result Picture PictureError → Type 0
+PictureAnswer limit longest all left before now (Ok X) = PictureRead limit longest all left X
+PictureAnswer limit longest all left before now (Err e) = ReadStopped limit longest all left before now e

@@ -4,7 +4,6 @@ use Rattle.std.specs.Prelude.{◌≡◌, ℕ, ◌+◌, ◌≤◌, Bool, List, []
 use Rattle.shape_terms.specs.Pictures.{Picture}
 use Rattle.shape_desk.specs.Desk.{Takes}
 use Rattle.shape_desk.specs.Line.{ahead_of}
-use Rattle.shape_picture.specs.declared.form.PlainForm.{PlainForm}
 use Rattle.shape_picture.specs.declared.plain.Heading.{Heading}
 use Rattle.shape_picture.specs.declared.raster.Piece.{Piece}
 use Rattle.shape_picture.specs.declared.header.Header.{Header}
@@ -22,51 +21,51 @@ pub record BytesTaken (longest at : ℕ) (all left : Option (List ℕ)) (ahead f
   pub room : at + length ahead ≤ longest
 
 -- one byte more was taken, or the reading stopped
-abbrev pub NextByteAnswer : PlainForm → ℕ → ℕ → Option (List ℕ) → Option (List ℕ) → List ℕ → List ℕ → ℕ → ℕ → Result ℕ PictureError → Type 0
-NextByteAnswer form longest at all left ahead front before now (Ok c) = BytesTaken longest (at + 1) all left ahead (front ++ c ∷ [])
-NextByteAnswer form longest at all left ahead front before now (Err e) = ReadStopped form longest all left before now e
+abbrev pub NextByteAnswer : ℕ → ℕ → ℕ → Option (List ℕ) → Option (List ℕ) → List ℕ → List ℕ → ℕ → ℕ → Result ℕ PictureError → Type 0
+NextByteAnswer limit longest at all left ahead front before now (Ok c) = BytesTaken longest (at + 1) all left ahead (front ++ c ∷ [])
+NextByteAnswer limit longest at all left ahead front before now (Err e) = ReadStopped limit longest all left before now e
 
 -- the header's bytes so far
-pub record HeaderSoFar (form : PlainForm) (longest at : ℕ) (header : Header) (all left : Option (List ℕ)) (ahead : List ℕ) : Type 0 where
+pub record HeaderSoFar (limit longest at : ℕ) (header : Header) (all left : Option (List ℕ)) (ahead : List ℕ) : Type 0 where
   pub front : List ℕ
-  pub reached : HeaderReached form header front
+  pub reached : HeaderReached limit header front
   pub taken : BytesTaken longest at all left ahead front
 
 -- one byte more of the header was taken
-pub record StepTaken (form : PlainForm) (longest at : ℕ) (p : Progress) (all left : Option (List ℕ)) (ahead : List ℕ) : Type 0 where
+pub record StepTaken (limit longest at : ℕ) (p : Progress) (all left : Option (List ℕ)) (ahead : List ℕ) : Type 0 where
   pub front : List ℕ
-  pub comes : ProgressReached form p front
+  pub comes : ProgressReached limit p front
   pub taken : BytesTaken longest at all left ahead front
 
 -- the header went on by a byte, or the reading stopped
-abbrev pub NextHeaderAnswer : PlainForm → ℕ → ℕ → Option (List ℕ) → Option (List ℕ) → List ℕ → ℕ → ℕ → Result Progress PictureError → Type 0
-NextHeaderAnswer form longest at all left ahead before now (Ok p) = StepTaken form longest (at + 1) p all left ahead
-NextHeaderAnswer form longest at all left ahead before now (Err e) = ReadStopped form longest all left before now e
+abbrev pub NextHeaderAnswer : ℕ → ℕ → ℕ → Option (List ℕ) → Option (List ℕ) → List ℕ → ℕ → ℕ → Result Progress PictureError → Type 0
+NextHeaderAnswer limit longest at all left ahead before now (Ok p) = StepTaken limit longest (at + 1) p all left ahead
+NextHeaderAnswer limit longest at all left ahead before now (Err e) = ReadStopped limit longest all left before now e
 
 -- the whole header and the first piece of the gap after it
-pub record HeaderTaken (form : PlainForm) (longest : ℕ) (h : Heading) (all left : Option (List ℕ)) (ahead : List ℕ) : Type 0 where
+pub record HeaderTaken (limit longest : ℕ) (h : Heading) (all left : Option (List ℕ)) (ahead : List ℕ) : Type 0 where
   pub front : List ℕ
-  pub in_gap : IsInGap form (coming.Raster h.width h.height) front
+  pub in_gap : IsInGap limit (coming.Raster h.width h.height) front
   pub taken : BytesTaken longest h.at all left ahead front
 
 -- the whole header was read, or the reading stopped
-abbrev pub HeaderAnswer : PlainForm → ℕ → Option (List ℕ) → Option (List ℕ) → List ℕ → ℕ → ℕ → Result Heading PictureError → Type 0
-HeaderAnswer form longest all left ahead before now (Ok h) = HeaderTaken form longest h all left ahead
-HeaderAnswer form longest all left ahead before now (Err e) = ReadStopped form longest all left before now e
+abbrev pub HeaderAnswer : ℕ → ℕ → Option (List ℕ) → Option (List ℕ) → List ℕ → ℕ → ℕ → Result Heading PictureError → Type 0
+HeaderAnswer limit longest all left ahead before now (Ok h) = HeaderTaken limit longest h all left ahead
+HeaderAnswer limit longest all left ahead before now (Err e) = ReadStopped limit longest all left before now e
 
 -- one piece of the raster was taken
-pub record PieceTaken (form : PlainForm) (longest at : ℕ) (all left : Option (List ℕ)) (ahead front width height raster : List ℕ) (p : Piece) : Type 0 where
+pub record PieceTaken (limit longest at : ℕ) (all left : Option (List ℕ)) (ahead front width height raster : List ℕ) (p : Piece) : Type 0 where
   pub byte : ℕ
-  pub goes : RasterGoesOn form front byte width height raster p
+  pub goes : RasterGoesOn limit front byte width height raster p
   pub taken : BytesTaken longest (at + 1) all left ahead (front ++ byte ∷ [])
 
 -- the raster went on by a byte, or the reading stopped
-abbrev pub NextPieceAnswer : PlainForm → ℕ → ℕ → Option (List ℕ) → Option (List ℕ) → List ℕ → List ℕ → List ℕ → List ℕ → List ℕ → ℕ → ℕ → Result Piece PictureError → Type 0
-NextPieceAnswer form longest at all left ahead front width height raster before now (Ok p) = PieceTaken form longest at all left ahead front width height raster p
-NextPieceAnswer form longest at all left ahead front width height raster before now (Err e) = ReadStopped form longest all left before now e
+abbrev pub NextPieceAnswer : ℕ → ℕ → ℕ → Option (List ℕ) → Option (List ℕ) → List ℕ → List ℕ → List ℕ → List ℕ → List ℕ → ℕ → ℕ → Result Piece PictureError → Type 0
+NextPieceAnswer limit longest at all left ahead front width height raster before now (Ok p) = PieceTaken limit longest at all left ahead front width height raster p
+NextPieceAnswer limit longest at all left ahead front width height raster before now (Err e) = ReadStopped limit longest all left before now e
 
 -- the raster's pixels so far
-pub record RasterSoFar (form : PlainForm) (longest at : ℕ) (X : Picture) (comment : Bool) (n : ℕ) (all left : Option (List ℕ)) (ahead : List ℕ) : Type 0 where
+pub record RasterSoFar (limit longest at : ℕ) (X : Picture) (comment : Bool) (n : ℕ) (all left : Option (List ℕ)) (ahead : List ℕ) : Type 0 where
   pub front : List ℕ
-  pub pixels : PictureSoFar form X comment n front
+  pub pixels : PictureSoFar limit X comment n front
   pub taken : BytesTaken longest at all left ahead front

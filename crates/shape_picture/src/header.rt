@@ -5,7 +5,6 @@ ghost use Rattle.shape_picture.specs.Plain.{is_white, is_line_end};
 ghost use Rattle.shape_picture.specs.Header.{is_digit, opened, gap_of, before_side, after_side, digit_step, magic_step, header_step, IsSmall};
 
 use crate::fault::PictureFault;
-use crate::form::PlainForm;
 
 /// A side whose digits are read.
 #[derive(Clone, Copy, Debug, PartialEq, Eq)]
@@ -89,17 +88,12 @@ fn gap(coming: Coming) -> Progress
 }
 
 // A byte where a gap may begin or go on.
-fn open(
-    form: PlainForm,
-    coming: Coming,
-    c: u8,
-    other: PictureFault,
-) -> Result<Progress, PictureFault>
-    ensures { result ≡ opened form coming c other }
+fn open(coming: Coming, c: u8, other: PictureFault) -> Result<Progress, PictureFault>
+    ensures { result ≡ opened coming c other }
 {
     if is_white(c) {
         Ok(gap(coming))
-    } else if form.comments && c == b'#' {
+    } else if c == b'#' {
         Ok(Progress::More(Header::Comment(coming)))
     } else {
         Err(other)
@@ -118,14 +112,14 @@ fn letter(wanted: u8, next: Header, c: u8) -> Result<Progress, PictureFault>
 }
 
 // A digit of a side.
-fn digit(form: PlainForm, side: Side, value: u32, c: u8) -> Result<Progress, PictureFault>
-    requires limit { form.limit ≤ 2 ^ 20 }
-    requires value { value ≤ form.limit }
+fn digit(limit: u32, side: Side, value: u32, c: u8) -> Result<Progress, PictureFault>
+    requires limit { limit ≤ 2 ^ 20 }
+    requires value { value ≤ limit }
     requires digit { is_digit c ≡ true }
-    ensures { result ≡ digit_step form side value c }
+    ensures { result ≡ digit_step limit side value c }
 {
     let more = value * 10 + u32::from(c - b'0');
-    if form.limit < more {
+    if limit < more {
         Err(PictureFault::SideTooLarge { value: more })
     } else {
         Ok(Progress::More(Header::Digits(side, more)))
@@ -133,20 +127,20 @@ fn digit(form: PlainForm, side: Side, value: u32, c: u8) -> Result<Progress, Pic
 }
 
 /// The header after one byte more, which stands at this place.
-pub fn step(form: PlainForm, at: u64, header: Header, c: u8) -> Result<Progress, PictureFault>
-    requires limit { form.limit ≤ 2 ^ 20 }
-    requires small { IsSmall form header }
-    ensures { result ≡ header_step form at header c }
+pub fn step(limit: u32, at: u64, header: Header, c: u8) -> Result<Progress, PictureFault>
+    requires limit { limit ≤ 2 ^ 20 }
+    requires small { IsSmall limit header }
+    ensures { result ≡ header_step limit at header c }
 {
     match header {
         Header::Start => letter(b'P', Header::Letter, c),
         Header::Letter => letter(b'1', Header::Magic, c),
-        Header::Magic => open(form, Coming::Width, c, PictureFault::NotPlain),
+        Header::Magic => open(Coming::Width, c, PictureFault::NotPlain),
         Header::Gap(side) => {
             if is_digit(c) {
-                digit(form, side, 0, c)
+                digit(limit, side, 0, c)
             } else {
-                open(form, before(side), c, PictureFault::BadNumber { at })
+                open(before(side), c, PictureFault::BadNumber { at })
             }
         }
         Header::Comment(coming) => {
@@ -158,11 +152,11 @@ pub fn step(form: PlainForm, at: u64, header: Header, c: u8) -> Result<Progress,
         }
         Header::Digits(side, value) => {
             if is_digit(c) {
-                digit(form, side, value, c)
-            } else if value == 0 && (is_white(c) || (form.comments && c == b'#')) {
+                digit(limit, side, value, c)
+            } else if value == 0 && (is_white(c) || c == b'#') {
                 Err(PictureFault::ZeroSide)
             } else {
-                open(form, after(side, value), c, PictureFault::BadNumber { at })
+                open(after(side, value), c, PictureFault::BadNumber { at })
             }
         }
     }

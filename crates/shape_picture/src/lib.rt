@@ -4,7 +4,6 @@
 
 mod bytes;
 mod fault;
-mod form;
 mod header;
 mod laws;
 mod plain;
@@ -12,4 +11,4 @@ mod raster;
 
 pub use fault::{PictureError, PictureFault};
 pub use laws::one_answer;
-pub use plain::{MOST_BYTES, MOST_SIDE, read_bare, read_plain};
+pub use plain::{MOST_BYTES, MOST_SIDE, read_plain};

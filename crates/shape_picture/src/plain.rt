@@ -3,8 +3,7 @@
 ghost use Rattle.std.specs.Prelude.{◌≡◌, ◌+◌, ◌≤◌, ◌<◌, ◌^◌, [], ◌∷◌, true, false, length, Option, List, ℕ};
 ghost use Rattle.shape_terms.specs.Points.{sides_of};
 ghost use Rattle.shape_desk.specs.declared.desk.Place.TheVariants.{Picture};
-ghost use Rattle.shape_picture.specs.declared.form.PlainForm.{PlainForm};
-ghost use Rattle.shape_picture.specs.Answers.{most_side, most_bytes, whole_form, OnlyReads, PictureAnswer, BareAnswer};
+ghost use Rattle.shape_picture.specs.Answers.{most_side, most_bytes, OnlyReads, PictureAnswer};
 ghost use Rattle.shape_picture.specs.Plain.{IsUnfinished};
 ghost use Rattle.shape_picture.specs.Header.{IsSmall, HeaderReached};
 ghost use Rattle.shape_picture.specs.Raster.{HasPixels};
@@ -12,7 +11,6 @@ ghost use Rattle.shape_picture.specs.Parts.{BytesTaken, NextByteAnswer, NextHead
 
 use crate::bytes::ByteReader;
 use crate::fault::{PictureError, PictureFault};
-use crate::form::PlainForm;
 use crate::header::{Header, Progress, step};
 use crate::raster::{Piece, piece_at, put};
 use shape_desk::{Desk, Place};
@@ -29,10 +27,10 @@ fn next_byte<D: Desk>(
 ) -> Result<u8, PictureError>
     requires more { at < longest }
     requires begun { D.begun desk.old Picture ≡ true }
-    ensures answer { (form : PlainForm) (all : Option (List ℕ)) (front : List ℕ)
+    ensures answer { (limit : ℕ) (all : Option (List ℕ)) (front : List ℕ)
         → BytesTaken longest at all (D.left desk.old Picture) bytes.old front
-        → IsUnfinished form front
-        → NextByteAnswer form longest at all (D.left desk.new Picture) bytes.new front
+        → IsUnfinished limit front
+        → NextByteAnswer limit longest at all (D.left desk.new Picture) bytes.new front
         (D.read_faults desk.old) (D.read_faults desk.new) result }
     ensures reads { OnlyReads D.files D.left D.written D.begun D.read_faults D.write_faults
         desk.old desk.new }
@@ -46,27 +44,27 @@ fn next_byte<D: Desk>(
 
 // Takes one byte of the header.
 fn next_header<D: Desk>(
-    form: PlainForm,
+    limit: u32,
     longest: u64,
     at: u64,
     header: Header,
     bytes: &mut ByteReader,
     desk: &mut D,
 ) -> Result<Progress, PictureError>
-    requires limit { form.limit ≤ 2 ^ 20 }
-    requires small { IsSmall form header }
+    requires limit { limit ≤ 2 ^ 20 }
+    requires small { IsSmall limit header }
     requires more { at < longest }
     requires begun { D.begun desk.old Picture ≡ true }
     ensures answer { (all : Option (List ℕ)) (front : List ℕ)
         → BytesTaken longest at all (D.left desk.old Picture) bytes.old front
-        → HeaderReached form header front
-        → NextHeaderAnswer form longest at all (D.left desk.new Picture) bytes.new
+        → HeaderReached limit header front
+        → NextHeaderAnswer limit longest at all (D.left desk.new Picture) bytes.new
         (D.read_faults desk.old) (D.read_faults desk.new) result }
     ensures reads { OnlyReads D.files D.left D.written D.begun D.read_faults D.write_faults
         desk.old desk.new }
 {
     match next_byte(longest, at, bytes, desk) {
-        Ok(c) => match step(form, at, header, c) {
+        Ok(c) => match step(limit, at, header, c) {
             Ok(progress) => Ok(progress),
             Err(fault) => Err(PictureError::Bad(fault)),
         },
@@ -76,7 +74,6 @@ fn next_header<D: Desk>(
 
 // Takes one byte of the raster, within a comment or not, after so many pixels.
 fn next_piece<D: Desk>(
-    form: PlainForm,
     longest: u64,
     at: u64,
     comment: bool,
@@ -86,17 +83,17 @@ fn next_piece<D: Desk>(
 ) -> Result<Piece, PictureError>
     requires more { at < longest }
     requires begun { D.begun desk.old Picture ≡ true }
-    ensures answer { (all : Option (List ℕ)) (front width height raster : List ℕ)
+    ensures answer { (limit : ℕ) (all : Option (List ℕ)) (front width height raster : List ℕ)
         → BytesTaken longest at all (D.left desk.old Picture) bytes.old front
-        → HasPixels form comment count front width height raster
-        → NextPieceAnswer form longest at all (D.left desk.new Picture) bytes.new
+        → HasPixels limit comment count front width height raster
+        → NextPieceAnswer limit longest at all (D.left desk.new Picture) bytes.new
         front width height raster
         (D.read_faults desk.old) (D.read_faults desk.new) result }
     ensures reads { OnlyReads D.files D.left D.written D.begun D.read_faults D.write_faults
         desk.old desk.new }
 {
     match next_byte(longest, at, bytes, desk) {
-        Ok(c) => match piece_at(form, comment, count, at, c) {
+        Ok(c) => match piece_at(comment, count, at, c) {
             Ok(piece) => Ok(piece),
             Err(fault) => Err(PictureError::Bad(fault)),
         },
@@ -114,15 +111,15 @@ struct Heading {
 
 // Reads the header.
 fn read_header<D: Desk>(
-    form: PlainForm,
+    limit: u32,
     longest: u64,
     bytes: &mut ByteReader,
     desk: &mut D,
 ) -> Result<Heading, PictureError>
-    requires limit { form.limit ≤ 2 ^ 20 }
+    requires limit { limit ≤ 2 ^ 20 }
     requires begun { D.begun desk.old Picture ≡ true }
     requires none_ahead { bytes.old ≡ [] }
-    ensures answer { HeaderAnswer form longest
+    ensures answer { HeaderAnswer limit longest
         (D.left desk.old Picture) (D.left desk.new Picture) bytes.new
         (D.read_faults desk.old) (D.read_faults desk.new) result }
     ensures reads { OnlyReads D.files D.left D.written D.begun D.read_faults D.write_faults
@@ -131,7 +128,7 @@ fn read_header<D: Desk>(
     let mut header = Header::Start;
     let mut at: u64 = 0;
     while at < longest {
-        match next_header(form, longest, at, header, bytes, desk) {
+        match next_header(limit, longest, at, header, bytes, desk) {
             Err(error) => return Err(error),
             Ok(Progress::Done(width, height)) => return Ok(Heading {
                 width,
@@ -166,7 +163,6 @@ fn box_of(width: u32, height: u32) -> Sides<P2>
 
 // Reads the pixels.
 fn read_raster<D: Desk>(
-    form: PlainForm,
     longest: u64,
     from: u64,
     mut grid: Grid<P2>,
@@ -174,9 +170,9 @@ fn read_raster<D: Desk>(
     desk: &mut D,
 ) -> Result<Grid<P2>, PictureError>
     requires begun { D.begun desk.old Picture ≡ true }
-    ensures answer { (all : Option (List ℕ))
-        → RasterSoFar form longest from grid false 0 all (D.left desk.old Picture) bytes.old
-        → PictureAnswer form longest all (D.left desk.new Picture)
+    ensures answer { (limit : ℕ) (all : Option (List ℕ))
+        → RasterSoFar limit longest from grid false 0 all (D.left desk.old Picture) bytes.old
+        → PictureAnswer limit longest all (D.left desk.new Picture)
         (D.read_faults desk.old) (D.read_faults desk.new) result }
     ensures reads { OnlyReads D.files D.left D.written D.begun D.read_faults D.write_faults
         desk.old desk.new }
@@ -186,7 +182,7 @@ fn read_raster<D: Desk>(
     let mut comment = false;
     let mut count: u32 = 0;
     while at < longest {
-        match next_piece(form, longest, at, comment, count, bytes, desk) {
+        match next_piece(longest, at, comment, count, bytes, desk) {
             Err(error) => return Err(error),
             Ok(Piece::Gap) => {
                 comment = false;
@@ -213,13 +209,13 @@ fn read_raster<D: Desk>(
 // Reads a picture with sides of at most a limit, of at most so many bytes.
 fn read_within<D: Desk>(
     alloc: Global,
-    form: PlainForm,
+    limit: u32,
     longest: u64,
     desk: &mut D,
 ) -> Result<Grid<P2>, PictureError>
-    requires limit { form.limit ≤ most_side }
+    requires limit { limit ≤ most_side }
     requires begun { D.begun desk.old Picture ≡ true }
-    ensures answer { PictureAnswer form longest (D.left desk.old Picture) (D.left desk.new Picture)
+    ensures answer { PictureAnswer limit longest (D.left desk.old Picture) (D.left desk.new Picture)
         (D.read_faults desk.old) (D.read_faults desk.new) result }
     ensures reads { OnlyReads D.files D.left D.written D.begun D.read_faults D.write_faults
         desk.old desk.new }
@@ -228,12 +224,12 @@ fn read_within<D: Desk>(
         Ok(bytes) => bytes,
         Err(_) => return Err(PictureError::NoMemory),
     };
-    let heading = match read_header(form, longest, &mut bytes, desk) {
+    let heading = match read_header(limit, longest, &mut bytes, desk) {
         Ok(heading) => heading,
         Err(error) => return Err(error),
     };
     match Grid::new(alloc, box_of(heading.width, heading.height)) {
-        Ok(grid) => read_raster(form, longest, heading.at, grid, &mut bytes, desk),
+        Ok(grid) => read_raster(longest, heading.at, grid, &mut bytes, desk),
         Err(_) => Err(PictureError::NoMemory),
     }
 }
@@ -244,46 +240,19 @@ pub const MOST_SIDE: u32 = P2::MAX_SIDE as u32;
 /// How many bytes a plain PBM has at most, up to and with its last pixel.
 pub const MOST_BYTES: u64 = 1 << 25;
 
-// Plain PBM with comments.
-const WHOLE_FORM: PlainForm = PlainForm {
-    limit: MOST_SIDE,
-    comments: true,
-};
-
-// Plain PBM without comments.
-const BARE_FORM: PlainForm = PlainForm {
-    limit: MOST_SIDE,
-    comments: false,
-};
-
 /// Reads the plain PBM at the front of the picture's place.
 ///
 /// What follows the last pixel is not looked at, but may have been taken from the desk. It takes memory for 512 bytes
 /// and the grid.
 pub fn read_plain<D: Desk>(alloc: Global, desk: &mut D) -> Result<Grid<P2>, PictureError>
     requires { D.begun desk.old Picture ≡ true }
-    ensures answer { PictureAnswer whole_form most_bytes
+    ensures answer { PictureAnswer most_side most_bytes
         (D.left desk.old Picture) (D.left desk.new Picture)
         (D.read_faults desk.old) (D.read_faults desk.new) result }
     ensures reads { OnlyReads D.files D.left D.written D.begun D.read_faults D.write_faults
         desk.old desk.new }
 {
-    read_within(alloc, WHOLE_FORM, MOST_BYTES, desk)
-}
-
-/// Reads the plain PBM without comments at the front of the picture's place. Every other file is `NotPlain`.
-pub fn read_bare<D: Desk>(alloc: Global, desk: &mut D) -> Result<Grid<P2>, PictureError>
-    requires { D.begun desk.old Picture ≡ true }
-    ensures answer { BareAnswer most_bytes (D.left desk.old Picture) (D.left desk.new Picture)
-        (D.read_faults desk.old) (D.read_faults desk.new) result }
-    ensures reads { OnlyReads D.files D.left D.written D.begun D.read_faults D.write_faults
-        desk.old desk.new }
-{
-    match read_within(alloc, BARE_FORM, MOST_BYTES, desk) {
-        Ok(grid) => Ok(grid),
-        Err(PictureError::Bad(_)) => Err(PictureError::Bad(PictureFault::NotPlain)),
-        Err(error) => Err(error),
-    }
+    read_within(alloc, MOST_SIDE, MOST_BYTES, desk)
 }
 
 #[cfg(test)]
@@ -292,11 +261,10 @@ mod tests {
     use shape_desk::MemoryDesk;
     use std::test::Fail;
 
-    // The reader that is tried: with comments, without them, or with comments and another greatest length.
+    // The reader that is tried: that of the crate, or the one with another greatest length.
     #[derive(Clone, Copy)]
     enum Reader {
         Plain,
-        Bare,
         Within(u64),
     }
 
@@ -336,8 +304,7 @@ mod tests {
         }
         match reader {
             Reader::Plain => read_plain(alloc, &mut desk),
-            Reader::Bare => read_bare(alloc, &mut desk),
-            Reader::Within(longest) => read_within(alloc, WHOLE_FORM, longest, &mut desk),
+            Reader::Within(longest) => read_within(alloc, MOST_SIDE, longest, &mut desk),
         }
     }
 
@@ -398,11 +365,7 @@ mod tests {
             Some(4)
         );
         assert_eq!(rt; count(alloc, b"P1 1 1 #c\n1#", Reader::Plain), Some(1));
-        assert_eq!(rt; count(alloc, b"P1\t1\r\n01 1", Reader::Bare), Some(1));
-        assert_eq!(rt;
-            fault(alloc, b"P1 1 1 #c\n1", Reader::Bare),
-            Some(PictureError::Bad(PictureFault::NotPlain))
-        );
+        assert_eq!(rt; count(alloc, b"P1\t1\r\n01 1", Reader::Plain), Some(1));
         match read(alloc, b"P1 3 2 011 001", 512, 0, Reader::Plain) {
             Ok(grid) => {
                 assert_eq!(rt; grid.count(), 3);

@@ -5,7 +5,6 @@ ghost use Rattle.shape_terms.specs.Points.{box_count};
 ghost use Rattle.shape_picture.specs.Raster.{piece_of};
 
 use crate::fault::PictureFault;
-use crate::form::PlainForm;
 use crate::header::{is_line_end, is_white};
 use shape_grid::Grid;
 use shape_space::Point;
@@ -19,14 +18,8 @@ pub enum Piece {
 }
 
 /// What the byte at a place is, within a comment or not, after so many pixels.
-pub fn piece_at(
-    form: PlainForm,
-    comment: bool,
-    count: u32,
-    at: u64,
-    c: u8,
-) -> Result<Piece, PictureFault>
-    ensures { result ≡ piece_of form comment count at c }
+pub fn piece_at(comment: bool, count: u32, at: u64, c: u8) -> Result<Piece, PictureFault>
+    ensures { result ≡ piece_of comment count at c }
 {
     if comment {
         if is_line_end(c) {
@@ -36,7 +29,7 @@ pub fn piece_at(
         }
     } else if is_white(c) {
         Ok(Piece::Gap)
-    } else if form.comments && (count == 0 && c == b'#') {
+    } else if count == 0 && c == b'#' {
         Ok(Piece::Comment)
     } else if c == b'0' || c == b'1' {
         Ok(Piece::Pixel(c == b'1'))

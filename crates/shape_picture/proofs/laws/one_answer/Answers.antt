@@ -6,6 +6,6 @@ pub returns : goal.returns
 returns c = record {
   some = some_answer;
   not_both = not_both;
-  one_picture = λ form longest bytes X Y m n p q. (one_picture form longest bytes X Y m n p q, one_length form longest bytes X Y m n p q);
+  one_picture = λ limit longest bytes X Y m n p q. (one_picture limit longest bytes X Y m n p q, one_length limit longest bytes X Y m n p q);
   one_fault = one_fault;
 }

@@ -4,11 +4,11 @@ use Rattle.shape_picture.proofs.ByteSteps.{ends_short, ends_failed}
 use Rattle.shape_picture.proofs.plain.next_byte.Goals as goal
 
 pub returns-in-Ok-None-clause-answer : goal.returns-in-Ok-None-clause-answer
-returns-in-Ok-None-clause-answer g c = λ form all front t u.
+returns-in-Ok-None-clause-answer g c = λ limit all front t u.
     let e = rw c.in-Ok-None.field-0-is at c.in-Ok-None.ensures.next in
     let r = rw c.in-Ok-None.field-0-is at c.in-Ok-None.ensures.room in
-    ends_short form c.args.longest c.args.at all (g.D.Desk.left c.args.desk.now Picture) (g.D.Desk.left c.next.new.desk Picture) c.args.bytes.now c.next.new.self front (g.D.Desk.read_faults c.args.desk.now) (g.D.Desk.read_faults c.next.new.desk) t u c.requires.more e (omega (arith, r))
+    ends_short limit c.args.longest c.args.at all (g.D.Desk.left c.args.desk.now Picture) (g.D.Desk.left c.next.new.desk Picture) c.args.bytes.now c.next.new.self front (g.D.Desk.read_faults c.args.desk.now) (g.D.Desk.read_faults c.next.new.desk) t u c.requires.more e (omega (arith, r))
 
 pub returns-in-Err-clause-answer : goal.returns-in-Err-clause-answer
-returns-in-Err-clause-answer g c = λ form all front t u.
-    ends_failed form c.args.longest c.args.at all (g.D.Desk.left c.args.desk.now Picture) (g.D.Desk.left c.next.new.desk Picture) c.args.bytes.now c.next.new.self front (g.D.Desk.read_faults c.args.desk.now) (g.D.Desk.read_faults c.next.new.desk) t c.requires.more c.in-Err.ensures.next c.in-Err.ensures.room
+returns-in-Err-clause-answer g c = λ limit all front t u.
+    ends_failed limit c.args.longest c.args.at all (g.D.Desk.left c.args.desk.now Picture) (g.D.Desk.left c.next.new.desk Picture) c.args.bytes.now c.next.new.self front (g.D.Desk.read_faults c.args.desk.now) (g.D.Desk.read_faults c.next.new.desk) t c.requires.more c.in-Err.ensures.next c.in-Err.ensures.room

@@ -8,16 +8,16 @@ use Rattle.shape_picture.proofs.plain.next_header.Goals as goal
 pub returns-in-Ok-step-clause-answer : goal.returns-in-Ok-step-clause-answer
 returns-in-Ok-step-clause-answer g c = λ all front t r. record {
   front = front ++ c.in-Ok.c ∷ [];
-  comes = subst (λ x. StepAnswer c.args.form front c.in-Ok.c x) (sym c.in-Ok-step.ensures) (step_answer c.args.form c.args.at c.args.header front c.in-Ok.c (sym t.many) r);
-  taken = c.in-Ok.ensures.answer c.args.form all front t (unfinished c.args.form c.args.header front r);
+  comes = subst (λ x. StepAnswer c.args.limit front c.in-Ok.c x) (sym c.in-Ok-step.ensures) (step_answer c.args.limit c.args.at c.args.header front c.in-Ok.c (sym t.many) r);
+  taken = c.in-Ok.ensures.answer c.args.limit all front t (unfinished c.args.limit c.args.header front r);
 }
 
 pub returns-in-Err-step-clause-answer : goal.returns-in-Err-step-clause-answer
 returns-in-Err-step-clause-answer g c = λ all front t r.
     let few : length front < c.args.longest = omega (arith, t.many, c.requires.more) in
-    stops_bad c.args.form c.args.longest c.args.at all (g.D.Desk.left c.next_byte.new.desk Picture) c.next_byte.new.bytes front c.in-Ok.c (g.D.Desk.read_faults c.args.desk.now) (g.D.Desk.read_faults c.next_byte.new.desk) c.in-Err-step.fault
-    (c.in-Ok.ensures.answer c.args.form all front t (unfinished c.args.form c.args.header front r)) few
-    (subst (λ x. StepAnswer c.args.form front c.in-Ok.c x) (sym c.in-Err-step.ensures) (step_answer c.args.form c.args.at c.args.header front c.in-Ok.c (sym t.many) r))
+    stops_bad c.args.limit c.args.longest c.args.at all (g.D.Desk.left c.next_byte.new.desk Picture) c.next_byte.new.bytes front c.in-Ok.c (g.D.Desk.read_faults c.args.desk.now) (g.D.Desk.read_faults c.next_byte.new.desk) c.in-Err-step.fault
+    (c.in-Ok.ensures.answer c.args.limit all front t (unfinished c.args.limit c.args.header front r)) few
+    (subst (λ x. StepAnswer c.args.limit front c.in-Ok.c x) (sym c.in-Err-step.ensures) (step_answer c.args.limit c.args.at c.args.header front c.in-Ok.c (sym t.many) r))
 
 pub returns-in-Err-clause-answer : goal.returns-in-Err-clause-answer
-returns-in-Err-clause-answer g c = λ all front t r. c.in-Err.ensures.answer c.args.form all front t (unfinished c.args.form c.args.header front r)
+returns-in-Err-clause-answer g c = λ all front t r. c.in-Err.ensures.answer c.args.limit all front t (unfinished c.args.limit c.args.header front r)

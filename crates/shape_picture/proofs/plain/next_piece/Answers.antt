@@ -6,18 +6,18 @@ use Rattle.shape_picture.proofs.ByteSteps.{stops_bad}
 use Rattle.shape_picture.proofs.plain.next_piece.Goals as goal
 
 pub returns-in-Ok-piece_at-clause-answer : goal.returns-in-Ok-piece_at-clause-answer
-returns-in-Ok-piece_at-clause-answer g c = λ all front width height raster t r. record {
+returns-in-Ok-piece_at-clause-answer g c = λ limit all front width height raster t r. record {
   byte = c.in-Ok.c;
-  goes = subst (λ x. PieceAnswer c.args.form front c.in-Ok.c width height raster x) (sym c.in-Ok-piece_at.ensures) (piece_answer c.args.form c.args.at c.args.count c.args.comment front c.in-Ok.c width height raster (sym t.many) r);
-  taken = c.in-Ok.ensures.answer c.args.form all front t (raster_unfinished c.args.form c.args.count c.args.comment front width height raster r);
+  goes = subst (λ x. PieceAnswer limit front c.in-Ok.c width height raster x) (sym c.in-Ok-piece_at.ensures) (piece_answer limit c.args.at c.args.count c.args.comment front c.in-Ok.c width height raster (sym t.many) r);
+  taken = c.in-Ok.ensures.answer limit all front t (raster_unfinished limit c.args.count c.args.comment front width height raster r);
 }
 
 pub returns-in-Err-piece_at-clause-answer : goal.returns-in-Err-piece_at-clause-answer
-returns-in-Err-piece_at-clause-answer g c = λ all front width height raster t r.
+returns-in-Err-piece_at-clause-answer g c = λ limit all front width height raster t r.
     let few : length front < c.args.longest = omega (arith, t.many, c.requires.more) in
-    stops_bad c.args.form c.args.longest c.args.at all (g.D.Desk.left c.next_byte.new.desk Picture) c.next_byte.new.bytes front c.in-Ok.c (g.D.Desk.read_faults c.args.desk.now) (g.D.Desk.read_faults c.next_byte.new.desk) c.in-Err-piece_at.fault
-    (c.in-Ok.ensures.answer c.args.form all front t (raster_unfinished c.args.form c.args.count c.args.comment front width height raster r)) few
-    (subst (λ x. PieceAnswer c.args.form front c.in-Ok.c width height raster x) (sym c.in-Err-piece_at.ensures) (piece_answer c.args.form c.args.at c.args.count c.args.comment front c.in-Ok.c width height raster (sym t.many) r))
+    stops_bad limit c.args.longest c.args.at all (g.D.Desk.left c.next_byte.new.desk Picture) c.next_byte.new.bytes front c.in-Ok.c (g.D.Desk.read_faults c.args.desk.now) (g.D.Desk.read_faults c.next_byte.new.desk) c.in-Err-piece_at.fault
+    (c.in-Ok.ensures.answer limit all front t (raster_unfinished limit c.args.count c.args.comment front width height raster r)) few
+    (subst (λ x. PieceAnswer limit front c.in-Ok.c width height raster x) (sym c.in-Err-piece_at.ensures) (piece_answer limit c.args.at c.args.count c.args.comment front c.in-Ok.c width height raster (sym t.many) r))
 
 pub returns-in-Err-clause-answer : goal.returns-in-Err-clause-answer
-returns-in-Err-clause-answer g c = λ all front width height raster t r. c.in-Err.ensures.answer c.args.form all front t (raster_unfinished c.args.form c.args.count c.args.comment front width height raster r)
+returns-in-Err-clause-answer g c = λ limit all front width height raster t r. c.in-Err.ensures.answer limit all front t (raster_unfinished limit c.args.count c.args.comment front width height raster r)

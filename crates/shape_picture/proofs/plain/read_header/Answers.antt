@@ -19,4 +19,4 @@ loop-at-preserved g c =
 pub returns-clause-answer : goal.returns-clause-answer
 returns-clause-answer g c =
     let i = c.loop-at.invariant.0 in
-    stops_long c.args.form c.args.longest c.loop-at.at (g.D.Desk.left c.args.desk.now Picture) (g.D.Desk.left c.loop-at.desk Picture) c.loop-at.bytes i.front (g.D.Desk.read_faults c.args.desk.now) (g.D.Desk.read_faults c.loop-at.desk) i.taken c.loop-at-test.false (unfinished c.args.form c.loop-at.header i.front i.reached)
+    stops_long c.args.limit c.args.longest c.loop-at.at (g.D.Desk.left c.args.desk.now Picture) (g.D.Desk.left c.loop-at.desk Picture) c.loop-at.bytes i.front (g.D.Desk.read_faults c.args.desk.now) (g.D.Desk.read_faults c.loop-at.desk) i.taken c.loop-at-test.false (unfinished c.args.limit c.loop-at.header i.front i.reached)

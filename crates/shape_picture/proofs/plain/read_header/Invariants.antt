@@ -6,7 +6,7 @@ use Rattle.shape_picture.proofs.plain.read_header.Given as goal
 
 abbrev pub invariant-loop-at : goal.invariant-loop-at
 invariant-loop-at g l =
-    HeaderSoFar l.form l.longest l.at l.header (g.D.Desk.left l.initial.desk Picture) (g.D.Desk.left l.desk Picture) l.bytes
+    HeaderSoFar l.limit l.longest l.at l.header (g.D.Desk.left l.initial.desk Picture) (g.D.Desk.left l.desk Picture) l.bytes
     × OnlyReads g.D.Desk.files g.D.Desk.left g.D.Desk.written g.D.Desk.begun g.D.Desk.read_faults g.D.Desk.write_faults l.initial.desk l.desk
 
 abbrev pub decreases-loop-at : goal.decreases-loop-at

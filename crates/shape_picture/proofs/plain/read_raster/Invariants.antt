@@ -7,8 +7,8 @@ use Rattle.shape_picture.proofs.plain.read_raster.Given as goal
 
 abbrev pub invariant-loop-at : goal.invariant-loop-at
 invariant-loop-at g l =
-    ((all : Option (List ℕ)) → RasterSoFar l.form l.longest l.fn.from l.fn.grid false 0 all (g.D.Desk.left l.initial.desk Picture) l.initial.bytes
-    → RasterSoFar l.form l.longest l.at l.grid l.comment l.count all (g.D.Desk.left l.desk Picture) l.bytes)
+    ((limit : ℕ) (all : Option (List ℕ)) → RasterSoFar limit l.longest l.fn.from l.fn.grid false 0 all (g.D.Desk.left l.initial.desk Picture) l.initial.bytes
+    → RasterSoFar limit l.longest l.at l.grid l.comment l.count all (g.D.Desk.left l.desk Picture) l.bytes)
     × (l.grid.sides ≡ l.fn.grid.sides)
     × (l.total ≡ box_count l.fn.grid.sides)
     × (l.count < l.total)

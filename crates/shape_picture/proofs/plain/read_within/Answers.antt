@@ -7,8 +7,8 @@ pub returns-in-Ok-new-clause-answer : goal.returns-in-Ok-new-clause-answer
 returns-in-Ok-new-clause-answer g c =
     let h = c.in-Ok-read_header.ensures.answer in
     let all = g.D.Desk.left c.args.desk.now Picture in
-    answer_earlier c.args.form c.args.longest all (g.D.Desk.left c.read_raster.new.desk Picture) (g.D.Desk.read_faults c.args.desk.now) (g.D.Desk.read_faults c.read_header.new.desk) (g.D.Desk.read_faults c.read_raster.new.desk) c.read_raster.result c.in-Ok-read_header.ensures.reads.later
-    (c.read_raster.ensures.answer all (record { front = h.front; pixels = pixels_start c.args.form c.in-Ok-read_header.heading.width c.in-Ok-read_header.heading.height c.in-Ok-new.grid _ h.front h.in_gap c.in-Ok-new.ensures c.box_of.ensures; taken = h.taken }))
+    answer_earlier c.args.limit c.args.longest all (g.D.Desk.left c.read_raster.new.desk Picture) (g.D.Desk.read_faults c.args.desk.now) (g.D.Desk.read_faults c.read_header.new.desk) (g.D.Desk.read_faults c.read_raster.new.desk) c.read_raster.result c.in-Ok-read_header.ensures.reads.later
+    (c.read_raster.ensures.answer c.args.limit all (record { front = h.front; pixels = pixels_start c.args.limit c.in-Ok-read_header.heading.width c.in-Ok-read_header.heading.height c.in-Ok-new.grid _ h.front h.in_gap c.in-Ok-new.ensures c.box_of.ensures; taken = h.taken }))
 
 pub returns-clause-answer : goal.returns-clause-answer
 returns-clause-answer g c =
