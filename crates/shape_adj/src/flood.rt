@@ -63,7 +63,7 @@ pub struct Components {
 
 /// Labels the components in the order of their first places.
 pub fn label_components<N: Net>(alloc: Global, net: &N) -> Result<Components, AllocError>
-    ensures filled { IfOk result (λ c. vec_len c.labels ≡ N.size net.now) }
+    ensures filled { IfOk result (λ c. length c.labels.items ≡ N.size net.now) }
     ensures members { IfOk result (λ c. (i : ℕ) → 1 ≤ slice_index c.labels.items i → N.Holds net.now i) }
     ensures ordered { IfOk result (λ c. InOrder c.labels.items) }
     ensures parts { IfOk result (λ c. NamesParts (N.Adjacent net.now) (N.Holds net.now) c.count (slice_index c.labels.items)) }
