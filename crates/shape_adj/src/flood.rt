@@ -10,7 +10,13 @@ use crate::net::Net;
 use std::alloc::{AllocError, Global};
 
 // Labels the places that the links of `p` lead to.
-fn spread<N: Net>(net: &N, p: u32, label: u32, labels: &mut [u32], work: &mut Vec<u32>) -> Result<(), AllocError>
+fn spread<N: Net>(
+    net: &N,
+    p: u32,
+    label: u32,
+    labels: &mut [u32],
+    work: &mut Vec<u32>,
+) -> Result<(), AllocError>
     requires same { length labels.old ≡ N.size net.now }
     requires here { slice_index labels.old p ≡ label }
     requires spreading { Spreading (N.Holds net.now) (N.Adjacent net.now) label (λ x. (x ≡ p) ⊎ Contains work.old.items x) labels.old }
@@ -32,7 +38,13 @@ fn spread<N: Net>(net: &N, p: u32, label: u32, labels: &mut [u32], work: &mut Ve
 }
 
 // Labels the component of `s`, the next one.
-fn fill<N: Net>(net: &N, s: u32, label: u32, labels: &mut [u32], work: &mut Vec<u32>) -> Result<(), AllocError>
+fn fill<N: Net>(
+    net: &N,
+    s: u32,
+    label: u32,
+    labels: &mut [u32],
+    work: &mut Vec<u32>,
+) -> Result<(), AllocError>
     requires same { length labels.old ≡ N.size net.now }
     requires empty { work.old.items ≡ [] }
     requires member { N.Holds net.now s }

@@ -13,3 +13,6 @@ mod places;
 pub use answers::{Labels, Parts};
 pub use pairing::Pairing;
 pub use picture::{labels, parts};
+
+#[cfg(test)]
+mod tests;
