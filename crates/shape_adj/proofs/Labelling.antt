@@ -1,6 +1,6 @@
 -- One component that is filled, and the components that are filled one after the other.
 -- Lemmas over lists of labels and of places to be visited.
-use Rattle.std.proofs.Common.{◌≡◌, ℕ, zero, suc, ◌+◌, ◌<◌, ◌≤◌, List, [], ◌∷◌, ◌++◌, length, slice_index, slice_index_or, set, get_or-set_same, length-set, replicate, take, arith, refl, sym, ◌∙◌, ap, subst, ◌⊎◌, inl, inr}
+use Rattle.std.proofs.Common.{◌≡◌, ℕ, zero, suc, ◌+◌, ◌<◌, ◌≤◌, List, [], ◌∷◌, ◌++◌, length, slice_index, set, get_or-set_same, length-set, replicate, take, arith, refl, sym, ◌∙◌, ap, subst, ◌⊎◌, inl, inr}
 use Rattle.std.specs.Prelude.{Option}
 use Rattle.std.specs.List.{Contains}
 use Rattle.std.proofs.lemmas.List.Elements.{Contains-push, Contains-push_cases}
@@ -30,18 +30,20 @@ in_one x s c = elim (Contains-push_cases [] s x c) [ inl i ↦ absurd (omega (ar
 pub fill_start : (O : ℕ → Type 0) (R : ℕ → ℕ → Type 0) (size d : ℕ) (next : ℕ → ℕ → Option ℕ) (net : IsNet size O R d next) (label s : ℕ) (labels : List ℕ) → length labels ≡ size → O s → slice_index labels s ≡ 0 → ((n : ℕ) × (label ≡ suc n) × Flooded O R n (slice_index labels))
     → Filling O R size label s (set labels s label) (s ∷ []) labels
 fill_start O R size d next net label s labels same o z w = record {
-    seeded = get_or-set_same labels s label 0 inside;
-    some = let a = w.1 in omega arith;
-    kept = kept_set labels labels s label z (λ i l. refl);
-    same = length-set labels s label ∙ same;
-    spreading = (w.0, s, w.1, at_work (flood_start ℕ_discrete net.symmetric s w.2 o z put));
-    labelled = λ x c. ap (slice_index (set labels s label)) (in_one x s c) ∙ get_or-set_same labels s label 0 inside;
-  }
+  seeded = get_or-set_same labels s label 0 inside;
+  some = let a = w.1 in omega arith;
+  kept = kept_set labels labels s label z (λ i l. refl);
+  same = length-set labels s label ∙ same;
+  spreading = (w.0, s, w.1, at_work (flood_start ℕ_discrete net.symmetric s w.2 o z put));
+  labelled = λ x c. ap (slice_index (set labels s label)) (in_one x s c) ∙ get_or-set_same labels s label 0 inside;
+}
   where
     inside : s < length labels
     inside = let a = net.bounded s o in omega arith
+
     put : Put (slice_index labels) (slice_index (set labels s label)) s (suc w.0)
     put = subst (λ v. Put (slice_index labels) (slice_index (set labels s label)) s v) w.1 (put_set labels s label inside)
+
     at_work : Flooding O R w.0 s (λ x. x ≡ s) (slice_index (set labels s label)) → Flooding O R w.0 s (Contains (s ∷ [])) (slice_index (set labels s label))
     at_work f = flood_work f (λ x e. subst (Contains (s ∷ [])) (sym e) (Contains-push [] s))
 
@@ -72,18 +74,18 @@ replicate_zero (suc n) (suc i) = replicate_zero n i
 
 pub labelling_start : (O : ℕ → Type 0) (R : ℕ → ℕ → Type 0) (size : ℕ) (labels : List ℕ) → labels ≡ replicate size 0 → Labelling O R size labels [] 0 0
 labelling_start O R size labels e = record {
-    same = ap length e ∙ length-replicate _ _;
-    empty = refl;
-    few = omega arith;
-    flooded = record {
-        member = λ p a. absurd (bad p a);
-        shut = λ p q a o r. absurd (bad p a);
-        parts = record { in_range = λ p a. absurd (bad p a); used = λ i a b. absurd (omega arith); adjacent = λ p q a b r. absurd (bad p a); connected = λ p q a b r. absurd (bad p a) };
-      };
-    passed = λ i l o. absurd (omega arith);
-    first = λ j l h. absurd (omega arith);
-    ordered = λ i j l h. absurd (bad i (omega arith));
-  }
+  same = ap length e ∙ length-replicate _ _;
+  empty = refl;
+  few = omega arith;
+  flooded = record {
+    member = λ p a. absurd (bad p a);
+    shut = λ p q a o r. absurd (bad p a);
+    parts = record { in_range = λ p a. absurd (bad p a); used = λ i a b. absurd (omega arith); adjacent = λ p q a b r. absurd (bad p a); connected = λ p q a b r. absurd (bad p a) };
+  };
+  passed = λ i l o. absurd (omega arith);
+  first = λ j l h. absurd (omega arith);
+  ordered = λ i j l h. absurd (bad i (omega arith));
+}
   where
     bad : (p : ℕ) → 1 ≤ slice_index labels p → ⊥
     bad p a = let z : slice_index labels p ≡ 0 = rw e (replicate_zero size p) in omega arith
@@ -92,23 +94,24 @@ module _ (O : ℕ → Type 0) (R : ℕ → ℕ → Type 0) (size s count : ℕ) 
   -- s is in a component of its own
   pub labelling_more : Flooded O R (count + 1) (slice_index labels') → Kept labels labels' → slice_index labels' s ≡ count + 1 → length labels' ≡ length labels → work' ≡ [] → Labelling O R size labels' work' (s + 1) (count + 1)
   labelling_more f k h l e = record {
-      same = l ∙ w.same;
-      empty = e;
-      few = let a = w.few in omega arith;
-      flooded = f;
-      passed = λ i j o. elim (ℕ_discrete i s) [ yes n ↦ (let a : slice_index labels' i ≡ count + 1 = ap (slice_index labels') n ∙ h in omega arith) | no n ↦ (let a = w.passed i (omega arith) o in let b = k i a in omega arith) ];
-      first = first;
-      ordered = ordered;
-    }
+    same = l ∙ w.same;
+    empty = e;
+    few = let a = w.few in omega arith;
+    flooded = f;
+    passed = λ i j o. elim (ℕ_discrete i s) [ yes n ↦ (let a : slice_index labels' i ≡ count + 1 = ap (slice_index labels') n ∙ h in omega arith) | no n ↦ (let a = w.passed i (omega arith) o in let b = k i a in omega arith) ];
+    first = first;
+    ordered = ordered;
+  }
     where
       first : (j : ℕ) → 1 ≤ j → j ≤ count + 1 → (i : ℕ) × (i < s + 1) × (slice_index labels' i ≡ j)
       first j a b = elim (dec_lt count j) [
-          yes c ↦ (s, omega arith, (let q : count + 1 ≡ j = omega arith in h ∙ q))
+        | yes c ↦ (s, omega arith, (let q : count + 1 ≡ j = omega arith in h ∙ q))
         | no c ↦ (let u = w.first j a (omega arith) in let v = u.1 in let x = u.2 in (u.0, omega arith, k u.0 (omega arith) ∙ u.2))
-        ]
+      ]
+
       ordered : InOrder labels'
       ordered i j a b = elim (dec_lt 0 (slice_index labels i)) [
-          yes c ↦ (let e = k i c in let u = w.ordered i j a (omega arith) in let x = u.2 in (u.0, u.1, k u.0 (omega arith) ∙ u.2))
+        | yes c ↦ (let e = k i c in let u = w.ordered i j a (omega arith) in let x = u.2 in (u.0, u.1, k u.0 (omega arith) ∙ u.2))
         | no c ↦ (
             let t = (f.parts.in_range i (omega arith)).1 in
             let u = w.first j a (omega arith) in
@@ -116,19 +119,19 @@ module _ (O : ℕ → Type 0) (R : ℕ → ℕ → Type 0) (size s count : ℕ) 
             let v = u.1 in
             let late : s ≤ i = elim (dec_lt i s) [ yes l ↦ absurd (c (w.passed i l (f.member i (omega arith)))) | no l ↦ omega arith ] in
             (u.0, omega arith, k u.0 (omega arith) ∙ u.2))
-        ]
+      ]
 
   -- s is no place of the set, or it has its label
   pub labelling_skip : (O s → slice_index labels s ≡ 0 → ⊥) → labels' ≡ labels → work' ≡ work → Labelling O R size labels' work' (s + 1) count
   labelling_skip n i j = rw (i, j) (record {
-      same = w.same;
-      empty = w.empty;
-      few = let a = w.few in omega arith;
-      flooded = w.flooded;
-      passed = λ i j o. elim (ℕ_discrete i s) [ yes e ↦ elim (ℕ_discrete (slice_index labels i) 0) [ yes z ↦ absurd (n (subst O e o) (subst (λ x. slice_index labels x ≡ 0) e z)) | no z ↦ omega arith ] | no e ↦ w.passed i (omega arith) o ];
-      first = λ j a b. let u = w.first j a b in let v = u.1 in (u.0, omega arith, u.2);
-      ordered = w.ordered;
-    })
+    same = w.same;
+    empty = w.empty;
+    few = let a = w.few in omega arith;
+    flooded = w.flooded;
+    passed = λ i j o. elim (ℕ_discrete i s) [ yes e ↦ elim (ℕ_discrete (slice_index labels i) 0) [ yes z ↦ absurd (n (subst O e o) (subst (λ x. slice_index labels x ≡ 0) e z)) | no z ↦ omega arith ] | no e ↦ w.passed i (omega arith) o ];
+    first = λ j a b. let u = w.first j a b in let v = u.1 in (u.0, omega arith, u.2);
+    ordered = w.ordered;
+  })
 
 pub labelling_end : (O : ℕ → Type 0) (R : ℕ → ℕ → Type 0) (size d : ℕ) (next : ℕ → ℕ → Option ℕ) (net : IsNet size O R d next) (labels work : List ℕ) (count s : ℕ) → size ≤ s → Labelling O R size labels work s count → NamesParts R O count (slice_index labels)
 labelling_end O R size d next net labels work count s l w = named_as_well (λ i a. w.flooded.member i a) (λ i o. w.passed i (let a = net.bounded i o in omega arith) o) w.flooded.parts

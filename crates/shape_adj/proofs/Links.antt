@@ -1,6 +1,6 @@
 -- One place whose links are followed: its adjacent places get the label of the component.
 -- Lemmas over lists of labels and of places to be visited.
-use Rattle.std.proofs.Common.{◌≡◌, ℕ, zero, suc, ◌+◌, ◌<◌, ◌≤◌, List, [], ◌∷◌, ◌++◌, length, slice_index, slice_index_or, set, get_or-set_same, get_or-set_other, length-set, length-append, arith, refl, sym, ◌∙◌, ap, subst, ◌⊎◌, inl, inr}
+use Rattle.std.proofs.Common.{◌≡◌, ℕ, zero, suc, ◌+◌, ◌<◌, ◌≤◌, List, [], ◌∷◌, ◌++◌, length, slice_index, set, get_or-set_same, get_or-set_other, length-set, length-append, arith, refl, sym, ◌∙◌, ap, subst, ◌⊎◌, inl, inr}
 use Rattle.std.specs.Prelude.{Option, Some, None}
 use Rattle.std.specs.List.{Contains}
 use Rattle.std.proofs.lemmas.List.Elements.{Contains-push, Contains-append_left, Contains-push_cases}
@@ -46,14 +46,14 @@ module _ (O : ℕ → Type 0) (R : ℕ → ℕ → Type 0) (size d : ℕ) (next 
 
   follow_skip : ((q : ℕ) → next p k ≡ Some q → slice_index labels q ≡ label) → Followed O R size p label (k + 1) (next p) labels work total start
   follow_skip h = record {
-      kept = w.kept;
-      same = w.same;
-      here = w.here;
-      spreading = w.spreading;
-      done = λ j q l o. elim (ℕ_discrete j k) [ yes e ↦ h q (ap (next p) (sym e) ∙ o) | no e ↦ w.done j q (omega arith) o ];
-      labelled = w.labelled;
-      less = w.less;
-    }
+    kept = w.kept;
+    same = w.same;
+    here = w.here;
+    spreading = w.spreading;
+    done = λ j q l o. elim (ℕ_discrete j k) [ yes e ↦ h q (ap (next p) (sym e) ∙ o) | no e ↦ w.done j q (omega arith) o ];
+    labelled = w.labelled;
+    less = w.less;
+  }
 
   -- the link leads nowhere
   pub follow_none : next p k ≡ None → Followed O R size p label (k + 1) (next p) labels work total start
@@ -69,44 +69,51 @@ module _ (O : ℕ → Type 0) (R : ℕ → ℕ → Type 0) (size d : ℕ) (next 
           let e2 = w.spreading.2 in
           let t = f.top q in
           elim (dec_lt w.spreading.0 (slice_index labels q)) [
-            yes h ↦ omega arith
-          | no h ↦ absurd (
-              let b : (1 ≤ slice_index labels p) × (slice_index labels p ≤ w.spreading.0) =
-                  f.old_shut q p (let c : slice_index labels q ≡ 0 → ⊥ = none in omega arith) (omega arith) here_in (net.symmetric p q (net.sound p k q l e).1) in
-              let a = w.here in
-              let c = b.1 in
-              omega arith)
+            | yes h ↦ omega arith
+            | no h ↦ absurd (
+                let b : (1 ≤ slice_index labels p) × (slice_index labels p ≤ w.spreading.0) =
+                f.old_shut q p (let c : slice_index labels q ≡ 0 → ⊥ = none in omega arith) (omega arith) here_in (net.symmetric p q (net.sound p k q l e).1) in
+                let a = w.here in
+                let c = b.1 in
+                omega arith)
           ]
 
   -- the place that the link leads to gets the label
   pub follow_new : (q : ℕ) → k < d → next p k ≡ Some q → slice_index labels q ≡ 0 → Followed O R size p label (k + 1) (next p) (set labels q label) (work ++ q ∷ []) total start
   follow_new q l i z = record {
-      kept = kept_set start labels q label z w.kept;
-      same = length-set labels q label ∙ w.same;
-      here = keeps p w.here;
-      spreading = (n, w.spreading.1, e, flood_work (flood_grow ℕ_discrete net.symmetric p q f (w.here ∙ e) to.1 to.0 z put) more);
-      done = λ j x h y. elim (ℕ_discrete j k) [
-          yes a ↦ (let b : Some q ≡ Some x = sym i ∙ (ap (next p) (sym a) ∙ y) in let g : q ≡ x = cc in subst (λ v. slice_index (set labels q label) v ≡ label) g (get_or-set_same labels q label 0 inside))
-        | no a ↦ keeps x (w.done j x (omega arith) y)
-        ];
-      labelled = λ x h. elim (Contains-push_cases work q x h) [ inl a ↦ keeps x (w.labelled x a) | inr a ↦ subst (λ v. slice_index (set labels q label) v ≡ label) a (get_or-set_same labels q label 0 inside) ];
-      less = let a = zeros-set labels q label inside z (let b = e in omega arith) in let b = w.less in let c : length (work ++ q ∷ []) ≡ length work + 1 = length-append work (q ∷ []) in omega arith;
-    }
+    kept = kept_set start labels q label z w.kept;
+    same = length-set labels q label ∙ w.same;
+    here = keeps p w.here;
+    spreading = (n, w.spreading.1, e, flood_work (flood_grow ℕ_discrete net.symmetric p q f (w.here ∙ e) to.1 to.0 z put) more);
+    done = λ j x h y. elim (ℕ_discrete j k) [
+      | yes a ↦ (let b : Some q ≡ Some x = sym i ∙ (ap (next p) (sym a) ∙ y) in let g : q ≡ x = cc in subst (λ v. slice_index (set labels q label) v ≡ label) g (get_or-set_same labels q label 0 inside))
+      | no a ↦ keeps x (w.done j x (omega arith) y)
+    ];
+    labelled = λ x h. elim (Contains-push_cases work q x h) [ inl a ↦ keeps x (w.labelled x a) | inr a ↦ subst (λ v. slice_index (set labels q label) v ≡ label) a (get_or-set_same labels q label 0 inside) ];
+    less = let a = zeros-set labels q label inside z (let b = e in omega arith) in let b = w.less in let c : length (work ++ q ∷ []) ≡ length work + 1 = length-append work (q ∷ []) in omega arith;
+  }
     where
       n : ℕ
       n = w.spreading.0
+
       e : label ≡ suc n
       e = w.spreading.2
+
       f : Flooding O R n w.spreading.1 (λ x. (x ≡ p) ⊎ Contains work x) (slice_index labels)
       f = w.spreading.3
+
       to : O q × R p q
       to = net.sound p k q l i
+
       inside : q < length labels
       inside = let a = w.same in let b = net.bounded q to.0 in omega arith
+
       put : Put (slice_index labels) (slice_index (set labels q label)) q (suc n)
       put = subst (λ v. Put (slice_index labels) (slice_index (set labels q label)) q v) e (put_set labels q label inside)
+
       keeps : (x : ℕ) → slice_index labels x ≡ label → slice_index (set labels q label) x ≡ label
       keeps x h = get_or-set_other labels q x label 0 (λ i. let a : slice_index labels x ≡ 0 = ap (slice_index labels) i ∙ z in let b = e in omega arith) ∙ h
+
       more : (x : ℕ) → (x ≡ q) ⊎ ((x ≡ p) ⊎ Contains work x) → (x ≡ p) ⊎ Contains (work ++ q ∷ []) x
       more x (inl i) = inr (subst (Contains (work ++ q ∷ [])) (sym i) (Contains-push work q))
       more x (inr (inl i)) = inl i

@@ -10,7 +10,13 @@ use crate::net::Net;
 use std::alloc::{AllocError, Global};
 
 // Labels the places that the links of `p` lead to.
-fn spread<N: Net>(net: &N, p: u32, label: u32, labels: &mut [u32], work: &mut Vec<u32>) -> Result<(), AllocError>
+fn spread<N: Net>(
+    net: &N,
+    p: u32,
+    label: u32,
+    labels: &mut [u32],
+    work: &mut Vec<u32>,
+) -> Result<(), AllocError>
     requires same { length labels.old ≡ N.size net.now }
     requires here { slice_index labels.old p ≡ label }
     requires spreading { Spreading (N.Holds net.now) (N.Adjacent net.now) label (λ x. (x ≡ p) ⊎ Contains work.old.items x) labels.old }
@@ -32,7 +38,13 @@ fn spread<N: Net>(net: &N, p: u32, label: u32, labels: &mut [u32], work: &mut Ve
 }
 
 // Labels the component of `s`, the next one.
-fn fill<N: Net>(net: &N, s: u32, label: u32, labels: &mut [u32], work: &mut Vec<u32>) -> Result<(), AllocError>
+fn fill<N: Net>(
+    net: &N,
+    s: u32,
+    label: u32,
+    labels: &mut [u32],
+    work: &mut Vec<u32>,
+) -> Result<(), AllocError>
     requires same { length labels.old ≡ N.size net.now }
     requires empty { work.old.items ≡ [] }
     requires member { N.Holds net.now s }
@@ -63,7 +75,7 @@ pub struct Components {
 
 /// Labels the components in the order of their first places.
 pub fn label_components<N: Net>(alloc: Global, net: &N) -> Result<Components, AllocError>
-    ensures filled { IfOk result (λ c. vec_len c.labels ≡ N.size net.now) }
+    ensures filled { IfOk result (λ c. length c.labels.items ≡ N.size net.now) }
     ensures members { IfOk result (λ c. (i : ℕ) → 1 ≤ slice_index c.labels.items i → N.Holds net.now i) }
     ensures ordered { IfOk result (λ c. InOrder c.labels.items) }
     ensures parts { IfOk result (λ c. NamesParts (N.Adjacent net.now) (N.Holds net.now) c.count (slice_index c.labels.items)) }

@@ -2,7 +2,7 @@
 //! Everything here is generic over the dimension.
 #![tactic(auto)]
 
-mod counts;
+mod answers;
 mod flood;
 mod frame;
 mod net;
@@ -10,6 +10,9 @@ mod pairing;
 mod picture;
 mod places;
 
-pub use counts::Parts;
+pub use answers::{Labels, Parts};
 pub use pairing::Pairing;
-pub use picture::parts;
+pub use picture::{labels, parts};
+
+#[cfg(test)]
+mod tests;

@@ -40,20 +40,28 @@ pub trait Pairing: Point {
         requires within { IsWithin (negsuc 1) (pos 4096) (Self.coords self.now) }
         ensures { Self.coords result ≡ side_point (Self.coords self.now) k };
 
+    /// As many as there are steps with each coordinate -1, 0 or 1, but for that of no length.
     ghost near_total: { NEAR_COUNT ≡ length (near_steps Self.DIM) };
 
+    /// Two for each axis.
     ghost side_total: { SIDE_COUNT ≡ length (side_steps Self.DIM) };
 
+    /// The near neighbours are exactly the other points that differ by at most 1 in each coordinate, each once.
     ghost near_listed: { (p : Self) → Lists Near near_point NEAR_COUNT (Self.coords p) };
 
+    /// The side neighbours are exactly the points that differ by 1 in one coordinate, each once.
     ghost side_listed: { (p : Self) → Lists Side side_point SIDE_COUNT (Self.coords p) };
 
+    /// A point is near each point that is near it.
     ghost near_symmetric: { (p q : Self) → Near (Self.coords p) (Self.coords q) → Near (Self.coords q) (Self.coords p) };
 
+    /// A point is beside each point that is beside it.
     ghost side_symmetric: { (p q : Self) → Side (Self.coords p) (Self.coords q) → Side (Self.coords q) (Self.coords p) };
 
+    /// The bits that are set in `ROUND`.
     ghost round_bits: { (p : Self) (k : ℕ) → k < NEAR_COUNT → (bit_at ROUND k ≡ 1) ↔ Round (Self.coords p) (near_point (Self.coords p) k) };
 
+    /// A side neighbour is a near neighbour whose bit is set in `ROUND`.
     ghost side_in_round: { (p q : Self) → Side (Self.coords p) (Self.coords q) → Round (Self.coords p) (Self.coords q) };
 }
 

@@ -2,9 +2,9 @@
 //! What a component is stands in the definitions; how it is found, in the flood.
 ghost use Rattle.std.specs.Prelude.{IfOk, length};
 ghost use Rattle.shape_terms.specs.Pictures.{object_points};
-ghost use Rattle.shape_terms.specs.Parts.{HasParts, Counts};
+ghost use Rattle.shape_terms.specs.Parts.{HasParts, Counts, LabelsObject};
 
-use crate::counts::Parts;
+use crate::answers::{Labels, Parts};
 use crate::flood::label_components;
 use crate::net::Net;
 use crate::pairing::Pairing;
@@ -32,4 +32,16 @@ pub fn parts<P: Pairing>(alloc: Global, grid: &Grid<P>) -> Result<Parts, NoMemor
     let object = component_count(alloc, &Object { grid })?;
     let background = component_count(alloc, &Background { grid })?;
     Ok(Parts { object, background })
+}
+
+/// Labels the components of the object from 1 on, in the order of their first points in raster order. Background has the label 0.
+///
+/// It takes memory for a few bytes a point, and no more stack for a larger picture.
+pub fn labels<P: Pairing>(alloc: Global, grid: &Grid<P>) -> Result<Labels, NoMemory>
+    ensures { IfOk result (LabelsObject grid.now) }
+{
+    match label_components(alloc, &Object { grid }) {
+        Ok(components) => Ok(Labels::of(components.labels)),
+        Err(_) => Err(NoMemory),
+    }
 }

@@ -1,6 +1,6 @@
 -- Lists of points no two of which are equal, and the points that such steps lead to.
 -- Laws over any list of points alone.
-use Rattle.std.proofs.Common.{◌≡◌, ℕ, suc, ◌+◌, ◌<◌, refl, arith, List, [], ◌∷◌, length, map}
+use Rattle.std.proofs.Common.{◌≡◌, refl, arith, List, [], ◌∷◌, length, map}
 use Rattle.std.specs.Prelude.{⊤, ◌≢◌, AllPairs, ◌+ℤ◌}
 use Rattle.std.specs.List.{AllByRecursion}
 use Rattle.std.proofs.lemmas.Int.{ints}

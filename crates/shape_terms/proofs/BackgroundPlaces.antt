@@ -1,19 +1,19 @@
 -- The background of a picture in the framed box as a net of places, and its components as those of the net.
-use Rattle.std.proofs.Common.{◌≡◌, ◌<◌, ℕ, Bool, true, false, List, length, refl, sym, ◌∙◌, ap, subst, arith}
-use Rattle.std.specs.Prelude.{◌&&◌, not, IsTrue, Option, Some}
+use Rattle.std.proofs.Common.{◌≡◌, ◌<◌, ℕ, Bool, true, false, length, refl, sym, ◌∙◌, ap, subst}
+use Rattle.std.specs.Prelude.{◌&&◌, not, IsTrue, Some}
 use Rattle.std.proofs.lemmas.Bool.{and_parts, and_from}
 use Rattle.shape_terms.specs.Points.{Point, box_count}
-use Rattle.shape_terms.specs.Pictures.{Picture, at, IsBackground}
+use Rattle.shape_terms.specs.Pictures.{Picture, at}
 use Rattle.shape_terms.specs.FramedBox.{framed_sides, framed_point}
 use Rattle.shape_terms.specs.Adjacency.{Side, side_steps, side_point}
-use Rattle.shape_terms.specs.Parts.{InFrame, FramedBackground, NamesParts}
+use Rattle.shape_terms.specs.Parts.{FramedBackground, NamesParts}
 use Rattle.shape_terms.proofs.FramedBoxes.{length-framed_point}
 use Rattle.shape_terms.proofs.AdjacencySymmetric.{side_sym}
 use Rattle.shape_terms.proofs.NeighbourNumbers.{side_number, side_of_number}
 use Rattle.shape_terms.specs.Net.{IsNet}
-use Rattle.shape_terms.specs.Places.{place_if, in_frame, framed_number, BackgroundPlace, SidePlaces, background_place, background_link}
+use Rattle.shape_terms.specs.Places.{in_frame, framed_number, BackgroundPlace, SidePlaces, background_place, background_link}
 use Rattle.shape_terms.proofs.PartsAlong.{parts_along}
-use Rattle.shape_terms.proofs.FramedNumbers.{in_frame_length, frame_tested, frame_is, framed_number_below, framed_point-framed_number, framed_point_in, framed_number-framed_point}
+use Rattle.shape_terms.proofs.FramedNumbers.{frame_tested, frame_is, framed_number_below, framed_point-framed_number, framed_point_in, framed_number-framed_point}
 use Rattle.shape_terms.proofs.ObjectPlaces.{place_there, place_named}
 
 not_false : (b : Bool) → not b ≡ true → b ≡ false
@@ -47,9 +47,11 @@ module _ (X : Picture) where
   background_complete i j a b side =
       let q = framed_point X.sides j in
       let n = side_number (framed_point X.sides i) q side in
-      let there = and_from (in_frame X.sides q) (not (at X q)) (framed_point_in X.sides j b.0) (not_true (at X q) b.1) in
-      (n.0, subst (λ m. n.0 < length (side_steps m)) (length-framed_point X.sides i) n.1,
-       ap (background_place X) n.2 ∙ (place_named (in_frame X.sides q && not (at X q)) (framed_number X.sides q) there ∙ ap (λ m. Some m) (framed_number-framed_point X.sides j b.0)))
+      let there = and_from (in_frame X.sides q) (not (at X q)) (framed_point_in X.sides j b.0) (not_true (at X q) b.1) in (
+        n.0,
+        subst (λ m. n.0 < length (side_steps m)) (length-framed_point X.sides i) n.1,
+        ap (background_place X) n.2 ∙ (place_named (in_frame X.sides q && not (at X q)) (framed_number X.sides q) there ∙ ap (λ m. Some m) (framed_number-framed_point X.sides j b.0)),
+      )
 
   pub background_net : IsNet (box_count (framed_sides X.sides)) (BackgroundPlace X) (SidePlaces X) (length (side_steps (length X.sides))) (background_link X)
   background_net = record { bounded = λ i h. h.0; symmetric = λ i j. side_sym (framed_point X.sides i) (framed_point X.sides j); sound = background_sound; complete = background_complete }

@@ -1,11 +1,11 @@
 -- The numbers of the neighbours of a point: each neighbour has exactly one.
 -- Laws for any number of axes; a picture does not matter here.
-use Rattle.std.proofs.Common.{◌≡◌, ℕ, ◌<◌, ◌≤◌, refl, sym, ◌∙◌, ap, arith, List, [], length, map, get_or}
-use Rattle.std.specs.Prelude.{◌≢◌, ◌↔◌, AllPairs, Contains}
+use Rattle.std.proofs.Common.{◌≡◌, ℕ, ◌<◌, sym, ◌∙◌, arith, List, [], length, map, get_or}
+use Rattle.std.specs.Prelude.{◌≢◌, AllPairs, Contains}
 use Rattle.std.proofs.lemmas.List.{get_or_default, get_or-map, length-map}
 use native.Mathlib.Decide.{dec_lt}
 use Rattle.shape_terms.specs.Points.{Point}
-use Rattle.shape_terms.specs.Adjacency.{moved, near_steps, side_steps, near_points, side_points, near_point, side_point, Near, Side, Round, Lists}
+use Rattle.shape_terms.specs.Adjacency.{moved, near_steps, side_steps, near_point, side_point, Near, Side, Round, Lists}
 use Rattle.shape_terms.proofs.NearNeighbours.{near_points_near, near_listed, near_points_distinct}
 use Rattle.shape_terms.proofs.SideNeighbours.{side_points_side, side_listed, side_points_distinct, side_is_near}
 
@@ -25,10 +25,10 @@ one_number p vs j k apart l r e =
     let n = length-map vs (moved p) in
     let f : get_or (map (moved p) vs) j [] ≡ get_or (map (moved p) vs) k [] = at_place p vs j l ∙ (e ∙ sym (at_place p vs k r)) in
     elim (dec_lt j k) [
-      yes a ↦ absurd (apart j k [] a (omega arith) f)
-    | no a ↦ elim (dec_lt k j) [
-        yes b ↦ absurd (apart k j [] b (omega arith) (sym f))
-      | no b ↦ omega arith
+      | yes a ↦ absurd (apart j k [] a (omega arith) f)
+      | no a ↦ elim (dec_lt k j) [
+        | yes b ↦ absurd (apart k j [] b (omega arith) (sym f))
+        | no b ↦ omega arith
       ]
     ]
 

@@ -1,6 +1,6 @@
 -- The object and the background of a picture as sets of numbered places.
 -- Object points have their raster numbers in the box, background points theirs in the framed box.
-use Rattle.std.specs.Prelude.{◌≡◌, ℕ, ◌+◌, ◌<◌, Bool, false, ◌&&◌, not, cond, List, map, Option, Some, None, pos, ◌+ℤ◌}
+use Rattle.std.specs.Prelude.{◌≡◌, ℕ, ◌<◌, Bool, false, ◌&&◌, not, cond, List, map, Option, Some, None, pos, ◌+ℤ◌}
 use Rattle.shape_terms.specs.Points.{Point, in_box, box_count, raster_number, raster_point}
 use Rattle.shape_terms.specs.Pictures.{Picture, at}
 use Rattle.shape_terms.specs.FramedBox.{framed_sides, framed_point}

@@ -1,4 +1,4 @@
-use Rattle.std.proofs.Common.{◌≡◌, rules, arith, ap, sym, ◌∙◌, length}
+use Rattle.std.proofs.Common.{◌≡◌, rules, arith, ap, ◌∙◌, length}
 use Rattle.std.proofs.lemmas.List.{get_or_default}
 use Rattle.shape_adj.proofs.Labelling.{labelling_more, labelling_skip, labelling_end, take_front}
 use Rattle.shape_adj.proofs.flood.label_components.Goals as goal
@@ -6,7 +6,7 @@ use Rattle.shape_adj.proofs.flood.label_components.Goals.{then-has+then-index-eq
 
 pub loop-s-preserved : goal.loop-s-preserved
 loop-s-preserved g c = elim c.if-has.branch [
-    then-has+then-index-eq0+in_ok-fill w ↦ (
+  | then-has+then-index-eq0+in_ok-fill w ↦ (
       let d : w.deref_mut.result.now ≡ c.loop-s.labels.items = search rules in
       let n = ap length d in
       let m = w.in_ok-fill.ensures.same in
@@ -15,10 +15,10 @@ loop-s-preserved g c = elim c.if-has.branch [
       rw (v, w.work-is, w.count-is) (labelling_more _ _ _ _ _ _ _ _ _ c.loop-s.invariant w.in_ok-fill.ensures.flooded (rw d at w.in_ok-fill.ensures.kept) w.in_ok-fill.ensures.seed (rw d at w.in_ok-fill.ensures.same) w.in_ok-fill.ensures.empty))
   | else-has w ↦ rw w.count-is (labelling_skip _ _ _ _ _ _ _ _ _ c.loop-s.invariant
       (λ o z. elim w.else-has.branch [
-          else-has-via-then-has+else-index-eq0 u ↦ (let q = c.loop-s.invariant.same in u.if-index-eq0.false (u.index.ensures ∙ (get_or_default c.loop-s.labels.items c.loop-s.s _ 0 (omega (arith, c.places-s-end.ensures)) ∙ z)))
+        | else-has-via-then-has+else-index-eq0 u ↦ (let q = c.loop-s.invariant.same in u.if-index-eq0.false (u.index.ensures ∙ (get_or_default c.loop-s.labels.items c.loop-s.s _ 0 (omega (arith, c.places-s-end.ensures)) ∙ z)))
         | else-has-via-else-has u ↦ (let t = u.if-has.false in let s = c.has.ensures.1 o in cc)
-        ]) (rw w.labels-is) (rw w.work-is))
-  ]
+      ]) (rw w.labels-is) (rw w.work-is))
+]
 
 pub returns-clause-parts : goal.returns-clause-parts
 returns-clause-parts g c =

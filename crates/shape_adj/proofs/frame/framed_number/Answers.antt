@@ -1,4 +1,4 @@
-use Rattle.std.proofs.Common.{◌≡◌, ◌⊎◌, ◌-◌, ◌≤◌, ◌^◌, arith, rules, refl, FitsSigned, w32}
+use Rattle.std.proofs.Common.{◌-◌, ◌≤◌, ◌^◌, arith, rules, refl, FitsSigned, w32}
 use Rattle.std.proofs.lemmas.Int.{ints, to_z-of_z}
 use Rattle.shape_terms.specs.Points.{coordinate, sides_of, box_count}
 use Rattle.shape_terms.specs.FramedBox.{framed_sides}
@@ -43,7 +43,7 @@ overflow_add-i g c =
     let b = g.met.P.Point.axes c.args.p in
     let part = framed_number_part ns p c.loop-k.k (c.loop-k.k - 1) c.loop-k.i c.framed_side.result c.coord.result (omega arith) (omega arith) (omega arith) c.loop-k.invariant c.framed_side.ensures.value c.coord.ensures c.requires in
     let few_in : box_count (framed_sides (sides_of ns)) ≤ 2 ^ 23 =
-        few_framed g.P.Point.MAX_SIDE ns c.args.sides.now.in_range g.met.P.Point.flat_side (rw a g.met.P.Point.two_or_three) (rw a g.met.P.Point.solid_side) in
+    few_framed g.P.Point.MAX_SIDE ns c.args.sides.now.in_range g.met.P.Point.flat_side (rw a g.met.P.Point.two_or_three) (rw a g.met.P.Point.solid_side) in
     let f : FitsSigned w32 c.coord.result = search rules in
     rw (c.from_first.ensures, to_z-of_z w32 c.coord.result f) (omega arith)
 

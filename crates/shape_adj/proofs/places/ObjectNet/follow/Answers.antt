@@ -1,4 +1,4 @@
-use Rattle.std.proofs.Common.{arith, pos, negsuc}
+use Rattle.std.proofs.Common.{arith}
 use Rattle.std.proofs.lemmas.Int.{ints}
 use Rattle.shape_terms.proofs.FramedBoxes.{box_point_within}
 use Rattle.shape_adj.proofs.places.ObjectNet.follow.Goals as goal

@@ -1,0 +1,115 @@
+//! Neighbours and components known from outside: counted by hand on small pictures.
+ghost use Rattle.std.specs.Prelude.{pos, negsuc};
+ghost use Rattle.shape_terms.specs.FramedBox.{IsWithin};
+
+use super::*;
+use shape_grid::Grid;
+use shape_space::{P2, Sides};
+use std::alloc::{AllocError, Global};
+use std::test::Fail;
+
+// The box of these sides, with object at the places of the ones.
+fn picture(alloc: Global, x: i32, y: i32, pixels: &[u8]) -> Result<Grid<P2>, Fail> {
+    let Some(sides) = Sides::try_new(P2 { x, y }) else {
+        return Err(Fail::from(AllocError));
+    };
+    let Ok(mut grid) = Grid::new(alloc, sides) else {
+        return Err(Fail::from(AllocError));
+    };
+    for i in 0..sides.count() {
+        let p = sides.unraster(i);
+        if pixels.get(i as usize) == Some(&1) && grid.sides().inside(p) {
+            grid.set(p);
+        }
+    }
+    Ok(grid)
+}
+
+// The numbers of components of the object and of the background.
+fn counts(alloc: Global, grid: &Grid<P2>) -> Result<(u32, u32), Fail> {
+    match parts(alloc, grid) {
+        Ok(parts) => Ok((parts.object, parts.background)),
+        Err(_) => Err(Fail::from(AllocError)),
+    }
+}
+
+// The labels in raster order.
+fn all_labels(alloc: Global, grid: &Grid<P2>) -> Result<Vec<u32>, Fail> {
+    let mut all = Vec::new(alloc);
+    let Ok(labels) = labels(alloc, grid) else {
+        return Err(Fail::from(AllocError));
+    };
+    for i in 0..grid.sides().count() {
+        all.push(labels.label(i))?;
+    }
+    Ok(all)
+}
+
+#[test]
+fn counts_of_small_pictures(rt: HostRuntime) -> Result<(), Fail> {
+    let alloc = rt.alloc();
+    let blank = picture(alloc, 2, 2, &[0, 0, 0, 0])?;
+    assert_eq!(rt; counts(alloc, &blank)?, (0, 1));
+    let corner = picture(alloc, 2, 2, &[1, 0, 0, 1])?;
+    assert_eq!(rt; counts(alloc, &corner)?, (1, 1));
+    let ring = picture(alloc, 3, 3, &[1, 1, 1, 1, 0, 1, 1, 1, 1])?;
+    assert_eq!(rt; counts(alloc, &ring)?, (1, 2));
+    Ok(())
+}
+
+#[test]
+fn labels_in_raster_order(rt: HostRuntime) -> Result<(), Fail> {
+    let alloc = rt.alloc();
+    let ring = picture(alloc, 3, 3, &[1, 1, 1, 1, 0, 1, 1, 1, 1])?;
+    assert_eq!(rt;
+        all_labels(alloc, &ring)?.as_slice(),
+        [1, 1, 1, 1, 0, 1, 1, 1, 1].as_slice()
+    );
+    let three = picture(alloc, 5, 2, &[1, 0, 0, 0, 1, 0, 0, 1, 0, 1])?;
+    assert_eq!(rt;
+        all_labels(alloc, &three)?.as_slice(),
+        [1, 0, 0, 0, 2, 0, 0, 3, 0, 2].as_slice()
+    );
+    Ok(())
+}
+
+// The neighbours of a point, as many as it has.
+fn around<P: Pairing>(alloc: Global, p: P) -> Result<(Vec<P>, Vec<P>), Fail>
+    requires { IsWithin (negsuc 1) (pos 4096) (P.coords p) }
+{
+    let mut near = Vec::new(alloc);
+    for k in 0..P::NEAR_COUNT {
+        near.push(p.near(k))?;
+    }
+    let mut side = Vec::new(alloc);
+    for k in 0..P::SIDE_COUNT {
+        side.push(p.side(k))?;
+    }
+    Ok((near, side))
+}
+
+#[test]
+fn neighbours_in_the_plane(rt: HostRuntime) -> Result<(), Fail> {
+    let at = |x: i32, y: i32| P2 { x, y };
+    let (near, side) = around(rt.alloc(), at(5, 0))?;
+    assert_eq!(rt;
+        near.as_slice(),
+        [
+            at(4, -1),
+            at(5, -1),
+            at(6, -1),
+            at(4, 0),
+            at(6, 0),
+            at(4, 1),
+            at(5, 1),
+            at(6, 1)
+        ]
+        .as_slice()
+    );
+    assert_eq!(rt;
+        side.as_slice(),
+        [at(4, 0), at(6, 0), at(5, -1), at(5, 1)].as_slice()
+    );
+    assert_eq!(rt; P2::ROUND, 255);
+    Ok(())
+}
