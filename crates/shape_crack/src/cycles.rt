@@ -5,7 +5,7 @@ ghost use Rattle.shape_terms.specs.Points.{box_count};
 ghost use Rattle.shape_terms.specs.Contours.{IsCrack};
 ghost use Rattle.shape_terms.specs.Traces.{AreContours};
 ghost use Rattle.shape_terms.specs.CrackNumbers.{crack_number, numbered};
-ghost use Rattle.shape_crack.specs.Terms.{crack_of, LeavesRoom};
+ghost use Rattle.shape_crack.specs.Terms.{crack_of};
 ghost use Rattle.shape_crack.specs.MarkBits.{is_marked};
 ghost use Rattle.shape_crack.specs.Marked.{IsCycleMarked};
 
@@ -29,9 +29,7 @@ fn number(grid: &Grid<P2>, c: Crack) -> u32
 // The pixel and the side that have a number.
 fn numbered_crack(grid: &Grid<P2>, i: u32) -> Crack
     requires { i < box_count grid.now.sides * 4 }
-    ensures value { crack_of result ≡ numbered grid.now.sides i }
-    ensures room { LeavesRoom result.p }
-    ensures side { result.side < 4 }
+    ensures { crack_of result ≡ numbered grid.now.sides i }
 {
     Crack {
         p: grid.sides().unraster(i / 4),

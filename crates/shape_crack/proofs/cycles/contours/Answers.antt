@@ -19,7 +19,7 @@ pub loop-i-preserved : goal.loop-i-preserved
 loop-i-preserved c =
     let X = c.args.grid.now in
     let axes = c.sides-sides.ensures.picture.axes in
-    let t = c.numbered_crack-c.ensures.value in
+    let t = c.numbered_crack-c.ensures in
     let all : c.count-count.result ≡ box_count X.sides = c.count-count.ensures.value ∙ ap box_count c.sides-sides.ensures.value in
     let below : c.loop-i.i < box_count X.sides * 4 = omega arith in
     elim c.if-not-has.branch [
