@@ -2,3 +2,4 @@ pub mod Pixels
 pub mod MarkSteps
 pub mod CrackValues
 pub mod Rounds
+pub mod Listing

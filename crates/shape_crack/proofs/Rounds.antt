@@ -1,6 +1,6 @@
--- A walk along the cracks that came back to its start: the contour that it gives.
+-- A walk along the cracks that came back to its start: the contour that it gives, and the cycle that it marked.
 -- Stated of the pixels that were put down on the way; how they are kept belongs elsewhere.
-use Rattle.std.proofs.Common.{◌≡◌, ◌<◌, ◌≤◌, ◌^◌, ℕ, suc, pos, refl, ap, sym, ◌∙◌, subst, arith, List, [], ◌∷◌, ◌++◌, length, map}
+use Rattle.std.proofs.Common.{Bool, ◌≡◌, ◌<◌, ◌≤◌, ◌^◌, ℕ, suc, pos, refl, ap, sym, ◌∙◌, subst, arith, List, [], ◌∷◌, ◌++◌, length, map}
 use Rattle.std.specs.Prelude.{nat_abs}
 use Rattle.std.proofs.lemmas.Int.{ints}
 use Rattle.shape_space.specs.declared.point.P2.{P2}
@@ -11,7 +11,9 @@ use Rattle.shape_terms.specs.Traces.{IsClosedPath, IsContourFrom}
 use Rattle.shape_terms.proofs.Walks.{walk}
 use Rattle.shape_terms.proofs.Tracing.{Reached, Tracing, reached_few, reached_cycle, first-walk, traced_some, traced_none}
 use Rattle.shape_terms.proofs.ClosedPaths.{closed_path}
+use Rattle.shape_terms.proofs.Marking.{Marking, marking_end}
 use Rattle.shape_crack.specs.Terms.{point_of}
+use Rattle.shape_crack.specs.Marked.{IsCycleMarked}
 
 -- steps that have not come back are fewer than there are cracks
 pub few_steps : (X : Picture) → length X.sides ≡ 2 → box_count X.sides ≤ 2 ^ 23 → (start c : Crack) (steps : ℕ) → IsCrack X start → Reached X start c steps → (c ≡ start → ⊥) → steps < 33554432
@@ -48,3 +50,11 @@ module _ (X : Picture) (axes : length X.sides ≡ 2) (start c : Crack) (steps : 
       let x = s 0 (omega arith) in
       let y = s 1 (omega arith) in
       subst (IsClosedPath greatest) (sym f) (closed_path X (nat_abs n.x) (nat_abs n.y) greatest (sym e) (omega (arith, ints)) (omega (arith, ints)) g start c steps k r same)
+
+  pub cycle_marked : (old new : ℕ → Bool) → Marking X start c steps old new → IsCycleMarked X start old new
+  cycle_marked old new m = record {
+    cracks = walk X start steps;
+    cycle = reached_cycle X axes start c steps k r same;
+    first = first-walk X start steps r.some;
+    marks = marking_end X start c steps old new m;
+  }

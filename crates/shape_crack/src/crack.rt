@@ -34,13 +34,12 @@ fn neighbour(p: P2, side: u8) -> P2
     }
 }
 
-/// Whether the pixel is object and its neighbour over the side is not.
+/// Whether a pixel and a side are a crack of the picture; any coordinates and any side may be asked for.
 pub fn is_crack(grid: &Grid<P2>, c: Crack) -> bool
-    requires room { LeavesRoom c.p }
-    requires side { c.side < 4 }
     ensures { IsTrue result ↔ IsCrack grid.now (crack_of c) }
 {
-    grid.has(c.p) && !grid.has(neighbour(c.p, c.side))
+    let _sides = grid.sides();
+    c.side < 4 && grid.has(c.p) && !grid.has(neighbour(c.p, c.side))
 }
 
 /// The crack that follows along the edge of the object, which lies to the right of one who walks it.

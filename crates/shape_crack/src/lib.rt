@@ -4,7 +4,14 @@
 
 mod contour;
 mod crack;
+mod cycles;
+mod list;
 mod marks;
 
 pub use contour::{Contour, GREATEST_SIDE, trace};
-pub use crack::{Crack, successor};
+pub use crack::{Crack, is_crack, successor};
+pub use cycles::contours;
+pub use list::Contours;
+
+#[cfg(test)]
+mod tests;

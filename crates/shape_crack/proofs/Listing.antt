@@ -1,0 +1,52 @@
+-- The contours found so far, one for each cycle of the cracks that were passed by number.
+-- Stated of the values alone; how contours and marks are kept belongs elsewhere.
+use Rattle.std.proofs.Common.{ℕ, ◌+◌, ◌*◌, ◌<◌, ◌≤◌, ◌≡◌, Bool, true, false, refl, ap, sym, ◌∙◌, subst, arith, List, [], ◌∷◌, ◌++◌, length, length-append, map, ◌⊎◌}
+use Rattle.std.proofs.lemmas.List.{map-append}
+use Rattle.shape_terms.specs.Points.{box_count}
+use Rattle.shape_terms.specs.Pictures.{Picture}
+use Rattle.shape_terms.specs.Contours.{Crack, IsCrack, IsCycle, first_of_cycle}
+use Rattle.shape_terms.specs.Traces.{Contour, contour_of, IsContourFrom, AreContours}
+use Rattle.shape_terms.specs.CrackNumbers.{crack_number, numbered, MarksCycle}
+use Rattle.shape_terms.proofs.SameCycles.{cycle_same}
+use Rattle.shape_terms.proofs.Found.{Found, found_none, found_skip, found_more, found_all}
+use Rattle.shape_terms.proofs.Numbered.{numbered_back}
+use Rattle.shape_crack.specs.Marked.{IsCycleMarked}
+
+-- the contours of the cycles of all cracks with numbers below i, and the marks of these
+pub record Listing (X : Picture) (i : ℕ) (marks : ℕ → Bool) (list : List Contour) : Type 0 where
+  pub cycles : List (List Crack)
+  pub found : Found X i marks cycles
+  pub contours_are : list ≡ map (contour_of X) cycles
+  pub few : length list ≤ i
+
+-- a traced cycle and a marked one from one crack are one
+same_cracks : (X : Picture) (c : Crack) (a b : List Crack) → IsCycle X a → first_of_cycle a ≡ c → IsCycle X b → first_of_cycle b ≡ c → a ≡ b
+same_cracks X c [] b h e k f = absurd h
+same_cracks X c (x ∷ a) [] h e k f = absurd k
+same_cracks X c (x ∷ a) (y ∷ b) h e k f =
+    let q : x ≡ y = e ∙ sym f in
+    let t : a ≡ b = cycle_same X x a b h (subst (λ z. IsCycle X (z ∷ b)) (sym q) k) in
+    cc
+
+module _ (X : Picture) (axes : length X.sides ≡ 2) where
+  pub listing_none : (marks : ℕ → Bool) → ((j : ℕ) → marks j ≡ false) → Listing X 0 marks []
+  listing_none marks h = record { cycles = []; found = found_none X axes marks h; contours_are = refl; few = omega arith }
+
+  pub listing_skip : (i : ℕ) (marks : ℕ → Bool) (list : List Contour) → Listing X i marks list → (marks i ≡ true) ⊎ (IsCrack X (numbered X.sides i) → ⊥) → Listing X (i + 1) marks list
+  listing_skip i marks list l s = record { cycles = l.cycles; found = found_skip X axes i marks l.cycles l.found s; contours_are = l.contours_are; few = (let f = l.few in omega arith) }
+
+  pub listing_more : (i : ℕ) (marks marks' : ℕ → Bool) (list : List Contour) (k : Contour) → i < box_count X.sides * 4 → Listing X i marks list → IsCrack X (numbered X.sides i) → marks i ≡ false
+      → IsContourFrom X (numbered X.sides i) k → IsCycleMarked X (numbered X.sides i) marks marks' → Listing X (i + 1) marks' (list ++ k ∷ [])
+  listing_more i marks marks' list k b l is new p m = go m.cracks m.cycle m.first m.marks (same_cracks X (numbered X.sides i) p.cracks m.cracks p.cycle p.first m.cycle m.first)
+    where
+      go : (cracks : List Crack) → IsCycle X cracks → first_of_cycle cracks ≡ numbered X.sides i → MarksCycle X.sides cracks marks marks' → p.cracks ≡ cracks → Listing X (i + 1) marks' (list ++ k ∷ [])
+      go [] c f n e = absurd c
+      go (s ∷ xs) c f n e = record {
+        cycles = l.cycles ++ (s ∷ xs) ∷ [];
+        found = found_more X axes i marks marks' l.cycles l.found s (subst (IsCrack X) (sym f) is) (ap (crack_number X.sides) f ∙ numbered_back X.sides i b) new xs c n;
+        contours_are = (λ j. l.contours_are j ++ (p.contour ∙ ap (contour_of X) e) j ∷ []) ∙ sym (map-append (contour_of X) l.cycles ((s ∷ xs) ∷ []));
+        few = (let f = l.few in let a = length-append list (k ∷ []) in omega arith);
+      }
+
+  pub listing_all : (i : ℕ) (marks : ℕ → Bool) (list : List Contour) → Listing X i marks list → box_count X.sides * 4 ≤ i → AreContours X list
+  listing_all i marks list l e = record { cycles = l.cycles; are = found_all X axes i marks l.cycles l.found e; contours_are = l.contours_are }
