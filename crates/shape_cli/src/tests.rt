@@ -43,7 +43,7 @@ fn one_pixel(rt: HostRuntime) -> Result<(), Fail> {
     let outcome = run(alloc, &words(alloc, "analyse pbm a.pbm none")?, &mut desk);
     assert_eq!(rt; outcome, Outcome::Done);
     let text = desk.output();
-    assert!(rt; text.starts_with(b"shape 1 pbm 1 1 none\nnear 0 0 ".as_slice()));
+    assert!(rt; text.starts_with(b"shape 1 pbm 1 1 none\nparts 1 1 1\nnear 0 0 ".as_slice()));
     assert!(rt; text.ends_with(b" 1\nend\n".as_slice()));
     Ok(())
 }
@@ -65,45 +65,75 @@ fn reports_of_one_pixel(rt: HostRuntime) -> Result<(), Fail> {
     let alloc = rt.alloc();
     let table = [
         (
-            b"shape 1 pbm 1 1 none\nnear 0 0 0 -1 1\nend\n".as_slice(),
+            b"shape 1 pbm 1 1 none\nparts 1 1 1\nnear 0 0 0 -1 1\nend\n".as_slice(),
             Outcome::Yes,
         ),
         (
-            b"shape 1 pbm 1 1 none\nnear 0 0 1 0 1\nend\n".as_slice(),
+            b"shape 1 pbm 1 1 none\nparts 1 1 1\nnear 0 0 1 0 1\nend\n".as_slice(),
             Outcome::Yes,
         ),
         (
-            b"shape 1 pbm 1 1 none\nnear 0 0 0 -1 2\nend\n".as_slice(),
-            Outcome::No { line: 2 },
-        ),
-        (
-            b"shape 1 pbm 1 1 none\nnear 00 0 0 -1 1\nend\n".as_slice(),
-            Outcome::No { line: 2 },
-        ),
-        (
-            b"shape 1 pbm 1 1 none\nnear 0 0 0 -1 1\n".as_slice(),
+            b"shape 1 pbm 1 1 none\nparts 1 1 1\nnear 0 0 0 -1 2\nend\n".as_slice(),
             Outcome::No { line: 3 },
         ),
         (
-            b"shape 1 pbm 1 1 none\nnear 0 0 0 -1 1\nend".as_slice(),
+            b"shape 1 pbm 1 1 none\nparts 1 1 1\nnear 00 0 0 -1 1\nend\n".as_slice(),
             Outcome::No { line: 3 },
         ),
         (
-            b"shape 1 pbm 1 1 none\nnear 0 0 0 -1 1\nend\nx".as_slice(),
+            b"shape 1 pbm 1 1 none\nparts 1 1 1\nnear 0 0 0 -1 1\n".as_slice(),
             Outcome::No { line: 4 },
         ),
         (
-            b"shape 1 pbm 1 1 zzz\nnear 0 0 0 -1 1\nend\n".as_slice(),
+            b"shape 1 pbm 1 1 none\nparts 1 1 1\nnear 0 0 0 -1 1\nend".as_slice(),
+            Outcome::No { line: 4 },
+        ),
+        (
+            b"shape 1 pbm 1 1 none\nparts 1 1 1\nnear 0 0 0 -1 1\nend\nx".as_slice(),
+            Outcome::No { line: 5 },
+        ),
+        (
+            b"shape 1 pbm 1 1 none\nparts 1 1 2\nnear 0 0 0 -1 1\nend\n".as_slice(),
+            Outcome::No { line: 2 },
+        ),
+        (
+            b"shape 1 pbm 1 1 zzz\nparts 1 1 1\nnear 0 0 0 -1 1\nend\n".as_slice(),
             Outcome::No { line: 1 },
         ),
         (
-            b"shape 1 pbm 1 1 none\r\nnear 0 0 0 -1 1\r\nend\r\n".as_slice(),
+            b"shape 1 pbm 1 1 none\r\nparts 1 1 1\r\nnear 0 0 0 -1 1\r\nend\r\n".as_slice(),
             Outcome::No { line: 1 },
         ),
         (b"".as_slice(), Outcome::No { line: 1 }),
     ];
     for (report, outcome) in table {
         assert_eq!(rt; checked(alloc, b"P1 1 1 1", report)?, outcome);
+    }
+    Ok(())
+}
+
+#[test]
+fn counts_of_parts(rt: HostRuntime) -> Result<(), Fail> {
+    let alloc = rt.alloc();
+    let table = [
+        (
+            b"P1 2 2 0000".as_slice(),
+            b"shape 1 pbm 2 2 none\nparts 0 0 1\nend\n".as_slice(),
+        ),
+        (
+            b"P1 2 2 1001".as_slice(),
+            b"shape 1 pbm 2 2 none\nparts 2 1 1\nnear ".as_slice(),
+        ),
+        (
+            b"P1 3 3 111 101 111".as_slice(),
+            b"shape 1 pbm 3 3 none\nparts 8 1 2\nnear ".as_slice(),
+        ),
+    ];
+    for (picture, lines) in table {
+        let mut desk = desk(alloc, picture, &[], &[])?;
+        let words = words(alloc, "analyse pbm a.pbm none")?;
+        assert_eq!(rt; run(alloc, &words, &mut desk), Outcome::Done);
+        assert!(rt; desk.output().starts_with(lines));
     }
     Ok(())
 }
