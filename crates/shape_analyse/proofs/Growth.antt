@@ -1,6 +1,6 @@
 -- A report grows by one good line at a time, and at its end it holds.
 -- One law for each kind of line that is added.
-use Rattle.std.proofs.Common.{◌≡◌, ◌+◌, ◌<◌, ◌≤◌, ℕ, zero, suc, ℤ, pos, negsuc, ◌≤ℤ◌, List, [], ◌∷◌, ◌++◌, length, map, refl, sym, ap, ◌∙◌, subst, arith, Some}
+use Rattle.std.proofs.Common.{◌≡◌, ◌+◌, ◌≤◌, ℕ, zero, suc, ℤ, pos, negsuc, ◌≤ℤ◌, List, [], ◌∷◌, ◌++◌, length, map, refl, sym, ap, ◌∙◌, subst, arith, Some}
 use Rattle.std.specs.Prelude.{All, FitsSigned, codes, slice_get, nat_abs}
 use Rattle.std.specs.Int.{w32}
 use Rattle.std.proofs.lemmas.Int.{ints}
@@ -10,11 +10,11 @@ use Rattle.shape_terms.specs.Points.{Point, coordinate, AreSides, sides_of}
 use Rattle.shape_terms.specs.Pictures.{Picture, object_points, Least}
 use Rattle.shape_terms.specs.Parts.{Counts}
 use Rattle.shape_terms.specs.Distances.{NearFact, IsField, IsFramed}
-use Rattle.shape_terms.specs.Lines.{Line, spelling, text_of, IsLineOf, IsShortPoint, IsWeight, IsName}
+use Rattle.shape_terms.specs.Lines.{Line, spelling, text_of, IsLineOf, IsWeight, IsName}
 use Rattle.shape_terms.specs.Good.{section, section_lines, GoodSoFar, GoodAfter}
 use Rattle.shape_terms.specs.Holds.{Holds}
 use Rattle.shape_terms.proofs.Checking.{good_push}
-use Rattle.shape_terms.proofs.GoodSteps.{come_none, come_more, come_past, good_at, section_push, section_skip}
+use Rattle.shape_terms.proofs.GoodSteps.{come_none, come_more, come_past, good_at, section_push}
 use Rattle.shape_terms.proofs.ShortLines.{short_line, within_short, distance_fits}
 use Rattle.shape_terms.proofs.Boxes.{abs_is}
 use Rattle.shape_analyse.specs.Growing.{IsGrowing}

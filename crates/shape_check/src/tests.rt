@@ -40,9 +40,17 @@ fn answer(
 #[test]
 fn reports_that_hold(rt: HostRuntime) -> Result<(), Fail> {
     let alloc = rt.alloc();
-    let first = answer(alloc, b"shape 1 pbm 1 1 none\nparts 1 1 1\nnear 0 0 0 -1 1\nend\n", &[])?;
+    let first = answer(
+        alloc,
+        b"shape 1 pbm 1 1 none\nparts 1 1 1\nnear 0 0 0 -1 1\nend\n",
+        &[],
+    )?;
     assert!(rt; matches!(first, Ok(Judgement::Yes)));
-    let other = answer(alloc, b"shape 1 pbm 1 1 none\nparts 1 1 1\nnear 0 0 1 0 1\nend\n", &[])?;
+    let other = answer(
+        alloc,
+        b"shape 1 pbm 1 1 none\nparts 1 1 1\nnear 0 0 1 0 1\nend\n",
+        &[],
+    )?;
     assert!(rt; matches!(other, Ok(Judgement::Yes)));
     holding_shows();
     Ok(())
@@ -52,16 +60,34 @@ fn reports_that_hold(rt: HostRuntime) -> Result<(), Fail> {
 fn first_bad_lines(rt: HostRuntime) -> Result<(), Fail> {
     let cases: [(&[u8], u64); 11] = [
         (b"", 1),
-        (b"shape 1 pbm 1 1 none\r\nparts 1 1 1\r\nnear 0 0 0 -1 1\r\nend\r\n", 1),
-        (b"shape 1 pbm 1 2 none\nparts 1 1 1\nnear 0 0 0 -1 1\nend\n", 1),
-        (b"shape 1 pbm 1 1 none\nparts 1 1 1\nnear 0 0 0 -1 2\nend\n", 3),
+        (
+            b"shape 1 pbm 1 1 none\r\nparts 1 1 1\r\nnear 0 0 0 -1 1\r\nend\r\n",
+            1,
+        ),
+        (
+            b"shape 1 pbm 1 2 none\nparts 1 1 1\nnear 0 0 0 -1 1\nend\n",
+            1,
+        ),
+        (
+            b"shape 1 pbm 1 1 none\nparts 1 1 1\nnear 0 0 0 -1 2\nend\n",
+            3,
+        ),
         (b"shape 1 pbm 1 1 none\nnear 00 0 0 -1 1\nend\n", 3),
         (b"shape 1 pbm 1 1 none\nend\n", 2),
-        (b"shape 1 pbm 1 1 none\nparts 1 1 2\nnear 0 0 0 -1 1\nend\n", 2),
+        (
+            b"shape 1 pbm 1 1 none\nparts 1 1 2\nnear 0 0 0 -1 1\nend\n",
+            2,
+        ),
         (b"shape 1 pbm 1 1 none\nparts 1 1 1\nend\n", 3),
         (b"shape 1 pbm 1 1 none\nparts 1 1 1\nnear 0 0 0 -1 1\n", 4),
-        (b"shape 1 pbm 1 1 none\nparts 1 1 1\nnear 0 0 0 -1 1\nend", 4),
-        (b"shape 1 pbm 1 1 none\nparts 1 1 1\nnear 0 0 0 -1 1\nend\n\n", 5),
+        (
+            b"shape 1 pbm 1 1 none\nparts 1 1 1\nnear 0 0 0 -1 1\nend",
+            4,
+        ),
+        (
+            b"shape 1 pbm 1 1 none\nparts 1 1 1\nnear 0 0 0 -1 1\nend\n\n",
+            5,
+        ),
     ];
     for (report, want) in cases {
         let got = answer(rt.alloc(), report, &[])?;

@@ -1,7 +1,7 @@
 -- Lines that go to the output through a buffer, one after another.
 -- Each step keeps the sum: what was written, then what is kept, is the text so far.
-use Rattle.std.proofs.Common.{◌≡◌, ◌+◌, ◌<◌, ℕ, List, [], ◌∷◌, ◌++◌, length, get_or, take, drop, refl, sym, ap, ◌∙◌, subst, append_assoc, arith, Some}
-use Rattle.std.specs.Prelude.{Option, None, option_map, slice_get, unwrap_or}
+use Rattle.std.proofs.Common.{◌≡◌, ◌+◌, ℕ, List, [], ◌∷◌, ◌++◌, get_or, take, drop, refl, sym, ap, ◌∙◌, subst, append_assoc, Some}
+use Rattle.std.specs.Prelude.{Option, slice_get, unwrap_or}
 use Rattle.std.proofs.lemmas.List.{append-nil, take-append-drop, take_more}
 use Rattle.std.proofs.lemmas.Option.{unwrap_or-slice_get, slice_get_within}
 use Rattle.std.proofs.lemmas.Grind.{flat_map-append}

@@ -50,13 +50,16 @@ module _ {P : Type 0} (coords : P → List ℤ) where
     where
       old : Shelves P
       old = record { headings = hs; counts = cs; distances = ds }
+
       new : Shelves P
       new = record { headings = hs2; counts = cs; distances = ds }
+
       placed : (s : Slot) → IsPlaced old s → IsPlaced new s
       placed (Shape i) l = longer hs hs2 h i e l
       placed (Parts i) l = l
       placed (Near i) l = l
       placed End l = l
+
       same : (s : Slot) → IsPlaced old s → line_in coords new s ≡ line_in coords old s
       same (Shape i) l = same_line (heading_line coords) hs hs2 h i e l
       same (Parts i) l = refl
@@ -68,13 +71,16 @@ module _ {P : Type 0} (coords : P → List ℤ) where
     where
       old : Shelves P
       old = record { headings = hs; counts = cs; distances = ds }
+
       new : Shelves P
       new = record { headings = hs; counts = cs2; distances = ds }
+
       placed : (s : Slot) → IsPlaced old s → IsPlaced new s
       placed (Shape i) l = l
       placed (Parts i) l = longer cs cs2 c i e l
       placed (Near i) l = l
       placed End l = l
+
       same : (s : Slot) → IsPlaced old s → line_in coords new s ≡ line_in coords old s
       same (Shape i) l = refl
       same (Parts i) l = same_line count_line cs cs2 c i e l
@@ -86,13 +92,16 @@ module _ {P : Type 0} (coords : P → List ℤ) where
     where
       old : Shelves P
       old = record { headings = hs; counts = cs; distances = ds }
+
       new : Shelves P
       new = record { headings = hs; counts = cs; distances = ds2 }
+
       placed : (s : Slot) → IsPlaced old s → IsPlaced new s
       placed (Shape i) l = l
       placed (Parts i) l = l
       placed (Near i) l = longer ds ds2 d i e l
       placed End l = l
+
       same : (s : Slot) → IsPlaced old s → line_in coords new s ≡ line_in coords old s
       same (Shape i) l = refl
       same (Parts i) l = refl

@@ -1,6 +1,6 @@
 -- What a line of the program says, as a line of the definitions.
 -- Points are seen as their coordinates, a name as its letters.
-use Rattle.std.specs.Prelude.{ℕ, ℤ, List}
+use Rattle.std.specs.Prelude.{ℤ, List}
 use Rattle.shape_terms.specs.Lines as Terms
 use Rattle.shape_rules.specs.Names.{word_of}
 use Rattle.shape_report.specs.declared.line.Line.{Line}

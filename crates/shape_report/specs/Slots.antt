@@ -1,6 +1,6 @@
 -- How a report keeps its lines: a slot for each line, which says its kind and its place among the lines of that kind.
 -- A slot whose place is past the end stands for no line; a report has none such.
-use Rattle.std.specs.Prelude.{ℕ, ℤ, List, ◌<◌, length, slice_get, Option, Some, None}
+use Rattle.std.specs.Prelude.{ℕ, ℤ, List, ◌<◌, length, slice_get}
 use Rattle.std.specs.Option.{option_map_or}
 use Rattle.shape_terms.specs.Lines as Terms
 use Rattle.shape_terms.specs.Lines.{IsLineOf}

@@ -1,6 +1,6 @@
 -- The text of words, one behind another.
 -- A line's spelling is its first word and then each word behind a blank.
-use Rattle.std.specs.Prelude.{ℕ, ℤ, List, [], ◌∷◌, ◌++◌, length, codes, flat_map}
+use Rattle.std.specs.Prelude.{ℕ, List, ◌∷◌, ◌++◌, length, codes, flat_map}
 use Rattle.std.specs.Fmt.{decimal}
 use Rattle.shape_terms.specs.Points.{Point}
 use Rattle.shape_terms.specs.Lines.{kind_word, number_words}

@@ -6,7 +6,10 @@ use shape_rules::Name;
 #[derive(Clone, Copy)]
 pub enum Line<P> {
     /// The sides of the picture and the rule of the thinning.
-    Shape { sides: P, rule: Name },
+    Shape {
+        sides: P,
+        rule: Name,
+    },
     /// The numbers of object points, of components of the object, and of components of the background in the framed box.
     Parts {
         points: u32,
@@ -14,7 +17,11 @@ pub enum Line<P> {
         background: u32,
     },
     /// An object point, a nearest background point, and the square of their distance.
-    Near { p: P, q: P, s: u64 },
+    Near {
+        p: P,
+        q: P,
+        s: u64,
+    },
     /// The last line.
     End,
 }

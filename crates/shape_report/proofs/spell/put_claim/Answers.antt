@@ -1,4 +1,4 @@
-use Rattle.std.proofs.Common.{◌≡◌, ◌∙◌, ap, sym, take, rules}
+use Rattle.std.proofs.Common.{◌∙◌, ap, sym}
 use Rattle.shape_terms.specs.Lines.{spelling}
 use Rattle.shape_rules.specs.Names.{word_of}
 use Rattle.shape_report.specs.LineOf.{line_of}

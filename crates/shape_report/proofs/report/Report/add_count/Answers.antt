@@ -1,4 +1,4 @@
-use Rattle.std.proofs.Common.{◌≡◌, ◌++◌, ◌∷◌, [], length, rules, arith}
+use Rattle.std.proofs.Common.{◌≡◌, ◌++◌, ◌∷◌, [], length, rules}
 use Rattle.shape_report.specs.declared.report.Slot.{Slot}
 use Rattle.shape_report.specs.Slots.{Shelves, count_line}
 use Rattle.shape_report.proofs.SlotLists.{count_extends, count_last, last_place, line_kept, line_added, line_placed}
