@@ -16,12 +16,12 @@ place_of xs q (k, h, e) = (k, h, get_or_default xs k [] q h ∙ e)
 -- two places of a list of distinct points hold distinct points
 one_place : (xs : List Point) (j k : ℕ) → AllPairs (λ x y. x ≢ y) xs → j < length xs → k < length xs → get_or xs j [] ≡ get_or xs k [] → j ≡ k
 one_place xs j k apart l r e = elim (dec_lt j k) [
-    yes a ↦ absurd (apart j k [] a r e)
+  | yes a ↦ absurd (apart j k [] a r e)
   | no a ↦ elim (dec_lt k j) [
-      yes b ↦ absurd (apart k j [] b l (sym e))
+    | yes b ↦ absurd (apart k j [] b l (sym e))
     | no b ↦ omega arith
-    ]
   ]
+]
 
 pub near_number : (p q : Point) → Near p q → (k : ℕ) × (k < length (near_steps (length p))) × (near_point p k ≡ q)
 near_number p q h = let c = place_of (near_points p) q (near_listed p q h) in (c.0, (let l = length-map (near_steps (length p)) (moved p) in omega (arith, c.1)), c.2)

@@ -151,7 +151,7 @@ step_elsewhere (suc d) (suc j) (suc k) n h = step_elsewhere d j k n (λ e. h (ap
 -- steps along two axes, and to two sides of one, differ
 other_step : (d j k : ℕ) (n m : ℤ) → j < d → k < d → (n ≡ pos 0 → ⊥) → (j ≡ k → n ≡ m → ⊥) → moved (origin d) (along j n) ≢ moved (origin d) (along k m)
 other_step d j k n m l r some other e = elim (ℕ_discrete j k) [
-    yes i ↦ (
+  | yes i ↦ (
       let a = step_here d j n l in
       let b = step_here d k m r in
       let c : coordinate (moved (origin d) (along j n)) j ≡ coordinate (moved (origin d) (along k m)) k = ap (λ (v : Point). coordinate v j) e ∙ ap (coordinate (moved (origin d) (along k m))) i in
@@ -161,7 +161,7 @@ other_step d j k n m l r some other e = elim (ℕ_discrete j k) [
       let b = step_elsewhere d j k m i in
       let c : coordinate (moved (origin d) (along j n)) j ≡ coordinate (moved (origin d) (along k m)) j = ap (λ (v : Point). coordinate v j) e in
       some (sym a ∙ (c ∙ b)))
-  ]
+]
 
 axis_steps : ℕ → ℕ → List Point
 axis_steps d k = moved (origin d) (along k (negsuc 0)) ∷ moved (origin d) (along k (pos 1)) ∷ []
@@ -182,8 +182,10 @@ apart_steps d a (suc m) h = (
   where
     below : negsuc 0 ≡ pos 0 → ⊥
     below e = cc
+
     above : pos 1 ≡ pos 0 → ⊥
     above e = omega (arith, ints)
+
     sides : negsuc 0 ≡ pos 1 → ⊥
     sides e = cc
 
@@ -205,4 +207,3 @@ step_lengths d a (suc m) h = (length_step d a (negsuc 0) (omega arith), (length_
 pub side_points_distinct : (p : Point) → AllPairs (λ x y. x ≢ y) (side_points p)
 unfolding axis_steps
 side_points_distinct p = apart_pairs (side_points p) (apart_points p (side_steps (length p)) (step_lengths (length p) 0 (length p) (omega arith)) (apart_steps (length p) 0 (length p) (omega arith)))
-
