@@ -1,7 +1,7 @@
 //! Cracks of a flat picture, and which crack follows which along the edge of the object.
 //! Nothing here takes memory or looks at more than two pixels beside the crack's own.
 ghost use Rattle.std.specs.Prelude.{◌≡◌, ◌<◌, ◌≤◌, ◌↔◌, ◌-ℤ◌, nat_abs, IsTrue};
-ghost use Rattle.shape_terms.specs.Steps.{moved};
+ghost use Rattle.shape_terms.specs.Adjacency.{moved};
 ghost use Rattle.shape_terms.specs.Contours.{normal, IsCrack, successor as successor_of};
 ghost use Rattle.shape_crack.specs.Terms.{point_of, crack_of, LeavesRoom};
 

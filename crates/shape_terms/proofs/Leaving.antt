@@ -4,7 +4,8 @@ use Rattle.std.proofs.Common.{◌≡◌, ◌≢◌, ℕ, zero, suc, ◌+◌, ◌
 use Rattle.std.specs.Prelude.{◌&&◌, not}
 use Rattle.std.proofs.lemmas.Int.{ints}
 use Rattle.shape_terms.specs.Points.{Point, coordinate}
-use Rattle.shape_terms.specs.Steps.{moved, AreClose}
+use Rattle.shape_terms.specs.Adjacency.{moved}
+use Rattle.shape_terms.specs.Steps.{AreClose}
 use Rattle.shape_terms.specs.Pictures.{Picture, at}
 use Rattle.shape_terms.specs.Contours.{Crack, normal, forward, ahead, across, successor, IsCrack, stays}
 use Rattle.shape_terms.proofs.Successor.{Place, point, step, moved_step, two_axes, object_axes}

@@ -2,7 +2,8 @@
 -- A crack is a pixel and a side here; none of the definitions may name a type of the program.
 use Rattle.std.specs.Prelude.{◌≡◌, ◌≢◌, ◌⊎◌, ℕ, zero, suc, ◌+◌, ◌<◌, ◌%◌, ◌==◌, Bool, false, ◌&&◌, not, if◌then◌else◌, List, [], ◌∷◌, map, length, slice_index_or, pos, negsuc, IsTrue, All, AllPairs, Contains, ◌↔◌, flat_map, filter}
 use Rattle.shape_terms.specs.Points.{Point}
-use Rattle.shape_terms.specs.Steps.{moved, Before}
+use Rattle.shape_terms.specs.Adjacency.{moved}
+use Rattle.shape_terms.specs.Steps.{Before}
 use Rattle.shape_terms.specs.Pictures.{Picture, at}
 
 -- an object pixel and one of its sides, 0 to 3: up, right, down, left

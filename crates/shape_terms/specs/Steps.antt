@@ -1,14 +1,8 @@
--- Steps from one point to another, and what it is for points to stand close or before each other.
+-- How two points stand to each other: before one another, and close by.
 -- Every definition serves each number of axes; none may name a type of the program.
-use Rattle.std.specs.Prelude.{◌≡◌, ℕ, ◌≤◌, [], ◌∷◌, ◌+ℤ◌, ◌-ℤ◌, nat_abs}
+use Rattle.std.specs.Prelude.{◌≡◌, ℕ, ◌≤◌, ◌-ℤ◌, nat_abs}
 use Rattle.std.specs.declared.cmp.Ordering.TheVariants.{Less}
 use Rattle.shape_terms.specs.Points.{Point, coordinate, raster_cmp}
-
--- the sum of two points, coordinate by coordinate; a coordinate that only one of them has stays as it is
-abbrev pub moved : Point → Point → Point
-moved [] v = v
-moved (x ∷ p) [] = x ∷ p
-moved (x ∷ p) (y ∷ v) = (x +ℤ y) ∷ moved p v
 
 -- p stands before q in raster order
 abbrev pub Before : Point → Point → Type 0

@@ -3,6 +3,7 @@ use Rattle.shape_terms.specs.Points.{box_count}
 use Rattle.shape_terms.specs.Contours.{contour_points}
 use Rattle.shape_terms.proofs.Walks.{walk}
 use Rattle.shape_terms.proofs.Tracing.{reached_crack, traced_more}
+use Rattle.shape_crack.specs.declared.contour.TheConstants.{GREATEST_SIDE}
 use Rattle.shape_crack.specs.Terms.{point_of, crack_of}
 use Rattle.shape_crack.proofs.CrackValues.{cracks_equal, cracks_differ}
 use Rattle.shape_crack.proofs.Rounds.{few_steps, some_points, one_point, contour_from, path_from}
@@ -46,7 +47,7 @@ invariant_of-result c =
           (let some : 1 ≤ length c.loop-c.points.items = search rules in
           rw w.points-is (some_points c.args.grid.now (crack_of c.args.start) (crack_of c.loop-c.c) c.loop-c.steps c.loop-c.points.items c.loop-c.invariant some))
     ] in
-    path_from X c.sides-sides.ensures.picture.axes (crack_of c.args.start) (crack_of c.loop-c.c) c.loop-c.steps c.requires c.loop-c.invariant.reached same 1024 s.lengths s.in_range (omega arith) c.sides-sides.ensures.value (map point_of c.else-is_empty.points.items) points
+    path_from X c.sides-sides.ensures.picture.axes (crack_of c.args.start) (crack_of c.loop-c.c) c.loop-c.steps c.requires c.loop-c.invariant.reached same GREATEST_SIDE s.lengths s.in_range (omega arith) c.sides-sides.ensures.value (map point_of c.else-is_empty.points.items) points
 
 pub returns : goal.returns
 returns c =
