@@ -138,6 +138,51 @@ fn counts_of_parts(rt: HostRuntime) -> Result<(), Fail> {
     Ok(())
 }
 
+// A drawing of 64 by 48 as a paint program writes it: a comment, pixel lines of 70 characters, and text behind the last.
+fn drawing(alloc: Global) -> Result<Vec<u8>, Fail> {
+    let mut bytes = b"P1\n# made by a paint program\n64 48\n"
+        .as_slice()
+        .to_vec(alloc)?;
+    for i in 0..3072u32 {
+        let (x, y) = (i % 64, i / 64);
+        let is_object = 10 <= x && x < 54 && 8 <= y && y < 40;
+        bytes.push(if is_object { b'1' } else { b'0' })?;
+        if i % 70 == 69 {
+            bytes.push(b'\n')?;
+        }
+    }
+    bytes.extend_from_slice(b"\nend of drawing\n")?;
+    Ok(bytes)
+}
+
+#[test]
+fn a_drawing(rt: HostRuntime) -> Result<(), Fail> {
+    let alloc = rt.alloc();
+    let mut files = Vec::new(alloc);
+    files.push((b"a.pbm".to_vec(alloc)?, drawing(alloc)?))?;
+    let Ok(mut desk) = MemoryDesk::new(alloc, files, Vec::new(alloc), Vec::new(alloc), 500, 60000)
+    else {
+        return Err(Fail::from(AllocError));
+    };
+    let words = words(alloc, "analyse pbm a.pbm none")?;
+    assert_eq!(rt; run(alloc, &words, &mut desk), Outcome::Done);
+    let text = desk.output();
+    assert!(rt; text.starts_with(b"shape 1 pbm 64 48 none\nparts 1408 1 1\nnear 10 8 ".as_slice()));
+    let mut nears = Vec::new(alloc);
+    let mut has_middle = false;
+    for line in text.split(|&c| c == b'\n') {
+        if line.starts_with(b"near ") {
+            nears.push(())?;
+        }
+        if line == b"near 31 23 31 7 256".as_slice() {
+            has_middle = true;
+        }
+    }
+    assert_eq!(rt; nears.len(), 1408);
+    assert!(rt; has_middle);
+    Ok(())
+}
+
 #[test]
 fn analyses_are_checked(rt: HostRuntime) -> Result<(), Fail> {
     let alloc = rt.alloc();
