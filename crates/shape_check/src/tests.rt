@@ -72,7 +72,10 @@ fn first_bad_lines(rt: HostRuntime) -> Result<(), Fail> {
             b"shape 1 pbm 1 1 none\nparts 1 1 1\nnear 0 0 0 -1 2\nend\n",
             3,
         ),
-        (b"shape 1 pbm 1 1 none\nnear 00 0 0 -1 1\nend\n", 3),
+        (
+            b"shape 1 pbm 1 1 none\nparts 1 1 1\nnear 00 0 0 -1 1\nend\n",
+            3,
+        ),
         (b"shape 1 pbm 1 1 none\nend\n", 2),
         (
             b"shape 1 pbm 1 1 none\nparts 1 1 2\nnear 0 0 0 -1 1\nend\n",
