@@ -1,0 +1,4 @@
+pub mod Exclusion
+pub mod Linear
+pub mod Ring
+pub mod Rows

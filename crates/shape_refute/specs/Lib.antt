@@ -1,0 +1,5 @@
+pub mod Naive
+pub mod Refutations
+pub mod Terms
+pub mod Turns
+pub mod Vectors

@@ -1,0 +1,14 @@
+//! Naive lines and planes, the weights that refute them, and the turns of runs.
+//! Everything is exact for every value of every field, and takes no memory.
+#![tactic(auto)]
+
+mod naive;
+mod refutation;
+mod turn;
+
+pub use naive::{Naive, holds, is_proper};
+pub use refutation::refutation_excludes;
+pub use turn::{Turn, turns};
+
+#[cfg(test)]
+mod tests;
