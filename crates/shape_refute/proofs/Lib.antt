@@ -1,4 +1,6 @@
+pub mod Entries
 pub mod Exclusion
 pub mod Linear
+pub mod Meet
 pub mod Ring
 pub mod Rows

@@ -4,10 +4,12 @@
 
 mod naive;
 mod refutation;
+mod share;
 mod turn;
 
 pub use naive::{Naive, holds, is_proper};
 pub use refutation::refutation_excludes;
+pub use share::{Share, Shares, Step, StepShare, StepShares};
 pub use turn::{Turn, turns};
 
 #[cfg(test)]
