@@ -4,3 +4,4 @@ pub mod Linear
 pub mod Meet
 pub mod Ring
 pub mod Rows
+pub mod Steps

@@ -5,3 +5,4 @@ pub mod Sums
 pub mod Terms
 pub mod Turns
 pub mod Vectors
+pub mod Weights

@@ -6,6 +6,7 @@ ghost use Rattle.shape_refute.specs.Vectors.{dot};
 ghost use Rattle.shape_refute.specs.Naive.{IsProper, HoldsPoint};
 ghost use Rattle.shape_refute.specs.Terms.{naive_of};
 
+use crate::exact::sum;
 use shape_space::Point;
 
 /// The parameters of a naive line or plane, in Reveillès' form: it holds a point `p` where `mu <= a.p < mu + a[axis]`.
@@ -27,15 +28,6 @@ fn product(a: i64, x: i32) -> i128
     ensures small { unsigned_abs result ≤ 2 ^ 94 }
 {
     a as i128 * x as i128
-}
-
-// A sum of two products, or of three.
-fn sum(x: i128, y: i128) -> i128
-    requires x_small { unsigned_abs x ≤ 2 ^ 96 }
-    requires y_small { unsigned_abs y ≤ 2 ^ 96 }
-    ensures value { result ≡ x +ℤ y }
-{
-    x + y
 }
 
 // The scalar product.
