@@ -99,9 +99,10 @@ refutes_is f d t points r m a l low high steps some same h =
     let pl = shares_long (length points) d (point_at (map f points)) (point_long f d a points) r.low (recursion_from_All (λ (s : Share). s.place < length points) r.low low) in
     let ph = shares_long (length points) d (λ i. difference (point_at (map f points) i) (unit t)) (λ i m. length-moved d (point_at (map f points) i) (times (negsuc 0) (unit t)) (point_long f d a points i m) (omega (arith, length-times (negsuc 0) (unit t), length-along t (pos 1)))) r.high (recursion_from_All (λ (s : Share). s.place < length points) r.high high) in
     let ll : length (low_side t (map f points) r) ≡ d = length-moved d (weighted_points (point_at (map f points)) r.low) (weighted_steps t r.steps) (length-points d (point_at (map f points)) r.low some pl) (length-steps d t l r.steps (recursion_from_All (λ (s : StepShare). IsStepOf d t s.step) r.steps steps)) in
-    let lh : length (high_side t (map f points) r) ≡ d = length-points d (λ i. difference (point_at (map f points) i) (unit t)) r.high (omega (arith, some, same)) ph in
-    (λ x. record { low_places = rw (mapped_long f points) low; high_places = rw (mapped_long f points) high; steps_of_axis = steps; same_weight = same; some_weight = some; meet = same_point d (low_side t (map f points) r) (high_side t (map f points) r) ll lh (h.0 x) },
-     λ w. h.1 (λ k n. ap (λ p. coordinate p k) w.meet))
+    let lh : length (high_side t (map f points) r) ≡ d = length-points d (λ i. difference (point_at (map f points) i) (unit t)) r.high (omega (arith, some, same)) ph in (
+      λ x. record { low_places = rw (mapped_long f points) low; high_places = rw (mapped_long f points) high; steps_of_axis = steps; same_weight = same; some_weight = some; meet = same_point d (low_side t (map f points) r) (high_side t (map f points) r) ll lh (h.0 x) },
+      λ w. h.1 (λ k n. ap (λ p. coordinate p k) w.meet),
+    )
 
 pub places_of : {Q : Type 0} (f : Q → Point) (d t : ℕ) (points : List Q) (r : Refutation) → Refutes d t (map f points) r → ArePlaces (length points) r.low × ArePlaces (length points) r.high
 places_of f d t points r w = (rw (mapped_long f points) at w.low_places, rw (mapped_long f points) at w.high_places)

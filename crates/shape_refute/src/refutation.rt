@@ -99,7 +99,13 @@ fn points_sum<P: Point>(points: &[P], shares: &Shares, k: usize, less: i32) -> i
     let mut total: i128 = 0;
     for i in (0..shares.len()).rev() {
         let share = shares.get(i);
-        total = sum(total, weighed(share.weight, minus(points[share.place as usize].coord(k), less)));
+        total = sum(
+            total,
+            weighed(
+                share.weight,
+                minus(points[share.place as usize].coord(k), less),
+            ),
+        );
     }
     total
 }
@@ -112,7 +118,10 @@ fn steps_sum(axis: usize, shares: &StepShares, k: usize) -> i128
     let mut total: i128 = 0;
     for i in (0..shares.len()).rev() {
         let share = shares.get(i);
-        total = sum(total, weighed(share.weight, step_coordinate(axis, share.step, k)));
+        total = sum(
+            total,
+            weighed(share.weight, step_coordinate(axis, share.step, k)),
+        );
     }
     total
 }
@@ -151,7 +160,10 @@ pub fn refutes<P: Point>(points: &[P], axis: usize, r: &Refutation) -> bool
     requires { axis < P.DIM }
     ensures { IsTrue result ↔ Refutes P.DIM axis (map P.coords points.now) (refutation_of r.now) }
 {
-    if !are_places(&r.low, points.len()) || !are_places(&r.high, points.len()) || !are_steps(&r.steps, P::DIM, axis) {
+    if !are_places(&r.low, points.len())
+        || !are_places(&r.high, points.len())
+        || !are_steps(&r.steps, P::DIM, axis)
+    {
         return false;
     }
     let weight = total(&r.low);
@@ -167,5 +179,4 @@ pub fn refutes<P: Point>(points: &[P], axis: usize, r: &Refutation) -> bool
 /// negative, have the same sum as high points moved down by one step, where `a.p - mu` is negative.
 pub fn refutation_excludes()
     ensures { RefutationsExclude }
-{
-}
+{}

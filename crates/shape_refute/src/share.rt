@@ -59,7 +59,10 @@ impl Shares {
         ensures { result ≡ [] }
     {
         Shares {
-            entries: [Share { weight: 0, place: 0 }; 4],
+            entries: [Share {
+                weight: 0,
+                place: 0,
+            }; 4],
             count: 0,
         }
     }
@@ -116,7 +119,10 @@ impl StepShares {
         ensures { result ≡ [] }
     {
         StepShares {
-            entries: [StepShare { weight: 0, step: Step::Up }; 4],
+            entries: [StepShare {
+                weight: 0,
+                step: Step::Up,
+            }; 4],
             count: 0,
         }
     }
