@@ -1,13 +1,13 @@
 -- Two sums of points are equal where each coordinate is, and what the coordinates of such sums are.
 -- Plain variables alone stand here.
-use Rattle.std.proofs.Common.{◌≡◌, ℕ, zero, suc, ◌+◌, ◌<◌, ◌≤◌, List, [], ◌∷◌, length, refl, ap, sym, ◌∙◌, arith, get_or}
-use Rattle.std.specs.Prelude.{ℤ, pos, negsuc, ◌+ℤ◌, ◌-ℤ◌, ◌*ℤ◌, ◌↔◌}
+use Rattle.std.proofs.Common.{◌≡◌, ℕ, zero, suc, ◌<◌, ◌≤◌, List, [], ◌∷◌, length, refl, ap, ◌∙◌, arith}
+use Rattle.std.specs.Prelude.{ℤ, pos, negsuc, ◌+ℤ◌, ◌-ℤ◌, ◌*ℤ◌}
 use Rattle.std.specs.List.{AllByRecursion}
 use Rattle.std.proofs.lemmas.Int.{ints}
 use Rattle.shape_terms.specs.Points.{Point, coordinate}
 use Rattle.shape_terms.specs.Adjacency.{moved, along}
 use Rattle.shape_refute.specs.Vectors.{times, unit, difference}
-use Rattle.shape_refute.specs.Refutations.{Share, StepShare, Step, step_of, IsStepOf, weighted_points, weighted_steps, total_weight, point_at}
+use Rattle.shape_refute.specs.Refutations.{Share, StepShare, Step, step_of, IsStepOf, weighted_points, weighted_steps, total_weight}
 use Rattle.shape_refute.specs.Sums.{shares_sum, steps_sum}
 
 -- ---- coordinates

@@ -1,4 +1,4 @@
-use Rattle.std.proofs.Common.{◌≡◌, rules, arith, get_or, pos, FitsSigned, w64, sym, ◌∙◌, refl, subst, ◌≤◌, length}
+use Rattle.std.proofs.Common.{rules, arith, get_or, pos, FitsSigned, w64, sym, ◌∙◌, refl, ◌≤◌, length}
 use Rattle.std.proofs.lemmas.Int.{to_z-of_z}
 use Rattle.shape_refute.proofs.Rows.{coordinate_within, all_within, few_axes}
 use Rattle.shape_refute.proofs.naive.are_within.Goals as goal

@@ -1,4 +1,4 @@
-use Rattle.std.proofs.Common.{◌≡◌, rules, arith, get_or, pos, FitsSigned, w32, w64, to_z, of_z}
+use Rattle.std.proofs.Common.{rules, arith, get_or, pos, FitsSigned, w32, w64}
 use mir.Syntax.{w128}
 use Rattle.std.proofs.lemmas.Int.{to_z-of_z}
 use Rattle.shape_refute.proofs.Rows.{flat_value, solid_value}

@@ -1,4 +1,4 @@
-use Rattle.std.proofs.Common.{◌-◌, sym, arith}
+use Rattle.std.proofs.Common.{◌-◌, arith}
 use Rattle.shape_refute.specs.Refutations.{StepShare, IsStepOf}
 use Rattle.shape_refute.specs.Shown.{step_share_of}
 use Rattle.shape_refute.proofs.Steps.{all_step}

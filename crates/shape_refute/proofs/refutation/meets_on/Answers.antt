@@ -1,4 +1,4 @@
-use Rattle.std.proofs.Common.{◌≡◌, map, rules, FitsSigned, w32}
+use Rattle.std.proofs.Common.{map, rules, FitsSigned, w32}
 use mir.Syntax.{w128}
 use Rattle.std.proofs.lemmas.Int.{to_z-of_z}
 use Rattle.shape_refute.specs.Weights.{refutation_of}

@@ -1,4 +1,4 @@
-use Rattle.std.proofs.Common.{◌≡◌, ◌<◌, ◌-◌, length, map, arith, rules, FitsSigned, w32, w64, to_z}
+use Rattle.std.proofs.Common.{◌<◌, ◌-◌, length, map, arith, rules, FitsSigned, w32, w64, to_z}
 use mir.Syntax.{w128}
 use Rattle.std.proofs.lemmas.Int.{to_z-of_z}
 use Rattle.shape_refute.specs.Refutations.{Share}

@@ -1,4 +1,4 @@
-use Rattle.std.proofs.Common.{◌≡◌, ◌∙◌, sym, arith}
+use Rattle.std.proofs.Common.{◌∙◌, sym, arith}
 use Rattle.shape_refute.specs.Weights.{refutation_of}
 use Rattle.shape_refute.proofs.Steps.{refutes_is}
 use Rattle.shape_refute.proofs.refutation.refutes.Goals as goal

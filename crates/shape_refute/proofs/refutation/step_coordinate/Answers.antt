@@ -1,4 +1,4 @@
-use Rattle.std.proofs.Common.{◌≡◌, rules, FitsSigned, w32, w64}
+use Rattle.std.proofs.Common.{rules, FitsSigned, w32, w64}
 use Rattle.std.proofs.lemmas.Int.{to_z-of_z}
 use Rattle.shape_refute.proofs.Steps.{plus_is, minus_is}
 use Rattle.shape_refute.proofs.refutation.step_coordinate.Goals as goal

@@ -1,4 +1,4 @@
-use Rattle.std.proofs.Common.{◌≡◌, ◌-◌, arith, rules, FitsSigned, w64, to_z}
+use Rattle.std.proofs.Common.{◌-◌, arith, rules, FitsSigned, w64, to_z}
 use mir.Syntax.{w128}
 use Rattle.std.proofs.lemmas.Int.{to_z-of_z}
 use Rattle.shape_refute.specs.Shown.{step_share_of}

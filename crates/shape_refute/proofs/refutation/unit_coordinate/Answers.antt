@@ -1,4 +1,4 @@
-use Rattle.std.proofs.Common.{◌≡◌, ap, sym, ◌∙◌}
+use Rattle.std.proofs.Common.{ap, sym, ◌∙◌}
 use Rattle.shape_terms.specs.Points.{coordinate}
 use Rattle.shape_refute.specs.Vectors.{unit}
 use Rattle.shape_refute.proofs.Meet.{unit_same, unit_other}
