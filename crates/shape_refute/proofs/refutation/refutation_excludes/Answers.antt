@@ -1,0 +1,5 @@
+use Rattle.shape_refute.proofs.Exclusion.{excludes}
+use Rattle.shape_refute.proofs.refutation.refutation_excludes.Goals as goal
+
+pub returns : goal.returns
+returns c = excludes
