@@ -1,12 +1,11 @@
 -- What the first coefficients of a row of three say, in the plane and in space.
 -- Plain variables alone stand here.
-use Rattle.std.proofs.Common.{◌≡◌, ◌≢◌, ◌⊎◌, inl, inr, ℕ, ◌<◌, ◌≤◌, List, [], ◌∷◌, length, take, sym, ◌∙◌, arith}
-use Rattle.std.specs.Prelude.{ℤ, pos, ◌+ℤ◌, ◌*ℤ◌, ◌≤ℤ◌, nat_abs, ◌↔◌}
+use Rattle.std.proofs.Common.{◌≡◌, ◌⊎◌, inl, inr, ℕ, ◌<◌, ◌≤◌, List, [], ◌∷◌, length, take, sym, ◌∙◌, arith}
+use Rattle.std.specs.Prelude.{ℤ, pos, ◌+ℤ◌, ◌*ℤ◌, ◌≤ℤ◌, nat_abs}
 use Rattle.std.proofs.lemmas.Int.{ints}
 use Rattle.std.proofs.lemmas.List.{get_or-take, get_or_past, length-take-le}
 use Rattle.shape_terms.specs.Points.{coordinate}
 use Rattle.shape_refute.specs.Vectors.{dot}
-use Rattle.shape_refute.specs.Naive.{Naive, IsProper}
 
 pub dot_flat : (a p : List ℤ) → length a ≡ 3 → length p ≡ 2 → dot (take 2 a) p ≡ coordinate a 0 *ℤ coordinate p 0 +ℤ coordinate a 1 *ℤ coordinate p 1
 dot_flat (a ∷ b ∷ c ∷ []) (x ∷ y ∷ []) h k = omega (arith, ints)
@@ -62,10 +61,3 @@ all_within a d b l h each u = by_order u d (λ (m : u < d). rw (coordinate_withi
       where
         order : (u d : ℕ) → (u < d) ⊎ (d ≤ u)
         order u d = grind arith
-
--- proper parameters are those whose main coefficient is at least 1 and no coefficient greater in size
-pub proper_is : (t : ℕ) (n : Naive) (main : ℤ) → main ≡ coordinate n.a t → pos 1 ≤ℤ main → IsProper t n ↔ ((u : ℕ) → pos (nat_abs (coordinate n.a u)) ≤ℤ main)
-proper_is t n main e h = (λ p u. elim (same u t) [ inl s ↦ rw (s, e) (omega (arith, ints, rw e at h)) | inr s ↦ rw e (p.others u s) ], λ w. record { main = rw e at h; others = λ u s. rw e at (w u) })
-  where
-    same : (u t : ℕ) → (u ≡ t) ⊎ (u ≢ t)
-    same u t = grind arith

@@ -103,6 +103,3 @@ refutes_is f d t points r m a l low high steps some same h =
       λ x. record { low_places = rw (mapped_long f points) low; high_places = rw (mapped_long f points) high; steps_of_axis = steps; same_weight = same; some_weight = some; meet = same_point d (low_side t (map f points) r) (high_side t (map f points) r) ll lh (h.0 x) },
       λ w. h.1 (λ k n. ap (λ p. coordinate p k) w.meet),
     )
-
-pub places_of : {Q : Type 0} (f : Q → Point) (d t : ℕ) (points : List Q) (r : Refutation) → Refutes d t (map f points) r → ArePlaces (length points) r.low × ArePlaces (length points) r.high
-places_of f d t points r w = (rw (mapped_long f points) at w.low_places, rw (mapped_long f points) at w.high_places)
