@@ -1,6 +1,6 @@
 //! The real desk: files of the system and standard output. It is the trusted edge of the program.
 //! It tells neither its files nor any bytes, so its contract is the trait's alone.
-ghost use Rattle.std.specs.Prelude.{◌≡◌, ◌≤◌, None, is_some, IfSome, length};
+ghost use Rattle.std.specs.Prelude.{◌≡◌, ◌≤◌, None, false, is_some, IfSome, length};
 ghost use Rattle.shape_desk.specs.Memory.{pick};
 
 use shape_desk::{Desk, Failed, Place};
@@ -19,7 +19,12 @@ pub struct HostDesk<'a, R: Files + Print> {
 
 impl<'a, R: Files + Print> HostDesk<'a, R> {
     /// A desk with no place begun.
-    pub fn new(rt: &'a R) -> HostDesk<'a, R> {
+    pub fn new(rt: &'a R) -> HostDesk<'a, R>
+        ensures picture { is_some result.picture ≡ false }
+        ensures report { is_some result.report ≡ false }
+        ensures read_faults { result.read_faults ≡ 0 }
+        ensures write_faults { result.write_faults ≡ 0 }
+    {
         HostDesk {
             rt,
             picture: None,
