@@ -6,8 +6,8 @@ use Rattle.std.specs.List.{AllByRecursion}
 use Rattle.std.proofs.lemmas.Int.{ints}
 use Rattle.shape_terms.specs.Points.{Point, coordinate}
 use Rattle.shape_terms.specs.Adjacency.{moved, along}
-use Rattle.shape_refute.specs.Vectors.{times, unit, difference}
-use Rattle.shape_refute.specs.Refutations.{Share, StepShare, Step, step_of, IsStepOf, weighted_points, weighted_steps, total_weight}
+use Rattle.shape_terms.specs.Vectors.{times, unit, difference}
+use Rattle.shape_terms.specs.Refutations.{Share, StepShare, Step, step_of, IsStepOf, weighted_points, weighted_steps, total_weight}
 use Rattle.shape_refute.specs.Sums.{shares_sum, steps_sum}
 
 -- ---- coordinates

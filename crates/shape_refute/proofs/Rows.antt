@@ -5,7 +5,7 @@ use Rattle.std.specs.Prelude.{ℤ, pos, ◌+ℤ◌, ◌*ℤ◌, ◌≤ℤ◌, na
 use Rattle.std.proofs.lemmas.Int.{ints}
 use Rattle.std.proofs.lemmas.List.{get_or-take, get_or_past, length-take-le}
 use Rattle.shape_terms.specs.Points.{coordinate}
-use Rattle.shape_refute.specs.Vectors.{dot}
+use Rattle.shape_terms.specs.Vectors.{dot}
 
 pub dot_flat : (a p : List ℤ) → length a ≡ 3 → length p ≡ 2 → dot (take 2 a) p ≡ coordinate a 0 *ℤ coordinate p 0 +ℤ coordinate a 1 *ℤ coordinate p 1
 dot_flat (a ∷ b ∷ c ∷ []) (x ∷ y ∷ []) h k = omega (arith, ints)

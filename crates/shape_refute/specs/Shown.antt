@@ -1,6 +1,6 @@
 -- The program's weights as the terms of refutations.
 -- Lists of shares are seen as lists of these terms; a further kind of step is one more clause.
-use Rattle.shape_refute.specs.Refutations.{Share as Weighed, Step as Shift, StepShare as WeighedStep}
+use Rattle.shape_terms.specs.Refutations.{Share as Weighed, Step as Shift, StepShare as WeighedStep}
 use Rattle.shape_refute.specs.declared.share.Share.{Share}
 use Rattle.shape_refute.specs.declared.share.Step.{Step}
 use Rattle.shape_refute.specs.declared.share.StepShare.{StepShare}

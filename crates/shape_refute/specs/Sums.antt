@@ -3,8 +3,8 @@
 use Rattle.std.specs.Prelude.{ℕ, ◌<◌, List, [], ◌∷◌, ℤ, pos, ◌+ℤ◌, ◌-ℤ◌, ◌*ℤ◌, All}
 use Rattle.shape_terms.specs.Points.{Point, coordinate}
 use Rattle.shape_terms.specs.Adjacency.{moved}
-use Rattle.shape_refute.specs.Vectors.{unit, difference}
-use Rattle.shape_refute.specs.Refutations.{Share, StepShare, Refutation, IsStepOf, step_of, point_at, weighted_points, weighted_steps}
+use Rattle.shape_terms.specs.Vectors.{unit, difference}
+use Rattle.shape_terms.specs.Refutations.{Share, StepShare, Refutation, IsStepOf, step_of, point_at, weighted_points, weighted_steps}
 
 -- the sum of the shares' numbers, each as often as its weight says
 abbrev pub shares_sum : (ℕ → ℤ) → List Share → ℤ

@@ -2,7 +2,7 @@
 use Rattle.std.specs.Prelude.{ℕ, [], ◌∷◌, take}
 use Rattle.shape_terms.specs.Points.{Point}
 use Rattle.shape_space.specs.declared.point.P2.{P2}
-use Rattle.shape_refute.specs.Naive.{Naive as Term}
+use Rattle.shape_terms.specs.Naive.{Naive as Term}
 use Rattle.shape_refute.specs.declared.naive.Naive.{Naive}
 
 -- what the program's parameters mean in a space of d axes: the coefficients past the last axis do not count

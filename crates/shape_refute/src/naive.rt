@@ -2,8 +2,8 @@
 //! A further dimension adds an entry to `Naive::a` and to the product.
 ghost use Rattle.std.specs.Prelude.{◌≡◌, ◌≤◌, ◌<◌, ◌^◌, ◌↔◌, ℕ, pos, unsigned_abs, nat_abs, ◌+ℤ◌, ◌*ℤ◌, ◌≤ℤ◌, ◌<ℤ◌, IsTrue, take};
 ghost use Rattle.shape_terms.specs.Points.{coordinate};
-ghost use Rattle.shape_refute.specs.Vectors.{dot};
-ghost use Rattle.shape_refute.specs.Naive.{IsProper, HoldsPoint};
+ghost use Rattle.shape_terms.specs.Vectors.{dot};
+ghost use Rattle.shape_terms.specs.Naive.{IsProper, HoldsPoint};
 ghost use Rattle.shape_refute.specs.Terms.{naive_of};
 
 use crate::exact::sum;

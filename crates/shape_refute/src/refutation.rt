@@ -2,8 +2,8 @@
 //! How weights are found belongs elsewhere.
 ghost use Rattle.std.specs.Prelude.{◌≡◌, ◌<◌, ◌≤◌, ◌^◌, ◌↔◌, ℕ, length, map, unsigned_abs, IsTrue};
 ghost use Rattle.shape_terms.specs.Points.{coordinate};
-ghost use Rattle.shape_refute.specs.Vectors.{unit};
-ghost use Rattle.shape_refute.specs.Refutations.{IsStepOf, step_of, total_weight, Refutes, RefutationsExclude};
+ghost use Rattle.shape_terms.specs.Vectors.{unit};
+ghost use Rattle.shape_terms.specs.Refutations.{IsStepOf, step_of, total_weight, Refutes, RefutationsExclude};
 ghost use Rattle.shape_refute.specs.Sums.{shares_sum, steps_sum, ArePlaces, AreSteps, axis_value, low_side, high_side};
 ghost use Rattle.shape_refute.specs.Shown.{shift_of};
 ghost use Rattle.shape_refute.specs.Weights.{refutation_of};

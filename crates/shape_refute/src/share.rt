@@ -43,7 +43,7 @@ pub struct Shares {
 
 impl Model for Shares {
     ghost use Rattle.std.specs.Prelude.{◌≡◌, ◌≤◌, List, length, map, take};
-    ghost use Rattle.shape_refute.specs.Refutations.{Share as Weighed};
+    ghost use Rattle.shape_terms.specs.Refutations.{Share as Weighed};
     ghost use Rattle.shape_refute.specs.Shown.{share_of};
 
     ghost Value = { List Weighed };
@@ -103,7 +103,7 @@ pub struct StepShares {
 
 impl Model for StepShares {
     ghost use Rattle.std.specs.Prelude.{◌≡◌, ◌≤◌, List, length, map, take};
-    ghost use Rattle.shape_refute.specs.Refutations.{StepShare as WeighedStep};
+    ghost use Rattle.shape_terms.specs.Refutations.{StepShare as WeighedStep};
     ghost use Rattle.shape_refute.specs.Shown.{step_share_of};
 
     ghost Value = { List WeighedStep };

@@ -2,7 +2,7 @@
 //! Which runs are straight belongs elsewhere.
 ghost use Rattle.std.specs.Prelude.{◌≡◌, ◌<◌, ◌+◌, ◌≤◌, ◌↔◌, ◌⊎◌, ◌-ℤ◌, IsTrue, length, map, pos, negsuc};
 ghost use Rattle.shape_terms.specs.Points.{coordinate};
-ghost use Rattle.shape_refute.specs.Turns.{IsTurn, change_at};
+ghost use Rattle.shape_terms.specs.Turns.{IsTurn, change_at};
 ghost use Rattle.shape_refute.specs.Terms.{flat_point};
 
 use shape_space::{P2, Point};

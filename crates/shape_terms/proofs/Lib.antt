@@ -40,3 +40,10 @@ pub mod PartsAlong
 pub mod FramedNumbers
 pub mod ObjectPlaces
 pub mod BackgroundPlaces
+pub mod Ring
+pub mod Linear
+pub mod Exclusion
+pub mod Stretches
+pub mod Gaps
+pub mod ArcRuns
+pub mod CoverOf

@@ -15,3 +15,10 @@ pub mod Steps
 pub mod Contours
 pub mod Traces
 pub mod CrackNumbers
+pub mod Vectors
+pub mod Naive
+pub mod Refutations
+pub mod Turns
+pub mod Straight
+pub mod Covers
+pub mod GapCover

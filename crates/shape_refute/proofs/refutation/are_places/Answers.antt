@@ -1,5 +1,5 @@
 use Rattle.std.proofs.Common.{◌-◌, ◌<◌, arith}
-use Rattle.shape_refute.specs.Refutations.{Share}
+use Rattle.shape_terms.specs.Refutations.{Share}
 use Rattle.shape_refute.specs.Shown.{share_of}
 use Rattle.shape_refute.proofs.Steps.{all_step}
 use Rattle.shape_refute.proofs.refutation.are_places.Goals as goal

@@ -1,5 +1,5 @@
 use Rattle.std.proofs.Common.{◌-◌, arith}
-use Rattle.shape_refute.specs.Refutations.{StepShare, IsStepOf}
+use Rattle.shape_terms.specs.Refutations.{StepShare, IsStepOf}
 use Rattle.shape_refute.specs.Shown.{step_share_of}
 use Rattle.shape_refute.proofs.Steps.{all_step}
 use Rattle.shape_refute.proofs.refutation.are_steps.Goals as goal

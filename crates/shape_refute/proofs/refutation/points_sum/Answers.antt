@@ -1,7 +1,7 @@
 use Rattle.std.proofs.Common.{◌<◌, ◌-◌, length, map, arith, rules, FitsSigned, w32, w64, to_z}
 use mir.Syntax.{w128}
 use Rattle.std.proofs.lemmas.Int.{to_z-of_z}
-use Rattle.shape_refute.specs.Refutations.{Share}
+use Rattle.shape_terms.specs.Refutations.{Share}
 use Rattle.shape_refute.specs.Sums.{axis_value}
 use Rattle.shape_refute.specs.Shown.{share_of}
 use Rattle.shape_refute.proofs.Steps.{all_at, sum_step, bound_step, value_read}

@@ -1,5 +1,5 @@
 use Rattle.std.proofs.Common.{◌≡◌, ◌≤◌, ◌+◌, ◌*◌, ◌^◌, drop}
-use Rattle.shape_refute.specs.Refutations.{total_weight}
+use Rattle.shape_terms.specs.Refutations.{total_weight}
 use Rattle.shape_refute.proofs.refutation.total.Given as goal
 
 abbrev pub invariant-loop-i : goal.invariant-loop-i

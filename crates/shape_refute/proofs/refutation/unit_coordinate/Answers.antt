@@ -1,6 +1,6 @@
 use Rattle.std.proofs.Common.{ap, sym, ◌∙◌}
 use Rattle.shape_terms.specs.Points.{coordinate}
-use Rattle.shape_refute.specs.Vectors.{unit}
+use Rattle.shape_terms.specs.Vectors.{unit}
 use Rattle.shape_refute.proofs.Meet.{unit_same, unit_other}
 use Rattle.shape_refute.proofs.refutation.unit_coordinate.Goals as goal
 

@@ -3,8 +3,8 @@
 use Rattle.std.specs.Prelude.{◌≡◌, ◌≢◌, ℕ, ◌<◌, ◌≤◌, List, [], ◌∷◌, length, slice_index_or, sum_by, pos, All}
 use Rattle.shape_terms.specs.Points.{Point}
 use Rattle.shape_terms.specs.Adjacency.{moved}
-use Rattle.shape_refute.specs.Vectors.{times, unit, difference}
-use Rattle.shape_refute.specs.Naive.{Naive, IsNaiveFor}
+use Rattle.shape_terms.specs.Vectors.{times, unit, difference}
+use Rattle.shape_terms.specs.Naive.{Naive, IsNaiveFor}
 
 -- a place of a list, taken so many times
 pub record Share : Type 0 where

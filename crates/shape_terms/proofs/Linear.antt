@@ -3,11 +3,11 @@
 use Rattle.std.proofs.Common.{◌≡◌, ℕ, zero, suc, refl, ap, sym, ◌∙◌, arith, List, [], ◌∷◌}
 use Rattle.std.specs.Prelude.{ℤ, pos, negsuc, ◌+ℤ◌, ◌-ℤ◌, ◌*ℤ◌}
 use Rattle.std.proofs.lemmas.Int.{ints}
-use Rattle.shape_refute.proofs.Ring.{*ℤ-+ℤ, *ℤ_assoc}
+use Rattle.shape_terms.proofs.Ring.{*ℤ-+ℤ, *ℤ_assoc}
 use Rattle.std.proofs.Math.IntN.{*ℤ_comm, *ℤ-zero}
 use Rattle.shape_terms.specs.Points.{Point, coordinate}
 use Rattle.shape_terms.specs.Adjacency.{moved, along}
-use Rattle.shape_refute.specs.Vectors.{times, unit, difference, dot}
+use Rattle.shape_terms.specs.Vectors.{times, unit, difference, dot}
 
 pub dot_none : (a : List ℤ) → dot a [] ≡ pos 0
 dot_none [] = refl

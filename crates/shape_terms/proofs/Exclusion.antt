@@ -6,12 +6,12 @@ use Rattle.std.specs.List.{AllByRecursion}
 use Rattle.std.proofs.lemmas.Int.{ints}
 use Rattle.std.proofs.lemmas.List.Sums.{sum_by-cons}
 use Rattle.std.proofs.lemmas.List.Elements.{recursion_from_All}
-use Rattle.shape_refute.proofs.Ring.{*ℤ-+ℤ, +ℤ-*ℤ, *ℤ-≤ℤ}
-use Rattle.shape_refute.proofs.Linear.{dot-moved, dot-times, dot-unit, dot-difference, dot_none}
+use Rattle.shape_terms.proofs.Ring.{*ℤ-+ℤ, +ℤ-*ℤ, *ℤ-≤ℤ}
+use Rattle.shape_terms.proofs.Linear.{dot-moved, dot-times, dot-unit, dot-difference, dot_none}
 use Rattle.shape_terms.specs.Points.{Point}
-use Rattle.shape_refute.specs.Vectors.{times, unit, difference, dot}
-use Rattle.shape_refute.specs.Naive.{Naive, IsProper, HoldsAll, IsNaiveFor}
-use Rattle.shape_refute.specs.Refutations.{Share, Step, StepShare, Refutation, step_of, IsStepOf, point_at, weighted_points, weighted_steps, total_weight, Refutes}
+use Rattle.shape_terms.specs.Vectors.{times, unit, difference, dot}
+use Rattle.shape_terms.specs.Naive.{Naive, IsProper, HoldsAll, IsNaiveFor}
+use Rattle.shape_terms.specs.Refutations.{Share, Step, StepShare, Refutation, step_of, IsStepOf, point_at, weighted_points, weighted_steps, total_weight, Refutes}
 
 -- a row that is at least m at each point of the shares is at least the weight times m at their sum
 pub at_least : (a : List ℤ) (m : ℤ) (f : ℕ → Point) (shares : List Share) → AllByRecursion (λ s. m ≤ℤ dot a (f s.place)) shares

@@ -2,7 +2,7 @@
 -- Every definition serves each number of axes; none may name a type of the program.
 use Rattle.std.specs.Prelude.{◌≢◌, ℕ, List, ℤ, pos, ◌+ℤ◌, nat_abs, ◌≤ℤ◌, ◌<ℤ◌, All}
 use Rattle.shape_terms.specs.Points.{Point, coordinate}
-use Rattle.shape_refute.specs.Vectors.{dot}
+use Rattle.shape_terms.specs.Vectors.{dot}
 
 -- the parameters of a naive line or plane: one coefficient for each axis, and the lower bound
 pub record Naive : Type 0 where

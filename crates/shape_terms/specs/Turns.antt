@@ -2,7 +2,7 @@
 -- None of the definitions may name a type of the program.
 use Rattle.std.specs.Prelude.{◌≡◌, ℕ, ◌+◌, ◌-◌, ◌<◌, List, length, ℤ, pos, negsuc, ◌-ℤ◌}
 use Rattle.shape_terms.specs.Points.{Point, coordinate}
-use Rattle.shape_refute.specs.Refutations.{point_at}
+use Rattle.shape_terms.specs.Refutations.{point_at}
 
 -- the axis of the plane other than t
 abbrev pub other_axis : ℕ → ℕ
