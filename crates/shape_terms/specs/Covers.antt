@@ -1,11 +1,12 @@
 -- The tangential cover of a contour: its maximal straight runs, and the evidence that none is missing.
 -- Places of a contour go round and round; how a cover is found belongs elsewhere.
-use Rattle.std.specs.Prelude.{◌↔◌, ℕ, ◌+◌, ◌-◌, ◌<◌, ◌%◌, List, map, length, slice_index_or, slice_get, AllPairs, Contains, Option, Some, None}
+use Rattle.std.specs.Prelude.{◌≡◌, ◌↔◌, ℕ, ◌+◌, ◌-◌, ◌<◌, ◌≤◌, ◌%◌, List, [], ◌∷◌, ◌++◌, map, length, slice_index_or, slice_get, AllPairs, Contains, Option, Some, None, IfSome}
 use Rattle.std.specs.List.{range_with_len}
 use Rattle.shape_terms.specs.Points.{Point}
 use Rattle.shape_terms.specs.Refutations.{Refutation, Refutes, point_at}
 use Rattle.shape_terms.specs.Turns.{IsTurn}
-use Rattle.shape_terms.specs.Straight.{IsStraight}
+use Rattle.shape_terms.specs.Naive.{Naive, IsNaiveFor}
+use Rattle.shape_terms.specs.Straight.{IsStraight, KeepsSense}
 
 -- the points of the contour from place b to place e, where place i stands for place i modulo the contour's length
 abbrev pub arc : List Point → ℕ → ℕ → List Point
@@ -49,3 +50,13 @@ next_first contour stretches k = first_or (slice_get stretches (k + 1)) (slice_g
 -- gap k goes from the place before the next stretch to the place after stretch k
 abbrev pub gap_run : List Point → List Stretch → ℕ → List Point
 gap_run contour stretches k = arc contour (next_first contour stretches k - 1) ((slice_index_or stretches k (record { first = 0; last = 0 })).last + 1)
+
+-- a segment from place b to place e after the stretches before it, among m of a contour: the places rise, and the line of the axis t holds it
+pub record IsSegment (points : List Point) (m : ℕ) (before : List Stretch) (b e t : ℕ) (line : Naive) : Type 0 where
+  pub begins : b < length points
+  pub rises : b ≤ e
+  pub short : e < b + length points
+  pub after : IfSome (slice_get before (length before - 1)) (λ s. (s.first < b) × (s.last < e))
+  pub closes : length before + 1 ≡ m → e < (slice_index_or (before ++ record { first = b; last = e } ∷ []) 0 (record { first = b; last = e })).last + length points
+  pub naive : IsNaiveFor t (arc points b e) line
+  pub sense : KeepsSense t (arc points b e)
