@@ -9,6 +9,7 @@ use Rattle.shape_terms.specs.Pictures.{Picture}
 use Rattle.shape_terms.specs.Lines.{Line}
 use Rattle.shape_terms.specs.Good.{section, section_lines, Claim, IsComplete, GoodAfter}
 use Rattle.shape_terms.specs.Progress.{HasCome}
+use Rattle.shape_terms.specs.ContourLines.{ContoursComplete}
 
 -- ---- the lines of a section, when one more line comes
 
@@ -29,7 +30,16 @@ complete_kept X lines (Line.Near p q s) (suc (suc j)) h c = absurd (omega arith)
 complete_kept X lines Line.End zero h c = ap length (section_skip 0 lines Line.End refl) ∙ c
 complete_kept X lines Line.End (suc zero) h c = ap length (section_skip 1 lines Line.End refl) ∙ c
 complete_kept X lines Line.End (suc (suc zero)) h c = ap length (section_skip 2 lines Line.End refl) ∙ c
-complete_kept X lines Line.End (suc (suc (suc j))) h c = absurd (omega arith)
+complete_kept X lines Line.End (suc (suc (suc zero))) h c = λ e. subst (ContoursComplete X) (sym (section_skip 3 lines Line.End refl)) (c e)
+complete_kept X lines Line.End (suc (suc (suc (suc j)))) h c = absurd (omega arith)
+complete_kept X lines (Line.Contour p s n m) zero h c = ap length (section_skip 0 lines (Line.Contour p s n m) refl) ∙ c
+complete_kept X lines (Line.Contour p s n m) (suc zero) h c = ap length (section_skip 1 lines (Line.Contour p s n m) refl) ∙ c
+complete_kept X lines (Line.Contour p s n m) (suc (suc zero)) h c = ap length (section_skip 2 lines (Line.Contour p s n m) refl) ∙ c
+complete_kept X lines (Line.Contour p s n m) (suc (suc (suc j))) h c = absurd (omega arith)
+complete_kept X lines (Line.At p) zero h c = ap length (section_skip 0 lines (Line.At p) refl) ∙ c
+complete_kept X lines (Line.At p) (suc zero) h c = ap length (section_skip 1 lines (Line.At p) refl) ∙ c
+complete_kept X lines (Line.At p) (suc (suc zero)) h c = ap length (section_skip 2 lines (Line.At p) refl) ∙ c
+complete_kept X lines (Line.At p) (suc (suc (suc j))) h c = absurd (omega arith)
 
 -- ---- how far the lines have come
 
@@ -67,6 +77,8 @@ pub first_is_shape : (X : Picture) (l : Line) → GoodAfter X [] l → section l
 first_is_shape X (Line.Shape sides rule) g = refl
 first_is_shape X (Line.Parts n o b) g = absurd (let c : 0 ≡ 1 = g.complete 0 (omega arith) in omega arith)
 first_is_shape X (Line.Near p q s) g = absurd (let c : 0 ≡ 1 = g.complete 0 (omega arith) in omega arith)
+first_is_shape X (Line.Contour p s n m) g = absurd (let c : 0 ≡ 1 = g.complete 0 (omega arith) in omega arith)
+first_is_shape X (Line.At p) g = absurd (let c : 0 ≡ 1 = g.complete 0 (omega arith) in omega arith)
 first_is_shape X Line.End g = absurd (let c : 0 ≡ 1 = g.complete 0 (omega arith) in omega arith)
 
 -- ---- after the `shape` line
@@ -84,6 +96,8 @@ pub second_is_parts : (X : Picture) (lines : List Line) (l : Line) → IsComplet
 second_is_parts X lines (Line.Shape sides rule) c e g = absurd (no_second_shape X lines sides rule c g)
 second_is_parts X lines (Line.Parts n o b) c e g = refl
 second_is_parts X lines (Line.Near p q s) c e g = absurd (let one : length (section_lines 1 lines) ≡ 1 = g.complete 1 (omega arith) in let none : length (section_lines 1 lines) ≡ 0 = ap length e in omega arith)
+second_is_parts X lines (Line.Contour p s n m) c e g = absurd (let one : length (section_lines 1 lines) ≡ 1 = g.complete 1 (omega arith) in let none : length (section_lines 1 lines) ≡ 0 = ap length e in omega arith)
+second_is_parts X lines (Line.At p) c e g = absurd (let one : length (section_lines 1 lines) ≡ 1 = g.complete 1 (omega arith) in let none : length (section_lines 1 lines) ≡ 0 = ap length e in omega arith)
 second_is_parts X lines Line.End c e g = absurd (let one : length (section_lines 1 lines) ≡ 1 = g.complete 1 (omega arith) in let none : length (section_lines 1 lines) ≡ 0 = ap length e in omega arith)
 
 -- ---- after the `parts` line
@@ -96,13 +110,13 @@ no_second_parts X lines n o b c g =
     omega arith
 
 -- where no line is of a later section, none is `end`
-pub not_ended : (X : Picture) (k : ℕ) (lines front : List Line) → k < 3 → HasCome X k lines → lines ≡ front ++ Line.End ∷ [] → ⊥
+pub not_ended : (X : Picture) (k : ℕ) (lines front : List Line) → k < 4 → HasCome X k lines → lines ≡ front ++ Line.End ∷ [] → ⊥
 not_ended X k lines front h c e =
     let n = length front in
     let inside : n < length lines = rw e (omega (arith, length-append front (Line.End ∷ []))) in
     let o : section (get_or lines n Line.End) ≤ k = c.order n Line.End inside in
     let t : get_or lines n Line.End ≡ Line.End = rw e (at_end front) in
-    let s : section (get_or lines n Line.End) ≡ 3 = ap section t in
+    let s : section (get_or lines n Line.End) ≡ 4 = ap section t in
     omega arith
   where
     at_end : (xs : List Line) → get_or (xs ++ Line.End ∷ []) (length xs) Line.End ≡ Line.End
@@ -111,8 +125,8 @@ not_ended X k lines front h c e =
 
 -- ---- after `end`
 
-end_among : (lines : List Line) (k : ℕ) → k < 3 → All (λ e. section e ≤ k) (lines ++ Line.End ∷ []) → ⊥
-end_among [] k h a = let o : 3 ≤ k = a 0 Line.End (omega arith) in omega arith
+end_among : (lines : List Line) (k : ℕ) → k < 4 → All (λ e. section e ≤ k) (lines ++ Line.End ∷ []) → ⊥
+end_among [] k h a = let o : 4 ≤ k = a 0 Line.End (omega arith) in omega arith
 end_among (l ∷ lines) k h a = end_among lines k h (λ i d m. a (suc i) d (omega arith))
 
 -- no line is good after `end`
@@ -120,7 +134,9 @@ pub none_after_end : (X : Picture) (lines : List Line) (l : Line) → GoodAfter 
 none_after_end X lines (Line.Shape sides rule) g = end_among lines 0 (omega arith) g.order
 none_after_end X lines (Line.Parts n o b) g = end_among lines 1 (omega arith) g.order
 none_after_end X lines (Line.Near p q s) g = end_among lines 2 (omega arith) g.order
+none_after_end X lines (Line.Contour p s n m) g = end_among lines 3 (omega arith) g.order
+none_after_end X lines (Line.At p) g = end_among lines 3 (omega arith) g.order
 none_after_end X lines Line.End g =
-    let e : section_lines 3 lines ++ Line.End ∷ [] ≡ [] = sym (section_push 3 lines Line.End refl) ∙ g.claim in
+    let e : section_lines 4 lines ++ Line.End ∷ [] ≡ [] = sym (section_push 4 lines Line.End refl) ∙ g.claim in
     let n = ap length e in
-    omega (arith, length-append (section_lines 3 lines) (Line.End ∷ []))
+    omega (arith, length-append (section_lines 4 lines) (Line.End ∷ []))

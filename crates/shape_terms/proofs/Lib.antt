@@ -10,7 +10,6 @@ pub mod Spelled
 pub mod TextLines
 pub mod FirstBadOnce
 pub mod SectionLines
-pub mod HoldsShows
 pub mod Checking
 pub mod GoodSteps
 pub mod ShortLines

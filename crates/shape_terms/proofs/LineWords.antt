@@ -63,4 +63,15 @@ words_injective d (Line.Near p q s) (Line.Near p' q' s') a b e =
     let k : decimal s ≡ decimal s' = let h = c'.1 in cc in
     let n = decimal_injective s s' (omega (arith, a.2)) (omega (arith, b.2)) k in
     λ i. Line.Near (f i) (g i) (n i)
+words_injective d (Line.Contour p s n m) (Line.Contour p' s' n' m') a b e =
+    let c = cut p p' (decimal s ∷ decimal n ∷ decimal m ∷ []) (decimal s' ∷ decimal n' ∷ decimal m' ∷ []) (a.1.axes ∙ sym b.1.axes) cc in
+    let f = coordinates_same p p' a.1.fits b.1.fits c.0 in
+    let h = c.1 in
+    let g = decimal_injective s s' (omega (arith, a.2)) (omega (arith, b.2)) cc in
+    let k = decimal_injective n n' (omega (arith, a.3)) (omega (arith, b.3)) cc in
+    let j = decimal_injective m m' (omega (arith, a.4)) (omega (arith, b.4)) cc in
+    λ i. Line.Contour (f i) (g i) (k i) (j i)
+words_injective d (Line.At p) (Line.At p') a b e =
+    let f = coordinates_same p p' a.1.fits b.1.fits cc in
+    ap Line.At f
 words_injective d _ _ a b e = let f = ap first_code e in absurd (omega arith)

@@ -69,6 +69,13 @@ short_line d (Line.Near p q s) h a =
     let t = total-append (number_words p) (number_words q ++ decimal s ∷ []) in
     let u = total-append (number_words q) (decimal s ∷ []) in
     omega (arith, j, t, u, numbers_short p a.0.fits, numbers_short q a.1.fits, weight_short s a.2, a.0.axes, a.1.axes)
+short_line d (Line.Contour p s n m) h a =
+    let j = joined_short (line_words (Line.Contour p s n m)) in
+    let t = total-append (number_words p) (decimal s ∷ decimal n ∷ decimal m ∷ []) in
+    omega (arith, j, t, numbers_short p a.1.fits, count_short s (omega (arith, a.2)), count_short n a.3, count_short m a.4, a.1.axes)
+short_line d (Line.At p) h a =
+    let j = joined_short (line_words (Line.At p)) in
+    omega (arith, j, numbers_short p a.1.fits, a.1.axes)
 short_line d Line.End h a = let j = joined_short (line_words Line.End) in omega arith
 
 -- ---- fields

@@ -70,6 +70,8 @@ pub words_of_line : (d : ℕ) (l : Line) → IsLineOf d l → AllByRecursion IsW
 words_of_line d (Line.Shape s w) a = (literal (codes "shape") refl, (literal (codes "1") refl, (word_kind (length s), words_append (number_words s) (w ∷ []) (words_point s a.0.fits) (word_name w a.1, tt))))
 words_of_line d (Line.Parts n o b) a = (literal (codes "parts") refl, (word_decimal n (omega (arith, a.0)), (word_decimal o (omega (arith, a.1)), (word_decimal b (omega (arith, a.2)), tt))))
 words_of_line d (Line.Near p q s) a = (literal (codes "near") refl, words_append (number_words p) _ (words_point p a.0.fits) (words_append (number_words q) _ (words_point q a.1.fits) (word_decimal s (omega (arith, a.2)), tt)))
+words_of_line d (Line.Contour p s n m) a = (literal (codes "contour") refl, words_append (number_words p) _ (words_point p a.1.fits) (word_decimal s (omega (arith, a.2)), (word_decimal n (omega (arith, a.3)), (word_decimal m (omega (arith, a.4)), tt))))
+words_of_line d (Line.At p) a = (literal (codes "at") refl, words_point p a.1.fits)
 words_of_line d Line.End a = (literal (codes "end") refl, tt)
 
 -- no two lines have the same spelling

@@ -1,9 +1,10 @@
 -- When a line of a report is good after the lines before it.
--- A report is a list of sections: the `shape` line, the `parts` line, the `near` lines and `end`; a further kind of line is a further section or part of one.
+-- A report is a list of sections: the `shape` line, the `parts` line, the `near` lines, the lines of contours and `end`; a further kind of line is a further section or part of one.
 use Rattle.std.specs.Prelude.{◌≡◌, ℕ, zero, suc, ◌<◌, ◌≤◌, ◌==◌, List, [], length, map, filter, take, slice_get, Some, codes, pos, All}
 use Rattle.shape_terms.specs.Pictures.{Picture, object_points, Least}
 use Rattle.shape_terms.specs.Parts.{Counts}
 use Rattle.shape_terms.specs.Lines.{Line}
+use Rattle.shape_terms.specs.ContourLines.{ContourClaim, ContoursComplete}
 
 -- ---- sections
 
@@ -12,7 +13,9 @@ abbrev pub section : Line → ℕ
 section (Line.Shape _ _) = 0
 section (Line.Parts _ _ _) = 1
 section (Line.Near _ _ _) = 2
-section Line.End = 3
+section (Line.Contour _ _ _ _) = 3
+section (Line.At _) = 3
+section Line.End = 4
 
 abbrev pub section_lines : ℕ → List Line → List Line
 section_lines k lines = filter (λ l. section l == k) lines
@@ -35,14 +38,17 @@ abbrev pub Claim : Picture → List Line → Line → Type 0
 Claim X earlier (Line.Shape sides rule) = (earlier ≡ []) × (sides ≡ map pos X.sides) × (rule ≡ codes "none")
 Claim X earlier (Line.Parts n o b) = (section_lines 1 earlier ≡ []) × Counts X n o b
 Claim X earlier (Line.Near p q s) = NearClaim X (section_lines 2 earlier) (Line.Near p q s)
-Claim X earlier Line.End = section_lines 3 earlier ≡ []
+Claim X earlier (Line.Contour p side n m) = ContourClaim X (section_lines 3 earlier) (Line.Contour p side n m)
+Claim X earlier (Line.At p) = ContourClaim X (section_lines 3 earlier) (Line.At p)
+Claim X earlier Line.End = section_lines 4 earlier ≡ []
 
--- the section of this number is complete
+-- the section of this number is complete; contours are wanted of flat pictures alone
 abbrev pub IsComplete : Picture → ℕ → List Line → Type 0
 IsComplete X zero lines = length (section_lines 0 lines) ≡ 1
 IsComplete X (suc zero) lines = length (section_lines 1 lines) ≡ 1
 IsComplete X (suc (suc zero)) lines = NearsComplete X (section_lines 2 lines)
-IsComplete X _ lines = length (section_lines 3 lines) ≡ 1
+IsComplete X (suc (suc (suc zero))) lines = length X.sides ≡ 2 → ContoursComplete X (section_lines 3 lines)
+IsComplete X _ lines = length (section_lines 4 lines) ≡ 1
 
 -- the line is good after the earlier ones: it comes in the order of the sections, each section before its own is complete, and its claim is true
 pub record GoodAfter (X : Picture) (earlier : List Line) (l : Line) : Type 0 where

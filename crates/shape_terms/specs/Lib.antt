@@ -22,3 +22,4 @@ pub mod Turns
 pub mod Straight
 pub mod Covers
 pub mod GapCover
+pub mod ContourLines

@@ -11,6 +11,8 @@ pub data Line : Type 0 where
   Shape : (sides : Point) → (rule : List ℕ) → Line
   Parts : (points object background : ℕ) → Line
   Near : (p q : Point) → (s : ℕ) → Line
+  Contour : (p : Point) → (side points segments : ℕ) → Line
+  At : (p : Point) → Line
   End : Line
 
 -- ---- spelling
@@ -26,6 +28,8 @@ abbrev pub line_words : Line → List (List ℕ)
 line_words (Shape sides rule) = codes "shape" ∷ codes "1" ∷ kind_word (length sides) ∷ (number_words sides ++ rule ∷ [])
 line_words (Parts n o b) = codes "parts" ∷ decimal n ∷ decimal o ∷ decimal b ∷ []
 line_words (Near p q s) = codes "near" ∷ (number_words p ++ (number_words q ++ decimal s ∷ []))
+line_words (Contour p side n m) = codes "contour" ∷ (number_words p ++ decimal side ∷ decimal n ∷ decimal m ∷ [])
+line_words (At p) = codes "at" ∷ number_words p
 line_words End = codes "end" ∷ []
 
 -- the bytes of a line, without its LF: its words with one blank between each two
@@ -57,9 +61,11 @@ pub record IsName (word : List ℕ) : Type 0 where
   pub few : length word ≤ 16
   pub letters : All (λ c. (97 ≤ c) × (c ≤ 122)) word
 
--- the line is one of the reports of pictures with d axes, and its fields are in range
+-- the line is one of the reports of pictures with d axes, and its fields are in range; contours are lines of flat pictures alone
 abbrev pub IsLineOf : ℕ → Line → Type 0
 IsLineOf d (Line.Shape sides rule) = IsShortPoint d sides × IsName rule
 IsLineOf d (Line.Parts n o b) = IsCount n × IsCount o × IsCount b
 IsLineOf d (Line.Near p q s) = IsShortPoint d p × IsShortPoint d q × IsWeight s
+IsLineOf d (Line.Contour p side n m) = (d ≡ 2) × IsShortPoint d p × (side < 4) × IsCount n × IsCount m
+IsLineOf d (Line.At p) = (d ≡ 2) × IsShortPoint d p
 IsLineOf d Line.End = Unit {0}
