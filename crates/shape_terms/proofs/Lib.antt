@@ -46,3 +46,6 @@ pub mod Stretches
 pub mod Gaps
 pub mod ArcRuns
 pub mod CoverOf
+pub mod HoldsShows
+pub mod ContourGroups
+pub mod ContoursShown

@@ -41,9 +41,13 @@ pub record Standing : Type 0 where
 abbrev pub standing : List Line → Standing
 standing lines = record { begun = length (contour_groups lines); points = length (filter_map point_of (open_group lines)) }
 
+-- a contour without points, which no picture has
+abbrev pub no_contour : Contour
+no_contour = record { start = record { pixel = []; side = 0 }; points = [] }
+
 -- the contour that was begun last
 abbrev pub open_contour : List Contour → Standing → Contour
-open_contour contours s = slice_index_or contours (s.begun - 1) (record { start = record { pixel = []; side = 0 }; points = [] })
+open_contour contours s = slice_index_or contours (s.begun - 1) no_contour
 
 -- no contour is begun and without all its lines
 abbrev pub IsFull : List Contour → Standing → Type 0
