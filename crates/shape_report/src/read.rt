@@ -38,12 +38,15 @@ fn count(words: &mut Words) -> Option<u32>
     u32::try_from(number(words.next_word()?)?).ok()
 }
 
+// A pixel has so many sides.
+const SIDES: u32 = 4;
+
 // Reads the number of a side of a pixel.
 fn side(words: &mut Words) -> Option<u8>
     ensures { ReadsField (λ n. n) IsSide (λ n. decimal n ∷ []) words.old words.new result }
 {
     let side = count(words)?;
-    if side < 4 { Some(side as u8) } else { None }
+    if side < SIDES { Some(side as u8) } else { None }
 }
 
 // Reads a weight or a squared distance.
@@ -153,14 +156,21 @@ fn end<P: Point>(words: &Words) -> Option<Line<P>>
 fn line<P: Point>(words: &mut Words) -> Option<Line<P>>
     ensures { ReadsWords P.DIM P.coords words.old result }
 {
-    match words.next_word()? {
-        b"shape" => shape(words),
-        b"parts" => parts(words),
-        b"near" => near(words),
-        b"contour" => contour(words),
-        b"at" => at(words),
-        b"end" => end(words),
-        _ => None,
+    let word = words.next_word()?;
+    if word == b"shape".as_slice() {
+        shape(words)
+    } else if word == b"parts".as_slice() {
+        parts(words)
+    } else if word == b"near".as_slice() {
+        near(words)
+    } else if word == b"contour".as_slice() {
+        contour(words)
+    } else if word == b"at".as_slice() {
+        at(words)
+    } else if word == b"end".as_slice() {
+        end(words)
+    } else {
+        None
     }
 }
 
