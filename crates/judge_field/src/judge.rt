@@ -91,6 +91,8 @@ impl<P: Point> FieldJudge<P> {
             Line::Near { p, q, s } => self.take_near(p, q, s),
             Line::Shape { .. } => false,
             Line::Parts { .. } => false,
+            Line::Contour { .. } => false,
+            Line::At { .. } => false,
             Line::End => false,
         }
     }

@@ -1,15 +1,35 @@
 -- A report while it grows: good lines that have come to a section.
--- The section of the `near` lines is the only one with many lines so far.
+-- The sections of the `near` lines and of the contours are those with many lines so far.
 use Rattle.std.specs.Prelude.{◌≡◌, ◌≤◌, ℕ, List, length, All}
 use Rattle.shape_terms.specs.Pictures.{Picture}
+use Rattle.shape_terms.specs.Traces.{Contour, AreContours}
 use Rattle.shape_terms.specs.Lines.{Line, spelling, IsLineOf}
+use Rattle.shape_terms.specs.ContourLines.{Standing, standing, IsFull}
 use Rattle.shape_terms.specs.Good.{GoodSoFar, section_lines}
 use Rattle.shape_terms.specs.Progress.{HasCome}
 
--- the `shape` line, the `parts` line and n `near` lines, all of them good
-pub record IsGrowing (X : Picture) (n : ℕ) (lines : List Line) : Type 0 where
+-- short lines of the reports of pictures like X, each good after those before it
+pub record AreGood (X : Picture) (lines : List Line) : Type 0 where
   pub fields : All (IsLineOf (length X.sides)) lines
   pub short : All (λ l. length (spelling l) ≤ 1024) lines
   pub good : GoodSoFar X lines
+
+-- the `shape` line, the `parts` line and n `near` lines, all of them good
+pub record IsGrowing (X : Picture) (n : ℕ) (lines : List Line) : Type 0 where
+  pub lines_good : AreGood X lines
   pub come : HasCome X 2 lines
   pub nears : length (section_lines 2 lines) ≡ n
+
+-- all lines before those of contours, and good lines of contours that stand at s, where `contours` are those of the flat picture
+pub record IsOutlined (X : Picture) (contours : List Contour) (s : Standing) (lines : List Line) : Type 0 where
+  pub flat : length X.sides ≡ 2
+  pub are : AreContours X contours
+  pub lines_good : AreGood X lines
+  pub come : HasCome X 3 lines
+  pub stands : standing (section_lines 3 lines) ≡ s
+
+-- the first k contours have all their lines
+pub record HasOutlined (X : Picture) (contours : List Contour) (k : ℕ) (lines : List Line) : Type 0 where
+  pub points : ℕ
+  pub full : IsFull contours (record { begun = k; points = points })
+  pub outlined : IsOutlined X contours (record { begun = k; points = points }) lines

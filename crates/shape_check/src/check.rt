@@ -9,7 +9,9 @@ ghost use Rattle.shape_check.specs.Checks.{Checks};
 
 use crate::answer::{CheckFault, Judgement};
 use crate::next::{Next, next_claim};
+use crate::outline::OutlineJudge;
 use crate::progress::Progress;
+use judge_cover::CoverJudge;
 use shape_adj::Pairing;
 use shape_desk::{Desk, LineReader};
 use shape_grid::Grid;
@@ -17,15 +19,15 @@ use shape_space::{NoMemory, P2, Point};
 use std::alloc::Global;
 
 // Goes through the lines that are left, from the first one on.
-fn check_lines<P: Point, D: Desk>(
-    mut progress: Progress<P>,
+fn check_lines<P: Point, J: OutlineJudge<P>, D: Desk>(
+    mut progress: Progress<P, J>,
     reader: &mut LineReader,
     desk: &mut D,
 ) -> Result<Judgement, CheckFault>
     requires begun { D.begun desk.old Report ≡ true }
     requires axes { length progress.field.picture.sides ≡ P.DIM }
-    requires first { Follows progress.stage progress.field [] }
-    requires few { lines_left progress.stage progress.field < 2 ^ 61 }
+    requires first { Follows progress.stage progress.field (J.stands progress.field.picture progress.outline) [] }
+    requires few { lines_left progress.stage progress.field (J.room progress.outline) < 2 ^ 62 }
     ensures answer { Checks progress.field.picture (ahead_of reader.old.ahead (D.left desk.old Report)) (D.read_faults desk.old) (D.read_faults desk.new) result }
     ensures begun { D.begun desk.new Report ≡ true }
     ensures later { D.read_faults desk.old ≤ D.read_faults desk.new }
@@ -54,7 +56,7 @@ fn check_lines<P: Point, D: Desk>(
 }
 
 // Checks a report of any dimension.
-fn check<P: Pairing, D: Desk>(
+fn check<P: Pairing, J: OutlineJudge<P>, D: Desk>(
     alloc: Global,
     grid: &Grid<P>,
     desk: &mut D,
@@ -67,7 +69,7 @@ fn check<P: Pairing, D: Desk>(
     ensures output { KeepsOutput D.files D.written D.write_faults desk.old desk.new }
 {
     let _ = grid.sides();
-    let Ok(progress) = Progress::new(alloc, grid) else {
+    let Ok(progress) = Progress::<P, J>::new(alloc, grid) else {
         return Err(CheckFault::NoMemory);
     };
     let Ok(mut reader) = LineReader::new(alloc) else {
@@ -93,5 +95,5 @@ pub fn check_flat<D: Desk>(
     ensures picture { KeepsPlace D.left D.begun Picture desk.old desk.new }
     ensures output { KeepsOutput D.files D.written D.write_faults desk.old desk.new }
 {
-    check(alloc, grid, desk)
+    check::<P2, CoverJudge, D>(alloc, grid, desk)
 }

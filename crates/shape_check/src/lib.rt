@@ -6,6 +6,7 @@ mod answer;
 mod check;
 mod law;
 mod next;
+mod outline;
 mod progress;
 
 pub use answer::{CheckFault, Judgement};

@@ -4,11 +4,12 @@ ghost use Rattle.std.specs.Prelude.{◌≡◌, ◌<◌, ◌↔◌, [], ◌∷◌
 ghost use Rattle.std.specs.Bool.{OnTrue};
 ghost use Rattle.shape_terms.specs.Points.{sides_of};
 ghost use Rattle.shape_terms.specs.Lines as Terms;
-ghost use Rattle.shape_terms.specs.Good.{GoodAfter};
+ghost use Rattle.shape_terms.specs.Good.{section, GoodAfter};
 ghost use Rattle.shape_rules.specs.Names.{word_of};
 ghost use Rattle.shape_report.specs.LineOf.{line_of};
 
 use judge_field::FieldJudge;
+use crate::outline::OutlineJudge;
 use shape_adj::{Pairing, parts};
 use shape_grid::Grid;
 use shape_report::Line;
@@ -33,16 +34,19 @@ pub(crate) enum Stage {
     Opened(Tally),
     // The `parts` line was taken, and then `near` lines.
     Nears,
+    // All `near` lines were taken, and then lines of outlines.
+    Outlines,
     // The line `end` was taken.
     Ended,
 }
 
 // A judge of the lines of a whole report, as they come. After a line that is not good it is only dropped.
 #[derive(Drop)]
-pub(crate) struct Progress<P: Point> {
+pub(crate) struct Progress<P: Point, J: OutlineJudge<P>> {
     pub sides: Sides<P>,
     pub stage: Stage,
     pub field: FieldJudge<P>,
+    pub outline: J,
     pub ghost same_sides: { sides_of (P.coords sides.lengths) ≡ field.picture.sides },
 }
 
@@ -60,20 +64,21 @@ fn is_none(rule: &Name) -> bool
     rule.word() == b"none".as_slice()
 }
 
-impl<P: Point> Progress<P> {
+impl<P: Point, J: OutlineJudge<P>> Progress<P, J> {
     ghost use Rattle.shape_check.specs.Follows.{Follows, lines_left};
-    ghost use Rattle.shape_check.specs.declared.progress.Stage.TheVariants.{Ended};
+    ghost use Rattle.shape_check.specs.declared.progress.Stage.TheVariants.{Nears, Ended};
 
     // Nothing was judged yet.
-    pub fn new(alloc: Global, grid: &Grid<P>) -> Result<Progress<P>, NoMemory>
+    pub fn new(alloc: Global, grid: &Grid<P>) -> Result<Progress<P, J>, NoMemory>
     where
         P: Pairing,
         ensures picture { IfOk result (λ p. p.field.picture ≡ grid.now) }
-        ensures follows { IfOk result (λ p. Follows p.stage p.field []) }
-        ensures few { IfOk result (λ p. lines_left p.stage p.field < 2 ^ 61) }
+        ensures follows { IfOk result (λ p. Follows p.stage p.field (J.stands p.field.picture p.outline) []) }
+        ensures few { IfOk result (λ p. lines_left p.stage p.field (J.room p.outline) < 2 ^ 62) }
     {
         let parts = parts(alloc, grid)?;
         let field = FieldJudge::new(alloc, grid)?;
+        let outline = J::begin(alloc, grid)?;
         Ok(Progress {
             sides: grid.sides(),
             stage: Stage::Start(Tally {
@@ -82,6 +87,7 @@ impl<P: Point> Progress<P> {
                 background: parts.background,
             }),
             field,
+            outline,
         })
     }
 
@@ -98,16 +104,45 @@ impl<P: Point> Progress<P> {
             }
             Line::Parts { .. } => false,
             Line::Near { .. } => false,
+            Line::Contour { .. } => false,
+            Line::At { .. } => false,
             Line::End => false,
         }
+    }
+
+    // Takes the first line that is no `near` line, where it is a line of an outline.
+    fn leave_nears(&mut self, line: &Line<P>) -> bool
+        requires stage { self.old.stage ≡ Nears }
+        requires outline { section (line_of P.coords line.now) ≡ 3 }
+        ensures picture { self.new.field.picture ≡ self.old.field.picture }
+        ensures answer { (lines : List Terms.Line) → Follows self.old.stage self.old.field (J.stands self.old.field.picture self.old.outline) lines → (IsTrue result ↔ GoodAfter self.old.field.picture lines (line_of P.coords line.now)) }
+        ensures follows { (lines : List Terms.Line) → Follows self.old.stage self.old.field (J.stands self.old.field.picture self.old.outline) lines → OnTrue result (Follows self.new.stage self.new.field (J.stands self.new.field.picture self.new.outline) (lines ++ line_of P.coords line.now ∷ [])) }
+        ensures fewer { OnTrue result (lines_left self.new.stage self.new.field (J.room self.new.outline) < lines_left self.old.stage self.old.field (J.room self.old.outline)) }
+    {
+        if !self.field.near_done() {
+            return false;
+        }
+        self.stage = Stage::Outlines;
+        self.outline.take_outline(line)
+    }
+
+    // Takes the line `end` after `near` lines.
+    fn end_nears(&mut self) -> bool
+        requires stage { self.old.stage ≡ Nears }
+        ensures picture { self.new.field.picture ≡ self.old.field.picture }
+        ensures answer { (lines : List Terms.Line) → Follows self.old.stage self.old.field (J.stands self.old.field.picture self.old.outline) lines → (IsTrue result ↔ GoodAfter self.old.field.picture lines Terms.Line.End) }
+        ensures stage { self.new.stage ≡ Ended }
+    {
+        self.stage = Stage::Ended;
+        self.field.near_done() && self.outline.outlines_done()
     }
 
     // Takes the next line: whether it is good after those that were taken.
     pub fn take(&mut self, line: &Line<P>) -> bool
         ensures picture { self.new.field.picture ≡ self.old.field.picture }
-        ensures answer { (lines : List Terms.Line) → Follows self.old.stage self.old.field lines → (IsTrue result ↔ GoodAfter self.old.field.picture lines (line_of P.coords line.now)) }
-        ensures follows { (lines : List Terms.Line) → Follows self.old.stage self.old.field lines → OnTrue result (Follows self.new.stage self.new.field (lines ++ line_of P.coords line.now ∷ [])) }
-        ensures fewer { OnTrue result (lines_left self.new.stage self.new.field < lines_left self.old.stage self.old.field) }
+        ensures answer { (lines : List Terms.Line) → Follows self.old.stage self.old.field (J.stands self.old.field.picture self.old.outline) lines → (IsTrue result ↔ GoodAfter self.old.field.picture lines (line_of P.coords line.now)) }
+        ensures follows { (lines : List Terms.Line) → Follows self.old.stage self.old.field (J.stands self.old.field.picture self.old.outline) lines → OnTrue result (Follows self.new.stage self.new.field (J.stands self.new.field.picture self.new.outline) (lines ++ line_of P.coords line.now ∷ [])) }
+        ensures fewer { OnTrue result (lines_left self.new.stage self.new.field (J.room self.new.outline) < lines_left self.old.stage self.old.field (J.room self.old.outline)) }
     {
         match self.stage {
             Stage::Start(tally) => {
@@ -127,15 +162,27 @@ impl<P: Point> Progress<P> {
                 }
                 Line::Shape { .. } => false,
                 Line::Near { .. } => false,
+                Line::Contour { .. } => false,
+                Line::At { .. } => false,
                 Line::End => false,
             },
             Stage::Nears => match line {
                 Line::Shape { .. } => false,
                 Line::Parts { .. } => false,
                 Line::Near { .. } => self.field.near(line),
+                Line::Contour { .. } => self.leave_nears(line),
+                Line::At { .. } => self.leave_nears(line),
+                Line::End => self.end_nears(),
+            },
+            Stage::Outlines => match line {
+                Line::Shape { .. } => false,
+                Line::Parts { .. } => false,
+                Line::Near { .. } => false,
+                Line::Contour { .. } => self.outline.take_outline(line),
+                Line::At { .. } => self.outline.take_outline(line),
                 Line::End => {
                     self.stage = Stage::Ended;
-                    self.field.near_done()
+                    self.outline.outlines_done()
                 }
             },
             Stage::Ended => false,

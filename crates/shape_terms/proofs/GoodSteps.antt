@@ -4,7 +4,8 @@ use Rattle.std.proofs.Common.{◌≡◌, ◌⊎◌, inl, inr, ℕ, zero, suc, �
 use Rattle.std.specs.Prelude.{All, ◌==◌}
 use Rattle.std.proofs.lemmas.Bool.{cond-true, cond-false}
 use Rattle.std.proofs.lemmas.List.{append-nil, length-append}
-use Rattle.std.proofs.lemmas.List.Elements.{All-nil, All-push, filter-append}
+use Rattle.std.proofs.lemmas.Bool.Decides.{nat_tests}
+use Rattle.std.proofs.lemmas.List.Elements.{All-nil, All-push, All-head, All-tail, filter-append}
 use Rattle.shape_terms.specs.Pictures.{Picture}
 use Rattle.shape_terms.specs.Lines.{Line}
 use Rattle.shape_terms.specs.Good.{section, section_lines, Claim, IsComplete, GoodAfter}
@@ -45,6 +46,16 @@ complete_kept X lines (Line.At p) (suc (suc (suc j))) h c = absurd (omega arith)
 
 pub come_none : (X : Picture) → HasCome X 0 []
 come_none X = record { order = All-nil (λ e. section e ≤ 0); complete = λ j h. absurd (omega arith) }
+
+-- no line of a section past k stands among lines that have come to the section k
+pub none_past : (k : ℕ) (lines : List Line) (n : ℕ) → k < n → All (λ e. section e ≤ k) lines → section_lines n lines ≡ []
+none_past k [] n h a = refl
+none_past k (l ∷ lines) n h a =
+    let o = All-head (λ e. section e ≤ k) l lines a in
+    cond-false (section l == n) (l ∷ section_lines n lines) (section_lines n lines) (other (section l) n (omega arith)) ∙ none_past k lines n h (All-tail (λ e. section e ≤ k) l lines a)
+  where
+    other : (m n : ℕ) → m < n → (m == n) ≡ false
+    other m n h = grind (arith, nat_tests)
 
 -- one more line of the section
 pub come_more : (X : Picture) (k : ℕ) (lines : List Line) (l : Line) → HasCome X k lines → section l ≡ k → HasCome X k (lines ++ l ∷ [])

@@ -10,13 +10,13 @@ abbrev pub invariant-lines : goal.invariant-lines
 invariant-lines g l = record {
   begun : g.D.Desk.begun l.desk Report ≡ true;
   same : l.progress.field.picture ≡ l.fn.progress.field.picture;
-  text : IfTold (ahead_of l.fn.reader.ahead (g.D.Desk.left l.fn.desk Report)) (λ text. GoingOn text (ahead_of l.reader.ahead (g.D.Desk.left l.desk Report)) l.progress.stage l.progress.field l.line);
+  text : IfTold (ahead_of l.fn.reader.ahead (g.D.Desk.left l.fn.desk Report)) (λ text. GoingOn text (ahead_of l.reader.ahead (g.D.Desk.left l.desk Report)) l.progress.stage l.progress.field (g.J.OutlineJudge.stands l.progress.field.picture l.progress.outline) l.line);
   some : 1 ≤ l.line;
-  few : l.line + lines_left l.progress.stage l.progress.field ≤ 2 ^ 61;
+  few : l.line + lines_left l.progress.stage l.progress.field (g.J.OutlineJudge.room l.progress.outline) ≤ 2 ^ 62;
   later : g.D.Desk.read_faults l.fn.desk ≤ g.D.Desk.read_faults l.desk;
   picture : KeepsPlace g.D.Desk.left g.D.Desk.begun Picture l.fn.desk l.desk;
   output : KeepsOutput g.D.Desk.files g.D.Desk.written g.D.Desk.write_faults l.fn.desk l.desk;
 }
 
 abbrev pub decreases-lines : goal.decreases-lines
-decreases-lines g l = lines_left l.progress.stage l.progress.field
+decreases-lines g l = lines_left l.progress.stage l.progress.field (g.J.OutlineJudge.room l.progress.outline)

@@ -1,6 +1,7 @@
-use Rattle.std.proofs.Common.{◌≡◌, Bool, true, false, refl, sym, ap, ◌∙◌}
+use Rattle.std.proofs.Common.{arith, ◌≡◌, Bool, true, false, refl, sym, ap, ◌∙◌}
 use Rattle.std.specs.Prelude.{not}
 use Rattle.shape_rules.specs.Names.{word_of}
+use Rattle.shape_terms.proofs.GoodSteps.{first_is_shape}
 use Rattle.shape_check.proofs.Stages.{first_same, first_other}
 use Rattle.shape_check.proofs.progress.Progress.is_first.Goals as goal
 
@@ -29,3 +30,6 @@ returns-else-ne g c =
     let sides = c.in-Shape.sides in
     let same = ap g.P.Point.coords (g.met.P.Point.equal sides box (not_false _ c.if-ne.ensures)) in
     rw c.in-Shape.is (first_same s.field.picture g.P.Point.MAX_SIDE (g.P.Point.coords box) (g.P.Point.coords sides) (word_of c.in-Shape.rule) c.is_none.result s.sides.in_range s.same_sides same c.is_none.ensures)
+
+pub returns-in-Contour : goal.returns-in-Contour
+returns-in-Contour g c = rw c.in-Contour.is (λ f. cc, λ good. absurd (let e : 3 ≡ 0 = first_is_shape c.args.self.now.field.picture _ good in omega arith))
