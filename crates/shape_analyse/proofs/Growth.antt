@@ -109,13 +109,17 @@ outlined_begun X contours k lines c p side n h next start count fields =
     let o = h.outlined in
     let begun : (standing (section_lines 3 lines)).begun ≡ k = ap (λ (s : Standing). s.begun) o.stands in
     let same : c ≡ record { start = record { pixel = p; side = side }; points = c.points } = λ i. record { start = sym start i; points = c.points } in
-    let good : GoodAfter X lines l = good_at X lines l o.come (contours, o.are, record {
-      full = subst (IsFull contours) (sym o.stands) h.full;
-      points = c.points;
-      next = ap (slice_get contours) begun ∙ next ∙ ap Some same;
-      count = count;
-      segments = refl;
-    }) in
+    let good : GoodAfter X lines l = good_at X lines l o.come (
+      contours,
+      o.are,
+      record {
+        full = subst (IsFull contours) (sym o.stands) h.full;
+        points = c.points;
+        next = ap (slice_get contours) begun ∙ next ∙ ap Some same;
+        count = count;
+        segments = refl;
+      },
+    ) in
     record {
       flat = o.flat;
       are = o.are;

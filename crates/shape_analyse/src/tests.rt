@@ -27,7 +27,7 @@ fn a_full_picture(rt: HostRuntime) -> Result<(), Fail> {
     let Ok(bytes) = report_bytes(alloc, &report) else {
         return Err(Fail::from(AllocError));
     };
-    assert_eq!(rt; report.len(), 12);
+    assert_eq!(rt; report.len(), 21);
     assert!(rt; bytes.starts_with(b"shape 1 pbm 3 3 none\nparts 9 1 1\nnear 0 0 ".as_slice()));
     let mut last = Vec::new(alloc);
     for line in bytes.as_slice().split(|&c| c == b'\n') {
@@ -35,6 +35,6 @@ fn a_full_picture(rt: HostRuntime) -> Result<(), Fail> {
             last.push(*c)?;
         }
     }
-    assert_eq!(rt; last.as_slice(), b"e1111141111d".as_slice());
+    assert_eq!(rt; last.as_slice(), b"e1111141111000012221d".as_slice());
     Ok(())
 }

@@ -8,8 +8,8 @@ ghost use Rattle.shape_terms.specs.Good.{section, GoodAfter};
 ghost use Rattle.shape_rules.specs.Names.{word_of};
 ghost use Rattle.shape_report.specs.LineOf.{line_of};
 
-use judge_field::FieldJudge;
 use crate::outline::OutlineJudge;
+use judge_field::FieldJudge;
 use shape_adj::{Pairing, parts};
 use shape_grid::Grid;
 use shape_report::Line;

@@ -44,7 +44,7 @@ fn one_pixel(rt: HostRuntime) -> Result<(), Fail> {
     assert_eq!(rt; outcome, Outcome::Done);
     let text = desk.output();
     assert!(rt; text.starts_with(b"shape 1 pbm 1 1 none\nparts 1 1 1\nnear 0 0 ".as_slice()));
-    assert!(rt; text.ends_with(b" 1\nend\n".as_slice()));
+    assert!(rt; text.ends_with(b" 1\ncontour 0 0 0 1 0\nat 0 0\nend\n".as_slice()));
     Ok(())
 }
 
@@ -65,39 +65,43 @@ fn reports_of_one_pixel(rt: HostRuntime) -> Result<(), Fail> {
     let alloc = rt.alloc();
     let table = [
         (
+            b"shape 1 pbm 1 1 none\nparts 1 1 1\nnear 0 0 0 -1 1\ncontour 0 0 0 1 0\nat 0 0\nend\n".as_slice(),
+            Outcome::Yes,
+        ),
+        (
+            b"shape 1 pbm 1 1 none\nparts 1 1 1\nnear 0 0 1 0 1\ncontour 0 0 0 1 0\nat 0 0\nend\n".as_slice(),
+            Outcome::Yes,
+        ),
+        (
+            b"shape 1 pbm 1 1 none\nparts 1 1 1\nnear 0 0 0 -1 2\ncontour 0 0 0 1 0\nat 0 0\nend\n".as_slice(),
+            Outcome::No { line: 3 },
+        ),
+        (
+            b"shape 1 pbm 1 1 none\nparts 1 1 1\nnear 00 0 0 -1 1\ncontour 0 0 0 1 0\nat 0 0\nend\n".as_slice(),
+            Outcome::No { line: 3 },
+        ),
+        (
             b"shape 1 pbm 1 1 none\nparts 1 1 1\nnear 0 0 0 -1 1\nend\n".as_slice(),
-            Outcome::Yes,
-        ),
-        (
-            b"shape 1 pbm 1 1 none\nparts 1 1 1\nnear 0 0 1 0 1\nend\n".as_slice(),
-            Outcome::Yes,
-        ),
-        (
-            b"shape 1 pbm 1 1 none\nparts 1 1 1\nnear 0 0 0 -1 2\nend\n".as_slice(),
-            Outcome::No { line: 3 },
-        ),
-        (
-            b"shape 1 pbm 1 1 none\nparts 1 1 1\nnear 00 0 0 -1 1\nend\n".as_slice(),
-            Outcome::No { line: 3 },
-        ),
-        (
-            b"shape 1 pbm 1 1 none\nparts 1 1 1\nnear 0 0 0 -1 1\n".as_slice(),
             Outcome::No { line: 4 },
         ),
         (
-            b"shape 1 pbm 1 1 none\nparts 1 1 1\nnear 0 0 0 -1 1\nend".as_slice(),
-            Outcome::No { line: 4 },
+            b"shape 1 pbm 1 1 none\nparts 1 1 1\nnear 0 0 0 -1 1\ncontour 0 0 0 1 0\nat 0 0\n".as_slice(),
+            Outcome::No { line: 6 },
         ),
         (
-            b"shape 1 pbm 1 1 none\nparts 1 1 1\nnear 0 0 0 -1 1\nend\nx".as_slice(),
-            Outcome::No { line: 5 },
+            b"shape 1 pbm 1 1 none\nparts 1 1 1\nnear 0 0 0 -1 1\ncontour 0 0 0 1 0\nat 0 0\nend".as_slice(),
+            Outcome::No { line: 6 },
         ),
         (
-            b"shape 1 pbm 1 1 none\nparts 1 1 2\nnear 0 0 0 -1 1\nend\n".as_slice(),
+            b"shape 1 pbm 1 1 none\nparts 1 1 1\nnear 0 0 0 -1 1\ncontour 0 0 0 1 0\nat 0 0\nend\nx".as_slice(),
+            Outcome::No { line: 7 },
+        ),
+        (
+            b"shape 1 pbm 1 1 none\nparts 1 1 2\nnear 0 0 0 -1 1\ncontour 0 0 0 1 0\nat 0 0\nend\n".as_slice(),
             Outcome::No { line: 2 },
         ),
         (
-            b"shape 1 pbm 1 1 zzz\nparts 1 1 1\nnear 0 0 0 -1 1\nend\n".as_slice(),
+            b"shape 1 pbm 1 1 zzz\nparts 1 1 1\nnear 0 0 0 -1 1\ncontour 0 0 0 1 0\nat 0 0\nend\n".as_slice(),
             Outcome::No { line: 1 },
         ),
         (

@@ -1,7 +1,7 @@
 -- The groups of lines of contours, when one more line comes: it begins a group, or belongs to the last.
 -- Laws of lists of lines; which contours a picture has does not matter here.
-use Rattle.std.proofs.Common.{◌≡◌, ℕ, zero, suc, ◌+◌, ◌-◌, ◌<◌, Bool, true, false, List, [], ◌∷◌, ◌++◌, length, cond, refl, ap, sym, ◌∙◌, subst, arith, inl, inr}
-use Rattle.std.specs.Prelude.{not, IsTrue, filter_map, take_while, slice_index_or}
+use Rattle.std.proofs.Common.{◌≡◌, ℕ, ◌+◌, ◌-◌, ◌<◌, Bool, true, false, List, [], ◌∷◌, ◌++◌, length, refl, ap, sym, ◌∙◌, arith, inl, inr}
+use Rattle.std.specs.Prelude.{not, filter_map, take_while, slice_index_or}
 use Rattle.std.proofs.lemmas.Bool.{cond-true, cond-false, cases_Bool}
 use Rattle.std.proofs.lemmas.List.{length-append}
 use Rattle.std.proofs.lemmas.List.Sums.{take_while-cons}
@@ -9,7 +9,7 @@ use Rattle.std.proofs.lemmas.List.Elements.{filter_map-append}
 use Rattle.std.proofs.Math.Seq.{get_or-append_seam}
 use Rattle.shape_terms.specs.Points.{Point}
 use Rattle.shape_terms.specs.Lines.{Line}
-use Rattle.shape_terms.specs.ContourLines.{groups, is_contour, contour_groups, open_group, point_of, Standing, standing}
+use Rattle.shape_terms.specs.ContourLines.{groups, is_contour, contour_groups, open_group, point_of, standing}
 
 module _ (test : Line → Bool) where
   rest : List Line → List Line

@@ -1,19 +1,18 @@
 -- What good lines of contours say, one after another: the first contours of the picture, and so many points of the last of them.
 -- Laws of the lines of this section alone.
-use Rattle.std.proofs.Common.{◌≡◌, ◌⊎◌, ℕ, zero, suc, ◌+◌, ◌-◌, ◌<◌, ◌≤◌, List, [], ◌∷◌, ◌++◌, length, take, map, Some, get_or, refl, ap, sym, ◌∙◌, subst, arith, inl, inr}
+use Rattle.std.proofs.Common.{◌≡◌, ℕ, zero, suc, ◌+◌, ◌-◌, ◌<◌, ◌≤◌, List, [], ◌∷◌, ◌++◌, length, take, map, Some, refl, ap, sym, ◌∙◌, subst, arith}
 use Rattle.std.specs.Prelude.{filter_map, slice_get, slice_index_or}
 use Rattle.std.proofs.lemmas.List.{length-append, map-append, take_all}
 use Rattle.std.proofs.lemmas.List.Elements.{filter_map-append}
-use Rattle.std.proofs.lemmas.Option.{get_or_from_slice_get, slice_get_within}
+use Rattle.std.proofs.lemmas.Option.{get_or_from_slice_get}
 use Rattle.shape_terms.specs.Points.{Point}
 use Rattle.shape_terms.specs.Pictures.{Picture}
 use Rattle.shape_terms.specs.Traces.{Contour, AreContours, contour_of}
 use Rattle.shape_terms.specs.Lines.{Line}
-use Rattle.shape_terms.specs.ContourLines.{is_contour, contour_groups, open_group, point_of, Standing, standing, no_contour, open_contour, IsFull, OutlineClaim, ContourClaim, ContoursComplete}
+use Rattle.shape_terms.specs.ContourLines.{is_contour, contour_groups, point_of, standing, no_contour, open_contour, IsFull, OutlineClaim, ContourClaim, ContoursComplete}
 use Rattle.shape_terms.specs.Shows.{start_of, contour_fact}
 use Rattle.shape_terms.proofs.SameCycles.{cycles_same}
-use Rattle.shape_terms.proofs.ContourGroups.{group_begun, group_more, open_is, last_of}
-use Rattle.shape_terms.proofs.Checking.{get_push}
+use Rattle.shape_terms.proofs.ContourGroups.{group_begun, group_more, open_is}
 
 -- a picture has one list of contours
 pub contours_same : (X : Picture) (a b : List Contour) → AreContours X a → AreContours X b → a ≡ b
