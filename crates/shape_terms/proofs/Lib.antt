@@ -5,6 +5,7 @@ pub mod SquaredDistances
 pub mod FramedBoxes
 pub mod NearestFound
 pub mod WordLists
+pub mod RefutationWords
 pub mod LineWords
 pub mod Spelled
 pub mod TextLines

@@ -1,8 +1,8 @@
 -- The lines of a report are short, and the points and distances of a framed box fit their fields.
 -- One clause for each kind of line, with a generous bound on its words.
 use Rattle.std.proofs.Common.{◌≡◌, ◌+◌, ◌*◌, ◌≤◌, ℕ, zero, suc, ℤ, pos, negsuc, ◌-ℤ◌, ◌≤ℤ◌, List, [], ◌∷◌, ◌++◌, length, refl, arith, lit<, length-append}
-use Rattle.std.specs.Prelude.{All, FitsSigned, nat_abs}
-use Rattle.std.specs.Int.{w32}
+use Rattle.std.specs.Prelude.{All, FitsSigned, nat_abs, flat_map}
+use Rattle.std.specs.Int.{w32, w64}
 use Rattle.std.specs.List.{join_with_byte}
 use Rattle.std.specs.Fmt.{decimal, signed_decimal}
 use Rattle.std.proofs.lemmas.Fmt.{length-decimal-le}
@@ -10,7 +10,8 @@ use Rattle.std.proofs.lemmas.Int.{ints}
 use Rattle.std.proofs.lemmas.List.Elements.{All-head, All-tail, All-from_get_or}
 use Rattle.shape_terms.specs.Points.{Point, coordinate, squared_distance}
 use Rattle.shape_terms.specs.FramedBox.{IsWithin}
-use Rattle.shape_terms.specs.Lines.{Line, line_words, number_words, kind_word, spelling, IsLineOf, IsShortPoint, IsCount, IsWeight}
+use Rattle.shape_terms.specs.Refutations.{Share, Step, StepShare, Refutation}
+use Rattle.shape_terms.specs.Lines.{Line, line_words, number_words, share_words, step_word, step_share_words, why_words, kind_word, spelling, IsLineOf, IsShortPoint, IsCount, IsWeight, IsWhy, IsStepIn}
 use Rattle.shape_terms.proofs.SquaredDistances.{squared_distance-cons, square_apart}
 
 -- ---- words
@@ -54,6 +55,52 @@ weight_short s h = length-decimal-le 19 s (lit< tt) (omega arith) (omega arith)
 count_short : (n : ℕ) → IsCount n → length (decimal n) ≤ 10
 count_short n h = length-decimal-le 10 n (lit< tt) (omega arith) (omega arith)
 
+wide_short : (z : ℤ) → FitsSigned w64 z → length (signed_decimal z) ≤ 20
+wide_short (pos n) h = omega (arith, length-decimal-le 19 n (lit< tt) (omega (arith, h.sfits)) (omega (arith, h.sfits)))
+wide_short (negsuc n) h =
+    let l : length (decimal (suc n)) ≤ 19 = length-decimal-le 19 (suc n) (lit< tt) (omega (arith, h.sfits)) (omega (arith, h.sfits)) in
+    omega arith
+
+row_short : (a : List ℤ) → All (FitsSigned w64) a → total (number_words a) ≤ 21 * length a
+unfolding total
+row_short [] a = omega arith
+row_short (x ∷ p) a = omega (arith, wide_short x (All-head (FitsSigned w64) x p a), row_short p (All-tail (FitsSigned w64) x p a))
+
+-- ---- the words of a refutation
+
+entries_short : (xs : List Share) → All (λ x. IsWeight x.weight × IsCount x.place) xs → total (flat_map (λ (x : Share). decimal x.weight ∷ decimal x.place ∷ []) xs) ≤ 31 * length xs
+unfolding total
+entries_short [] a = omega arith
+entries_short (x ∷ xs) a =
+    let h = All-head (λ (x : Share). IsWeight x.weight × IsCount x.place) x xs a in
+    omega (arith, weight_short x.weight h.0, count_short x.place h.1, entries_short xs (All-tail (λ (x : Share). IsWeight x.weight × IsCount x.place) x xs a))
+
+shares_short : (xs : List Share) → (length xs ≤ 4) × All (λ x. IsWeight x.weight × IsCount x.place) xs → total (share_words xs) ≤ 135
+unfolding total
+shares_short xs a = omega (arith, count_short (length xs) (omega (arith, a.0)), entries_short xs a.1, a.0)
+
+step_short : (s : Step) → length (step_word s) ≤ 4
+step_short Step.Up = omega arith
+step_short (Step.Plus u) = omega arith
+step_short (Step.Minus u) = omega arith
+
+step_entries_short : (d : ℕ) (xs : List StepShare) → All (λ x. IsWeight x.weight × IsStepIn d x.step) xs → total (flat_map (λ (x : StepShare). decimal x.weight ∷ step_word x.step ∷ []) xs) ≤ 25 * length xs
+unfolding total
+step_entries_short d [] a = omega arith
+step_entries_short d (x ∷ xs) a =
+    let h = All-head (λ (x : StepShare). IsWeight x.weight × IsStepIn d x.step) x xs a in
+    omega (arith, weight_short x.weight h.0, step_short x.step, step_entries_short d xs (All-tail (λ (x : StepShare). IsWeight x.weight × IsStepIn d x.step) x xs a))
+
+why_short : (d : ℕ) (w : Refutation) → IsWhy d w → total (why_words w) ≤ 381
+unfolding total
+why_short d w a =
+    let s : total (step_share_words w.steps) ≤ 111 = omega (arith, count_short (length w.steps) (omega (arith, a.steps.0)), step_entries_short d w.steps a.steps.1, a.steps.0) in
+    let t = total-append (share_words w.low) (share_words w.high ++ step_share_words w.steps) in
+    let u = total-append (share_words w.high) (step_share_words w.steps) in
+    omega (arith, s, t, u, shares_short w.low a.low, shares_short w.high a.high)
+
+-- ---- lines
+
 -- no line of a report of two or three axes is longer than 1024 bytes
 pub short_line : (d : ℕ) (l : Line) → d ≤ 3 → IsLineOf d l → length (spelling l) ≤ 1024
 unfolding total
@@ -76,6 +123,16 @@ short_line d (Line.Contour p s n m) h a =
 short_line d (Line.At p) h a =
     let j = joined_short (line_words (Line.At p)) in
     omega (arith, j, numbers_short p a.1.fits, a.1.axes)
+short_line d (Line.Seg b e t r mu) h a =
+    let j = joined_short (line_words (Line.Seg b e t r mu)) in
+    let u = total-append (number_words r) (signed_decimal mu ∷ []) in
+    omega (arith, j, u, row_short r a.4.fits, a.4.axes, count_short b a.1, count_short e a.2, wide_short mu a.5)
+short_line d (Line.Turn t x y) h a =
+    let j = joined_short (line_words (Line.Turn t x y)) in
+    omega (arith, j, count_short x a.2, count_short y a.3)
+short_line d (Line.Cut t w) h a =
+    let j = joined_short (line_words (Line.Cut t w)) in
+    omega (arith, j, why_short d w a.2)
 short_line d Line.End h a = let j = joined_short (line_words Line.End) in omega arith
 
 -- ---- fields
