@@ -47,3 +47,5 @@ pub mod Stretches
 pub mod Gaps
 pub mod ArcRuns
 pub mod CoverOf
+pub mod ListPushes
+pub mod CoverShown
