@@ -4,11 +4,13 @@ use Rattle.std.specs.Prelude.{ℤ, List}
 use Rattle.shape_terms.specs.Lines as Terms
 use Rattle.shape_rules.specs.Names.{word_of}
 use Rattle.shape_report.specs.declared.line.Line.{Line}
-use Rattle.shape_report.specs.declared.line.Line.TheVariants.{Shape, Parts, Near, End}
+use Rattle.shape_report.specs.declared.line.Line.TheVariants.{Shape, Parts, Near, Contour, At, End}
 
 -- the line, where `coords` gives the coordinates of a point
 abbrev pub line_of : {P : Type 0} → (P → List ℤ) → Line P → Terms.Line
 line_of coords (Shape sides rule) = Terms.Line.Shape (coords sides) (word_of rule)
 line_of coords (Parts n o b) = Terms.Line.Parts n o b
 line_of coords (Near p q s) = Terms.Line.Near (coords p) (coords q) s
+line_of coords (Contour p side n m) = Terms.Line.Contour (coords p) side n m
+line_of coords (At p) = Terms.Line.At (coords p)
 line_of coords End = Terms.Line.End

@@ -22,6 +22,18 @@ pub enum Line<P> {
         q: P,
         s: u64,
     },
+    /// A contour of a flat picture: its first crack (a pixel, and the side of it, 0 to 3: up, right, down, left), the number
+    /// of its points, and the number of its segments.
+    Contour {
+        p: P,
+        side: u8,
+        points: u32,
+        segments: u32,
+    },
+    /// The next point of the contour of a flat picture.
+    At {
+        p: P,
+    },
     /// The last line.
     End,
 }

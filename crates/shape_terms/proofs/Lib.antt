@@ -49,3 +49,7 @@ pub mod ArcRuns
 pub mod CoverOf
 pub mod ListPushes
 pub mod CoverShown
+pub mod ContourGroups
+pub mod ContourSaid
+pub mod ContoursShown
+pub mod HoldsShows
