@@ -12,7 +12,7 @@ use Rattle.std.proofs.Math.Seq.{drop-cons}
 use Rattle.shape_terms.specs.Lines.{number_words, IsShortPoint, IsCount, IsWeight}
 use Rattle.shape_desk.specs.Number.{number_front, SpellsNumber}
 use Rattle.shape_desk.proofs.Numbers.{number_front-signed_decimal, no_minus}
-use Rattle.shape_report.specs.Reading.{BeginsWithField, NoField, ReadsField}
+use Rattle.shape_report.specs.Reading.{IsSide, BeginsWithField, NoField, ReadsField}
 
 -- ---- numbers
 
@@ -85,6 +85,18 @@ pub no_weight : (words left : List (List ℕ)) (word : List ℕ) → words ≡ w
 no_weight words left word w h n rest g e =
     let k : word ≡ decimal n = cc in
     h (pos n) (record { sfits = omega (arith, g) }) k
+
+-- words that begin with a larger count begin with no number of a side
+pub no_side : (words left : List (List ℕ)) (n : ℕ) → BeginsWithField IsCount (λ k. decimal k ∷ []) words left n → 4 ≤ n → NoField IsSide (λ k. decimal k ∷ []) words
+no_side words left n b h v rest a e =
+    let s = b.split in
+    let k : decimal n ≡ decimal v = cc in
+    let m = decimal_injective n v (omega (arith, b.range)) (omega (arith, a)) k in
+    absurd (omega arith)
+
+-- words that begin with no count begin with no number of a side
+pub no_small : (words : List (List ℕ)) → NoField IsCount (λ k. decimal k ∷ []) words → NoField IsSide (λ k. decimal k ∷ []) words
+no_small words h v rest a e = h v rest (omega (arith, a)) e
 
 -- ---- fields of as many words
 

@@ -1,6 +1,6 @@
 -- The kinds of lines: a line's first word tells its kind, and its other words its fields.
 -- A further kind of line brings one lemma `.._only` here, and one clause of `split_spelling`.
-use Rattle.std.proofs.Common.{◌≡◌, ◌≢◌, ℕ, ◌+◌, ℤ, Option, Some, None, MatchOption, List, [], ◌∷◌, ◌++◌, length, sym, ap, ◌∙◌, arith}
+use Rattle.std.proofs.Common.{◌≡◌, ◌≢◌, ℕ, ◌+◌, ℤ, Option, Some, None, MatchOption, List, [], ◌∷◌, ◌++◌, length, sym, ap, ◌∙◌, arith, append-nil}
 use Rattle.std.specs.Prelude.{◌*◌, fold, codes}
 use Rattle.std.specs.Fmt.{decimal}
 use Rattle.std.specs.List.{join_with_byte}
@@ -10,7 +10,7 @@ use Rattle.shape_terms.specs.Lines.{line_words, spelling, number_words, kind_wor
 use Rattle.shape_terms.proofs.Spelled.{words_of_line}
 use Rattle.shape_report.specs.declared.line.Line.{Line}
 use Rattle.shape_report.specs.LineOf.{line_of}
-use Rattle.shape_report.specs.Reading.{split_words, ReadsWords}
+use Rattle.shape_report.specs.Reading.{split_words, IsSide, ReadsWords}
 use Rattle.shape_report.proofs.SplitWords.{join-split_words, split_words-join}
 
 -- a number that tells first words apart
@@ -41,12 +41,26 @@ pub near_only : (d : ℕ) (words : List (List ℕ)) → ((p q : Point) (s : ℕ)
 near_only d words h (Terms.Line.Near p q s) a e = let f : number_words p ++ (number_words q ++ decimal s ∷ []) ≡ words = cc in h p q s a.0 a.1 a.2 (sym f)
 near_only d words h _ a e = let f = ap first_code e in absurd (omega arith)
 
+-- only a `contour` line has these words
+pub contour_only : (d : ℕ) (words : List (List ℕ)) → ((p : Point) (side n m : ℕ) → d ≡ 2 → IsShortPoint d p → IsSide side → IsCount n → IsCount m → words ≢ number_words p ++ decimal side ∷ decimal n ∷ decimal m ∷ [])
+    → (l : Terms.Line) → IsLineOf d l → line_words l ≢ codes "contour" ∷ words
+contour_only d words h (Terms.Line.Contour p side n m) a e = let f : number_words p ++ decimal side ∷ decimal n ∷ decimal m ∷ [] ≡ words = cc in h p side n m a.0 a.1 a.2 a.3 a.4 (sym f)
+contour_only d words h _ a e = let f = ap first_code e in absurd (omega arith)
+
+-- only an `at` line has these words
+pub at_only : (d : ℕ) (words : List (List ℕ)) → ((p : Point) → d ≡ 2 → IsShortPoint d p → words ≢ number_words p ++ [])
+    → (l : Terms.Line) → IsLineOf d l → line_words l ≢ codes "at" ∷ words
+at_only d words h (Terms.Line.At p) a e = let f : number_words p ≡ words = cc in h p a.0 a.1 (sym f ∙ sym (append-nil (number_words p)))
+at_only d words h _ a e = let f = ap first_code e in absurd (omega arith)
+
 -- ---- from words to bytes
 
 split_spelling : (d : ℕ) (l : Terms.Line) → IsLineOf d l → split_words (spelling l) ≡ line_words l
 split_spelling d (Terms.Line.Shape sides rule) a = split_words-join _ _ (words_of_line d (Terms.Line.Shape sides rule) a)
 split_spelling d (Terms.Line.Parts n o b) a = split_words-join _ _ (words_of_line d (Terms.Line.Parts n o b) a)
 split_spelling d (Terms.Line.Near p q s) a = split_words-join _ _ (words_of_line d (Terms.Line.Near p q s) a)
+split_spelling d (Terms.Line.Contour p side n m) a = split_words-join _ _ (words_of_line d (Terms.Line.Contour p side n m) a)
+split_spelling d (Terms.Line.At p) a = split_words-join _ _ (words_of_line d (Terms.Line.At p) a)
 split_spelling d Terms.Line.End a = split_words-join _ _ (words_of_line d Terms.Line.End a)
 
 -- a line has the words of a text exactly where it has its bytes

@@ -8,7 +8,7 @@ use Rattle.std.proofs.lemmas.List.{append-nil}
 use Rattle.std.proofs.lemmas.Grind.{flat_map-append}
 use Rattle.shape_terms.specs.Points.{Point}
 use Rattle.shape_terms.specs.Lines.{Line, spelling, kind_word, number_words}
-use Rattle.shape_report.specs.Texts.{behind_blanks, shape_text, parts_text, near_text}
+use Rattle.shape_report.specs.Texts.{behind_blanks, shape_text, parts_text, near_text, contour_text, at_text}
 
 pub join_is : (w : List ℕ) (ws : List (List ℕ)) → join_with_byte 32 (w ∷ ws) ≡ w ++ behind_blanks ws
 join_is w [] = sym (append-nil w)
@@ -27,3 +27,10 @@ parts_spelled n o b = ap (λ t. codes "parts" ++ 32 ∷ t) (append_assoc (decima
 pub near_spelled : (p q : Point) (s : ℕ) → near_text p q s ≡ spelling (Line.Near p q s)
 near_spelled p q s = sym (join_is (codes "near") (number_words p ++ (number_words q ++ decimal s ∷ []))
     ∙ rw (flat_map-append (λ (v : List ℕ). 32 ∷ v) (number_words p) (number_words q ++ decimal s ∷ []), last_word (number_words q) (decimal s)) (sym (simp append_assoc)))
+
+pub contour_spelled : (p : Point) (side n m : ℕ) → contour_text p side n m ≡ spelling (Line.Contour p side n m)
+contour_spelled p side n m = sym (join_is (codes "contour") (number_words p ++ decimal side ∷ decimal n ∷ decimal m ∷ [])
+    ∙ rw (flat_map-append (λ (v : List ℕ). 32 ∷ v) (number_words p) (decimal side ∷ decimal n ∷ decimal m ∷ [])) (sym (simp (append_assoc, append-nil))))
+
+pub at_spelled : (p : Point) → at_text p ≡ spelling (Line.At p)
+at_spelled p = sym (join_is (codes "at") (number_words p))

@@ -1,5 +1,5 @@
 -- The lines that slots stand for stay the same when a line is put behind those of its kind.
--- A further kind of line brings one lemma `.._extends` and one `.._last`; the other laws serve every kind.
+-- A further kind of line brings one lemma `.._extends`; the other laws serve every kind.
 use Rattle.std.proofs.Common.{◌≡◌, ℕ, zero, suc, ◌<◌, ℤ, List, [], ◌∷◌, ◌++◌, length, map, refl, sym, ap, ◌∙◌, subst, arith, Some}
 use Rattle.std.specs.Prelude.{All, slice_get}
 use Rattle.std.specs.Option.{option_map_or}
@@ -9,9 +9,10 @@ use Rattle.shape_terms.specs.Lines as Terms
 use Rattle.shape_report.specs.declared.report.Heading.{Heading}
 use Rattle.shape_report.specs.declared.report.PartCount.{PartCount}
 use Rattle.shape_report.specs.declared.report.Distance.{Distance}
+use Rattle.shape_report.specs.declared.report.ContourHead.{ContourHead}
 use Rattle.shape_report.specs.declared.report.Slot.{Slot}
-use Rattle.shape_report.specs.declared.report.Slot.TheVariants.{Shape, Parts, Near, End}
-use Rattle.shape_report.specs.Slots.{Shelves, heading_line, count_line, distance_line, line_in, IsPlaced, IsSlotIn}
+use Rattle.shape_report.specs.declared.report.Slot.TheVariants.{Shape, Parts, Near, Contour, At, End}
+use Rattle.shape_report.specs.Slots.{Shelves, heading_line, count_line, distance_line, contour_line, at_line, line_in, IsPlaced, IsSlotIn}
 
 get_front : {A : Type 0} (xs ys : List A) (i : ℕ) → i < length xs → slice_get (xs ++ ys) i ≡ slice_get xs i
 get_front [] ys i l = absurd (omega arith)
@@ -23,7 +24,7 @@ get_last [] x = refl
 get_last (y ∷ xs) x = get_last xs x
 
 -- the last of the lines of a kind
-last_line : {A : Type 0} (f : A → Terms.Line) (xs ys : List A) (x : A) (place : ℕ) → ys ≡ xs ++ x ∷ [] → place ≡ length xs → option_map_or f (slice_get ys place) Terms.Line.End ≡ f x
+pub last_line : {A : Type 0} (f : A → Terms.Line) (xs ys : List A) (x : A) (place : ℕ) → ys ≡ xs ++ x ∷ [] → place ≡ length xs → option_map_or f (slice_get ys place) Terms.Line.End ≡ f x
 last_line f xs ys x place e l = rw (e, l) (ap (λ o. option_map_or f o Terms.Line.End) (get_last xs x))
 
 -- an earlier one stays
@@ -44,78 +45,116 @@ pub record Extends {P : Type 0} (coords : P → List ℤ) (old new : Shelves P) 
 
 -- ---- one lemma for each kind
 
-module _ {P : Type 0} (coords : P → List ℤ) where
-  pub heading_extends : (hs hs2 : List (Heading P)) (h : Heading P) (cs : List PartCount) (ds : List (Distance P)) → hs2 ≡ hs ++ h ∷ [] → Extends coords (record { headings = hs; counts = cs; distances = ds }) (record { headings = hs2; counts = cs; distances = ds })
-  heading_extends hs hs2 h cs ds e = record { placed = placed; same = same }
+module _ {P : Type 0} (coords : P → List ℤ) (old : Shelves P) where
+  pub heading_extends : (hs : List (Heading P)) (h : Heading P) → hs ≡ old.headings ++ h ∷ [] → Extends coords old (record old { headings = hs })
+  heading_extends hs h e = record { placed = placed; same = same }
     where
-      old : Shelves P
-      old = record { headings = hs; counts = cs; distances = ds }
-
       new : Shelves P
-      new = record { headings = hs2; counts = cs; distances = ds }
+      new = record old { headings = hs }
 
       placed : (s : Slot) → IsPlaced old s → IsPlaced new s
-      placed (Shape i) l = longer hs hs2 h i e l
+      placed (Shape i) l = longer old.headings hs h i e l
       placed (Parts i) l = l
       placed (Near i) l = l
+      placed (Contour i) l = l
+      placed (At i) l = l
       placed End l = l
 
       same : (s : Slot) → IsPlaced old s → line_in coords new s ≡ line_in coords old s
-      same (Shape i) l = same_line (heading_line coords) hs hs2 h i e l
+      same (Shape i) l = same_line (heading_line coords) old.headings hs h i e l
       same (Parts i) l = refl
       same (Near i) l = refl
+      same (Contour i) l = refl
+      same (At i) l = refl
       same End l = refl
 
-  pub count_extends : (hs : List (Heading P)) (cs cs2 : List PartCount) (c : PartCount) (ds : List (Distance P)) → cs2 ≡ cs ++ c ∷ [] → Extends coords (record { headings = hs; counts = cs; distances = ds }) (record { headings = hs; counts = cs2; distances = ds })
-  count_extends hs cs cs2 c ds e = record { placed = placed; same = same }
+  pub count_extends : (cs : List PartCount) (c : PartCount) → cs ≡ old.counts ++ c ∷ [] → Extends coords old (record old { counts = cs })
+  count_extends cs c e = record { placed = placed; same = same }
     where
-      old : Shelves P
-      old = record { headings = hs; counts = cs; distances = ds }
-
       new : Shelves P
-      new = record { headings = hs; counts = cs2; distances = ds }
+      new = record old { counts = cs }
 
       placed : (s : Slot) → IsPlaced old s → IsPlaced new s
       placed (Shape i) l = l
-      placed (Parts i) l = longer cs cs2 c i e l
+      placed (Parts i) l = longer old.counts cs c i e l
       placed (Near i) l = l
+      placed (Contour i) l = l
+      placed (At i) l = l
       placed End l = l
 
       same : (s : Slot) → IsPlaced old s → line_in coords new s ≡ line_in coords old s
       same (Shape i) l = refl
-      same (Parts i) l = same_line count_line cs cs2 c i e l
+      same (Parts i) l = same_line count_line old.counts cs c i e l
       same (Near i) l = refl
+      same (Contour i) l = refl
+      same (At i) l = refl
       same End l = refl
 
-  pub distance_extends : (hs : List (Heading P)) (cs : List PartCount) (ds ds2 : List (Distance P)) (d : Distance P) → ds2 ≡ ds ++ d ∷ [] → Extends coords (record { headings = hs; counts = cs; distances = ds }) (record { headings = hs; counts = cs; distances = ds2 })
-  distance_extends hs cs ds ds2 d e = record { placed = placed; same = same }
+  pub distance_extends : (ds : List (Distance P)) (d : Distance P) → ds ≡ old.distances ++ d ∷ [] → Extends coords old (record old { distances = ds })
+  distance_extends ds d e = record { placed = placed; same = same }
     where
-      old : Shelves P
-      old = record { headings = hs; counts = cs; distances = ds }
-
       new : Shelves P
-      new = record { headings = hs; counts = cs; distances = ds2 }
+      new = record old { distances = ds }
 
       placed : (s : Slot) → IsPlaced old s → IsPlaced new s
       placed (Shape i) l = l
       placed (Parts i) l = l
-      placed (Near i) l = longer ds ds2 d i e l
+      placed (Near i) l = longer old.distances ds d i e l
+      placed (Contour i) l = l
+      placed (At i) l = l
       placed End l = l
 
       same : (s : Slot) → IsPlaced old s → line_in coords new s ≡ line_in coords old s
       same (Shape i) l = refl
       same (Parts i) l = refl
-      same (Near i) l = same_line (distance_line coords) ds ds2 d i e l
+      same (Near i) l = same_line (distance_line coords) old.distances ds d i e l
+      same (Contour i) l = refl
+      same (At i) l = refl
       same End l = refl
 
-  pub heading_last : (hs hs2 : List (Heading P)) (h : Heading P) (place : ℕ) → hs2 ≡ hs ++ h ∷ [] → place ≡ length hs → option_map_or (heading_line coords) (slice_get hs2 place) Terms.Line.End ≡ heading_line coords h
-  heading_last hs hs2 h place e l = last_line (heading_line coords) hs hs2 h place e l
+  pub contour_extends : (cs : List (ContourHead P)) (c : ContourHead P) → cs ≡ old.contours ++ c ∷ [] → Extends coords old (record old { contours = cs })
+  contour_extends cs c e = record { placed = placed; same = same }
+    where
+      new : Shelves P
+      new = record old { contours = cs }
 
-  pub count_last : (cs cs2 : List PartCount) (c : PartCount) (place : ℕ) → cs2 ≡ cs ++ c ∷ [] → place ≡ length cs → option_map_or count_line (slice_get cs2 place) Terms.Line.End ≡ count_line c
-  count_last cs cs2 c place e l = last_line count_line cs cs2 c place e l
+      placed : (s : Slot) → IsPlaced old s → IsPlaced new s
+      placed (Shape i) l = l
+      placed (Parts i) l = l
+      placed (Near i) l = l
+      placed (Contour i) l = longer old.contours cs c i e l
+      placed (At i) l = l
+      placed End l = l
 
-  pub distance_last : (ds ds2 : List (Distance P)) (d : Distance P) (place : ℕ) → ds2 ≡ ds ++ d ∷ [] → place ≡ length ds → option_map_or (distance_line coords) (slice_get ds2 place) Terms.Line.End ≡ distance_line coords d
-  distance_last ds ds2 d place e l = last_line (distance_line coords) ds ds2 d place e l
+      same : (s : Slot) → IsPlaced old s → line_in coords new s ≡ line_in coords old s
+      same (Shape i) l = refl
+      same (Parts i) l = refl
+      same (Near i) l = refl
+      same (Contour i) l = same_line (contour_line coords) old.contours cs c i e l
+      same (At i) l = refl
+      same End l = refl
+
+  pub point_extends : (ps : List P) (p : P) → ps ≡ old.points ++ p ∷ [] → Extends coords old (record old { points = ps })
+  point_extends ps p e = record { placed = placed; same = same }
+    where
+      new : Shelves P
+      new = record old { points = ps }
+
+      placed : (s : Slot) → IsPlaced old s → IsPlaced new s
+      placed (Shape i) l = l
+      placed (Parts i) l = l
+      placed (Near i) l = l
+      placed (Contour i) l = l
+      placed (At i) l = longer old.points ps p i e l
+      placed End l = l
+
+      same : (s : Slot) → IsPlaced old s → line_in coords new s ≡ line_in coords old s
+      same (Shape i) l = refl
+      same (Parts i) l = refl
+      same (Near i) l = refl
+      same (Contour i) l = refl
+      same (At i) l = same_line (at_line coords) old.points ps p i e l
+      same End l = refl
 
 -- ---- slots of every kind
 

@@ -1,6 +1,6 @@
 -- What reading the words of a line answers.
 -- The words of a text, one field at its front, and a whole line; each answer is said for both outcomes.
-use Rattle.std.specs.Prelude.{◌≡◌, ◌≢◌, ◌==◌, ℕ, ℤ, List, [], ◌++◌, Option, None, Some, FitsSigned}
+use Rattle.std.specs.Prelude.{◌≡◌, ◌≢◌, ◌==◌, ◌<◌, ℕ, ℤ, List, [], ◌++◌, Option, None, Some, FitsSigned}
 use Rattle.std.specs.List.{slice_split}
 use Rattle.std.specs.Borrow.{Bor}
 use Rattle.std.specs.Int.{w64}
@@ -22,6 +22,10 @@ words_left None = []
 words_left (Some text) = split_words text.now
 
 -- ---- fields
+
+-- the number of a side of a pixel: up, right, down or left
+abbrev pub IsSide : ℕ → Type 0
+IsSide n = n < 4
 
 -- the words begin with the spelling of a value in range, and `left` follows
 pub record BeginsWithField {V : Type 0} (InRange : V → Type 0) (spell : V → List (List ℕ)) (words left : List (List ℕ)) (v : V) : Type 0 where

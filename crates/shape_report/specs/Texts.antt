@@ -9,7 +9,7 @@ use Rattle.shape_terms.specs.Lines.{kind_word, number_words}
 abbrev pub behind_blanks : List (List ℕ) → List ℕ
 behind_blanks words = flat_map (λ w. 32 ∷ w) words
 
--- the text of a `shape` line, of a `parts` line and of a `near` line
+-- the text of a `shape` line, of a `parts` line, of a `near` line, of a `contour` line and of an `at` line
 abbrev pub shape_text : Point → List ℕ → List ℕ
 shape_text sides rule = codes "shape 1 " ++ kind_word (length sides) ++ behind_blanks (number_words sides) ++ 32 ∷ rule
 
@@ -18,3 +18,9 @@ parts_text n o b = codes "parts" ++ 32 ∷ decimal n ++ 32 ∷ decimal o ++ 32 �
 
 abbrev pub near_text : Point → Point → ℕ → List ℕ
 near_text p q s = codes "near" ++ behind_blanks (number_words p) ++ behind_blanks (number_words q) ++ 32 ∷ decimal s
+
+abbrev pub contour_text : Point → (side points segments : ℕ) → List ℕ
+contour_text p side n m = codes "contour" ++ behind_blanks (number_words p) ++ 32 ∷ decimal side ++ 32 ∷ decimal n ++ 32 ∷ decimal m
+
+abbrev pub at_text : Point → List ℕ
+at_text p = codes "at" ++ behind_blanks (number_words p)

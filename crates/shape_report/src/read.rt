@@ -7,7 +7,7 @@ ghost use Rattle.shape_terms.specs.Lines as Terms;
 ghost use Rattle.shape_terms.specs.Lines.{number_words, spelling, IsLineOf, IsShortPoint, IsName, IsCount, IsWeight};
 ghost use Rattle.shape_rules.specs.Names.{word_of};
 ghost use Rattle.shape_report.specs.LineOf.{line_of};
-ghost use Rattle.shape_report.specs.Reading.{ReadsField, ReadsNumberWord, ReadsWords};
+ghost use Rattle.shape_report.specs.Reading.{IsSide, ReadsField, ReadsNumberWord, ReadsWords};
 
 use crate::line::Line;
 use crate::spell::kind;
@@ -36,6 +36,17 @@ fn count(words: &mut Words) -> Option<u32>
     ensures { ReadsField (λ n. n) IsCount (λ n. decimal n ∷ []) words.old words.new result }
 {
     u32::try_from(number(words.next_word()?)?).ok()
+}
+
+// A pixel has so many sides.
+const SIDES: u32 = 4;
+
+// Reads the number of a side of a pixel.
+fn side(words: &mut Words) -> Option<u8>
+    ensures { ReadsField (λ n. n) IsSide (λ n. decimal n ∷ []) words.old words.new result }
+{
+    let side = count(words)?;
+    if side < SIDES { Some(side as u8) } else { None }
 }
 
 // Reads a weight or a squared distance.
@@ -101,6 +112,38 @@ fn near<P: Point>(words: &mut Words) -> Option<Line<P>>
     Some(Line::Near { p, q, s })
 }
 
+// Reads the words of a `contour` line behind the first. It is a line of flat pictures alone.
+fn contour<P: Point>(words: &mut Words) -> Option<Line<P>>
+    ensures { ReadsWords P.DIM P.coords (codes "contour" ∷ words.old) result }
+{
+    if P::DIM != 2 {
+        return None;
+    }
+    let p = point(words)?;
+    let side = side(words)?;
+    let points = count(words)?;
+    let segments = count(words)?;
+    words.end()?;
+    Some(Line::Contour {
+        p,
+        side,
+        points,
+        segments,
+    })
+}
+
+// Reads the words of an `at` line behind the first. It is a line of flat pictures alone.
+fn at<P: Point>(words: &mut Words) -> Option<Line<P>>
+    ensures { ReadsWords P.DIM P.coords (codes "at" ∷ words.old) result }
+{
+    if P::DIM != 2 {
+        return None;
+    }
+    let p = point(words)?;
+    words.end()?;
+    Some(Line::At { p })
+}
+
 // Reads what stands behind the word `end`: nothing.
 fn end<P: Point>(words: &Words) -> Option<Line<P>>
     ensures { ReadsWords P.DIM P.coords (codes "end" ∷ words.now) result }
@@ -113,12 +156,21 @@ fn end<P: Point>(words: &Words) -> Option<Line<P>>
 fn line<P: Point>(words: &mut Words) -> Option<Line<P>>
     ensures { ReadsWords P.DIM P.coords words.old result }
 {
-    match words.next_word()? {
-        b"shape" => shape(words),
-        b"parts" => parts(words),
-        b"near" => near(words),
-        b"end" => end(words),
-        _ => None,
+    let word = words.next_word()?;
+    if word == b"shape".as_slice() {
+        shape(words)
+    } else if word == b"parts".as_slice() {
+        parts(words)
+    } else if word == b"near".as_slice() {
+        near(words)
+    } else if word == b"contour".as_slice() {
+        contour(words)
+    } else if word == b"at".as_slice() {
+        at(words)
+    } else if word == b"end".as_slice() {
+        end(words)
+    } else {
+        None
     }
 }
 
@@ -155,6 +207,25 @@ mod tests {
                 })
             )
         );
+        assert!(rt;
+            matches!(
+                read_claim::<P2>(b"contour 0 0 3 4 0"),
+                Some(Line::Contour {
+                    p: P2 { x: 0, y: 0 },
+                    side: 3,
+                    points: 4,
+                    segments: 0
+                })
+            )
+        );
+        assert!(rt;
+            matches!(
+                read_claim::<P2>(b"at 12 7"),
+                Some(Line::At {
+                    p: P2 { x: 12, y: 7 }
+                })
+            )
+        );
         let Some(Line::Shape { sides, rule }) = read_claim::<P2>(b"shape 1 pbm 3 1024 none") else {
             panic!(rt; "a `shape` line")
         };
@@ -181,6 +252,12 @@ mod tests {
             "near 2147483648 0 0 0 1",
             "near 0 -2147483649 0 0 1",
             "near 0 0 0 0 9223372036854775808",
+            "contour 0 0 4 4 0",
+            "contour 0 0 03 4 0",
+            "contour 0 0 3 4",
+            "contour 0 0 3 4 4294967296",
+            "at 1",
+            "at 1 2 3",
             "shape 1 raw 1 1 none",
             "shape 2 pbm 1 1 none",
             "shape 1 pbm 1 1 None",

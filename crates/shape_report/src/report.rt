@@ -34,12 +34,23 @@ pub struct Distance<P> {
     pub s: u64,
 }
 
+/// What a `contour` line says.
+#[derive(Clone, Copy)]
+pub struct ContourHead<P> {
+    pub p: P,
+    pub side: u8,
+    pub points: u32,
+    pub segments: u32,
+}
+
 /// The kind of a line, and its place among the lines of its kind.
 #[derive(Clone, Copy)]
 pub enum Slot {
     Shape(u32),
     Parts(u32),
     Near(u32),
+    Contour(u32),
+    At(u32),
     End,
 }
 
@@ -50,6 +61,9 @@ pub struct Report<P: Point> {
     headings: Vec<Heading<P>>,
     counts: Vec<PartCount>,
     distances: Vec<Distance<P>>,
+    contours: Vec<ContourHead<P>>,
+    // the points of the `at` lines
+    points: Vec<P>,
 }
 
 impl<P: Point> Model for Report<P> {
@@ -59,13 +73,13 @@ impl<P: Point> Model for Report<P> {
 
     ghost Value = { List Line };
 
-    ghost view = { λ r. map (line_in P.coords (record { headings = r.headings.items; counts = r.counts.items; distances = r.distances.items })) r.slots.items };
+    ghost view = { λ r. map (line_in P.coords (record { headings = r.headings.items; counts = r.counts.items; distances = r.distances.items; contours = r.contours.items; points = r.points.items })) r.slots.items };
 
-    ghost invariant = { λ r. All (IsSlotIn P.DIM P.coords (record { headings = r.headings.items; counts = r.counts.items; distances = r.distances.items })) r.slots.items };
+    ghost invariant = { λ r. All (IsSlotIn P.DIM P.coords (record { headings = r.headings.items; counts = r.counts.items; distances = r.distances.items; contours = r.contours.items; points = r.points.items })) r.slots.items };
 }
 
 impl<P: Point> Report<P> {
-    ghost use Rattle.shape_report.specs.Slots.{heading_line, count_line, distance_line};
+    ghost use Rattle.shape_report.specs.Slots.{heading_line, count_line, distance_line, contour_line, at_line};
     /// The report that has its first two lines alone.
     pub fn new(alloc: Global, head: Line<P>, parts: Line<P>) -> Result<Report<P>, NoMemory>
         requires head { IsLineOf P.DIM (line_of P.coords head) }
@@ -77,6 +91,8 @@ impl<P: Point> Report<P> {
             headings: Vec::new(alloc),
             counts: Vec::new(alloc),
             distances: Vec::new(alloc),
+            contours: Vec::new(alloc),
+            points: Vec::new(alloc),
         };
         report.add(head)?;
         report.add(parts)?;
@@ -101,6 +117,18 @@ impl<P: Point> Report<P> {
                 background,
             }),
             Line::Near { p, q, s } => self.add_distance(Distance { p, q, s }),
+            Line::Contour {
+                p,
+                side,
+                points,
+                segments,
+            } => self.add_contour(ContourHead {
+                p,
+                side,
+                points,
+                segments,
+            }),
+            Line::At { p } => self.add_point(p),
             Line::End => self.add_end(),
         }
     }
@@ -159,6 +187,42 @@ impl<P: Point> Report<P> {
         Ok(())
     }
 
+    // Puts a `contour` line last.
+    fn add_contour(&mut self, contour: ContourHead<P>) -> Result<(), NoMemory>
+        requires { IsLineOf P.DIM (contour_line P.coords contour) }
+        ensures ok { OnOk result (self.new ≡ self.old ++ contour_line P.coords contour ∷ []) }
+        ensures err { OnErr result (self.new ≡ self.old) }
+    {
+        let Ok(place) = u32::try_from(self.contours.len()) else {
+            return Err(NoMemory);
+        };
+        if self.contours.push(contour).is_err() {
+            return Err(NoMemory);
+        }
+        if self.slots.push(Slot::Contour(place)).is_err() {
+            return Err(NoMemory);
+        }
+        Ok(())
+    }
+
+    // Puts an `at` line last.
+    fn add_point(&mut self, point: P) -> Result<(), NoMemory>
+        requires { IsLineOf P.DIM (at_line P.coords point) }
+        ensures ok { OnOk result (self.new ≡ self.old ++ at_line P.coords point ∷ []) }
+        ensures err { OnErr result (self.new ≡ self.old) }
+    {
+        let Ok(place) = u32::try_from(self.points.len()) else {
+            return Err(NoMemory);
+        };
+        if self.points.push(point).is_err() {
+            return Err(NoMemory);
+        }
+        if self.slots.push(Slot::At(place)).is_err() {
+            return Err(NoMemory);
+        }
+        Ok(())
+    }
+
     // Puts an `end` line last.
     fn add_end(&mut self) -> Result<(), NoMemory>
         ensures ok { OnOk result (self.new ≡ self.old ++ Terms.Line.End ∷ []) }
@@ -207,6 +271,18 @@ impl<P: Point> Report<P> {
                     s: distance.s,
                 }
             }
+            Slot::Contour(place) => {
+                let contour = self.contours[place as usize];
+                Line::Contour {
+                    p: contour.p,
+                    side: contour.side,
+                    points: contour.points,
+                    segments: contour.segments,
+                }
+            }
+            Slot::At(place) => Line::At {
+                p: self.points[place as usize],
+            },
             Slot::End => Line::End,
         }
     }

@@ -5,7 +5,7 @@ ghost use Rattle.std.specs.Fmt.{decimal, signed_decimal};
 ghost use Rattle.shape_terms.specs.Lines.{number_words, kind_word, spelling, IsLineOf, IsWeight};
 ghost use Rattle.shape_rules.specs.Names.{word_of};
 ghost use Rattle.shape_report.specs.LineOf.{line_of};
-ghost use Rattle.shape_report.specs.Texts.{behind_blanks, shape_text, parts_text, near_text};
+ghost use Rattle.shape_report.specs.Texts.{behind_blanks, shape_text, parts_text, near_text, contour_text, at_text};
 
 use crate::line::Line;
 use shape_desk::{put_number, put_word};
@@ -85,6 +85,31 @@ fn put_near<P: Point>(p: P, q: P, s: u64, buf: &mut [u8]) -> usize
     put_field(s as i64, buf, end)
 }
 
+// Puts the words of a `contour` line.
+fn put_contour<P: Point>(p: P, side: u8, points: u32, segments: u32, buf: &mut [u8]) -> usize
+    requires { length buf.old ≡ 1024 }
+    ensures text { take result buf.new ≡ contour_text (P.coords p) side points segments }
+    ensures room { result ≤ 1024 }
+    ensures length { length buf.new ≡ length buf.old }
+{
+    let end = put_word(b"contour", buf, 0);
+    let end = put_point(p, buf, end);
+    let end = put_field(i64::from(side), buf, end);
+    let end = put_field(i64::from(points), buf, end);
+    put_field(i64::from(segments), buf, end)
+}
+
+// Puts the words of an `at` line.
+fn put_at<P: Point>(p: P, buf: &mut [u8]) -> usize
+    requires { length buf.old ≡ 1024 }
+    ensures text { take result buf.new ≡ at_text (P.coords p) }
+    ensures room { result ≤ 1024 }
+    ensures length { length buf.new ≡ length buf.old }
+{
+    let end = put_word(b"at", buf, 0);
+    put_point(p, buf, end)
+}
+
 /// Writes the spelling of a line, without its LF, at the front of the buffer, and answers its length.
 ///
 /// It takes no memory.
@@ -101,6 +126,13 @@ pub fn put_claim<P: Point>(line: &Line<P>, buf: &mut [u8; 1024]) -> usize
             background,
         } => put_parts(*points, *object, *background, buf),
         Line::Near { p, q, s } => put_near(*p, *q, *s, buf),
+        Line::Contour {
+            p,
+            side,
+            points,
+            segments,
+        } => put_contour(*p, *side, *points, *segments, buf),
+        Line::At { p } => put_at(*p, buf),
         Line::End => put_word(b"end", buf, 0),
     }
 }

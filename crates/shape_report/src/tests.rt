@@ -1,4 +1,4 @@
-//! A small report that is built, read line by line, written and given as bytes.
+//! A small report that is built, read line by line, written and given as bytes; and lines that are read and spelled again.
 use super::*;
 use shape_desk::MemoryDesk;
 use shape_rules::Name;
@@ -9,7 +9,8 @@ use std::test::Fail;
 #[test]
 fn a_small_report(rt: HostRuntime) -> Result<(), Fail> {
     let alloc = rt.alloc();
-    let text = b"shape 1 pbm 2 1 few\nparts 1 1 1\nnear 0 0 -1 0 1\nend\n".as_slice();
+    let text =
+        b"shape 1 pbm 2 1 few\nparts 1 1 1\nnear 0 0 -1 0 1\ncontour 0 0 3 4 0\nat 12 7\nend\n".as_slice();
     let Some(rule) = Name::new(b"few") else {
         return Err(Fail::from(AllocError));
     };
@@ -30,10 +31,28 @@ fn a_small_report(rt: HostRuntime) -> Result<(), Fail> {
         q: P2 { x: -1, y: 0 },
         s: 1,
     };
-    assert!(rt; report.add(near).is_ok() && report.add(Line::End).is_ok());
-    assert_eq!(rt; report.len(), 4);
-    if 2 < report.len() {
+    let contour = Line::Contour {
+        p: P2 { x: 0, y: 0 },
+        side: 3,
+        points: 4,
+        segments: 0,
+    };
+    let at = Line::At {
+        p: P2 { x: 12, y: 7 },
+    };
+    assert!(rt; report.add(near).is_ok() && report.add(contour).is_ok());
+    assert!(rt; report.add(at).is_ok() && report.add(Line::End).is_ok());
+    assert_eq!(rt; report.len(), 6);
+    if 4 < report.len() {
         assert!(rt; matches!(report.line(2), Line::Near { s: 1, .. }));
+        assert!(rt;
+            matches!(
+                report.line(4),
+                Line::At {
+                    p: P2 { x: 12, y: 7 }
+                }
+            )
+        );
     }
     let Ok(bytes) = report_bytes(alloc, &report) else {
         return Err(Fail::from(AllocError));
@@ -52,4 +71,16 @@ fn a_small_report(rt: HostRuntime) -> Result<(), Fail> {
     assert!(rt; write_report(&report, &mut desk).is_ok());
     assert_eq!(rt; desk.output(), text);
     Ok(())
+}
+
+#[test]
+fn lines_are_spelled_as_they_are_read(rt: HostRuntime) {
+    for text in ["parts 4 1 2", "contour 0 0 3 4 0", "at 12 7", "end"] {
+        let Some(line) = read_claim::<P2>(text.as_bytes()) else {
+            panic!(rt; "no line: {text}")
+        };
+        let mut buffer = [0; 1024];
+        let len = put_claim(&line, &mut buffer);
+        assert_eq!(rt; &buffer[..len], text.as_bytes());
+    }
 }
