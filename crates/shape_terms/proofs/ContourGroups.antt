@@ -135,7 +135,8 @@ standing_begun lines p side n m =
     let b : open_group (lines ++ l ∷ []) ≡ l ∷ [] = open_is (lines ++ l ∷ []) (contour_groups lines) (l ∷ []) e in
     λ i. standing_with (a i) (b i)
 
-declared_stays : (g : List Line) (l : Line) → declared_of (l ∷ []) ≡ 0 → declared_of (g ++ l ∷ []) ≡ declared_of g
+-- the number of segments that a group's first line gives stays as it is
+pub declared_stays : (g : List Line) (l : Line) → declared_of (l ∷ []) ≡ 0 → declared_of (g ++ l ∷ []) ≡ declared_of g
 declared_stays [] l h = h
 declared_stays (Line.Contour p s n m ∷ g) l h = refl
 declared_stays (x ∷ g) l h = refl

@@ -10,7 +10,9 @@ use Rattle.shape_terms.specs.ContourFacts.{Segment, stretches_of, GapFact, in_pa
 use Rattle.shape_terms.specs.ContourLines.{point_of, segment_of, gap_of, declared_of}
 use Rattle.shape_terms.specs.Shows.{start_of, outline_of, contour_fact}
 use Rattle.shape_terms.proofs.ListPushes.{filter_map-same, filter_map-push, take_next}
-use Rattle.shape_terms.proofs.CoverShown.{CoverSoFar, IsListed, IsRefused, cover_none, cover_segment, cover_refusal, cover_shows}
+use Rattle.shape_terms.proofs.CoverTaken.{CoverSoFar, IsListed, IsRefused, cover_none, cover_segment, cover_refusal}
+use Rattle.shape_terms.proofs.CoverShown.{cover_shows}
+use Rattle.shape_terms.proofs.ContourGroups.{declared_stays}
 
 -- the lines of the group say this of the contour
 pub record SaysContour (contour : Contour) (g : List Line) : Type 0 where
@@ -19,16 +21,11 @@ pub record SaysContour (contour : Contour) (g : List Line) : Type 0 where
   pub some : 1 ≤ declared_of g
   pub cover : CoverSoFar contour.points (declared_of g) (filter_map segment_of g) (filter_map gap_of g)
 
--- what the first line of a group says stays as it is
+-- the first line of a group says the start
 start_stays : (g : List Line) (l : Line) → 1 ≤ declared_of g → start_of (g ++ l ∷ []) ≡ start_of g
 start_stays [] l h = absurd (omega arith)
 start_stays (Line.Contour p s n m ∷ g) l h = refl
 start_stays (x ∷ g) l h = refl
-
-declared_stays : (g : List Line) (l : Line) → 1 ≤ declared_of g → declared_of (g ++ l ∷ []) ≡ declared_of g
-declared_stays [] l h = absurd (omega arith)
-declared_stays (Line.Contour p s n m ∷ g) l h = refl
-declared_stays (x ∷ g) l h = refl
 
 -- a `contour` line
 pub said_head : (contour : Contour) (p : Point) (side n m : ℕ) → contour.start ≡ record { pixel = p; side = side } → 1 ≤ m → SaysContour contour (Line.Contour p side n m ∷ [])
@@ -41,7 +38,7 @@ said_point contour g p w there =
     let ps = filter_map point_of g in
     let points : filter_map point_of (g ++ l ∷ []) ≡ ps ++ p ∷ [] = filter_map-push point_of g l p refl in
     let n : length (filter_map point_of (g ++ l ∷ [])) ≡ suc (length ps) = omega (arith, ap length points, length-append ps (p ∷ [])) in
-    let d = declared_stays g l w.some in
+    let d = declared_stays g l refl in
     let s = filter_map-same segment_of g l refl in
     let f = filter_map-same gap_of g l refl in
     record {
@@ -59,7 +56,7 @@ said_segment contour g b e t row mu w none h =
     let l = Line.Seg b e t row mu in
     let x : Segment = record { stretch = record { first = b; last = e }; axis = t; line = record { a = row; mu = mu } } in
     let points = filter_map-same point_of g l refl in
-    let d = declared_stays g l w.some in
+    let d = declared_stays g l refl in
     let s = filter_map-push segment_of g l x refl in
     let f : filter_map gap_of (g ++ l ∷ []) ≡ [] = filter_map-same gap_of g l refl ∙ none in
     let cover = cover_segment contour.points (declared_of g) (filter_map segment_of g) x (subst (CoverSoFar contour.points (declared_of g) (filter_map segment_of g)) none w.cover) h in
@@ -72,11 +69,11 @@ said_segment contour g b e t row mu w none h =
     }
 
 -- the next refusal
-pub said_refusal : (contour : Contour) (g : List Line) (l : Line) (x : GapFact) → SaysContour contour g → filter_map point_of (l ∷ []) ≡ [] → filter_map segment_of (l ∷ []) ≡ [] → filter_map gap_of (l ∷ []) ≡ x ∷ []
+pub said_refusal : (contour : Contour) (g : List Line) (l : Line) (x : GapFact) → SaysContour contour g → declared_of (l ∷ []) ≡ 0 → filter_map point_of (l ∷ []) ≡ [] → filter_map segment_of (l ∷ []) ≡ [] → filter_map gap_of (l ∷ []) ≡ x ∷ []
     → IsRefused contour.points (stretches_of (filter_map segment_of g)) (length (filter_map gap_of g)) x → SaysContour contour (g ++ l ∷ [])
-said_refusal contour g l x w p q r h =
+said_refusal contour g l x w k p q r h =
     let points = filter_map-same point_of g l p in
-    let d = declared_stays g l w.some in
+    let d = declared_stays g l k in
     let s = filter_map-same segment_of g l q in
     let f = filter_map-push gap_of g l x r in
     let cover = cover_refusal contour.points (declared_of g) (filter_map segment_of g) (filter_map gap_of g) x w.cover h in
@@ -84,8 +81,8 @@ said_refusal contour g l x w p q r h =
       start = start_stays g l w.some ∙ w.start;
       points = points ∙ w.points ∙ ap (λ (ps : List Point). take (length ps) contour.points) (sym points);
       some = omega (arith, d, w.some);
-      cover = subst (λ k. CoverSoFar contour.points k (filter_map segment_of (g ++ l ∷ [])) (filter_map gap_of (g ++ l ∷ []))) (sym d)
-          (subst (λ k. CoverSoFar contour.points (declared_of g) k (filter_map gap_of (g ++ l ∷ []))) (sym s) (subst (CoverSoFar contour.points (declared_of g) (filter_map segment_of g)) (sym f) cover));
+      cover = subst (λ j. CoverSoFar contour.points j (filter_map segment_of (g ++ l ∷ [])) (filter_map gap_of (g ++ l ∷ []))) (sym d)
+          (subst (λ j. CoverSoFar contour.points (declared_of g) j (filter_map gap_of (g ++ l ∷ []))) (sym s) (subst (CoverSoFar contour.points (declared_of g) (filter_map segment_of g)) (sym f) cover));
     }
 
 -- a contour with all its lines is said, and its cover is shown

@@ -14,7 +14,7 @@ use Rattle.shape_terms.specs.ContourLines.{is_contour, contour_groups, open_grou
 use Rattle.shape_terms.specs.Shows.{outline_of, contour_fact}
 use Rattle.shape_terms.proofs.SameCycles.{cycles_same}
 use Rattle.shape_terms.proofs.ListPushes.{take_next}
-use Rattle.shape_terms.proofs.CoverShown.{refused_by_turn, refused_by_cut}
+use Rattle.shape_terms.proofs.CoverTaken.{refused_by_turn, refused_by_cut}
 use Rattle.shape_terms.proofs.ContourGroups.{group_begun, group_more, open_is, declared_begun}
 use Rattle.shape_terms.proofs.ContourSaid.{SaysContour, said_head, said_point, said_segment, said_refusal, said_whole}
 
@@ -134,12 +134,12 @@ says_more d contours lines (Line.Seg b e t row mu) (SaysSome front g w) a c =
 says_more d contours lines (Line.Turn t i j) (SaysNone e) a c = absurd (none_begun lines e (declared_begun lines (let m = c.more in omega arith)))
 says_more d contours lines (Line.Turn t i j) (SaysSome front g w) a c =
     let h = gap_claim contours lines front g w t (Evidence.Turned i j) c in
-    same_contour contours lines (Line.Turn t i j) front g w refl (said_refusal w.contour g (Line.Turn t i j) (record { axis = t; kind = GapKind.ByTurn }) w.said refl refl refl
+    same_contour contours lines (Line.Turn t i j) front g w refl (said_refusal w.contour g (Line.Turn t i j) (record { axis = t; kind = GapKind.ByTurn }) w.said refl refl refl refl
     (refused_by_turn w.contour.points (stretches_of (filter_map segment_of g)) (length (filter_map gap_of g)) t i j h.0 h.1))
 says_more d contours lines (Line.Cut t why) (SaysNone e) a c = absurd (none_begun lines e (declared_begun lines (let m = c.more in omega arith)))
 says_more d contours lines (Line.Cut t why) (SaysSome front g w) a c =
     let h = gap_claim contours lines front g w t (Evidence.Cut why) c in
-    same_contour contours lines (Line.Cut t why) front g w refl (said_refusal w.contour g (Line.Cut t why) (record { axis = t; kind = GapKind.ByCut }) w.said refl refl refl
+    same_contour contours lines (Line.Cut t why) front g w refl (said_refusal w.contour g (Line.Cut t why) (record { axis = t; kind = GapKind.ByCut }) w.said refl refl refl refl
     (refused_by_cut w.contour.points (stretches_of (filter_map segment_of g)) (length (filter_map gap_of g)) t why h.0 h.1))
 
 -- good lines of contours, each good after those before it

@@ -48,6 +48,7 @@ pub mod Gaps
 pub mod ArcRuns
 pub mod CoverOf
 pub mod ListPushes
+pub mod CoverTaken
 pub mod CoverShown
 pub mod ContourGroups
 pub mod ContourSaid

@@ -12,6 +12,7 @@ use Rattle.shape_terms.specs.Points.{Point, coordinate, squared_distance}
 use Rattle.shape_terms.specs.FramedBox.{IsWithin}
 use Rattle.shape_terms.specs.Refutations.{Share, Step, StepShare, Refutation}
 use Rattle.shape_terms.specs.Lines.{Line, line_words, number_words, share_words, step_word, step_share_words, why_words, kind_word, spelling, IsLineOf, IsShortPoint, IsCount, IsWeight, IsWhy, IsStepIn}
+use Rattle.shape_terms.proofs.LineWords.{wide}
 use Rattle.shape_terms.proofs.SquaredDistances.{squared_distance-cons, square_apart}
 
 -- ---- words
@@ -32,16 +33,19 @@ joined_short [] = omega arith
 joined_short (w ∷ []) = omega arith
 joined_short (w ∷ v ∷ ws) = omega (arith, joined_short (v ∷ ws), length-append w (32 ∷ join_with_byte 32 (v ∷ ws)))
 
-number_short : (z : ℤ) → FitsSigned w32 z → length (signed_decimal z) ≤ 12
-number_short (pos n) h = omega (arith, length-decimal-le 11 n (lit< tt) (omega (arith, h.sfits)) (omega (arith, h.sfits)))
+number_short : (z : ℤ) → FitsSigned w64 z → length (signed_decimal z) ≤ 20
+number_short (pos n) h = omega (arith, length-decimal-le 19 n (lit< tt) (omega (arith, h.sfits)) (omega (arith, h.sfits)))
 number_short (negsuc n) h =
-    let l : length (decimal (suc n)) ≤ 11 = length-decimal-le 11 (suc n) (lit< tt) (omega (arith, h.sfits)) (omega (arith, h.sfits)) in
+    let l : length (decimal (suc n)) ≤ 19 = length-decimal-le 19 (suc n) (lit< tt) (omega (arith, h.sfits)) (omega (arith, h.sfits)) in
     omega arith
 
-numbers_short : (p : Point) → All (FitsSigned w32) p → total (number_words p) ≤ 13 * length p
+numbers_short : (p : List ℤ) → All (FitsSigned w64) p → total (number_words p) ≤ 21 * length p
 unfolding total
 numbers_short [] a = omega arith
-numbers_short (x ∷ p) a = omega (arith, number_short x (All-head (FitsSigned w32) x p a), numbers_short p (All-tail (FitsSigned w32) x p a))
+numbers_short (x ∷ p) a = omega (arith, number_short x (All-head (FitsSigned w64) x p a), numbers_short p (All-tail (FitsSigned w64) x p a))
+
+point_short : (p : Point) → All (FitsSigned w32) p → total (number_words p) ≤ 21 * length p
+point_short p a = numbers_short p (wide p a)
 
 kind_short : (n : ℕ) → length (kind_word n) ≡ 3
 kind_short zero = refl
@@ -54,17 +58,6 @@ weight_short s h = length-decimal-le 19 s (lit< tt) (omega arith) (omega arith)
 
 count_short : (n : ℕ) → IsCount n → length (decimal n) ≤ 10
 count_short n h = length-decimal-le 10 n (lit< tt) (omega arith) (omega arith)
-
-wide_short : (z : ℤ) → FitsSigned w64 z → length (signed_decimal z) ≤ 20
-wide_short (pos n) h = omega (arith, length-decimal-le 19 n (lit< tt) (omega (arith, h.sfits)) (omega (arith, h.sfits)))
-wide_short (negsuc n) h =
-    let l : length (decimal (suc n)) ≤ 19 = length-decimal-le 19 (suc n) (lit< tt) (omega (arith, h.sfits)) (omega (arith, h.sfits)) in
-    omega arith
-
-row_short : (a : List ℤ) → All (FitsSigned w64) a → total (number_words a) ≤ 21 * length a
-unfolding total
-row_short [] a = omega arith
-row_short (x ∷ p) a = omega (arith, wide_short x (All-head (FitsSigned w64) x p a), row_short p (All-tail (FitsSigned w64) x p a))
 
 -- ---- the words of a refutation
 
@@ -107,7 +100,7 @@ unfolding total
 short_line d (Line.Shape sides rule) h a =
     let j = joined_short (line_words (Line.Shape sides rule)) in
     let t = total-append (number_words sides) (rule ∷ []) in
-    omega (arith, j, t, numbers_short sides a.0.fits, kind_short (length sides), a.0.axes, a.1.few)
+    omega (arith, j, t, point_short sides a.0.fits, kind_short (length sides), a.0.axes, a.1.few)
 short_line d (Line.Parts n o b) h a =
     let j = joined_short (line_words (Line.Parts n o b)) in
     omega (arith, j, count_short n a.0, count_short o a.1, count_short b a.2)
@@ -115,18 +108,18 @@ short_line d (Line.Near p q s) h a =
     let j = joined_short (line_words (Line.Near p q s)) in
     let t = total-append (number_words p) (number_words q ++ decimal s ∷ []) in
     let u = total-append (number_words q) (decimal s ∷ []) in
-    omega (arith, j, t, u, numbers_short p a.0.fits, numbers_short q a.1.fits, weight_short s a.2, a.0.axes, a.1.axes)
+    omega (arith, j, t, u, point_short p a.0.fits, point_short q a.1.fits, weight_short s a.2, a.0.axes, a.1.axes)
 short_line d (Line.Contour p s n m) h a =
     let j = joined_short (line_words (Line.Contour p s n m)) in
     let t = total-append (number_words p) (decimal s ∷ decimal n ∷ decimal m ∷ []) in
-    omega (arith, j, t, numbers_short p a.1.fits, count_short s (omega (arith, a.2)), count_short n a.3, count_short m a.4, a.1.axes)
+    omega (arith, j, t, point_short p a.1.fits, count_short s (omega (arith, a.2)), count_short n a.3, count_short m a.4, a.1.axes)
 short_line d (Line.At p) h a =
     let j = joined_short (line_words (Line.At p)) in
-    omega (arith, j, numbers_short p a.1.fits, a.1.axes)
+    omega (arith, j, point_short p a.1.fits, a.1.axes)
 short_line d (Line.Seg b e t r mu) h a =
     let j = joined_short (line_words (Line.Seg b e t r mu)) in
     let u = total-append (number_words r) (signed_decimal mu ∷ []) in
-    omega (arith, j, u, row_short r a.4.fits, a.4.axes, count_short b a.1, count_short e a.2, wide_short mu a.5)
+    omega (arith, j, u, numbers_short r a.4.fits, a.4.axes, count_short b a.1, count_short e a.2, number_short mu a.5)
 short_line d (Line.Turn t x y) h a =
     let j = joined_short (line_words (Line.Turn t x y)) in
     omega (arith, j, count_short x a.2, count_short y a.3)

@@ -14,7 +14,7 @@ use Rattle.std.specs.Int.{w32, w64}
 use Rattle.shape_terms.specs.Refutations.{Share, Step, StepShare, Refutation}
 use Rattle.shape_terms.specs.Lines.{Line, line_words, spelling, number_words, share_words, step_word, why_words, axis_letter, kind_word, IsLineOf, IsName, IsWhy, IsStepIn, IsWeight, IsCount}
 use Rattle.shape_terms.proofs.WordLists.{IsWord, join_injective}
-use Rattle.shape_terms.proofs.LineWords.{words_injective}
+use Rattle.shape_terms.proofs.LineWords.{wide, words_injective}
 
 digit_past_blank : (c : ℕ) → digit_value c < 10 → 32 < c
 digit_past_blank c h = grind (arith, nat_tests)
@@ -46,16 +46,12 @@ words_append : (xs ys : List (List ℕ)) → AllByRecursion IsWord xs → AllByR
 words_append [] ys a b = b
 words_append (x ∷ xs) ys a b = (a.0, words_append xs ys a.1 b)
 
-wider : (z : ℤ) → FitsSigned w32 z → FitsSigned w64 z
-wider z h = record { sfits = omega (arith, h.sfits) }
+words_numbers : (p : List ℤ) → All (FitsSigned w64) p → AllByRecursion IsWord (number_words p)
+words_numbers [] a = tt
+words_numbers (x ∷ p) a = (word_signed x (All-head (FitsSigned w64) x p a), words_numbers p (All-tail (FitsSigned w64) x p a))
 
 words_point : (p : List ℤ) → All (FitsSigned w32) p → AllByRecursion IsWord (number_words p)
-words_point [] a = tt
-words_point (x ∷ p) a = (word_signed x (wider x (All-head (FitsSigned w32) x p a)), words_point p (All-tail (FitsSigned w32) x p a))
-
-words_row : (a : List ℤ) → All (FitsSigned w64) a → AllByRecursion IsWord (number_words a)
-words_row [] a = tt
-words_row (x ∷ p) a = (word_signed x (All-head (FitsSigned w64) x p a), words_row p (All-tail (FitsSigned w64) x p a))
+words_point p a = words_numbers p (wide p a)
 
 word_letter : (t : ℕ) → IsWord (axis_letter t ∷ [])
 unfolding IsWord
@@ -107,7 +103,7 @@ words_of_line d (Line.Parts n o b) a = (literal (codes "parts") refl, (word_deci
 words_of_line d (Line.Near p q s) a = (literal (codes "near") refl, words_append (number_words p) _ (words_point p a.0.fits) (words_append (number_words q) _ (words_point q a.1.fits) (word_decimal s (omega (arith, a.2)), tt)))
 words_of_line d (Line.Contour p s n m) a = (literal (codes "contour") refl, words_append (number_words p) _ (words_point p a.1.fits) (word_decimal s (omega (arith, a.2)), (word_decimal n (omega (arith, a.3)), (word_decimal m (omega (arith, a.4)), tt))))
 words_of_line d (Line.At p) a = (literal (codes "at") refl, words_point p a.1.fits)
-words_of_line d (Line.Seg b e t r mu) a = (literal (codes "seg") refl, (word_decimal b (omega (arith, a.1)), (word_decimal e (omega (arith, a.2)), (word_letter t, words_append (number_words r) _ (words_row r a.4.fits) (word_signed mu a.5, tt)))))
+words_of_line d (Line.Seg b e t r mu) a = (literal (codes "seg") refl, (word_decimal b (omega (arith, a.1)), (word_decimal e (omega (arith, a.2)), (word_letter t, words_append (number_words r) _ (words_numbers r a.4.fits) (word_signed mu a.5, tt)))))
 words_of_line d (Line.Turn t i j) a = (literal (codes "turn") refl, (word_letter t, (word_decimal i (omega (arith, a.2)), (word_decimal j (omega (arith, a.3)), tt))))
 words_of_line d (Line.Cut t w) a = (literal (codes "cut") refl, (word_letter t, words_why d w a.2))
 words_of_line d Line.End a = (literal (codes "end") refl, tt)
