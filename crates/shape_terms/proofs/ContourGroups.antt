@@ -1,15 +1,17 @@
 -- The groups of lines of contours, when one more line comes: it begins a group, or belongs to the last.
 -- Laws of lists of lines; which contours a picture has does not matter here.
 use Rattle.std.proofs.Common.{◌≡◌, ℕ, ◌+◌, ◌-◌, ◌<◌, Bool, true, false, List, [], ◌∷◌, ◌++◌, length, refl, ap, sym, ◌∙◌, arith, inl, inr}
-use Rattle.std.specs.Prelude.{not, filter_map, take_while, slice_index_or}
-use Rattle.std.proofs.lemmas.Bool.{cond-true, cond-false, cases_Bool}
-use Rattle.std.proofs.lemmas.List.{length-append}
+use Rattle.std.specs.Prelude.{◌≤◌, ℤ, not, filter_map, take_while, slice_index_or}
+use Rattle.std.proofs.lemmas.Bool.{cond-true, cond-false, cases_Bool, cases_lt}
+use Rattle.std.proofs.lemmas.List.{length-append, map-append}
 use Rattle.std.proofs.lemmas.List.Sums.{take_while-cons}
-use Rattle.std.proofs.lemmas.List.Elements.{filter_map-append}
 use Rattle.std.proofs.Math.Seq.{get_or-append_seam}
 use Rattle.shape_terms.specs.Points.{Point}
 use Rattle.shape_terms.specs.Lines.{Line}
-use Rattle.shape_terms.specs.ContourLines.{groups, is_contour, contour_groups, open_group, point_of, standing}
+use Rattle.shape_terms.specs.Refutations.{Refutation}
+use Rattle.shape_terms.specs.ContourFacts.{Segment, stretches_of, GapKind, GapFact}
+use Rattle.shape_terms.specs.ContourLines.{groups, is_contour, contour_groups, open_group, point_of, segment_of, gap_of, declared_of, standing, standing_with}
+use Rattle.shape_terms.proofs.ListPushes.{filter_map-same, filter_map-push}
 
 module _ (test : Line → Bool) where
   rest : List Line → List Line
@@ -110,26 +112,81 @@ open_is lines front g e =
     let n : length (front ++ g ∷ []) - 1 ≡ length front = omega (arith, length-append front (g ∷ [])) in
     rw e (ap (λ k. slice_index_or (front ++ g ∷ []) k []) n ∙ get_or-append_seam front g [] [])
 
-pub standing_none : standing [] ≡ record { begun = 0; points = 0 }
+pub standing_none : standing [] ≡ record { begun = 0; points = 0; declared = 0; stretches = []; gaps = 0 }
 standing_none = refl
 
+-- where segments are declared, a contour was begun
+pub declared_begun : (lines : List Line) → 0 < (standing lines).declared → 0 < (standing lines).begun
+declared_begun lines h = elim (cases_lt 0 (length (contour_groups lines))) [
+  | inr e ↦ absurd (let g : open_group lines ≡ [] = (let n = none (contour_groups lines) e in rw n refl) in let d : declared_of (open_group lines) ≡ 0 = ap declared_of g in omega arith)
+  | inl p ↦ p
+]
+  where
+    none : (xs : List (List Line)) → length xs ≤ 0 → xs ≡ []
+    none [] e = refl
+    none (x ∷ xs) e = absurd (omega arith)
+
 -- a `contour` line begins the next contour
-pub standing_begun : (lines : List Line) (p : Point) (side n m : ℕ) → standing (lines ++ Line.Contour p side n m ∷ []) ≡ record { begun = (standing lines).begun + 1; points = 0 }
+pub standing_begun : (lines : List Line) (p : Point) (side n m : ℕ) → standing (lines ++ Line.Contour p side n m ∷ []) ≡ record { begun = (standing lines).begun + 1; points = 0; declared = m; stretches = []; gaps = 0 }
 standing_begun lines p side n m =
     let l = Line.Contour p side n m in
     let e = group_begun is_contour lines l refl in
     let a : length (contour_groups (lines ++ l ∷ [])) ≡ length (contour_groups lines) + 1 = ap length e ∙ length-append (contour_groups lines) ((l ∷ []) ∷ []) in
-    let b : length (filter_map point_of (open_group (lines ++ l ∷ []))) ≡ 0 = ap (λ g. length (filter_map point_of g)) (open_is (lines ++ l ∷ []) (contour_groups lines) (l ∷ []) e) in
-    λ i. record { begun = a i; points = b i }
+    let b : open_group (lines ++ l ∷ []) ≡ l ∷ [] = open_is (lines ++ l ∷ []) (contour_groups lines) (l ∷ []) e in
+    λ i. standing_with (a i) (b i)
+
+-- the number of segments that a group's first line gives stays as it is
+pub declared_stays : (g : List Line) (l : Line) → declared_of (l ∷ []) ≡ 0 → declared_of (g ++ l ∷ []) ≡ declared_of g
+declared_stays [] l h = h
+declared_stays (Line.Contour p s n m ∷ g) l h = refl
+declared_stays (x ∷ g) l h = refl
+
+-- any other line belongs to the contour that was begun last
+grown : (lines : List Line) (l : Line) → is_contour l ≡ false → 0 < (standing lines).begun → standing (lines ++ l ∷ []) ≡ standing_with (standing lines).begun (open_group lines ++ l ∷ [])
+grown lines l t h =
+    let r = last_of (contour_groups lines) h in
+    let e = group_more is_contour lines l r.0 r.1 t r.2 in
+    let a : length (contour_groups (lines ++ l ∷ [])) ≡ length (contour_groups lines) = ap length e ∙ length-append r.0 ((r.1 ++ l ∷ []) ∷ []) ∙ sym (ap length r.2 ∙ length-append r.0 (r.1 ∷ [])) in
+    let b : open_group (lines ++ l ∷ []) ≡ open_group lines ++ l ∷ [] = open_is (lines ++ l ∷ []) r.0 (r.1 ++ l ∷ []) e ∙ ap (λ g. g ++ l ∷ []) (sym (open_is lines r.0 r.1 r.2)) in
+    λ i. standing_with (a i) (b i)
 
 -- an `at` line gives one more point
-pub standing_point : (lines : List Line) (p : Point) → 0 < (standing lines).begun → standing (lines ++ Line.At p ∷ []) ≡ record { begun = (standing lines).begun; points = (standing lines).points + 1 }
+pub standing_point : (lines : List Line) (p : Point) → 0 < (standing lines).begun → standing (lines ++ Line.At p ∷ []) ≡ record (standing lines) { points = (standing lines).points + 1 }
 standing_point lines p h =
     let l = Line.At p in
-    let r = last_of (contour_groups lines) h in
-    let e = group_more is_contour lines l r.0 r.1 refl r.2 in
-    let a : length (contour_groups (lines ++ l ∷ [])) ≡ length (contour_groups lines) = ap length e ∙ length-append r.0 ((r.1 ++ l ∷ []) ∷ []) ∙ sym (ap length r.2 ∙ length-append r.0 (r.1 ∷ [])) in
-    let f : filter_map point_of (open_group (lines ++ l ∷ [])) ≡ filter_map point_of (open_group lines) ++ p ∷ [] =
-    ap (filter_map point_of) (open_is (lines ++ l ∷ []) r.0 (r.1 ++ l ∷ []) e) ∙ filter_map-append point_of r.1 (l ∷ []) ∙ ap (λ g. filter_map point_of g ++ p ∷ []) (sym (open_is lines r.0 r.1 r.2)) in
-    let b : length (filter_map point_of (open_group (lines ++ l ∷ []))) ≡ length (filter_map point_of (open_group lines)) + 1 = ap length f ∙ length-append (filter_map point_of (open_group lines)) (p ∷ []) in
-    λ i. record { begun = a i; points = b i }
+    let g = open_group lines in
+    let a : length (filter_map point_of (g ++ l ∷ [])) ≡ length (filter_map point_of g) + 1 = ap length (filter_map-push point_of g l p refl) ∙ length-append (filter_map point_of g) (p ∷ []) in
+    let d = declared_stays g l refl in
+    let b = filter_map-same segment_of g l refl in
+    let c = filter_map-same gap_of g l refl in
+    grown lines l refl h ∙ (λ i. record { begun = (standing lines).begun; points = a i; declared = d i; stretches = stretches_of (b i); gaps = length (c i) })
+
+-- a `seg` line gives one more stretch
+pub standing_segment : (lines : List Line) (b e t : ℕ) (row : List ℤ) (mu : ℤ) → 0 < (standing lines).begun
+    → standing (lines ++ Line.Seg b e t row mu ∷ []) ≡ record (standing lines) { stretches = (standing lines).stretches ++ record { first = b; last = e } ∷ [] }
+standing_segment lines b e t row mu h =
+    let l = Line.Seg b e t row mu in
+    let g = open_group lines in
+    let s : Segment = record { stretch = record { first = b; last = e }; axis = t; line = record { a = row; mu = mu } } in
+    let a = filter_map-same point_of g l refl in
+    let d = declared_stays g l refl in
+    let c : stretches_of (filter_map segment_of (g ++ l ∷ [])) ≡ stretches_of (filter_map segment_of g) ++ s.stretch ∷ [] = ap stretches_of (filter_map-push segment_of g l s refl) ∙ map-append (λ (x : Segment). x.stretch) (filter_map segment_of g) (s ∷ []) in
+    let f = filter_map-same gap_of g l refl in
+    grown lines l refl h ∙ (λ i. record { begun = (standing lines).begun; points = length (a i); declared = d i; stretches = c i; gaps = length (f i) })
+
+-- a line that gives a refusal is one more gap line
+more_gaps : (lines : List Line) (l : Line) (f : GapFact) → is_contour l ≡ false → declared_of (l ∷ []) ≡ 0 → filter_map point_of (l ∷ []) ≡ [] → filter_map segment_of (l ∷ []) ≡ [] → filter_map gap_of (l ∷ []) ≡ f ∷ []
+    → 0 < (standing lines).begun → standing (lines ++ l ∷ []) ≡ record (standing lines) { gaps = (standing lines).gaps + 1 }
+more_gaps lines l f t k p s o h =
+    let g = open_group lines in
+    let a = filter_map-same point_of g l p in
+    let d = declared_stays g l k in
+    let b = filter_map-same segment_of g l s in
+    let c : length (filter_map gap_of (g ++ l ∷ [])) ≡ length (filter_map gap_of g) + 1 = ap length (filter_map-push gap_of g l f o) ∙ length-append (filter_map gap_of g) (f ∷ []) in
+    grown lines l t h ∙ (λ i. record { begun = (standing lines).begun; points = length (a i); declared = d i; stretches = stretches_of (b i); gaps = c i })
+
+pub standing_turn : (lines : List Line) (t i j : ℕ) → 0 < (standing lines).begun → standing (lines ++ Line.Turn t i j ∷ []) ≡ record (standing lines) { gaps = (standing lines).gaps + 1 }
+standing_turn lines t i j h = more_gaps lines (Line.Turn t i j) (record { axis = t; kind = GapKind.ByTurn }) refl refl refl refl refl h
+
+pub standing_cut : (lines : List Line) (t : ℕ) (why : Refutation) → 0 < (standing lines).begun → standing (lines ++ Line.Cut t why ∷ []) ≡ record (standing lines) { gaps = (standing lines).gaps + 1 }
+standing_cut lines t why h = more_gaps lines (Line.Cut t why) (record { axis = t; kind = GapKind.ByCut }) refl refl refl refl refl h

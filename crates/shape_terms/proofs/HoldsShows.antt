@@ -5,10 +5,11 @@ use Rattle.std.specs.Prelude.{filter_map, slice_get, All, ◌==◌}
 use Rattle.std.proofs.lemmas.Bool.{eqb-true}
 use Rattle.std.proofs.lemmas.List.{append-nil}
 use Rattle.std.proofs.lemmas.List.Elements.{All-nil, All-cons}
+use Rattle.std.proofs.lemmas.Option.{get_or_from_slice_get, slice_get_within}
 use Rattle.shape_terms.specs.Points.{Point}
 use Rattle.shape_terms.specs.Pictures.{Picture, object_points, Least}
 use Rattle.shape_terms.specs.Distances.{NearFact, IsField}
-use Rattle.shape_terms.specs.Lines.{Line, text_of}
+use Rattle.shape_terms.specs.Lines.{Line, text_of, IsLineOf}
 use Rattle.shape_terms.specs.Good.{section, section_lines, NearClaim, GoodAfter, GoodSoFar}
 use Rattle.shape_terms.specs.ContourLines.{ContourClaim, ContoursComplete}
 use Rattle.shape_terms.specs.Holds.{Holds}
@@ -26,6 +27,9 @@ facts_parts (Line.Parts n o b ∷ lines) = ap (λ l. record { points = n; object
 facts_parts (Line.Near p q s ∷ lines) = facts_parts lines
 facts_parts (Line.Contour p s n m ∷ lines) = facts_parts lines
 facts_parts (Line.At p ∷ lines) = facts_parts lines
+facts_parts (Line.Seg b e t r mu ∷ lines) = facts_parts lines
+facts_parts (Line.Turn t i j ∷ lines) = facts_parts lines
+facts_parts (Line.Cut t why ∷ lines) = facts_parts lines
 facts_parts (Line.End ∷ lines) = facts_parts lines
 
 -- one line whose claim is true, whatever stood before it
@@ -40,6 +44,9 @@ one_shows X (Line.Parts n o b ∷ []) e h =
 one_shows X (Line.Near p q s ∷ []) e h = absurd (let k : 2 ≡ 1 = (h (Line.Near p q s) refl).0 in omega arith)
 one_shows X (Line.Contour p s n m ∷ []) e h = absurd (let k : 3 ≡ 1 = (h (Line.Contour p s n m) refl).0 in omega arith)
 one_shows X (Line.At p ∷ []) e h = absurd (let k : 3 ≡ 1 = (h (Line.At p) refl).0 in omega arith)
+one_shows X (Line.Seg b x t r mu ∷ []) e h = absurd (let k : 3 ≡ 1 = (h (Line.Seg b x t r mu) refl).0 in omega arith)
+one_shows X (Line.Turn t i j ∷ []) e h = absurd (let k : 3 ≡ 1 = (h (Line.Turn t i j) refl).0 in omega arith)
+one_shows X (Line.Cut t why ∷ []) e h = absurd (let k : 3 ≡ 1 = (h (Line.Cut t why) refl).0 in omega arith)
 one_shows X (Line.End ∷ []) e h = absurd (let k : 4 ≡ 1 = (h Line.End refl).0 in omega arith)
 
 -- good lines with one `parts` line say the counts of the picture once
@@ -63,6 +70,9 @@ nears_good X lines good j l e =
     claim (Line.Near a b s) p g = g.claim
     claim (Line.Contour q s n m) p g = cc
     claim (Line.At q) p g = cc
+    claim (Line.Seg b e t r mu) p g = cc
+    claim (Line.Turn t i j) p g = cc
+    claim (Line.Cut t why) p g = cc
     claim Line.End p g = cc
 
 facts_nears : (lines : List Line) → filter_map near_fact lines ≡ filter_map near_fact (section_lines 2 lines)
@@ -72,6 +82,9 @@ facts_nears (Line.Parts n o b ∷ lines) = facts_nears lines
 facts_nears (Line.Near p q s ∷ lines) = ap (λ l. record { p = p; q = q; s = s } ∷ l) (facts_nears lines)
 facts_nears (Line.Contour p s n m ∷ lines) = facts_nears lines
 facts_nears (Line.At p ∷ lines) = facts_nears lines
+facts_nears (Line.Seg b e t r mu ∷ lines) = facts_nears lines
+facts_nears (Line.Turn t i j ∷ lines) = facts_nears lines
+facts_nears (Line.Cut t why ∷ lines) = facts_nears lines
 facts_nears (Line.End ∷ lines) = facts_nears lines
 
 -- the line says of the j-th of the points what a `near` line says
@@ -90,6 +103,9 @@ near_facts X (Line.Shape sides rule ∷ lines) (p ∷ points) e h = absurd (h 0 
 near_facts X (Line.Parts n o b ∷ lines) (p ∷ points) e h = absurd (h 0 (Line.Parts n o b) refl)
 near_facts X (Line.Contour q s n m ∷ lines) (p ∷ points) e h = absurd (h 0 (Line.Contour q s n m) refl)
 near_facts X (Line.At q ∷ lines) (p ∷ points) e h = absurd (h 0 (Line.At q) refl)
+near_facts X (Line.Seg b x t r mu ∷ lines) (p ∷ points) e h = absurd (h 0 (Line.Seg b x t r mu) refl)
+near_facts X (Line.Turn t i j ∷ lines) (p ∷ points) e h = absurd (h 0 (Line.Turn t i j) refl)
+near_facts X (Line.Cut t why ∷ lines) (p ∷ points) e h = absurd (h 0 (Line.Cut t why) refl)
 near_facts X (Line.End ∷ lines) (p ∷ points) e h = absurd (h 0 Line.End refl)
 near_facts X (Line.Near a b s ∷ lines) (p ∷ points) e h =
     let first = h 0 (Line.Near a b s) refl in
@@ -103,6 +119,9 @@ near_facts X (Line.Near a b s ∷ lines) (p ∷ points) e h =
     later j (Line.Near x y z) n = n
     later j (Line.Contour q s x y) n = n
     later j (Line.At q) n = n
+    later j (Line.Seg b e t r mu) n = n
+    later j (Line.Turn t i k) n = n
+    later j (Line.Cut t why) n = n
     later j Line.End n = n
 
 length_below : (lines : List Line) (j : ℕ) (l : Line) → slice_get lines j ≡ Some l → length (take j lines) ≡ j
@@ -116,6 +135,9 @@ at_place X lines j (Line.Parts k o b) e n = n
 at_place X lines j (Line.Near p q s) e n = (ap (slice_get (object_points X)) (sym e) ∙ n.0, n.1)
 at_place X lines j (Line.Contour p s k m) e n = n
 at_place X lines j (Line.At p) e n = n
+at_place X lines j (Line.Seg b x t r mu) e n = n
+at_place X lines j (Line.Turn t i k) e n = n
+at_place X lines j (Line.Cut t why) e n = n
 at_place X lines j Line.End e n = n
 
 -- good lines in which each object point has its `near` line make the field
@@ -127,10 +149,10 @@ lines_field X lines good e =
 -- ---- contours
 
 -- each line of a contour is good after the lines of contours before it
-contours_good : (X : Picture) (lines : List Line) → GoodSoFar X lines → (j : ℕ) (l : Line) → slice_get (section_lines 3 lines) j ≡ Some l → ContourClaim X (take j (section_lines 3 lines)) l
-contours_good X lines good j l e =
+contours_good : (X : Picture) (lines : List Line) → All (IsLineOf (length X.sides)) lines → GoodSoFar X lines → (j : ℕ) (l : Line) → slice_get (section_lines 3 lines) j ≡ Some l → IsLineOf (length X.sides) l × ContourClaim X (take j (section_lines 3 lines)) l
+contours_good X lines fields good j l e =
     let s = stood (λ m. section m == 3) lines j l e in
-    subst (λ ls. ContourClaim X ls l) s.before (claim l s.passes (good s.place l s.there))
+    (subst (IsLineOf (length X.sides)) (get_or_from_slice_get lines s.place l l s.there) (fields s.place l (slice_get_within lines s.place l s.there)), subst (λ ls. ContourClaim X ls l) s.before (claim l s.passes (good s.place l s.there)))
   where
     claim : (m : Line) → (section m == 3) ≡ true → {ls : List Line} → GoodAfter X ls m → ContourClaim X (section_lines 3 ls) m
     claim (Line.Shape sides rule) p g = cc
@@ -138,6 +160,9 @@ contours_good X lines good j l e =
     claim (Line.Near a b s) p g = cc
     claim (Line.Contour q s n m) p g = g.claim
     claim (Line.At q) p g = g.claim
+    claim (Line.Seg b e t r mu) p g = g.claim
+    claim (Line.Turn t i j) p g = g.claim
+    claim (Line.Cut t why) p g = g.claim
     claim Line.End p g = cc
 
 -- ---- the whole report
@@ -176,6 +201,6 @@ holds_shows X text (lines, b) =
       shows = record {
         parts = lines_parts X all b.good (ap length (end_adds_none 1 lines (omega arith)) ∙ one);
         nears = lines_field X all b.good (ap length (end_adds_none 2 lines (omega arith)) ∙ complete);
-        contours = λ flat. lines_contours X (section_lines 3 all) (contours_good X all b.good) (subst (ContoursComplete X) (sym same) (outlines flat));
+        contours = λ flat. lines_contours X (length X.sides) (section_lines 3 all) (contours_good X all b.fields b.good) (subst (ContoursComplete X) (sym same) (outlines flat));
       };
     }
