@@ -1,0 +1,4 @@
+pub mod CoverWalks
+pub mod FirstStarts
+pub mod ShortRuns
+pub mod ShortArcs
