@@ -2,3 +2,8 @@ pub mod CoverWalks
 pub mod FirstStarts
 pub mod ShortRuns
 pub mod ShortArcs
+pub mod OnePoint
+pub mod Senses
+pub mod Verdicts
+pub mod WalkSteps
+pub mod WalkEnds
