@@ -7,3 +7,6 @@ pub mod Senses
 pub mod Verdicts
 pub mod WalkSteps
 pub mod WalkEnds
+pub mod ArcPoints
+pub mod RunVerdicts
+pub mod Searching
