@@ -11,3 +11,4 @@ pub mod LeastValues
 pub mod Ways
 pub mod Holding
 pub mod Clashes
+pub mod Exactly

@@ -12,3 +12,6 @@ mod verdict;
 mod way;
 
 pub use verdict::{RunVerdict, decide_run};
+
+#[cfg(test)]
+mod tests;

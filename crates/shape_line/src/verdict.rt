@@ -5,7 +5,7 @@ ghost use Rattle.shape_terms.specs.Straight.{KeepsSense, IsStraightFor};
 ghost use Rattle.shape_refute.specs.Terms.{flat_point};
 ghost use Rattle.shape_line.specs.Runs.{AreInside, AreNear, HasTurn};
 ghost use Rattle.shape_line.specs.Terms.{run_of, AreSmall};
-ghost use Rattle.shape_line.specs.Verdict.{IsVerdict};
+ghost use Rattle.shape_line.specs.Verdict.{IsVerdict, is_straight, is_turned};
 
 use crate::bounds::{bounds_of, has_room};
 use crate::line::{line_of, straight_line};
@@ -57,6 +57,8 @@ pub fn decide_run(points: &[P2], axis: usize) -> RunVerdict
     requires inside { AreInside (map flat_point points.now) }
     requires near { AreNear (map flat_point points.now) }
     ensures verdict { IsVerdict axis (map flat_point points.now) result }
+    ensures turned { IsTrue (is_turned result) ↔ HasTurn axis (map flat_point points.now) }
+    ensures straight { IsTrue (is_straight result) ↔ IsStraightFor axis (map flat_point points.now) }
 {
     match find_turn(points, axis) {
         Some(turn) => RunVerdict::Turned(turn),

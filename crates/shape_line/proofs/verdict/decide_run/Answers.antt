@@ -5,6 +5,7 @@ use Rattle.shape_terms.specs.Turns.{IsTurn}
 use Rattle.shape_line.specs.Terms.{run_of}
 use Rattle.shape_line.proofs.Points.{small_of, length-run}
 use Rattle.shape_line.proofs.OneWay.{one_way_short}
+use Rattle.shape_line.proofs.Exactly.{straight_exactly}
 use Rattle.shape_line.proofs.verdict.decide_run.Goals as goal
 
 pub find_turn-requires-clause-small : goal.find_turn-requires-clause-small
@@ -18,3 +19,7 @@ decide_one_way-requires-clause-short c =
 
 pub decide_one_way-requires-clause-small : goal.decide_one_way-requires-clause-small
 decide_one_way-requires-clause-small c = small_of c.args.points.now c.requires.inside
+
+pub returns-in-None-clause-straight : goal.returns-in-None-clause-straight
+returns-in-None-clause-straight c =
+    straight_exactly c.args.axis (run_of c.args.points.now) c.decide_one_way.result (omega (arith, c.requires.some, length-run c.args.points.now)) c.decide_one_way.ensures
