@@ -1,0 +1,7 @@
+pub mod Runs
+pub mod Slopes
+pub mod Values
+pub mod Terms
+pub mod Bounding
+pub mod Between
+pub mod Verdict
