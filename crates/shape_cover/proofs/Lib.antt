@@ -10,3 +10,4 @@ pub mod WalkEnds
 pub mod ArcPoints
 pub mod RunVerdicts
 pub mod Searching
+pub mod Beginning
