@@ -11,3 +11,4 @@ pub mod ArcPoints
 pub mod RunVerdicts
 pub mod Searching
 pub mod Beginning
+pub mod Passing

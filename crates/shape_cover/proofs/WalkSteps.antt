@@ -49,7 +49,7 @@ module _ (points : List Point) (found : List Found) (f : Found) where
   ]
 
   -- the stretches of the walk stay where they were
-  walk_same : (next : Stretch) (k : ℕ) → k ≤ length found → stretch_of_walk found f.stretch k ≡ stretch_of_walk (found ++ f ∷ []) next k
+  pub walk_same : (next : Stretch) (k : ℕ) → k ≤ length found → stretch_of_walk found f.stretch k ≡ stretch_of_walk (found ++ f ∷ []) next k
   walk_same next k l = elim (dec_lt k (length found)) [
     | yes b ↦ walk_found found f.stretch k b ∙ sym (walk_found (found ++ f ∷ []) next k (let a = length-append found (f ∷ []) in omega arith) ∙ ap (λ (g : Found). g.stretch) (at_old k b))
     | no b ↦ (let m : k < length (found ++ f ∷ []) = (let a = length-append found (f ∷ []) in omega arith) in
