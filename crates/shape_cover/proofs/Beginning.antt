@@ -37,10 +37,10 @@ module _ (side : ℕ) (points : List Point) (path : IsClosedPath side points) (g
       let same_last : p.entry.stretch.last ≡ g.stretch.last = ap (λ s. s.last) f.same in
       let same_first : p.entry.stretch.first ≡ g.stretch.first = ap (λ s. s.first) f.same in
       let far : Straight points 0 (suc g.stretch.last) → ⊥ = λ s. (reach_longest points g r).longest
-          (subst (λ b. IsStraight (arc points b (g.stretch.last + 1))) (sym zero_first) (subst (Straight points 0) (let q : suc g.stretch.last ≡ g.stretch.last + 1 = omega arith in q) s)) in
+      (subst (λ b. IsStraight (arc points b (g.stretch.last + 1))) (sym zero_first) (subst (Straight points 0) (let q : suc g.stretch.last ≡ g.stretch.last + 1 = omega arith in q) s)) in
       let gap : Straight points (pred p.next.stretch.first) (suc g.stretch.last) → ⊥ = λ s. bent_shows (arc points (p.next.stretch.first - 1) (p.entry.stretch.last + 1)) (evidence_of p.entry.gap.x) (evidence_of p.entry.gap.y) f.followed.gap
-          (subst (λ b. IsStraight (arc points b (p.entry.stretch.last + 1))) (let q : pred p.next.stretch.first ≡ p.next.stretch.first - 1 = omega arith in q)
-          (subst (Straight points (pred p.next.stretch.first)) (let q : suc g.stretch.last ≡ p.entry.stretch.last + 1 = omega arith in q) s)) in
+      (subst (λ b. IsStraight (arc points b (p.entry.stretch.last + 1))) (let q : pred p.next.stretch.first ≡ p.next.stretch.first - 1 = omega arith in q)
+      (subst (Straight points (pred p.next.stretch.first)) (let q : suc g.stretch.last ≡ p.entry.stretch.last + 1 = omega arith in q) s)) in
       let left : Straight points (pred (length points)) (g.stretch.last + length points) = subst (λ b. Straight points b (g.stretch.last + length points)) (let q : length points - 1 ≡ pred (length points) = omega arith in q) before in
       let later = f.followed.first in
       let later_end = f.followed.last in
@@ -48,7 +48,7 @@ module _ (side : ℕ) (points : List Point) (path : IsClosedPath side points) (g
       record {
         low = omega arith;
         before = λ s.
-          let t : Straight points (pred p.next.stretch.first + length points) (p.next.stretch.last + length points) = subst (λ b. Straight points b (p.next.stretch.last + length points)) (let q : p.next.stretch.first + length points - 1 ≡ pred p.next.stretch.first + length points = omega arith in q) s in
-          gap ((arc_runs points).part _ _ _ _ ((arc_runs points).off (pred p.next.stretch.first) p.next.stretch.last t) (omega arith) (omega arith) (omega arith));
+            let t : Straight points (pred p.next.stretch.first + length points) (p.next.stretch.last + length points) = subst (λ b. Straight points b (p.next.stretch.last + length points)) (let q : p.next.stretch.first + length points - 1 ≡ pred p.next.stretch.first + length points = omega arith in q) s in
+            gap ((arc_runs points).part _ _ _ _ ((arc_runs points).off (pred p.next.stretch.first) p.next.stretch.last t) (omega arith) (omega arith) (omega arith));
         least = λ b e l m. first_start (arc_runs points) g.stretch.last p.next.stretch.first n straight far left (omega arith) (omega arith) gap b e l (maximal_from points b e m);
       }

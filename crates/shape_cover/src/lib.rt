@@ -15,3 +15,6 @@ pub use gap::{Gap, Refusal};
 pub use list::Cover;
 pub use stretch::Stretch;
 pub use walk::cover;
+
+#[cfg(test)]
+mod tests;
