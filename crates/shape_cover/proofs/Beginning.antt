@@ -1,6 +1,6 @@
 -- The stretch that a walk begins with: the one from the first point, or the next one where that can begin earlier.
 -- Stated of what the searches found; the argument over places alone stands in `FirstStarts`.
-use Rattle.std.proofs.Common.{◌≡◌, ℕ, zero, suc, pred, ◌+◌, ◌-◌, ◌<◌, ◌≤◌, List, length, arith, ap, sym, subst}
+use Rattle.std.proofs.Common.{◌≡◌, ℕ, suc, pred, ◌+◌, ◌-◌, List, length, arith, ap, sym, subst}
 use Rattle.shape_terms.specs.Points.{Point}
 use Rattle.shape_terms.specs.Straight.{IsStraight}
 use Rattle.shape_terms.specs.Covers.{Evidence, arc}

@@ -1,6 +1,6 @@
 -- The walk goes on by one stretch, and comes round: of the program's entries.
 -- Stated of the values alone; the terms' side stands in `WalkSteps` and `WalkEnds`.
-use Rattle.std.proofs.Common.{◌≡◌, ℕ, ◌+◌, ◌-◌, ◌<◌, ◌≤◌, ◌^◌, List, [], ◌∷◌, ◌++◌, length, map, arith, ap, sym, subst}
+use Rattle.std.proofs.Common.{◌≡◌, ℕ, ◌+◌, ◌<◌, ◌≤◌, List, [], ◌∷◌, ◌++◌, length, map, arith, ap, sym, subst}
 use Rattle.std.proofs.lemmas.List.{map-append, length-map}
 use Rattle.shape_terms.specs.Points.{Point}
 use Rattle.shape_terms.specs.Covers.{Stretch as Term, arc}

@@ -1,13 +1,12 @@
 -- The verdict on a run for one axis, as what is kept of it.
 -- How the verdict is found belongs elsewhere.
-use Rattle.std.proofs.Common.{◌≡◌, ℕ, ◌+◌, ◌<◌, ◌≤◌, ◌^◌, arith, sym, subst, ap, List, length, take, get_or}
+use Rattle.std.proofs.Common.{◌≡◌, ℕ, ◌<◌, ◌≤◌, ◌^◌, arith, sym, subst, List, length, take}
 use Rattle.std.specs.Prelude.{All, pos, nat_abs, ℤ}
-use Rattle.std.proofs.lemmas.Int.{ints}
 use Rattle.std.proofs.lemmas.List.{get_or-take, length-take-le}
 use Rattle.std.proofs.lemmas.List.Elements.{All-from_get_or}
 use Rattle.shape_terms.specs.Points.{Point}
 use Rattle.shape_terms.specs.Turns.{IsTurn}
-use Rattle.shape_terms.specs.Refutations.{Share, StepShare, Refutation}
+use Rattle.shape_terms.specs.Refutations.{Share, Refutation}
 use Rattle.shape_terms.specs.Covers.{Evidence}
 use Rattle.shape_refute.specs.declared.naive.Naive.{Naive}
 use Rattle.shape_refute.specs.Terms.{naive_of}

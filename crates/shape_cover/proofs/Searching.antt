@@ -1,12 +1,11 @@
 -- Searches for the ends of straight arcs: what a try shows, and why a search ends.
 -- Stated of the contour's points; how long the steps are belongs elsewhere.
-use Rattle.std.proofs.Common.{◌≡◌, ℕ, ◌+◌, ◌-◌, ◌<◌, ◌≤◌, List, length, arith, sym, subst}
+use Rattle.std.proofs.Common.{◌≡◌, ℕ, ◌+◌, ◌<◌, ◌≤◌, List, length, arith, subst}
 use native.Mathlib.Decide.{dec_lt}
 use Rattle.shape_terms.specs.Points.{Point}
 use Rattle.shape_terms.specs.Straight.{IsStraight}
 use Rattle.shape_terms.specs.Covers.{Evidence, arc}
 use Rattle.shape_terms.specs.Traces.{IsClosedPath}
-use Rattle.shape_terms.proofs.ArcRuns.{arc_runs}
 use Rattle.shape_refute.specs.Terms.{naive_of}
 use Rattle.shape_cover.specs.declared.stretch.Stretch.{Stretch}
 use Rattle.shape_cover.specs.declared.reach.Reach.{Reach}

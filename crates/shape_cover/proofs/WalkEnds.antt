@@ -1,20 +1,19 @@
 -- A walk that came round the contour is its cover.
 -- Stated of the values alone; how the stretches are searched belongs elsewhere.
-use Rattle.std.proofs.Common.{◌≡◌, ℕ, zero, suc, pred, ◌+◌, ◌-◌, ◌<◌, ◌≤◌, List, [], ◌∷◌, ◌++◌, length, get_or, take, refl, ap, sym, subst, ◌∙◌, arith}
-use Rattle.std.specs.Prelude.{slice_get, Some, None, IfSome}
+use Rattle.std.proofs.Common.{◌≡◌, ℕ, zero, suc, pred, ◌+◌, ◌-◌, ◌<◌, ◌≤◌, List, [], ◌∷◌, ◌++◌, length, get_or, take, ap, sym, subst, ◌∙◌, arith}
+use Rattle.std.specs.Prelude.{slice_get, Some, IfSome}
 use Rattle.std.proofs.lemmas.List.{get_or_default, get_or_append_left, get_or-take, length-take-le}
 use Rattle.std.proofs.lemmas.Option.{slice_get-get_or, slice_get_past}
 use native.Mathlib.Decide.{dec_lt}
 use Rattle.shape_terms.specs.Points.{Point}
 use Rattle.shape_terms.specs.Straight.{IsStraight}
-use Rattle.shape_terms.specs.Covers.{Stretch, Evidence, IsEvidence, IsSegment, arc, gap_run, next_first}
+use Rattle.shape_terms.specs.Covers.{Stretch, IsEvidence, IsSegment, arc, gap_run, next_first}
 use Rattle.shape_terms.specs.GapCover.{stretch_at, AreGapped}
 use Rattle.shape_terms.proofs.Stretches.{Gapped, Walk}
 use Rattle.shape_terms.proofs.ArcRuns.{arc_runs, Straight, maximal_to}
 use Rattle.shape_terms.proofs.CoverOf.{covers}
 use Rattle.shape_cover.specs.Found.{Found, stretches_of, found_at, IsCoverOf}
-use Rattle.shape_cover.specs.Arcs.{IsHeld, IsBent}
-use Rattle.shape_cover.specs.Walking.{IsStart, IsLongest, IsFollowedBy, IsWalk, stretch_of_walk}
+use Rattle.shape_cover.specs.Walking.{IsLongest, IsFollowedBy, IsWalk, stretch_of_walk}
 use Rattle.shape_cover.proofs.CoverWalks.{walk_covers}
 use Rattle.shape_cover.proofs.ShortArcs.{short_arc}
 use Rattle.shape_cover.proofs.Senses.{keeps_sense}

@@ -1,6 +1,6 @@
 -- What the program's searches find: verdicts on arcs, stretches, how far one reaches and where the next one begins.
 -- The terms of walks stand in `Walking`; how a search goes belongs elsewhere.
-use Rattle.std.specs.Prelude.{◌≡◌, ℕ, ◌+◌, ◌-◌, ◌<◌, ◌≤◌, List, length}
+use Rattle.std.specs.Prelude.{◌≡◌, ◌+◌, ◌-◌, ◌<◌, ◌≤◌, List, length}
 use Rattle.shape_terms.specs.Points.{Point}
 use Rattle.shape_terms.specs.Covers.{arc}
 use Rattle.shape_refute.specs.Terms.{naive_of}

@@ -1,6 +1,6 @@
 -- A walk round a contour, from stretch to stretch: where it begins, and what ties each stretch to the next.
 -- Places go on rising where the contour comes round.
-use Rattle.std.specs.Prelude.{◌≡◌, ℕ, suc, ◌+◌, ◌-◌, ◌<◌, ◌≤◌, List, length, slice_index_or}
+use Rattle.std.specs.Prelude.{ℕ, ◌+◌, ◌-◌, ◌<◌, List, length, slice_index_or}
 use Rattle.shape_terms.specs.Points.{Point}
 use Rattle.shape_terms.specs.Straight.{IsStraight}
 use Rattle.shape_terms.specs.Covers.{Stretch, arc, IsMaximal}

@@ -1,8 +1,7 @@
-use Rattle.std.proofs.Common.{arith, map, length, ◌<◌, ◌≤◌, ◌^◌}
+use Rattle.std.proofs.Common.{arith, map}
 use Rattle.std.proofs.lemmas.List.{length-map}
 use Rattle.shape_refute.specs.Terms.{flat_point}
-use Rattle.shape_refute.specs.Weights.{refutation_of}
-use Rattle.shape_cover.proofs.RunVerdicts.{decided_held, turn_refuses, weights_refuse}
+use Rattle.shape_cover.proofs.RunVerdicts.{decided_held, turn_refuses}
 use Rattle.shape_cover.proofs.arc.decide_both.Goals as goal
 
 pub returns-in-Straight : goal.returns-in-Straight

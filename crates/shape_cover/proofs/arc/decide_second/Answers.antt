@@ -1,4 +1,4 @@
-use Rattle.std.proofs.Common.{arith, map, length, ◌<◌, ◌≤◌, ◌^◌}
+use Rattle.std.proofs.Common.{arith, map}
 use Rattle.std.proofs.lemmas.List.{length-map}
 use Rattle.shape_refute.specs.Terms.{flat_point}
 use Rattle.shape_refute.specs.Weights.{refutation_of}

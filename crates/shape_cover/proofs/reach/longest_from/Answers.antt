@@ -1,9 +1,8 @@
-use Rattle.std.proofs.Common.{arith, subst, ◌≡◌, ◌+◌, ◌≤◌, ◌<◌, ◌^◌, ℕ, length}
+use Rattle.std.proofs.Common.{arith, subst, ◌≡◌, ◌+◌, ℕ}
 use Rattle.shape_terms.specs.Covers.{arc}
-use Rattle.shape_refute.specs.Terms.{naive_of}
 use Rattle.shape_cover.specs.declared.arc.ArcVerdict.{ArcVerdict}
 use Rattle.shape_cover.specs.declared.stretch.Stretch.{Stretch}
-use Rattle.shape_cover.specs.Arcs.{IsHeld, IsBent}
+use Rattle.shape_cover.specs.Arcs.{IsBent}
 use Rattle.shape_cover.specs.Evidences.{evidence_of}
 use Rattle.shape_cover.specs.Searches.{IsStretch, IsArcVerdict}
 use Rattle.shape_cover.proofs.Searching.{stretch_short}

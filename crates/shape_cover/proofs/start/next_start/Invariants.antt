@@ -1,4 +1,4 @@
-use Rattle.std.proofs.Common.{◌≡◌, ◌+◌, ◌-◌, ◌*◌, ◌≤◌}
+use Rattle.std.proofs.Common.{◌+◌, ◌-◌, ◌*◌, ◌≤◌}
 use Rattle.shape_terms.specs.Covers.{arc}
 use Rattle.shape_cover.specs.Arcs.{IsBent}
 use Rattle.shape_cover.specs.Evidences.{evidence_of}

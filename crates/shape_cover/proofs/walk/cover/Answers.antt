@@ -1,9 +1,9 @@
-use Rattle.std.proofs.Common.{rules, arith, subst, sym, ◌≡◌, ◌+◌, ◌-◌, ◌≤◌, ◌++◌, ◌∷◌, [], ℕ, List, length}
-use Rattle.shape_cover.specs.Found.{Found, IsCoverOf}
+use Rattle.std.proofs.Common.{rules, arith, subst, sym, ◌≡◌, ◌+◌, ◌++◌, ◌∷◌, [], length}
+use Rattle.shape_cover.specs.Found.{IsCoverOf}
 use Rattle.shape_cover.specs.Entries.{stretch_of}
 use Rattle.shape_cover.proofs.Searching.{reach_longest}
 use Rattle.shape_cover.proofs.WalkSteps.{walk_begins}
-use Rattle.shape_cover.proofs.Passing.{IsGoing, goes_on, comes_round, few_entries}
+use Rattle.shape_cover.proofs.Passing.{goes_on, comes_round, few_entries}
 use Rattle.shape_cover.proofs.walk.cover.Goals as goal
 
 pub loop-reach-init : goal.loop-reach-init
