@@ -1,10 +1,10 @@
 -- Two pairs of places whose bounds leave no room, as the weights that refute the run.
 -- Which pairs clash is found elsewhere.
-use Rattle.std.proofs.Common.{Bool, true, false, ◌≡◌, ℕ, zero, suc, ◌+◌, ◌-◌, ◌<◌, ◌≤◌, arith, refl, sym, ap, subst, ◌∙◌, List, length, [], ◌∷◌}
+use Rattle.std.proofs.Common.{Bool, true, false, ◌≡◌, ℕ, zero, suc, ◌<◌, ◌≤◌, arith, sym, ◌∙◌, List, length, [], ◌∷◌}
 use Rattle.std.specs.Prelude.{IsTrue, ◌↔◌, ℤ, pos, ◌*ℤ◌, ◌-ℤ◌, ◌≤ℤ◌, ◌<ℤ◌, All}
 use Rattle.std.proofs.lemmas.Int.{ints, by_lt_z}
 use Rattle.shape_space.specs.declared.point.P2.{P2}
-use Rattle.shape_terms.specs.Refutations.{Share, StepShare, Refutation, Refutes, Step}
+use Rattle.shape_terms.specs.Refutations.{Share, StepShare, Refutes, Step}
 use Rattle.shape_terms.specs.Straight.{KeepsSense}
 use Rattle.shape_line.specs.Slopes.{Span, IsSpan, levels, gap, lower_of, upper_of, span_refutation}
 use Rattle.shape_line.specs.Verdict.{AreSmallWeights}

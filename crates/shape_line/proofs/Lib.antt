@@ -12,3 +12,4 @@ pub mod Ways
 pub mod Holding
 pub mod Clashes
 pub mod Exactly
+pub mod GivenRuns

@@ -18,7 +18,7 @@ crossed : (w1 w2 a b c d : ℤ) → (b ≡ a +ℤ w1) × (d ≡ c +ℤ w2) ⊎ (
 crossed w1 w2 a b c d (inl h) = let p : d -ℤ c ≡ w2 = (let e = h.1 in omega (arith, ints)) in let q : b -ℤ a ≡ w1 = (let e = h.0 in omega (arith, ints)) in ap (λ (z : ℤ). w1 *ℤ z) p ∙ ((let s : w1 *ℤ w2 ≡ w2 *ℤ w1 = omega (arith, ints) in s) ∙ sym (ap (λ (z : ℤ). w2 *ℤ z) q))
 crossed w1 w2 a b c d (inr h) = let p : d -ℤ c ≡ pos 0 -ℤ w2 = (let e = h.1 in omega (arith, ints)) in let q : b -ℤ a ≡ pos 0 -ℤ w1 = (let e = h.0 in omega (arith, ints)) in ap (λ (z : ℤ). w1 *ℤ z) p ∙ ((let s : w1 *ℤ (pos 0 -ℤ w2) ≡ w2 *ℤ (pos 0 -ℤ w1) = omega (arith, ints, rings) in s) ∙ sym (ap (λ (z : ℤ). w2 *ℤ z) q))
 
-pub gaps_balance : (t : ℕ) (run : List Point) (p q : Span) → KeepsSense t run → IsSpan (length run) p → IsSpan (length run) q
+gaps_balance : (t : ℕ) (run : List Point) (p q : Span) → KeepsSense t run → IsSpan (length run) p → IsSpan (length run) q
     → gap p *ℤ (levels (other_axis t) run q.last -ℤ levels (other_axis t) run q.first) ≡ gap q *ℤ (levels (other_axis t) run p.last -ℤ levels (other_axis t) run p.first)
 gaps_balance t run p q (inl h) a b = crossed (gap p) (gap q) _ _ _ _ (inl (climbs (levels (other_axis t) run) (length run) p.first p.last h (omega (arith, a.rising)) a.within, climbs (levels (other_axis t) run) (length run) q.first q.last h (omega (arith, b.rising)) b.within))
 gaps_balance t run p q (inr h) a b = crossed (gap p) (gap q) _ _ _ _ (inr (falls (levels (other_axis t) run) (length run) p.first p.last h (omega (arith, a.rising)) a.within, falls (levels (other_axis t) run) (length run) q.first q.last h (omega (arith, b.rising)) b.within))
@@ -42,7 +42,7 @@ meet_y w1 w2 n x1 y1 x2 y2 x3 y3 x4 y4 h k =
     let b : w2 *ℤ x1 +ℤ w1 *ℤ x4 +ℤ n *ℤ pos 0 ≡ w2 *ℤ (x2 +ℤ negsuc 0 *ℤ pos 0) +ℤ w1 *ℤ (x3 +ℤ negsuc 0 *ℤ pos 0) = omega (arith, ints, rings, k) in
     λ i. b i ∷ a i ∷ []
 
-pub span_meet : (t : ℕ) (a b c d : Point) (w1 w2 n : ℤ) → t < 2 → length a ≡ 2 → length b ≡ 2 → length c ≡ 2 → length d ≡ 2
+span_meet : (t : ℕ) (a b c d : Point) (w1 w2 n : ℤ) → t < 2 → length a ≡ 2 → length b ≡ 2 → length c ≡ 2 → length d ≡ 2
     → n ≡ w2 *ℤ (coordinate b t -ℤ coordinate a t -ℤ pos 1) -ℤ w1 *ℤ (coordinate d t -ℤ coordinate c t +ℤ pos 1)
     → w1 *ℤ (coordinate d (other_axis t) -ℤ coordinate c (other_axis t)) ≡ w2 *ℤ (coordinate b (other_axis t) -ℤ coordinate a (other_axis t))
     → moved (moved (times w2 a) (moved (times w1 d) [])) (moved (times n (unit t)) []) ≡ moved (times w2 (difference b (unit t))) (moved (times w1 (difference c (unit t))) [])

@@ -5,3 +5,4 @@ pub mod Terms
 pub mod Bounding
 pub mod Between
 pub mod Verdict
+pub mod GivenRuns

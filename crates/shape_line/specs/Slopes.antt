@@ -51,6 +51,10 @@ AreBounds t run lower upper = (i j : ℕ) → i < j → j < length run → IsCov
 abbrev pub HasRoom : (ℕ → ℤ) → Span → Span → Type 0
 HasRoom V lower upper = (lower_of V lower *ℤ gap upper) <ℤ (upper_of V upper *ℤ gap lower)
 
+-- the lower bound of the one is at least the upper bound of the other
+abbrev pub HasNoRoom : (ℕ → ℤ) → Span → Span → Type 0
+HasNoRoom V lower upper = (upper_of V upper *ℤ gap lower) ≤ℤ (lower_of V lower *ℤ gap upper)
+
 -- a slope p/q strictly between the bounds, and from -1 to 1
 pub record IsBetween (V : ℕ → ℤ) (lower upper : Span) (p q : ℤ) : Type 0 where
   pub some : pos 1 ≤ℤ q
@@ -66,7 +70,3 @@ span_refutation lower upper n = record {
   high = record { weight = upper.last - upper.first; place = lower.last } ∷ record { weight = lower.last - lower.first; place = upper.first } ∷ [];
   steps = record { weight = n; step = Step.Up } ∷ [];
 }
-
--- the lower bound of the one is at least the upper bound of the other
-abbrev pub HasNoRoom : (ℕ → ℤ) → Span → Span → Type 0
-HasNoRoom V lower upper = (upper_of V upper *ℤ gap lower) ≤ℤ (lower_of V lower *ℤ gap upper)

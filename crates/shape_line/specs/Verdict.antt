@@ -1,6 +1,6 @@
 -- The verdict on a run for an axis of the plane.
 -- How a verdict is found belongs elsewhere.
-use Rattle.std.specs.Prelude.{◌≡◌, ℕ, ◌<◌, ◌≤◌, ◌^◌, Bool, true, false, List, length, pos, nat_abs, All}
+use Rattle.std.specs.Prelude.{◌≡◌, ℕ, ◌≤◌, ◌^◌, Bool, true, false, List, length, pos, nat_abs, All}
 use Rattle.shape_terms.specs.Points.{Point, coordinate}
 use Rattle.shape_terms.specs.Naive.{IsNaiveFor}
 use Rattle.shape_terms.specs.Refutations.{Refutes, Refutation as Weights}
@@ -47,10 +47,12 @@ IsVerdict t run (Straight line) = IsHeld t run line
 IsVerdict t run (Turned turn) = IsTurn t run turn.i turn.j
 IsVerdict t run (Refused why) = IsRefused t run (refutation_of why)
 
+-- the verdict says that the run is straight
 abbrev pub is_straight : RunVerdict → Bool
 is_straight (Straight line) = true
 is_straight _ = false
 
+-- the verdict says that the run turns
 abbrev pub is_turned : RunVerdict → Bool
 is_turned (Turned turn) = true
 is_turned _ = false

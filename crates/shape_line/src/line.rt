@@ -1,7 +1,6 @@
 //! A naive line that holds a run whose bounds of the slope leave room.
 //! Another choice of the slope changes nothing here.
-ghost use Rattle.std.specs.Prelude.{◌≡◌, ◌<◌, ◌≤◌, [], ◌∷◌, ◌++◌, length, pos, ◌≤ℤ◌, neg_ℤ};
-ghost use Rattle.std.specs.Int.RustNames.{unsigned_abs};
+ghost use Rattle.std.specs.Prelude.{◌≡◌, ◌<◌, ◌≤◌, [], ◌∷◌, ◌++◌, length, pos, ◌≤ℤ◌, neg_ℤ, unsigned_abs};
 ghost use Rattle.shape_terms.specs.Naive.{IsNaiveFor};
 ghost use Rattle.shape_terms.specs.Straight.{KeepsSense};
 ghost use Rattle.shape_refute.specs.Terms.{naive_of};

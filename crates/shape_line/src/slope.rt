@@ -1,7 +1,6 @@
 //! A slope strictly between two bounds, and no steeper than the diagonals.
 //! Which of the slopes between them is chosen may change here.
-ghost use Rattle.std.specs.Prelude.{◌≡◌, ◌<◌, ◌≤◌, length, pos, ◌≤ℤ◌, ◌<ℤ◌, ◌*ℤ◌, neg_ℤ};
-ghost use Rattle.std.specs.Int.RustNames.{unsigned_abs};
+ghost use Rattle.std.specs.Prelude.{◌≡◌, ◌<◌, ◌≤◌, length, pos, ◌≤ℤ◌, ◌<ℤ◌, ◌*ℤ◌, neg_ℤ, unsigned_abs};
 ghost use Rattle.shape_line.specs.Runs.{AreNear};
 ghost use Rattle.shape_line.specs.Slopes.{levels, HasRoom, IsBetween};
 ghost use Rattle.shape_line.specs.Terms.{run_of, span, AreSmall};

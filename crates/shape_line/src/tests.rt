@@ -1,11 +1,20 @@
 //! Runs known from outside: staircases, a bend, single points and a falling run.
 //! Lines and refutations are judged by `shape_refute`, which knows nothing of how they are found.
+ghost use Rattle.std.specs.Prelude.{◌<◌, ◌≤◌, IsTrue, length, map};
+ghost use Rattle.shape_refute.specs.Terms.{flat_point};
+ghost use Rattle.shape_line.specs.GivenRuns.{is_run};
+
 use super::*;
-use shape_refute::{Naive, Refutation, Turn, holds, is_proper, refutes, turns};
+use shape_refute::{Naive, holds, is_proper, refutes, turns};
 use shape_space::P2;
 
-fn at(x: i32, y: i32) -> P2 {
-    P2 { x, y }
+// The verdict on a run that is written out, where its requirements are computed.
+fn decide(run: &[P2], axis: usize) -> RunVerdict
+    requires axis { axis < 2 }
+    requires few { length run.now < 9 }
+    requires run { IsTrue (is_run (map flat_point run.now)) }
+{
+    decide_run(run, axis)
 }
 
 // Whether the line is proper and holds each point of the run.
@@ -20,17 +29,23 @@ fn holds_all(line: &Naive, run: &[P2]) -> bool {
 
 #[test]
 fn a_staircase_is_straight(rt: HostRuntime) {
-    let run = [at(0, 0), at(1, 1), at(2, 1), at(3, 1), at(4, 2)];
-    match decide_run(&run, 1) {
+    let run = [
+        P2 { x: 0, y: 0 },
+        P2 { x: 1, y: 1 },
+        P2 { x: 2, y: 1 },
+        P2 { x: 3, y: 1 },
+        P2 { x: 4, y: 2 },
+    ];
+    match decide(&run, 1) {
         RunVerdict::Straight(line) => {
             assert_eq!(rt; line.axis, 1);
             assert!(rt; holds_all(&line, &run));
-            assert!(rt; !holds(&line, at(0, 1)));
-            assert!(rt; !holds(&line, at(2, 0)));
+            assert!(rt; !holds(&line, P2 { x: 0, y: 1 }));
+            assert!(rt; !holds(&line, P2 { x: 2, y: 0 }));
         }
         _ => assert!(rt; false),
     }
-    match decide_run(&run, 0) {
+    match decide(&run, 0) {
         RunVerdict::Turned(turn) => assert!(rt; turns(&run, 0, &turn)),
         _ => assert!(rt; false),
     }
@@ -38,15 +53,21 @@ fn a_staircase_is_straight(rt: HostRuntime) {
 
 #[test]
 fn a_bend_is_refused_or_turned(rt: HostRuntime) {
-    let run = [at(0, 0), at(1, 1), at(2, 2), at(3, 2), at(4, 2)];
-    match decide_run(&run, 1) {
+    let run = [
+        P2 { x: 0, y: 0 },
+        P2 { x: 1, y: 1 },
+        P2 { x: 2, y: 2 },
+        P2 { x: 3, y: 2 },
+        P2 { x: 4, y: 2 },
+    ];
+    match decide(&run, 1) {
         RunVerdict::Refused(why) => {
             assert!(rt; refutes(&run, 1, &why));
             assert!(rt; !refutes(&run[0..4], 1, &why));
         }
         _ => assert!(rt; false),
     }
-    match decide_run(&run, 0) {
+    match decide(&run, 0) {
         RunVerdict::Turned(turn) => assert!(rt; turns(&run, 0, &turn)),
         _ => assert!(rt; false),
     }
@@ -54,9 +75,9 @@ fn a_bend_is_refused_or_turned(rt: HostRuntime) {
 
 #[test]
 fn one_point_is_straight_for_both_axes(rt: HostRuntime) {
-    let run = [at(1023, 0)];
+    let run = [P2 { x: 1023, y: 0 }];
     for axis in 0..2 {
-        match decide_run(&run, axis) {
+        match decide(&run, axis) {
             RunVerdict::Straight(line) => {
                 assert_eq!(rt; line.axis as usize, axis);
                 assert!(rt; holds_all(&line, &run));
@@ -68,8 +89,15 @@ fn one_point_is_straight_for_both_axes(rt: HostRuntime) {
 
 #[test]
 fn a_falling_run_is_straight(rt: HostRuntime) {
-    let run = [at(5, 9), at(4, 8), at(4, 7), at(3, 6), at(3, 5), at(2, 4)];
-    match decide_run(&run, 0) {
+    let run = [
+        P2 { x: 5, y: 9 },
+        P2 { x: 4, y: 8 },
+        P2 { x: 4, y: 7 },
+        P2 { x: 3, y: 6 },
+        P2 { x: 3, y: 5 },
+        P2 { x: 2, y: 4 },
+    ];
+    match decide(&run, 0) {
         RunVerdict::Straight(line) => {
             assert_eq!(rt; line.axis, 0);
             assert!(rt; holds_all(&line, &run));
@@ -80,16 +108,47 @@ fn a_falling_run_is_straight(rt: HostRuntime) {
 
 #[test]
 fn a_diagonal_and_a_row_are_straight(rt: HostRuntime) {
-    let diagonal = [at(2, 0), at(1, 1), at(0, 2)];
+    let diagonal = [P2 { x: 2, y: 0 }, P2 { x: 1, y: 1 }, P2 { x: 0, y: 2 }];
     for axis in 0..2 {
-        match decide_run(&diagonal, axis) {
+        match decide(&diagonal, axis) {
             RunVerdict::Straight(line) => assert!(rt; holds_all(&line, &diagonal)),
             _ => assert!(rt; false),
         }
     }
-    let row = [at(1020, 1023), at(1021, 1023), at(1022, 1023), at(1023, 1023)];
-    match decide_run(&row, 1) {
+    let row = [
+        P2 { x: 1020, y: 1023 },
+        P2 { x: 1021, y: 1023 },
+        P2 { x: 1022, y: 1023 },
+        P2 { x: 1023, y: 1023 },
+    ];
+    match decide(&row, 1) {
         RunVerdict::Straight(line) => assert!(rt; holds_all(&line, &row)),
+        _ => assert!(rt; false),
+    }
+}
+
+#[test]
+fn bends_of_both_ways_are_refused(rt: HostRuntime) {
+    let falling = [
+        P2 { x: 0, y: 4 },
+        P2 { x: 1, y: 3 },
+        P2 { x: 2, y: 2 },
+        P2 { x: 2, y: 1 },
+        P2 { x: 2, y: 0 },
+    ];
+    match decide(&falling, 0) {
+        RunVerdict::Refused(why) => assert!(rt; refutes(&falling, 0, &why)),
+        _ => assert!(rt; false),
+    }
+    let rising = [
+        P2 { x: 0, y: 0 },
+        P2 { x: 1, y: 0 },
+        P2 { x: 2, y: 0 },
+        P2 { x: 3, y: 1 },
+        P2 { x: 4, y: 2 },
+    ];
+    match decide(&rising, 1) {
+        RunVerdict::Refused(why) => assert!(rt; refutes(&rising, 1, &why)),
         _ => assert!(rt; false),
     }
 }
