@@ -1,0 +1,14 @@
+pub mod CoverWalks
+pub mod FirstStarts
+pub mod ShortRuns
+pub mod ShortArcs
+pub mod OnePoint
+pub mod Senses
+pub mod Verdicts
+pub mod WalkSteps
+pub mod WalkEnds
+pub mod ArcPoints
+pub mod RunVerdicts
+pub mod Searching
+pub mod Beginning
+pub mod Passing

@@ -1,0 +1,15 @@
+pub mod Products
+pub mod Order
+pub mod Fractions
+pub mod OneWay
+pub mod SpanRefutes
+pub mod SpanLine
+pub mod Points
+pub mod Tightening
+pub mod Slanting
+pub mod LeastValues
+pub mod Ways
+pub mod Holding
+pub mod Clashes
+pub mod Exactly
+pub mod GivenRuns
