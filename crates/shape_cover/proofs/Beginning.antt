@@ -38,7 +38,7 @@ module _ (side : ℕ) (points : List Point) (path : IsClosedPath side points) (g
       let same_first : p.entry.stretch.first ≡ g.stretch.first = ap (λ s. s.first) f.same in
       let far : Straight points 0 (suc g.stretch.last) → ⊥ = λ s. (reach_longest points g r).longest
       (subst (λ b. IsStraight (arc points b (g.stretch.last + 1))) (sym zero_first) (subst (Straight points 0) (let q : suc g.stretch.last ≡ g.stretch.last + 1 = omega arith in q) s)) in
-      let gap : Straight points (pred p.next.stretch.first) (suc g.stretch.last) → ⊥ = λ s. bent_shows (arc points (p.next.stretch.first - 1) (p.entry.stretch.last + 1)) (evidence_of p.entry.gap.x) (evidence_of p.entry.gap.y) f.followed.gap
+      let gap : Straight points (pred p.next.stretch.first) (suc g.stretch.last) → ⊥ = λ s. bent_shows (arc points (p.next.stretch.first - 1) (p.entry.stretch.last + 1)) (evidence_of p.entry.x) (evidence_of p.entry.y) f.followed.gap
       (subst (λ b. IsStraight (arc points b (p.entry.stretch.last + 1))) (let q : pred p.next.stretch.first ≡ p.next.stretch.first - 1 = omega arith in q)
       (subst (Straight points (pred p.next.stretch.first)) (let q : suc g.stretch.last ≡ p.entry.stretch.last + 1 = omega arith in q) s)) in
       let left : Straight points (pred (length points)) (g.stretch.last + length points) = subst (λ b. Straight points b (g.stretch.last + length points)) (let q : length points - 1 ≡ pred (length points) = omega arith in q) before in

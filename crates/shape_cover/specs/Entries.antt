@@ -13,4 +13,4 @@ stretch_of s = record { first = s.first; last = s.last }
 
 -- what an entry tells
 abbrev pub found_of : Entry → Found
-found_of e = record { stretch = stretch_of e.stretch; axis = e.stretch.line.axis; line = naive_of 2 e.stretch.line; x = evidence_of e.gap.x; y = evidence_of e.gap.y }
+found_of e = record { stretch = stretch_of e.stretch; axis = e.stretch.line.axis; line = naive_of 2 e.stretch.line; x = evidence_of e.x; y = evidence_of e.y }

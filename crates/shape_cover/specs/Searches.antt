@@ -1,6 +1,6 @@
 -- What the program's searches find: verdicts on arcs, stretches, how far one reaches and where the next one begins.
 -- The terms of walks stand in `Walking`; how a search goes belongs elsewhere.
-use Rattle.std.specs.Prelude.{◌≡◌, ◌+◌, ◌-◌, ◌<◌, ◌≤◌, List, length}
+use Rattle.std.specs.Prelude.{◌≡◌, ◌+◌, ◌-◌, ◌<◌, ◌≤◌, List, [], ◌∷◌, ◌++◌, length}
 use Rattle.shape_terms.specs.Points.{Point}
 use Rattle.shape_terms.specs.Covers.{arc}
 use Rattle.shape_refute.specs.Terms.{naive_of}
@@ -10,6 +10,7 @@ use Rattle.shape_cover.specs.declared.stretch.Stretch.{Stretch}
 use Rattle.shape_cover.specs.declared.reach.Reach.{Reach}
 use Rattle.shape_cover.specs.declared.start.NextStart.{NextStart}
 use Rattle.shape_cover.specs.declared.walk.Passed.{Passed}
+use Rattle.shape_cover.specs.declared.list.Entry.{Entry}
 use Rattle.shape_cover.specs.Arcs.{IsHeld, IsBent}
 use Rattle.shape_cover.specs.Evidences.{evidence_of}
 use Rattle.shape_cover.specs.Entries.{stretch_of, found_of}
@@ -49,3 +50,9 @@ pub record IsPassed (points : List Point) (g : Reach) (p : Passed) : Type 0 wher
   pub followed : IsFollowedBy points (found_of p.entry) (stretch_of p.next.stretch)
   pub near : p.next.stretch.first ≤ g.stretch.last + 1
   pub next : IsReach points p.next
+
+-- the stretch that was left was put last, and the next one was reached
+pub record HasPassed (points : List Point) (g : Reach) (old new : List Entry) (next : Reach) : Type 0 where
+  pub entry : Entry
+  pub items : new ≡ old ++ entry ∷ []
+  pub passed : IsPassed points g (record { entry = entry; next = next })

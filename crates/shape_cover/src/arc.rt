@@ -16,7 +16,7 @@ use shape_space::{NoMemory, P2};
 use std::alloc::Global;
 
 /// A line that holds an arc, or why none does.
-#[derive(Drop)]
+#[derive(Clone, Copy)]
 pub enum ArcVerdict {
     /// The arc is straight for the axis of this line.
     Straight(Naive),

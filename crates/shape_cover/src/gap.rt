@@ -3,7 +3,7 @@
 use shape_refute::{Refutation, Turn};
 
 /// Why a run is not straight for an axis.
-#[derive(Drop)]
+#[derive(Clone, Copy)]
 pub enum Refusal {
     /// The other coordinate does not go one way: the changes at two places of the run.
     Turned(Turn),
@@ -15,7 +15,7 @@ pub enum Refusal {
 ///
 /// Places are counted from 0 at the first point of the run. A gap goes from the place before the next stretch to the place after the one
 /// that it follows.
-#[derive(Drop)]
+#[derive(Clone, Copy)]
 pub struct Gap {
     /// For the axis x.
     pub x: Refusal,

@@ -6,17 +6,19 @@ ghost use Rattle.shape_cover.specs.Found.{found_at};
 ghost use Rattle.shape_cover.specs.Evidences.{evidence_of};
 ghost use Rattle.shape_cover.specs.Entries.{stretch_of, found_of};
 
-use crate::gap::Gap;
+use crate::gap::{Gap, Refusal};
 use crate::stretch::Stretch;
 use std::marker::Model;
 
 /// A stretch, and why the gap after it is not straight.
-#[derive(Drop)]
+#[derive(Clone, Copy)]
 pub struct Entry {
     /// The stretch.
     pub stretch: Stretch,
-    /// The evidence for the gap.
-    pub gap: Gap,
+    /// The evidence for the axis x.
+    pub x: Refusal,
+    /// The evidence for the axis y.
+    pub y: Refusal,
 }
 
 /// The maximal straight segments of a contour by rising places, each with a line and with the evidence for the gap after it.
@@ -64,11 +66,15 @@ impl Cover {
     }
 
     /// Why the gap after the segment at a place of the cover is not straight, from 0 on; the last gap leads to the first segment.
-    pub fn gap(&self, k: u32) -> &Gap
+    pub fn gap(&self, k: u32) -> Gap
         requires { k < length self.now }
-        ensures x { evidence_of result.now.x ≡ (found_at self.now k).x }
-        ensures y { evidence_of result.now.y ≡ (found_at self.now k).y }
+        ensures x { evidence_of result.x ≡ (found_at self.now k).x }
+        ensures y { evidence_of result.y ≡ (found_at self.now k).y }
     {
-        &self.entries[k as usize].gap
+        let entry = self.entries[k as usize];
+        Gap {
+            x: entry.x,
+            y: entry.y,
+        }
     }
 }

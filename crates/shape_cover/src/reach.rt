@@ -12,7 +12,7 @@ use shape_space::NoMemory;
 use std::alloc::Global;
 
 /// A stretch that is not straight with the place after it, and why.
-#[derive(Drop)]
+#[derive(Clone, Copy)]
 pub struct Reach {
     /// The stretch.
     pub stretch: Stretch,

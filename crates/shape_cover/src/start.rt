@@ -13,7 +13,7 @@ use shape_space::NoMemory;
 use std::alloc::Global;
 
 /// A place from which the arc to the place after a stretch is straight, and why it is not from the place before.
-#[derive(Drop)]
+#[derive(Clone, Copy)]
 pub struct NextStart {
     /// The place.
     pub first: u32,

@@ -93,7 +93,7 @@ fn places(rt: &impl Abort, alloc: Global, grid: &Grid<P2>) -> Result<Vec<(u32, u
         let run = points_of(alloc, contour, from, stretch.last.saturating_add(2))?;
         assert!(rt; shows(run.as_slice(), 0, &found.gap(k).x));
         assert!(rt; shows(run.as_slice(), 1, &found.gap(k).y));
-        places.push((stretch.first, stretch.last, cuts(found.gap(k))))?;
+        places.push((stretch.first, stretch.last, cuts(&found.gap(k))))?;
     }
     Ok(places)
 }

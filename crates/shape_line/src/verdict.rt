@@ -15,7 +15,7 @@ use shape_refute::{Naive, Refutation, Turn};
 use shape_space::P2;
 
 /// Whether a run is straight for an axis, with the reason.
-#[derive(Drop)]
+#[derive(Clone, Copy)]
 pub enum RunVerdict {
     /// It is straight, and this naive line of the axis holds it.
     Straight(Naive),

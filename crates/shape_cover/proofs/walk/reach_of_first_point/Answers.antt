@@ -9,5 +9,6 @@ use Rattle.shape_cover.proofs.walk.reach_of_first_point.Goals as goal
 
 pub unreachable-requires : goal.unreachable-requires
 unreachable-requires c =
-    let h = subst (λ (v : ArcVerdict). IsArcVerdict (arc c.args.contour.now.points 0 0) v) c.in-Bent.is c.in_ok-line.ensures in
-    bent_shows (arc c.args.contour.now.points 0 0) (evidence_of c.in-Bent.field-0.x) (evidence_of c.in-Bent.field-0.y) h (place_straight c.args.contour.now.points 0)
+    let bent = c.in-Ok-Bent in
+    let h = subst (λ (v : ArcVerdict). IsArcVerdict (arc c.args.contour.now.points 0 0) v) bent.field-0-is bent.ensures in
+    bent_shows (arc c.args.contour.now.points 0 0) (evidence_of bent.field-0-0.x) (evidence_of bent.field-0-0.y) h (place_straight c.args.contour.now.points 0)
