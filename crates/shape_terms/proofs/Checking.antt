@@ -1,6 +1,6 @@
 -- Going through a text line by line: what is known of it after each good line, and where the first bad line is found.
 -- Laws of texts and lines in general; when a line is good stands in `GoodSteps`.
-use Rattle.std.proofs.Common.{◌≡◌, ◌⊎◌, inl, inr, ℕ, zero, suc, ◌+◌, ◌≤◌, ◌<◌, refl, ap, sym, ◌∙◌, subst, arith, List, [], ◌∷◌, ◌++◌, length, get_or, Some, take, drop}
+use Rattle.std.proofs.Common.{◌≡◌, inl, inr, ℕ, zero, suc, ◌+◌, ◌≤◌, ◌<◌, refl, ap, sym, ◌∙◌, subst, arith, List, [], ◌∷◌, ◌++◌, length, get_or, Some, take, drop}
 use Rattle.std.specs.Prelude.{slice_get}
 use Rattle.std.specs.List.{AllByRecursion}
 use Rattle.std.proofs.lemmas.Bool.{cases_lt}
@@ -11,20 +11,11 @@ use Rattle.shape_terms.specs.Lines.{Line, spelling, text_of, IsLineOf}
 use Rattle.shape_terms.specs.Good.{GoodAfter, GoodSoFar}
 use Rattle.shape_terms.specs.Holds.{BeginsWith, LineIsGood, FirstBad}
 use Rattle.shape_terms.specs.Progress.{StartsWithLine, StartsWithNoLine}
+pub use Rattle.shape_terms.proofs.ListPushes.{get_push}
 use Rattle.shape_terms.proofs.TextLines.{lines_unique, spelling_past}
 use Rattle.shape_terms.proofs.FirstBadOnce.{text_parts, good_front}
 
 -- ---- one more good line
-
--- an element of a list with one more at its end is one of the list or that last one
-pub get_push : (xs : List Line) (x : Line) (k : ℕ) (m : Line) → slice_get (xs ++ x ∷ []) k ≡ Some m → ((slice_get xs k ≡ Some m) × (take k (xs ++ x ∷ []) ≡ take k xs)) ⊎ ((x ≡ m) × (take k (xs ++ x ∷ []) ≡ xs))
-get_push [] x zero m e = inr (cc, refl)
-get_push [] x (suc k) m e = cc
-get_push (y ∷ xs) x zero m e = inl (e, refl)
-get_push (y ∷ xs) x (suc k) m e = elim (get_push xs x k m e) [
-  | inl h ↦ inl (h.0, ap (λ l. y ∷ l) h.1)
-  | inr h ↦ inr (h.0, ap (λ l. y ∷ l) h.1)
-]
 
 pub good_push : (X : Picture) (lines : List Line) (l : Line) → GoodSoFar X lines → GoodAfter X lines l → GoodSoFar X (lines ++ l ∷ [])
 good_push X lines l good next k m e = elim (get_push lines l k m e) [

@@ -40,6 +40,18 @@ complete_kept X lines (Line.At p) zero h c = ap length (section_skip 0 lines (Li
 complete_kept X lines (Line.At p) (suc zero) h c = ap length (section_skip 1 lines (Line.At p) refl) ∙ c
 complete_kept X lines (Line.At p) (suc (suc zero)) h c = ap length (section_skip 2 lines (Line.At p) refl) ∙ c
 complete_kept X lines (Line.At p) (suc (suc (suc j))) h c = absurd (omega arith)
+complete_kept X lines (Line.Seg b e t a mu) zero h c = ap length (section_skip 0 lines (Line.Seg b e t a mu) refl) ∙ c
+complete_kept X lines (Line.Seg b e t a mu) (suc zero) h c = ap length (section_skip 1 lines (Line.Seg b e t a mu) refl) ∙ c
+complete_kept X lines (Line.Seg b e t a mu) (suc (suc zero)) h c = ap length (section_skip 2 lines (Line.Seg b e t a mu) refl) ∙ c
+complete_kept X lines (Line.Seg b e t a mu) (suc (suc (suc k))) h c = absurd (omega arith)
+complete_kept X lines (Line.Turn t i j) zero h c = ap length (section_skip 0 lines (Line.Turn t i j) refl) ∙ c
+complete_kept X lines (Line.Turn t i j) (suc zero) h c = ap length (section_skip 1 lines (Line.Turn t i j) refl) ∙ c
+complete_kept X lines (Line.Turn t i j) (suc (suc zero)) h c = ap length (section_skip 2 lines (Line.Turn t i j) refl) ∙ c
+complete_kept X lines (Line.Turn t i j) (suc (suc (suc k))) h c = absurd (omega arith)
+complete_kept X lines (Line.Cut t w) zero h c = ap length (section_skip 0 lines (Line.Cut t w) refl) ∙ c
+complete_kept X lines (Line.Cut t w) (suc zero) h c = ap length (section_skip 1 lines (Line.Cut t w) refl) ∙ c
+complete_kept X lines (Line.Cut t w) (suc (suc zero)) h c = ap length (section_skip 2 lines (Line.Cut t w) refl) ∙ c
+complete_kept X lines (Line.Cut t w) (suc (suc (suc k))) h c = absurd (omega arith)
 
 -- ---- how far the lines have come
 
@@ -79,6 +91,9 @@ first_is_shape X (Line.Parts n o b) g = absurd (let c : 0 ≡ 1 = g.complete 0 (
 first_is_shape X (Line.Near p q s) g = absurd (let c : 0 ≡ 1 = g.complete 0 (omega arith) in omega arith)
 first_is_shape X (Line.Contour p s n m) g = absurd (let c : 0 ≡ 1 = g.complete 0 (omega arith) in omega arith)
 first_is_shape X (Line.At p) g = absurd (let c : 0 ≡ 1 = g.complete 0 (omega arith) in omega arith)
+first_is_shape X (Line.Seg b e t a mu) g = absurd (let c : 0 ≡ 1 = g.complete 0 (omega arith) in omega arith)
+first_is_shape X (Line.Turn t i j) g = absurd (let c : 0 ≡ 1 = g.complete 0 (omega arith) in omega arith)
+first_is_shape X (Line.Cut t w) g = absurd (let c : 0 ≡ 1 = g.complete 0 (omega arith) in omega arith)
 first_is_shape X Line.End g = absurd (let c : 0 ≡ 1 = g.complete 0 (omega arith) in omega arith)
 
 -- ---- after the `shape` line
@@ -98,6 +113,9 @@ second_is_parts X lines (Line.Parts n o b) c e g = refl
 second_is_parts X lines (Line.Near p q s) c e g = absurd (let one : length (section_lines 1 lines) ≡ 1 = g.complete 1 (omega arith) in let none : length (section_lines 1 lines) ≡ 0 = ap length e in omega arith)
 second_is_parts X lines (Line.Contour p s n m) c e g = absurd (let one : length (section_lines 1 lines) ≡ 1 = g.complete 1 (omega arith) in let none : length (section_lines 1 lines) ≡ 0 = ap length e in omega arith)
 second_is_parts X lines (Line.At p) c e g = absurd (let one : length (section_lines 1 lines) ≡ 1 = g.complete 1 (omega arith) in let none : length (section_lines 1 lines) ≡ 0 = ap length e in omega arith)
+second_is_parts X lines (Line.Seg b e t a mu) c h g = absurd (let one : length (section_lines 1 lines) ≡ 1 = g.complete 1 (omega arith) in let none : length (section_lines 1 lines) ≡ 0 = ap length h in omega arith)
+second_is_parts X lines (Line.Turn t i j) c h g = absurd (let one : length (section_lines 1 lines) ≡ 1 = g.complete 1 (omega arith) in let none : length (section_lines 1 lines) ≡ 0 = ap length h in omega arith)
+second_is_parts X lines (Line.Cut t w) c h g = absurd (let one : length (section_lines 1 lines) ≡ 1 = g.complete 1 (omega arith) in let none : length (section_lines 1 lines) ≡ 0 = ap length h in omega arith)
 second_is_parts X lines Line.End c e g = absurd (let one : length (section_lines 1 lines) ≡ 1 = g.complete 1 (omega arith) in let none : length (section_lines 1 lines) ≡ 0 = ap length e in omega arith)
 
 -- ---- after the `parts` line
@@ -136,6 +154,9 @@ none_after_end X lines (Line.Parts n o b) g = end_among lines 1 (omega arith) g.
 none_after_end X lines (Line.Near p q s) g = end_among lines 2 (omega arith) g.order
 none_after_end X lines (Line.Contour p s n m) g = end_among lines 3 (omega arith) g.order
 none_after_end X lines (Line.At p) g = end_among lines 3 (omega arith) g.order
+none_after_end X lines (Line.Seg b e t a mu) g = end_among lines 3 (omega arith) g.order
+none_after_end X lines (Line.Turn t i j) g = end_among lines 3 (omega arith) g.order
+none_after_end X lines (Line.Cut t w) g = end_among lines 3 (omega arith) g.order
 none_after_end X lines Line.End g =
     let e : section_lines 4 lines ++ Line.End ∷ [] ≡ [] = sym (section_push 4 lines Line.End refl) ∙ g.claim in
     let n = ap length e in

@@ -5,6 +5,7 @@ pub mod SquaredDistances
 pub mod FramedBoxes
 pub mod NearestFound
 pub mod WordLists
+pub mod RefutationWords
 pub mod LineWords
 pub mod Spelled
 pub mod TextLines
@@ -46,3 +47,10 @@ pub mod Stretches
 pub mod Gaps
 pub mod ArcRuns
 pub mod CoverOf
+pub mod ListPushes
+pub mod CoverTaken
+pub mod CoverShown
+pub mod ContourGroups
+pub mod ContourSaid
+pub mod ContoursShown
+pub mod HoldsShows

@@ -1,7 +1,7 @@
 -- No two lines have the same spelling.
 -- One clause of `words_of_line` for each kind of line: its words have no blank.
-use Rattle.std.proofs.Common.{◌≡◌, ℕ, zero, suc, ◌≤◌, ◌<◌, ◌^◌, refl, arith, List, [], ◌∷◌, ◌++◌, length, true}
-use Rattle.std.specs.Prelude.{◌&&◌, nat_lt, ℤ, pos, negsuc, All, FitsSigned, codes}
+use Rattle.std.proofs.Common.{◌≡◌, ℕ, zero, suc, ◌≤◌, ◌<◌, ◌^◌, refl, arith, lit<, List, [], ◌∷◌, ◌++◌, length, true}
+use Rattle.std.specs.Prelude.{◌&&◌, nat_lt, ℤ, pos, negsuc, All, FitsSigned, codes, flat_map}
 use Rattle.std.specs.List.{AllByRecursion, list_all}
 use Rattle.std.specs.Str.Parse.{AllDigits}
 use Rattle.std.specs.Char.{digit_value}
@@ -11,9 +11,10 @@ use Rattle.std.proofs.lemmas.List.Elements.{All-head, All-tail}
 use Rattle.std.proofs.lemmas.Bool.{ltb-true, and_parts}
 use Rattle.std.proofs.lemmas.Bool.Decides.{nat_tests}
 use Rattle.std.specs.Int.{w32, w64}
-use Rattle.shape_terms.specs.Lines.{Line, line_words, spelling, number_words, kind_word, IsLineOf, IsName}
+use Rattle.shape_terms.specs.Refutations.{Share, Step, StepShare, Refutation}
+use Rattle.shape_terms.specs.Lines.{Line, line_words, spelling, number_words, share_words, step_word, why_words, axis_letter, kind_word, IsLineOf, IsName, IsWhy, IsStepIn, IsWeight, IsCount}
 use Rattle.shape_terms.proofs.WordLists.{IsWord, join_injective}
-use Rattle.shape_terms.proofs.LineWords.{words_injective}
+use Rattle.shape_terms.proofs.LineWords.{wide, words_injective}
 
 digit_past_blank : (c : ℕ) → digit_value c < 10 → 32 < c
 digit_past_blank c h = grind (arith, nat_tests)
@@ -45,12 +46,42 @@ words_append : (xs ys : List (List ℕ)) → AllByRecursion IsWord xs → AllByR
 words_append [] ys a b = b
 words_append (x ∷ xs) ys a b = (a.0, words_append xs ys a.1 b)
 
-wider : (z : ℤ) → FitsSigned w32 z → FitsSigned w64 z
-wider z h = record { sfits = omega (arith, h.sfits) }
+words_numbers : (p : List ℤ) → All (FitsSigned w64) p → AllByRecursion IsWord (number_words p)
+words_numbers [] a = tt
+words_numbers (x ∷ p) a = (word_signed x (All-head (FitsSigned w64) x p a), words_numbers p (All-tail (FitsSigned w64) x p a))
 
 words_point : (p : List ℤ) → All (FitsSigned w32) p → AllByRecursion IsWord (number_words p)
-words_point [] a = tt
-words_point (x ∷ p) a = (word_signed x (wider x (All-head (FitsSigned w32) x p a)), words_point p (All-tail (FitsSigned w32) x p a))
+words_point p a = words_numbers p (wide p a)
+
+word_letter : (t : ℕ) → IsWord (axis_letter t ∷ [])
+unfolding IsWord
+word_letter t = (omega arith, (omega arith, tt))
+
+word_step : (s : Step) → IsWord (step_word s)
+unfolding IsWord
+word_step Step.Up = (lit< tt, free_by_test (codes "up") refl)
+word_step (Step.Plus u) = (omega arith, (omega arith, (omega arith, (omega arith, (omega arith, tt)))))
+word_step (Step.Minus u) = (omega arith, (omega arith, (omega arith, (omega arith, (omega arith, tt)))))
+
+words_entries : (xs : List Share) → All (λ x. IsWeight x.weight × IsCount x.place) xs → AllByRecursion IsWord (flat_map (λ (x : Share). decimal x.weight ∷ decimal x.place ∷ []) xs)
+words_entries [] a = tt
+words_entries (x ∷ xs) a =
+    let h = All-head (λ (x : Share). IsWeight x.weight × IsCount x.place) x xs a in
+    (word_decimal x.weight (omega (arith, h.0)), (word_decimal x.place (omega (arith, h.1)), words_entries xs (All-tail (λ (x : Share). IsWeight x.weight × IsCount x.place) x xs a)))
+
+words_shares : (xs : List Share) → (length xs ≤ 4) × All (λ x. IsWeight x.weight × IsCount x.place) xs → AllByRecursion IsWord (share_words xs)
+words_shares xs a = (word_decimal (length xs) (omega (arith, a.0)), words_entries xs a.1)
+
+words_steps : (d : ℕ) (xs : List StepShare) → All (λ x. IsWeight x.weight × IsStepIn d x.step) xs → AllByRecursion IsWord (flat_map (λ (x : StepShare). decimal x.weight ∷ step_word x.step ∷ []) xs)
+words_steps d [] a = tt
+words_steps d (x ∷ xs) a =
+    let h = All-head (λ (x : StepShare). IsWeight x.weight × IsStepIn d x.step) x xs a in
+    (word_decimal x.weight (omega (arith, h.0)), (word_step x.step, words_steps d xs (All-tail (λ (x : StepShare). IsWeight x.weight × IsStepIn d x.step) x xs a)))
+
+words_why : (d : ℕ) (w : Refutation) → IsWhy d w → AllByRecursion IsWord (why_words w)
+words_why d w a =
+    words_append (share_words w.low) _ (words_shares w.low a.low)
+    (words_append (share_words w.high) _ (words_shares w.high a.high) (word_decimal (length w.steps) (omega (arith, a.steps.0)), words_steps d w.steps a.steps.1))
 
 word_kind : (n : ℕ) → IsWord (kind_word n)
 word_kind zero = literal (codes "raw") refl
@@ -72,6 +103,9 @@ words_of_line d (Line.Parts n o b) a = (literal (codes "parts") refl, (word_deci
 words_of_line d (Line.Near p q s) a = (literal (codes "near") refl, words_append (number_words p) _ (words_point p a.0.fits) (words_append (number_words q) _ (words_point q a.1.fits) (word_decimal s (omega (arith, a.2)), tt)))
 words_of_line d (Line.Contour p s n m) a = (literal (codes "contour") refl, words_append (number_words p) _ (words_point p a.1.fits) (word_decimal s (omega (arith, a.2)), (word_decimal n (omega (arith, a.3)), (word_decimal m (omega (arith, a.4)), tt))))
 words_of_line d (Line.At p) a = (literal (codes "at") refl, words_point p a.1.fits)
+words_of_line d (Line.Seg b e t r mu) a = (literal (codes "seg") refl, (word_decimal b (omega (arith, a.1)), (word_decimal e (omega (arith, a.2)), (word_letter t, words_append (number_words r) _ (words_numbers r a.4.fits) (word_signed mu a.5, tt)))))
+words_of_line d (Line.Turn t i j) a = (literal (codes "turn") refl, (word_letter t, (word_decimal i (omega (arith, a.2)), (word_decimal j (omega (arith, a.3)), tt))))
+words_of_line d (Line.Cut t w) a = (literal (codes "cut") refl, (word_letter t, words_why d w a.2))
 words_of_line d Line.End a = (literal (codes "end") refl, tt)
 
 -- no two lines have the same spelling

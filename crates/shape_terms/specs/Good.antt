@@ -15,6 +15,9 @@ section (Line.Parts _ _ _) = 1
 section (Line.Near _ _ _) = 2
 section (Line.Contour _ _ _ _) = 3
 section (Line.At _) = 3
+section (Line.Seg _ _ _ _ _) = 3
+section (Line.Turn _ _ _) = 3
+section (Line.Cut _ _) = 3
 section Line.End = 4
 
 abbrev pub section_lines : ℕ → List Line → List Line
@@ -40,6 +43,9 @@ Claim X earlier (Line.Parts n o b) = (section_lines 1 earlier ≡ []) × Counts 
 Claim X earlier (Line.Near p q s) = NearClaim X (section_lines 2 earlier) (Line.Near p q s)
 Claim X earlier (Line.Contour p side n m) = ContourClaim X (section_lines 3 earlier) (Line.Contour p side n m)
 Claim X earlier (Line.At p) = ContourClaim X (section_lines 3 earlier) (Line.At p)
+Claim X earlier (Line.Seg b e t a mu) = ContourClaim X (section_lines 3 earlier) (Line.Seg b e t a mu)
+Claim X earlier (Line.Turn t i j) = ContourClaim X (section_lines 3 earlier) (Line.Turn t i j)
+Claim X earlier (Line.Cut t why) = ContourClaim X (section_lines 3 earlier) (Line.Cut t why)
 Claim X earlier Line.End = section_lines 4 earlier ≡ []
 
 -- the section of this number is complete; contours are wanted of flat pictures alone

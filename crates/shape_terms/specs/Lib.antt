@@ -22,4 +22,5 @@ pub mod Turns
 pub mod Straight
 pub mod Covers
 pub mod GapCover
+pub mod ContourFacts
 pub mod ContourLines

@@ -5,9 +5,10 @@ use Rattle.shape_terms.specs.Pictures.{Picture}
 use Rattle.shape_terms.specs.Parts.{Counts}
 use Rattle.shape_terms.specs.Distances.{NearFact, IsField}
 use Rattle.shape_terms.specs.Contours.{Crack}
-use Rattle.shape_terms.specs.Traces.{Contour, AreContours}
+use Rattle.shape_terms.specs.Traces.{Contour}
+use Rattle.shape_terms.specs.ContourFacts.{ContourFact, in_pairs, ContoursShow}
 use Rattle.shape_terms.specs.Lines.{Line, text_of, IsLineOf}
-use Rattle.shape_terms.specs.ContourLines.{contour_groups, point_of}
+use Rattle.shape_terms.specs.ContourLines.{contour_groups, point_of, segment_of, gap_of}
 use Rattle.shape_terms.specs.Good.{section_lines}
 
 -- what a `parts` line says of the picture: how many object points it has, and how many components its object and its background
@@ -30,15 +31,19 @@ abbrev pub start_of : List Line → Crack
 start_of (Line.Contour p side _ _ ∷ _) = record { pixel = p; side = side }
 start_of _ = record { pixel = []; side = 0 }
 
--- what the lines of a contour say of it: its first crack, and its points in order
-abbrev pub contour_fact : List Line → Contour
-contour_fact lines = record { start = start_of lines; points = filter_map point_of lines }
+-- what the lines of a contour say of its outline: its first crack, and its points in order
+abbrev pub outline_of : List Line → Contour
+outline_of lines = record { start = start_of lines; points = filter_map point_of lines }
+
+-- and of its cover: its segments in order, and how the gap after each is refused
+abbrev pub contour_fact : List Line → ContourFact
+contour_fact lines = record { outline = outline_of lines; segments = filter_map segment_of lines; gaps = in_pairs (filter_map gap_of lines) }
 
 -- the report's content: what its lines say, section by section
 pub record Content : Type 0 where
   pub parts : List PartsFact
   pub nears : List NearFact
-  pub contours : List Contour
+  pub contours : List ContourFact
 
 abbrev pub content_of : List Line → Content
 content_of lines = record {
@@ -53,11 +58,11 @@ pub record ShowsParts (X : Picture) (facts : List PartsFact) : Type 0 where
   pub once : facts ≡ fact ∷ []
   pub counts : Counts X fact.points fact.object fact.background
 
--- the counts of the picture; each object point once, in raster order, with a nearest background point of the whole space; and the contours of a flat picture, each from its least crack and with its points
+-- the counts of the picture; each object point once, in raster order, with a nearest background point of the whole space; and the contours of a flat picture, each from its least crack and with its points and its cover
 pub record Shows (X : Picture) (content : Content) : Type 0 where
   pub parts : ShowsParts X content.parts
   pub nears : IsField X content.nears
-  pub contours : length X.sides ≡ 2 → AreContours X content.contours
+  pub contours : length X.sides ≡ 2 → ContoursShow X content.contours
 
 -- the text is made of lines that show of the picture what they say
 pub record TextShows (X : Picture) (text : List ℕ) : Type 0 where

@@ -1,0 +1,10 @@
+use Rattle.std.proofs.Common.{◌≤◌, ◌^◌, sym}
+use Rattle.shape_terms.specs.Points.{box_count}
+use Rattle.judge_cover.proofs.Room.{few_lines}
+use Rattle.judge_cover.proofs.judge.CoverJudge.new.Goals as goal
+
+pub returns-clause-room : goal.returns-clause-room
+returns-clause-room c =
+    let X = c.args.grid.now in
+    let few : box_count X.sides ≤ 2 ^ 23 = rw (sym c.sides-sides.ensures.value) c.sides-sides.result.few in
+    few_lines X c.in_ok-contours.contours c.in_ok-contours.ensures few

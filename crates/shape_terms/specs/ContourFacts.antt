@@ -1,0 +1,70 @@
+-- What a report says of a contour, and when it shows it: the outline, the segments of the tangential cover, and how each gap is refused.
+-- Geometry alone: no line, spelling or judge stands here.
+use Rattle.std.specs.Prelude.{◌≡◌, ℕ, ◌<◌, List, [], ◌∷◌, length, map, slice_get, Some, All}
+use Rattle.shape_terms.specs.Points.{Point}
+use Rattle.shape_terms.specs.Pictures.{Picture}
+use Rattle.shape_terms.specs.Naive.{Naive, IsNaiveFor}
+use Rattle.shape_terms.specs.Straight.{KeepsSense, IsStraightFor}
+use Rattle.shape_terms.specs.Traces.{Contour, AreContours}
+use Rattle.shape_terms.specs.Covers.{Stretch, IsCover, arc, gap_run}
+
+-- a segment: its stretch of the contour, and a naive line with its main axis
+pub record Segment : Type 0 where
+  pub stretch : Stretch
+  pub axis : ℕ
+  pub line : Naive
+
+abbrev pub stretches_of : List Segment → List Stretch
+stretches_of segments = map (λ (s : Segment). s.stretch) segments
+
+-- how the run of a gap is refused: by a turn or by weights
+pub data GapKind : Type 0 where
+  ByTurn ByCut : GapKind
+
+-- the axis for which the run of a gap is refused, and how
+pub record GapFact : Type 0 where
+  pub axis : ℕ
+  pub kind : GapKind
+
+-- a contour with its segments in order, and for each of them how the gap after it is refused for the one and for the other axis
+pub record ContourFact : Type 0 where
+  pub outline : Contour
+  pub segments : List Segment
+  pub gaps : List (GapFact × GapFact)
+
+-- the facts two by two: each gap has two
+abbrev pub in_pairs : List GapFact → List (GapFact × GapFact)
+in_pairs (a ∷ b ∷ facts) = (a, b) ∷ in_pairs facts
+in_pairs _ = []
+
+-- ---- what they show
+
+-- the line is of an axis of the plane, proper, and holds each place of the stretch, along which the other coordinate keeps its sense
+pub record SegmentShows (points : List Point) (s : Segment) : Type 0 where
+  pub axis : s.axis < 2
+  pub line : IsNaiveFor s.axis (arc points s.stretch.first s.stretch.last) s.line
+  pub sense : KeepsSense s.axis (arc points s.stretch.first s.stretch.last)
+
+-- the run is not straight for the axis, and where weights refuse it, no proper naive line of that axis holds it
+pub record RefusalShows (run : List Point) (fact : GapFact) : Type 0 where
+  pub not_straight : IsStraightFor fact.axis run → ⊥
+  pub no_line : fact.kind ≡ GapKind.ByCut → (n : Naive) → IsNaiveFor fact.axis run n → ⊥
+
+-- the first fact of a gap is of the axis x and the second of the axis y, so the run is straight for neither
+pub record GapShows (run : List Point) (facts : GapFact × GapFact) : Type 0 where
+  pub axis_x : facts.0.axis ≡ 0
+  pub axis_y : facts.1.axis ≡ 1
+  pub refused_x : RefusalShows run facts.0
+  pub refused_y : RefusalShows run facts.1
+
+-- the segments are exactly the cover of the contour, each with its line, and each has a gap, whose run is not straight
+pub record ContourShows (fact : ContourFact) : Type 0 where
+  pub cover : IsCover fact.outline.points (stretches_of fact.segments)
+  pub lines : All (SegmentShows fact.outline.points) fact.segments
+  pub all_gaps : length fact.gaps ≡ length fact.segments
+  pub gaps : (k : ℕ) (g : GapFact × GapFact) → slice_get fact.gaps k ≡ Some g → GapShows (gap_run fact.outline.points (stretches_of fact.segments) k) g
+
+-- the contours are those of the picture, and each has its cover
+pub record ContoursShow (X : Picture) (facts : List ContourFact) : Type 0 where
+  pub outlines : AreContours X (map (λ (f : ContourFact). f.outline) facts)
+  pub each : All ContourShows facts
