@@ -1,18 +1,21 @@
 -- The lines that slots stand for stay the same when a line is put behind those of its kind.
--- A further kind of line brings one lemma `.._extends`; the other laws serve every kind.
+-- A further kind of line brings one lemma `.._grows`; the other laws serve every kind.
 use Rattle.std.proofs.Common.{◌≡◌, ℕ, zero, suc, ◌<◌, ℤ, List, [], ◌∷◌, ◌++◌, length, map, refl, sym, ap, ◌∙◌, subst, arith, Some}
 use Rattle.std.specs.Prelude.{All, slice_get}
 use Rattle.std.specs.Option.{option_map_or}
 use Rattle.std.proofs.lemmas.List.{map-append, length-append}
 use Rattle.std.proofs.lemmas.List.Elements.{All-head, All-tail, All-nil, All-cons, All-push}
 use Rattle.shape_terms.specs.Lines as Terms
-use Rattle.shape_report.specs.declared.report.Heading.{Heading}
-use Rattle.shape_report.specs.declared.report.PartCount.{PartCount}
-use Rattle.shape_report.specs.declared.report.Distance.{Distance}
-use Rattle.shape_report.specs.declared.report.ContourHead.{ContourHead}
-use Rattle.shape_report.specs.declared.report.Slot.{Slot}
-use Rattle.shape_report.specs.declared.report.Slot.TheVariants.{Shape, Parts, Near, Contour, At, End}
-use Rattle.shape_report.specs.Slots.{Shelves, heading_line, count_line, distance_line, contour_line, at_line, line_in, IsPlaced, IsSlotIn}
+use Rattle.shape_report.specs.declared.shelf.Heading.{Heading}
+use Rattle.shape_report.specs.declared.shelf.PartCount.{PartCount}
+use Rattle.shape_report.specs.declared.shelf.Distance.{Distance}
+use Rattle.shape_report.specs.declared.shelf.ContourHead.{ContourHead}
+use Rattle.shape_report.specs.declared.shelf.Segment.{Segment}
+use Rattle.shape_report.specs.declared.shelf.GapTurn.{GapTurn}
+use Rattle.shape_report.specs.declared.shelf.GapCut.{GapCut}
+use Rattle.shape_report.specs.declared.shelf.Slot.{Slot}
+use Rattle.shape_report.specs.declared.shelf.Slot.TheVariants.{Shape, Parts, Near, Contour, At, Seg, Turn, Cut, End}
+use Rattle.shape_report.specs.Slots.{Shelves, heading_line, count_line, distance_line, contour_line, at_line, seg_line, turn_line, cut_line, line_in, IsPlaced, IsSlotIn}
 
 get_front : {A : Type 0} (xs ys : List A) (i : ℕ) → i < length xs → slice_get (xs ++ ys) i ≡ slice_get xs i
 get_front [] ys i l = absurd (omega arith)
@@ -27,12 +30,16 @@ get_last (y ∷ xs) x = get_last xs x
 pub last_line : {A : Type 0} (f : A → Terms.Line) (xs ys : List A) (x : A) (place : ℕ) → ys ≡ xs ++ x ∷ [] → place ≡ length xs → option_map_or f (slice_get ys place) Terms.Line.End ≡ f x
 last_line f xs ys x place e l = rw (e, l) (ap (λ o. option_map_or f o Terms.Line.End) (get_last xs x))
 
--- an earlier one stays
-same_line : {A : Type 0} (f : A → Terms.Line) (xs ys : List A) (x : A) (i : ℕ) → ys ≡ xs ++ x ∷ [] → i < length xs → option_map_or f (slice_get ys i) Terms.Line.End ≡ option_map_or f (slice_get xs i) Terms.Line.End
-same_line f xs ys x i e l = rw e (ap (λ o. option_map_or f o Terms.Line.End) (get_front xs (x ∷ []) i l))
+-- each element of the first list stands at its place in the second
+pub record IsFront {A : Type 0} (xs ys : List A) : Type 0 where
+  pub within : (i : ℕ) → i < length xs → i < length ys
+  pub same : (i : ℕ) → i < length xs → slice_get ys i ≡ slice_get xs i
 
-longer : {A : Type 0} (xs ys : List A) (x : A) (i : ℕ) → ys ≡ xs ++ x ∷ [] → i < length xs → i < length ys
-longer xs ys x i e l = rw e (omega (arith, length-append xs (x ∷ [])))
+front : {A : Type 0} (xs : List A) → IsFront xs xs
+front xs = record { within = λ i l. l; same = λ i l. refl }
+
+front_more : {A : Type 0} (xs ys : List A) (x : A) → ys ≡ xs ++ x ∷ [] → IsFront xs ys
+front_more xs ys x e = record { within = λ i l. rw e (omega (arith, length-append xs (x ∷ []))); same = λ i l. rw e (get_front xs (x ∷ []) i l) }
 
 -- the place of the last one
 pub last_place : {A : Type 0} (xs ys : List A) (x : A) (place : ℕ) → ys ≡ xs ++ x ∷ [] → place ≡ length xs → place < length ys
@@ -43,118 +50,73 @@ pub record Extends {P : Type 0} (coords : P → List ℤ) (old new : Shelves P) 
   pub placed : (s : Slot) → IsPlaced old s → IsPlaced new s
   pub same : (s : Slot) → IsPlaced old s → line_in coords new s ≡ line_in coords old s
 
+-- ---- shelves
+
+-- each old shelf is a front of the new one
+pub record Grows {P : Type 0} (old new : Shelves P) : Type 0 where
+  pub headings : IsFront old.headings new.headings
+  pub counts : IsFront old.counts new.counts
+  pub distances : IsFront old.distances new.distances
+  pub contours : IsFront old.contours new.contours
+  pub points : IsFront old.points new.points
+  pub segments : IsFront old.segments new.segments
+  pub turns : IsFront old.turns new.turns
+  pub cuts : IsFront old.cuts new.cuts
+
+pub extends : {P : Type 0} (coords : P → List ℤ) (old new : Shelves P) → Grows old new → Extends coords old new
+extends coords old new g = record { placed = placed; same = same }
+  where
+    read : {A : Type 0} (f : A → Terms.Line) (xs ys : List A) → IsFront xs ys → (i : ℕ) → i < length xs → option_map_or f (slice_get ys i) Terms.Line.End ≡ option_map_or f (slice_get xs i) Terms.Line.End
+    read f xs ys h i l = ap (λ o. option_map_or f o Terms.Line.End) (h.same i l)
+
+    placed : (s : Slot) → IsPlaced old s → IsPlaced new s
+    placed (Shape i) l = g.headings.within i l
+    placed (Parts i) l = g.counts.within i l
+    placed (Near i) l = g.distances.within i l
+    placed (Contour i) l = g.contours.within i l
+    placed (At i) l = g.points.within i l
+    placed (Seg i) l = g.segments.within i l
+    placed (Turn i) l = g.turns.within i l
+    placed (Cut i) l = g.cuts.within i l
+    placed End l = l
+
+    same : (s : Slot) → IsPlaced old s → line_in coords new s ≡ line_in coords old s
+    same (Shape i) l = read (heading_line coords) old.headings new.headings g.headings i l
+    same (Parts i) l = read count_line old.counts new.counts g.counts i l
+    same (Near i) l = read (distance_line coords) old.distances new.distances g.distances i l
+    same (Contour i) l = read (contour_line coords) old.contours new.contours g.contours i l
+    same (At i) l = read (at_line coords) old.points new.points g.points i l
+    same (Seg i) l = read seg_line old.segments new.segments g.segments i l
+    same (Turn i) l = read turn_line old.turns new.turns g.turns i l
+    same (Cut i) l = read cut_line old.cuts new.cuts g.cuts i l
+    same End l = refl
+
 -- ---- one lemma for each kind
 
-module _ {P : Type 0} (coords : P → List ℤ) (old : Shelves P) where
-  pub heading_extends : (hs : List (Heading P)) (h : Heading P) → hs ≡ old.headings ++ h ∷ [] → Extends coords old (record old { headings = hs })
-  heading_extends hs h e = record { placed = placed; same = same }
-    where
-      new : Shelves P
-      new = record old { headings = hs }
+module _ {P : Type 0} (old : Shelves P) where
+  pub heading_grows : (hs : List (Heading P)) (h : Heading P) → hs ≡ old.headings ++ h ∷ [] → Grows old (record old { headings = hs })
+  heading_grows hs h e = record { headings = front_more old.headings hs h e; counts = front old.counts; distances = front old.distances; contours = front old.contours; points = front old.points; segments = front old.segments; turns = front old.turns; cuts = front old.cuts }
 
-      placed : (s : Slot) → IsPlaced old s → IsPlaced new s
-      placed (Shape i) l = longer old.headings hs h i e l
-      placed (Parts i) l = l
-      placed (Near i) l = l
-      placed (Contour i) l = l
-      placed (At i) l = l
-      placed End l = l
+  pub count_grows : (cs : List PartCount) (c : PartCount) → cs ≡ old.counts ++ c ∷ [] → Grows old (record old { counts = cs })
+  count_grows cs c e = record { headings = front old.headings; counts = front_more old.counts cs c e; distances = front old.distances; contours = front old.contours; points = front old.points; segments = front old.segments; turns = front old.turns; cuts = front old.cuts }
 
-      same : (s : Slot) → IsPlaced old s → line_in coords new s ≡ line_in coords old s
-      same (Shape i) l = same_line (heading_line coords) old.headings hs h i e l
-      same (Parts i) l = refl
-      same (Near i) l = refl
-      same (Contour i) l = refl
-      same (At i) l = refl
-      same End l = refl
+  pub distance_grows : (ds : List (Distance P)) (d : Distance P) → ds ≡ old.distances ++ d ∷ [] → Grows old (record old { distances = ds })
+  distance_grows ds d e = record { headings = front old.headings; counts = front old.counts; distances = front_more old.distances ds d e; contours = front old.contours; points = front old.points; segments = front old.segments; turns = front old.turns; cuts = front old.cuts }
 
-  pub count_extends : (cs : List PartCount) (c : PartCount) → cs ≡ old.counts ++ c ∷ [] → Extends coords old (record old { counts = cs })
-  count_extends cs c e = record { placed = placed; same = same }
-    where
-      new : Shelves P
-      new = record old { counts = cs }
+  pub contour_grows : (cs : List (ContourHead P)) (c : ContourHead P) → cs ≡ old.contours ++ c ∷ [] → Grows old (record old { contours = cs })
+  contour_grows cs c e = record { headings = front old.headings; counts = front old.counts; distances = front old.distances; contours = front_more old.contours cs c e; points = front old.points; segments = front old.segments; turns = front old.turns; cuts = front old.cuts }
 
-      placed : (s : Slot) → IsPlaced old s → IsPlaced new s
-      placed (Shape i) l = l
-      placed (Parts i) l = longer old.counts cs c i e l
-      placed (Near i) l = l
-      placed (Contour i) l = l
-      placed (At i) l = l
-      placed End l = l
+  pub point_grows : (ps : List P) (p : P) → ps ≡ old.points ++ p ∷ [] → Grows old (record old { points = ps })
+  point_grows ps p e = record { headings = front old.headings; counts = front old.counts; distances = front old.distances; contours = front old.contours; points = front_more old.points ps p e; segments = front old.segments; turns = front old.turns; cuts = front old.cuts }
 
-      same : (s : Slot) → IsPlaced old s → line_in coords new s ≡ line_in coords old s
-      same (Shape i) l = refl
-      same (Parts i) l = same_line count_line old.counts cs c i e l
-      same (Near i) l = refl
-      same (Contour i) l = refl
-      same (At i) l = refl
-      same End l = refl
+  pub segment_grows : (ss : List Segment) (s : Segment) → ss ≡ old.segments ++ s ∷ [] → Grows old (record old { segments = ss })
+  segment_grows ss s e = record { headings = front old.headings; counts = front old.counts; distances = front old.distances; contours = front old.contours; points = front old.points; segments = front_more old.segments ss s e; turns = front old.turns; cuts = front old.cuts }
 
-  pub distance_extends : (ds : List (Distance P)) (d : Distance P) → ds ≡ old.distances ++ d ∷ [] → Extends coords old (record old { distances = ds })
-  distance_extends ds d e = record { placed = placed; same = same }
-    where
-      new : Shelves P
-      new = record old { distances = ds }
+  pub turn_grows : (ts : List GapTurn) (t : GapTurn) → ts ≡ old.turns ++ t ∷ [] → Grows old (record old { turns = ts })
+  turn_grows ts t e = record { headings = front old.headings; counts = front old.counts; distances = front old.distances; contours = front old.contours; points = front old.points; segments = front old.segments; turns = front_more old.turns ts t e; cuts = front old.cuts }
 
-      placed : (s : Slot) → IsPlaced old s → IsPlaced new s
-      placed (Shape i) l = l
-      placed (Parts i) l = l
-      placed (Near i) l = longer old.distances ds d i e l
-      placed (Contour i) l = l
-      placed (At i) l = l
-      placed End l = l
-
-      same : (s : Slot) → IsPlaced old s → line_in coords new s ≡ line_in coords old s
-      same (Shape i) l = refl
-      same (Parts i) l = refl
-      same (Near i) l = same_line (distance_line coords) old.distances ds d i e l
-      same (Contour i) l = refl
-      same (At i) l = refl
-      same End l = refl
-
-  pub contour_extends : (cs : List (ContourHead P)) (c : ContourHead P) → cs ≡ old.contours ++ c ∷ [] → Extends coords old (record old { contours = cs })
-  contour_extends cs c e = record { placed = placed; same = same }
-    where
-      new : Shelves P
-      new = record old { contours = cs }
-
-      placed : (s : Slot) → IsPlaced old s → IsPlaced new s
-      placed (Shape i) l = l
-      placed (Parts i) l = l
-      placed (Near i) l = l
-      placed (Contour i) l = longer old.contours cs c i e l
-      placed (At i) l = l
-      placed End l = l
-
-      same : (s : Slot) → IsPlaced old s → line_in coords new s ≡ line_in coords old s
-      same (Shape i) l = refl
-      same (Parts i) l = refl
-      same (Near i) l = refl
-      same (Contour i) l = same_line (contour_line coords) old.contours cs c i e l
-      same (At i) l = refl
-      same End l = refl
-
-  pub point_extends : (ps : List P) (p : P) → ps ≡ old.points ++ p ∷ [] → Extends coords old (record old { points = ps })
-  point_extends ps p e = record { placed = placed; same = same }
-    where
-      new : Shelves P
-      new = record old { points = ps }
-
-      placed : (s : Slot) → IsPlaced old s → IsPlaced new s
-      placed (Shape i) l = l
-      placed (Parts i) l = l
-      placed (Near i) l = l
-      placed (Contour i) l = l
-      placed (At i) l = longer old.points ps p i e l
-      placed End l = l
-
-      same : (s : Slot) → IsPlaced old s → line_in coords new s ≡ line_in coords old s
-      same (Shape i) l = refl
-      same (Parts i) l = refl
-      same (Near i) l = refl
-      same (Contour i) l = refl
-      same (At i) l = same_line (at_line coords) old.points ps p i e l
-      same End l = refl
+  pub cut_grows : (cs : List GapCut) (c : GapCut) → cs ≡ old.cuts ++ c ∷ [] → Grows old (record old { cuts = cs })
+  cut_grows cs c e = record { headings = front old.headings; counts = front old.counts; distances = front old.distances; contours = front old.contours; points = front old.points; segments = front old.segments; turns = front old.turns; cuts = front_more old.cuts cs c e }
 
 -- ---- slots of every kind
 

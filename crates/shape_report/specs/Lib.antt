@@ -3,3 +3,4 @@ pub mod Texts
 pub mod Slots
 pub mod Flow
 pub mod Reading
+pub mod Entries

@@ -1,16 +1,20 @@
 -- How a report keeps its lines: a slot for each line, which says its kind and its place among the lines of that kind.
 -- A slot whose place is past the end stands for no line; a report has none such.
-use Rattle.std.specs.Prelude.{ℕ, ℤ, List, ◌<◌, length, slice_get}
+use Rattle.std.specs.Prelude.{ℕ, ℤ, List, ◌<◌, length, slice_get, take}
 use Rattle.std.specs.Option.{option_map_or}
 use Rattle.shape_terms.specs.Lines as Terms
 use Rattle.shape_terms.specs.Lines.{IsLineOf}
 use Rattle.shape_rules.specs.Names.{word_of}
-use Rattle.shape_report.specs.declared.report.Heading.{Heading}
-use Rattle.shape_report.specs.declared.report.PartCount.{PartCount}
-use Rattle.shape_report.specs.declared.report.Distance.{Distance}
-use Rattle.shape_report.specs.declared.report.ContourHead.{ContourHead}
-use Rattle.shape_report.specs.declared.report.Slot.{Slot}
-use Rattle.shape_report.specs.declared.report.Slot.TheVariants.{Shape, Parts, Near, Contour, At, End}
+use Rattle.shape_refute.specs.Weights.{refutation_of}
+use Rattle.shape_report.specs.declared.shelf.Heading.{Heading}
+use Rattle.shape_report.specs.declared.shelf.PartCount.{PartCount}
+use Rattle.shape_report.specs.declared.shelf.Distance.{Distance}
+use Rattle.shape_report.specs.declared.shelf.ContourHead.{ContourHead}
+use Rattle.shape_report.specs.declared.shelf.Segment.{Segment}
+use Rattle.shape_report.specs.declared.shelf.GapTurn.{GapTurn}
+use Rattle.shape_report.specs.declared.shelf.GapCut.{GapCut}
+use Rattle.shape_report.specs.declared.shelf.Slot.{Slot}
+use Rattle.shape_report.specs.declared.shelf.Slot.TheVariants.{Shape, Parts, Near, Contour, At, Seg, Turn, Cut, End}
 
 -- the lists of a report, one for each kind of line with fields
 pub record Shelves (P : Type 0) : Type 0 where
@@ -19,9 +23,21 @@ pub record Shelves (P : Type 0) : Type 0 where
   pub distances : List (Distance P)
   pub contours : List (ContourHead P)
   pub points : List P
+  pub segments : List Segment
+  pub turns : List GapTurn
+  pub cuts : List GapCut
 
 abbrev pub count_line : PartCount → Terms.Line
 count_line c = Terms.Line.Parts c.points c.object c.background
+
+abbrev pub seg_line : Segment → Terms.Line
+seg_line s = Terms.Line.Seg s.first s.last s.line.axis (take 2 s.line.a) s.line.mu
+
+abbrev pub turn_line : GapTurn → Terms.Line
+turn_line g = Terms.Line.Turn g.axis g.i g.j
+
+abbrev pub cut_line : GapCut → Terms.Line
+cut_line g = Terms.Line.Cut g.axis (refutation_of g.why)
 
 module _ {P : Type 0} where
   abbrev pub heading_line : (P → List ℤ) → Heading P → Terms.Line
@@ -43,6 +59,9 @@ module _ {P : Type 0} where
   line_in coords kept (Near i) = option_map_or (distance_line coords) (slice_get kept.distances i) Terms.Line.End
   line_in coords kept (Contour i) = option_map_or (contour_line coords) (slice_get kept.contours i) Terms.Line.End
   line_in coords kept (At i) = option_map_or (at_line coords) (slice_get kept.points i) Terms.Line.End
+  line_in coords kept (Seg i) = option_map_or seg_line (slice_get kept.segments i) Terms.Line.End
+  line_in coords kept (Turn i) = option_map_or turn_line (slice_get kept.turns i) Terms.Line.End
+  line_in coords kept (Cut i) = option_map_or cut_line (slice_get kept.cuts i) Terms.Line.End
   line_in coords kept End = Terms.Line.End
 
   -- the slot's place is one of its kind
@@ -52,6 +71,9 @@ module _ {P : Type 0} where
   IsPlaced kept (Near i) = i < length kept.distances
   IsPlaced kept (Contour i) = i < length kept.contours
   IsPlaced kept (At i) = i < length kept.points
+  IsPlaced kept (Seg i) = i < length kept.segments
+  IsPlaced kept (Turn i) = i < length kept.turns
+  IsPlaced kept (Cut i) = i < length kept.cuts
   IsPlaced kept End = Unit {0}
 
   -- the slot stands for a line of the reports of pictures with d axes

@@ -1,58 +1,17 @@
 //! A report: its lines in order, each kept among the lines of its kind in as little room as it needs.
-//! A further kind of line is one more vector, one more slot and one more case of each `match`.
+//! A further kind of line is one more vector, one more function that adds to it, and one more case of each `match`.
 ghost use Rattle.std.specs.Prelude.{◌≡◌, ◌<◌, ◌++◌, [], ◌∷◌, IfOk, OnOk, OnErr, length, slice_get, Some};
 ghost use Rattle.shape_terms.specs.Lines as Terms;
 ghost use Rattle.shape_terms.specs.Lines.{IsLineOf};
 ghost use Rattle.shape_report.specs.LineOf.{line_of};
 
 use crate::line::Line;
-use shape_rules::Name;
+use crate::shelf::{
+    ContourHead, Distance, GapCut, GapTurn, Heading, PartCount, Segment, Slot,
+};
 use shape_space::{NoMemory, Point};
 use std::alloc::Global;
 use std::marker::Model;
-
-/// What a `shape` line says.
-#[derive(Clone, Copy)]
-pub struct Heading<P> {
-    pub sides: P,
-    pub rule: Name,
-}
-
-/// What a `parts` line says.
-#[derive(Clone, Copy)]
-pub struct PartCount {
-    pub points: u32,
-    pub object: u32,
-    pub background: u32,
-}
-
-/// What a `near` line says.
-#[derive(Clone, Copy)]
-pub struct Distance<P> {
-    pub p: P,
-    pub q: P,
-    pub s: u64,
-}
-
-/// What a `contour` line says.
-#[derive(Clone, Copy)]
-pub struct ContourHead<P> {
-    pub p: P,
-    pub side: u8,
-    pub points: u32,
-    pub segments: u32,
-}
-
-/// The kind of a line, and its place among the lines of its kind.
-#[derive(Clone, Copy)]
-pub enum Slot {
-    Shape(u32),
-    Parts(u32),
-    Near(u32),
-    Contour(u32),
-    At(u32),
-    End,
-}
 
 /// A report: a list of lines.
 #[derive(Drop)]
@@ -64,6 +23,9 @@ pub struct Report<P: Point> {
     contours: Vec<ContourHead<P>>,
     // the points of the `at` lines
     points: Vec<P>,
+    segments: Vec<Segment>,
+    turns: Vec<GapTurn>,
+    cuts: Vec<GapCut>,
 }
 
 impl<P: Point> Model for Report<P> {
@@ -73,13 +35,13 @@ impl<P: Point> Model for Report<P> {
 
     ghost Value = { List Line };
 
-    ghost view = { λ r. map (line_in P.coords (record { headings = r.headings.items; counts = r.counts.items; distances = r.distances.items; contours = r.contours.items; points = r.points.items })) r.slots.items };
+    ghost view = { λ r. map (line_in P.coords (record { headings = r.headings.items; counts = r.counts.items; distances = r.distances.items; contours = r.contours.items; points = r.points.items; segments = r.segments.items; turns = r.turns.items; cuts = r.cuts.items })) r.slots.items };
 
-    ghost invariant = { λ r. All (IsSlotIn P.DIM P.coords (record { headings = r.headings.items; counts = r.counts.items; distances = r.distances.items; contours = r.contours.items; points = r.points.items })) r.slots.items };
+    ghost invariant = { λ r. All (IsSlotIn P.DIM P.coords (record { headings = r.headings.items; counts = r.counts.items; distances = r.distances.items; contours = r.contours.items; points = r.points.items; segments = r.segments.items; turns = r.turns.items; cuts = r.cuts.items })) r.slots.items };
 }
 
 impl<P: Point> Report<P> {
-    ghost use Rattle.shape_report.specs.Slots.{heading_line, count_line, distance_line, contour_line, at_line};
+    ghost use Rattle.shape_report.specs.Slots.{heading_line, count_line, distance_line, contour_line, at_line, seg_line, turn_line, cut_line};
     /// The report that has its first two lines alone.
     pub fn new(alloc: Global, head: Line<P>, parts: Line<P>) -> Result<Report<P>, NoMemory>
         requires head { IsLineOf P.DIM (line_of P.coords head) }
@@ -93,6 +55,9 @@ impl<P: Point> Report<P> {
             distances: Vec::new(alloc),
             contours: Vec::new(alloc),
             points: Vec::new(alloc),
+            segments: Vec::new(alloc),
+            turns: Vec::new(alloc),
+            cuts: Vec::new(alloc),
         };
         report.add(head)?;
         report.add(parts)?;
@@ -129,6 +94,9 @@ impl<P: Point> Report<P> {
                 segments,
             }),
             Line::At { p } => self.add_point(p),
+            Line::Seg { first, last, line } => self.add_segment(Segment { first, last, line }),
+            Line::Turn { axis, i, j } => self.add_turn(GapTurn { axis, i, j }),
+            Line::Cut { axis, why } => self.add_cut(GapCut { axis, why }),
             Line::End => self.add_end(),
         }
     }
@@ -223,6 +191,60 @@ impl<P: Point> Report<P> {
         Ok(())
     }
 
+    // Puts a `seg` line last.
+    fn add_segment(&mut self, segment: Segment) -> Result<(), NoMemory>
+        requires { IsLineOf P.DIM (seg_line segment) }
+        ensures ok { OnOk result (self.new ≡ self.old ++ seg_line segment ∷ []) }
+        ensures err { OnErr result (self.new ≡ self.old) }
+    {
+        let Ok(place) = u32::try_from(self.segments.len()) else {
+            return Err(NoMemory);
+        };
+        if self.segments.push(segment).is_err() {
+            return Err(NoMemory);
+        }
+        if self.slots.push(Slot::Seg(place)).is_err() {
+            return Err(NoMemory);
+        }
+        Ok(())
+    }
+
+    // Puts a `turn` line last.
+    fn add_turn(&mut self, turn: GapTurn) -> Result<(), NoMemory>
+        requires { IsLineOf P.DIM (turn_line turn) }
+        ensures ok { OnOk result (self.new ≡ self.old ++ turn_line turn ∷ []) }
+        ensures err { OnErr result (self.new ≡ self.old) }
+    {
+        let Ok(place) = u32::try_from(self.turns.len()) else {
+            return Err(NoMemory);
+        };
+        if self.turns.push(turn).is_err() {
+            return Err(NoMemory);
+        }
+        if self.slots.push(Slot::Turn(place)).is_err() {
+            return Err(NoMemory);
+        }
+        Ok(())
+    }
+
+    // Puts a `cut` line last.
+    fn add_cut(&mut self, cut: GapCut) -> Result<(), NoMemory>
+        requires { IsLineOf P.DIM (cut_line cut) }
+        ensures ok { OnOk result (self.new ≡ self.old ++ cut_line cut ∷ []) }
+        ensures err { OnErr result (self.new ≡ self.old) }
+    {
+        let Ok(place) = u32::try_from(self.cuts.len()) else {
+            return Err(NoMemory);
+        };
+        if self.cuts.push(cut).is_err() {
+            return Err(NoMemory);
+        }
+        if self.slots.push(Slot::Cut(place)).is_err() {
+            return Err(NoMemory);
+        }
+        Ok(())
+    }
+
     // Puts an `end` line last.
     fn add_end(&mut self) -> Result<(), NoMemory>
         ensures ok { OnOk result (self.new ≡ self.old ++ Terms.Line.End ∷ []) }
@@ -283,6 +305,29 @@ impl<P: Point> Report<P> {
             Slot::At(place) => Line::At {
                 p: self.points[place as usize],
             },
+            Slot::Seg(place) => {
+                let segment = self.segments[place as usize];
+                Line::Seg {
+                    first: segment.first,
+                    last: segment.last,
+                    line: segment.line,
+                }
+            }
+            Slot::Turn(place) => {
+                let turn = self.turns[place as usize];
+                Line::Turn {
+                    axis: turn.axis,
+                    i: turn.i,
+                    j: turn.j,
+                }
+            }
+            Slot::Cut(place) => {
+                let cut = self.cuts[place as usize];
+                Line::Cut {
+                    axis: cut.axis,
+                    why: cut.why,
+                }
+            }
             Slot::End => Line::End,
         }
     }

@@ -1,5 +1,7 @@
+use Rattle.std.proofs.Common.{take}
 use Rattle.shape_rules.specs.Names.{word_of}
-use Rattle.shape_report.proofs.LineTexts.{shape_spelled, parts_spelled, near_spelled, contour_spelled, at_spelled}
+use Rattle.shape_refute.specs.Weights.{refutation_of}
+use Rattle.shape_report.proofs.LineTexts.{shape_spelled, parts_spelled, near_spelled, contour_spelled, at_spelled, seg_spelled, turn_spelled, cut_spelled}
 use Rattle.shape_report.proofs.spell.put_claim.Goals as goal
 
 pub returns-in-Shape-clause-spelled : goal.returns-in-Shape-clause-spelled
@@ -28,3 +30,18 @@ pub returns-in-At-clause-spelled : goal.returns-in-At-clause-spelled
 returns-in-At-clause-spelled g c =
     let l = c.in-At in
     rw (l.is, c.put_at.ensures.text) (at_spelled (g.P.Point.coords l.p))
+
+pub returns-in-Seg-clause-spelled : goal.returns-in-Seg-clause-spelled
+returns-in-Seg-clause-spelled g c =
+    let l = c.in-Seg in
+    rw (l.is, c.put_seg.ensures.text) (seg_spelled l.first l.last l.naive.axis (take 2 l.naive.a) l.naive.mu)
+
+pub returns-in-Turn-clause-spelled : goal.returns-in-Turn-clause-spelled
+returns-in-Turn-clause-spelled g c =
+    let l = c.in-Turn in
+    rw (l.is, c.put_turn.ensures.text) (turn_spelled l.axis l.i l.j)
+
+pub returns-in-Cut-clause-spelled : goal.returns-in-Cut-clause-spelled
+returns-in-Cut-clause-spelled g c =
+    let l = c.in-Cut in
+    rw (l.is, c.put_cut.ensures.text) (cut_spelled l.axis (refutation_of l.why))

@@ -1,6 +1,6 @@
 use Rattle.std.proofs.Math.Facts.{to_z-of_z}
 use Rattle.shape_report.proofs.Fields.{read_short}
-use Rattle.shape_report.proofs.read.coordinate.Goals as goal
+use Rattle.shape_report.proofs.field.coordinate.Goals as goal
 
 pub returns : goal.returns
 returns c =

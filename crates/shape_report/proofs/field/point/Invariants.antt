@@ -2,7 +2,7 @@ use Rattle.std.proofs.Common.{◌≡◌, ◌++◌, take, FitsSigned}
 use Rattle.std.specs.Prelude.{All}
 use Rattle.std.specs.Int.{w32}
 use Rattle.shape_terms.specs.Lines.{number_words}
-use Rattle.shape_report.proofs.read.point.Given as goal
+use Rattle.shape_report.proofs.field.point.Given as goal
 
 abbrev pub invariant-loop-axis : goal.invariant-loop-axis
 invariant-loop-axis g l = record {

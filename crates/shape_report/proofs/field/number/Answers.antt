@@ -1,5 +1,5 @@
 use Rattle.shape_report.proofs.Fields.{no_number, longer_word}
-use Rattle.shape_report.proofs.read.number.Goals as goal
+use Rattle.shape_report.proofs.field.number.Goals as goal
 
 pub returns-in_err-value : goal.returns-in_err-value
 returns-in_err-value c = rw c.from_residual.ensures (no_number c.args.word.now c.in_err-value.ensures)

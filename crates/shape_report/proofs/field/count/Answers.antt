@@ -1,6 +1,6 @@
 use Rattle.std.proofs.Math.Facts.{to_z-of_z}
 use Rattle.shape_report.proofs.Fields.{read_count, no_count}
-use Rattle.shape_report.proofs.read.count.Goals as goal
+use Rattle.shape_report.proofs.field.count.Goals as goal
 
 pub returns-in_err-number : goal.returns-in_err-number
 returns-in_err-number c = rw c.from_residual-in_err-number.ensures (no_count c.args.words.now c.next_word.new.self c.in_ok-next_word.field-0.now c.in_ok-next_word.ensures c.in_err-number.ensures)

@@ -1,7 +1,7 @@
 use Rattle.std.proofs.Common.{◌≡◌, ◌<◌, ◌≤◌, refl, set, length, arith}
 use Rattle.std.proofs.Math.Facts.{to_z-of_z}
 use Rattle.shape_report.proofs.Fields.{point_more, fits_more, point_stops, point_whole}
-use Rattle.shape_report.proofs.read.point.Goals as goal
+use Rattle.shape_report.proofs.field.point.Goals as goal
 
 pub loop-axis-init : goal.loop-axis-init
 loop-axis-init g c = record { split = refl; fits = λ k d h. absurd (omega arith) }

@@ -1,7 +1,7 @@
 use Rattle.std.proofs.Common.{◌≡◌, ◌≤◌, ◌+◌, ◌*◌, ◌++◌, length, take}
 use Rattle.shape_terms.specs.Lines.{number_words}
 use Rattle.shape_report.specs.Texts.{behind_blanks}
-use Rattle.shape_report.proofs.spell.put_point.Given as goal
+use Rattle.shape_report.proofs.put.put_point.Given as goal
 
 abbrev pub invariant-loop-k : goal.invariant-loop-k
 invariant-loop-k g l = record {
