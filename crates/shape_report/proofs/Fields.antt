@@ -115,6 +115,10 @@ same_rest (x ∷ xs) (y ∷ ys) r s l e = same_rest xs ys r s (omega arith) (ap 
 pub after : {V : Type 0} (InRange : V → Type 0) (spell : V → List (List ℕ)) → AreAsLong InRange spell → (words left rest : List (List ℕ)) (v u : V) → BeginsWithField InRange spell words left v → InRange u → words ≡ spell u ++ rest → left ≡ rest
 after InRange spell long words left rest v u b a e = same_rest (spell v) (spell u) left rest (long v u b.range a) (sym b.split ∙ e)
 
+-- what follows the first word
+pub after_word : {words left rest : List (List ℕ)} {v u : List ℕ} → words ≡ v ∷ left → words ≡ u ∷ rest → left ≡ rest
+after_word a b = ap (drop 1) (sym a ∙ b)
+
 -- ---- points
 
 pub points_as_long : (d : ℕ) → AreAsLong (IsShortPoint d) number_words
