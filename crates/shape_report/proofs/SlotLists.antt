@@ -1,6 +1,6 @@
--- The lines that slots stand for stay the same when a line is put behind those of its kind.
--- A further kind of line brings one lemma `.._grows`; the other laws serve every kind.
-use Rattle.std.proofs.Common.{◌≡◌, ℕ, zero, suc, ◌<◌, ℤ, List, [], ◌∷◌, ◌++◌, length, map, refl, sym, ap, ◌∙◌, subst, arith, Some}
+-- The lines that slots stand for stay the same when lists of a report grow.
+-- A further kind of line brings one lemma `.._grows` and one clause of `extends`; the other laws serve every kind.
+use Rattle.std.proofs.Common.{◌≡◌, ℕ, zero, suc, ◌<◌, ℤ, List, [], ◌∷◌, ◌++◌, length, map, refl, sym, ap, ◌∙◌, subst, arith}
 use Rattle.std.specs.Prelude.{All, slice_get}
 use Rattle.std.specs.Option.{option_map_or}
 use Rattle.std.proofs.lemmas.List.{map-append, length-append}
@@ -15,25 +15,14 @@ use Rattle.shape_report.specs.declared.shelf.GapTurn.{GapTurn}
 use Rattle.shape_report.specs.declared.shelf.GapCut.{GapCut}
 use Rattle.shape_report.specs.declared.shelf.Slot.{Slot}
 use Rattle.shape_report.specs.declared.shelf.Slot.TheVariants.{Shape, Parts, Near, Contour, At, Seg, Turn, Cut, End}
-use Rattle.shape_report.specs.Slots.{Shelves, heading_line, count_line, distance_line, contour_line, at_line, seg_line, turn_line, cut_line, line_in, IsPlaced, IsSlotIn}
+use Rattle.shape_report.specs.Slots.{Lists, heading_line, distance_line, contour_line, at_line, count_line, seg_line, turn_line, cut_line, line_in, IsPlaced, IsSlotIn, IsKept, IsFront, Grows}
+
+-- ---- lists that grow
 
 get_front : {A : Type 0} (xs ys : List A) (i : ℕ) → i < length xs → slice_get (xs ++ ys) i ≡ slice_get xs i
 get_front [] ys i l = absurd (omega arith)
 get_front (x ∷ xs) ys zero l = refl
 get_front (x ∷ xs) ys (suc i) l = get_front xs ys i (omega arith)
-
-get_last : {A : Type 0} (xs : List A) (x : A) → slice_get (xs ++ x ∷ []) (length xs) ≡ Some x
-get_last [] x = refl
-get_last (y ∷ xs) x = get_last xs x
-
--- the last of the lines of a kind
-pub last_line : {A : Type 0} (f : A → Terms.Line) (xs ys : List A) (x : A) (place : ℕ) → ys ≡ xs ++ x ∷ [] → place ≡ length xs → option_map_or f (slice_get ys place) Terms.Line.End ≡ f x
-last_line f xs ys x place e l = rw (e, l) (ap (λ o. option_map_or f o Terms.Line.End) (get_last xs x))
-
--- each element of the first list stands at its place in the second
-pub record IsFront {A : Type 0} (xs ys : List A) : Type 0 where
-  pub within : (i : ℕ) → i < length xs → i < length ys
-  pub same : (i : ℕ) → i < length xs → slice_get ys i ≡ slice_get xs i
 
 front : {A : Type 0} (xs : List A) → IsFront xs xs
 front xs = record { within = λ i l. l; same = λ i l. refl }
@@ -41,29 +30,39 @@ front xs = record { within = λ i l. l; same = λ i l. refl }
 front_more : {A : Type 0} (xs ys : List A) (x : A) → ys ≡ xs ++ x ∷ [] → IsFront xs ys
 front_more xs ys x e = record { within = λ i l. rw e (omega (arith, length-append xs (x ∷ []))); same = λ i l. rw e (get_front xs (x ∷ []) i l) }
 
--- the place of the last one
-pub last_place : {A : Type 0} (xs ys : List A) (x : A) (place : ℕ) → ys ≡ xs ++ x ∷ [] → place ≡ length xs → place < length ys
-last_place xs ys x place e l = rw e (omega (arith, length-append xs (x ∷ [])))
+module _ {P : Type 0} (old : Lists P) where
+  pub heading_grows : (hs : List (Heading P)) (h : Heading P) → hs ≡ old.headings ++ h ∷ [] → Grows old (record old { headings = hs })
+  heading_grows hs h e = record { headings = front_more old.headings hs h e; counts = front old.counts; distances = front old.distances; contours = front old.contours; points = front old.points; segments = front old.segments; turns = front old.turns; cuts = front old.cuts }
+
+  pub count_grows : (cs : List PartCount) (c : PartCount) → cs ≡ old.counts ++ c ∷ [] → Grows old (record old { counts = cs })
+  count_grows cs c e = record { headings = front old.headings; counts = front_more old.counts cs c e; distances = front old.distances; contours = front old.contours; points = front old.points; segments = front old.segments; turns = front old.turns; cuts = front old.cuts }
+
+  pub distance_grows : (ds : List (Distance P)) (d : Distance P) → ds ≡ old.distances ++ d ∷ [] → Grows old (record old { distances = ds })
+  distance_grows ds d e = record { headings = front old.headings; counts = front old.counts; distances = front_more old.distances ds d e; contours = front old.contours; points = front old.points; segments = front old.segments; turns = front old.turns; cuts = front old.cuts }
+
+  pub contour_grows : (cs : List (ContourHead P)) (c : ContourHead P) → cs ≡ old.contours ++ c ∷ [] → Grows old (record old { contours = cs })
+  contour_grows cs c e = record { headings = front old.headings; counts = front old.counts; distances = front old.distances; contours = front_more old.contours cs c e; points = front old.points; segments = front old.segments; turns = front old.turns; cuts = front old.cuts }
+
+  pub point_grows : (ps : List P) (p : P) → ps ≡ old.points ++ p ∷ [] → Grows old (record old { points = ps })
+  point_grows ps p e = record { headings = front old.headings; counts = front old.counts; distances = front old.distances; contours = front old.contours; points = front_more old.points ps p e; segments = front old.segments; turns = front old.turns; cuts = front old.cuts }
+
+  pub segment_grows : (ss : List Segment) (s : Segment) → ss ≡ old.segments ++ s ∷ [] → Grows old (record old { segments = ss })
+  segment_grows ss s e = record { headings = front old.headings; counts = front old.counts; distances = front old.distances; contours = front old.contours; points = front old.points; segments = front_more old.segments ss s e; turns = front old.turns; cuts = front old.cuts }
+
+  pub turn_grows : (ts : List GapTurn) (t : GapTurn) → ts ≡ old.turns ++ t ∷ [] → Grows old (record old { turns = ts })
+  turn_grows ts t e = record { headings = front old.headings; counts = front old.counts; distances = front old.distances; contours = front old.contours; points = front old.points; segments = front old.segments; turns = front_more old.turns ts t e; cuts = front old.cuts }
+
+  pub cut_grows : (cs : List GapCut) (c : GapCut) → cs ≡ old.cuts ++ c ∷ [] → Grows old (record old { cuts = cs })
+  cut_grows cs c e = record { headings = front old.headings; counts = front old.counts; distances = front old.distances; contours = front old.contours; points = front old.points; segments = front old.segments; turns = front old.turns; cuts = front_more old.cuts cs c e }
+
+-- ---- slots
 
 -- each slot that has a place keeps it, and the line that it stands for
-pub record Extends {P : Type 0} (coords : P → List ℤ) (old new : Shelves P) : Type 0 where
-  pub placed : (s : Slot) → IsPlaced old s → IsPlaced new s
-  pub same : (s : Slot) → IsPlaced old s → line_in coords new s ≡ line_in coords old s
+record Extends {P : Type 0} (coords : P → List ℤ) (old new : Lists P) : Type 0 where
+  placed : (s : Slot) → IsPlaced old s → IsPlaced new s
+  same : (s : Slot) → IsPlaced old s → line_in coords new s ≡ line_in coords old s
 
--- ---- shelves
-
--- each old shelf is a front of the new one
-pub record Grows {P : Type 0} (old new : Shelves P) : Type 0 where
-  pub headings : IsFront old.headings new.headings
-  pub counts : IsFront old.counts new.counts
-  pub distances : IsFront old.distances new.distances
-  pub contours : IsFront old.contours new.contours
-  pub points : IsFront old.points new.points
-  pub segments : IsFront old.segments new.segments
-  pub turns : IsFront old.turns new.turns
-  pub cuts : IsFront old.cuts new.cuts
-
-pub extends : {P : Type 0} (coords : P → List ℤ) (old new : Shelves P) → Grows old new → Extends coords old new
+extends : {P : Type 0} (coords : P → List ℤ) (old new : Lists P) → Grows old new → Extends coords old new
 extends coords old new g = record { placed = placed; same = same }
   where
     read : {A : Type 0} (f : A → Terms.Line) (xs ys : List A) → IsFront xs ys → (i : ℕ) → i < length xs → option_map_or f (slice_get ys i) Terms.Line.End ≡ option_map_or f (slice_get xs i) Terms.Line.End
@@ -91,57 +90,33 @@ extends coords old new g = record { placed = placed; same = same }
     same (Cut i) l = read cut_line old.cuts new.cuts g.cuts i l
     same End l = refl
 
--- ---- one lemma for each kind
-
-module _ {P : Type 0} (old : Shelves P) where
-  pub heading_grows : (hs : List (Heading P)) (h : Heading P) → hs ≡ old.headings ++ h ∷ [] → Grows old (record old { headings = hs })
-  heading_grows hs h e = record { headings = front_more old.headings hs h e; counts = front old.counts; distances = front old.distances; contours = front old.contours; points = front old.points; segments = front old.segments; turns = front old.turns; cuts = front old.cuts }
-
-  pub count_grows : (cs : List PartCount) (c : PartCount) → cs ≡ old.counts ++ c ∷ [] → Grows old (record old { counts = cs })
-  count_grows cs c e = record { headings = front old.headings; counts = front_more old.counts cs c e; distances = front old.distances; contours = front old.contours; points = front old.points; segments = front old.segments; turns = front old.turns; cuts = front old.cuts }
-
-  pub distance_grows : (ds : List (Distance P)) (d : Distance P) → ds ≡ old.distances ++ d ∷ [] → Grows old (record old { distances = ds })
-  distance_grows ds d e = record { headings = front old.headings; counts = front old.counts; distances = front_more old.distances ds d e; contours = front old.contours; points = front old.points; segments = front old.segments; turns = front old.turns; cuts = front old.cuts }
-
-  pub contour_grows : (cs : List (ContourHead P)) (c : ContourHead P) → cs ≡ old.contours ++ c ∷ [] → Grows old (record old { contours = cs })
-  contour_grows cs c e = record { headings = front old.headings; counts = front old.counts; distances = front old.distances; contours = front_more old.contours cs c e; points = front old.points; segments = front old.segments; turns = front old.turns; cuts = front old.cuts }
-
-  pub point_grows : (ps : List P) (p : P) → ps ≡ old.points ++ p ∷ [] → Grows old (record old { points = ps })
-  point_grows ps p e = record { headings = front old.headings; counts = front old.counts; distances = front old.distances; contours = front old.contours; points = front_more old.points ps p e; segments = front old.segments; turns = front old.turns; cuts = front old.cuts }
-
-  pub segment_grows : (ss : List Segment) (s : Segment) → ss ≡ old.segments ++ s ∷ [] → Grows old (record old { segments = ss })
-  segment_grows ss s e = record { headings = front old.headings; counts = front old.counts; distances = front old.distances; contours = front old.contours; points = front old.points; segments = front_more old.segments ss s e; turns = front old.turns; cuts = front old.cuts }
-
-  pub turn_grows : (ts : List GapTurn) (t : GapTurn) → ts ≡ old.turns ++ t ∷ [] → Grows old (record old { turns = ts })
-  turn_grows ts t e = record { headings = front old.headings; counts = front old.counts; distances = front old.distances; contours = front old.contours; points = front old.points; segments = front old.segments; turns = front_more old.turns ts t e; cuts = front old.cuts }
-
-  pub cut_grows : (cs : List GapCut) (c : GapCut) → cs ≡ old.cuts ++ c ∷ [] → Grows old (record old { cuts = cs })
-  cut_grows cs c e = record { headings = front old.headings; counts = front old.counts; distances = front old.distances; contours = front old.contours; points = front old.points; segments = front old.segments; turns = front old.turns; cuts = front_more old.cuts cs c e }
-
--- ---- slots of every kind
-
-module _ {P : Type 0} (d : ℕ) (coords : P → List ℤ) (old new : Shelves P) where
-  lines_kept : (slots : List Slot) → Extends coords old new → All (IsSlotIn d coords old) slots → map (line_in coords new) slots ≡ map (line_in coords old) slots
-  lines_kept [] x a = refl
-  lines_kept (s ∷ slots) x a =
+module _ {P : Type 0} (d : ℕ) (coords : P → List ℤ) (old new : Lists P) where
+  lines_same : (slots : List Slot) → Extends coords old new → All (IsSlotIn d coords old) slots → map (line_in coords new) slots ≡ map (line_in coords old) slots
+  lines_same [] x a = refl
+  lines_same (s ∷ slots) x a =
       let e = x.same s (All-head (IsSlotIn d coords old) s slots a).placed in
-      let r = lines_kept slots x (All-tail (IsSlotIn d coords old) s slots a) in
+      let r = lines_same slots x (All-tail (IsSlotIn d coords old) s slots a) in
       λ i. e i ∷ r i
 
-  slots_kept : (slots : List Slot) → Extends coords old new → All (IsSlotIn d coords old) slots → All (IsSlotIn d coords new) slots
-  slots_kept [] x a = All-nil (IsSlotIn d coords new)
-  slots_kept (s ∷ slots) x a =
+  slots_placed : (slots : List Slot) → Extends coords old new → All (IsSlotIn d coords old) slots → All (IsSlotIn d coords new) slots
+  slots_placed [] x a = All-nil (IsSlotIn d coords new)
+  slots_placed (s ∷ slots) x a =
       let h = All-head (IsSlotIn d coords old) s slots a in
-      let r = slots_kept slots x (All-tail (IsSlotIn d coords old) s slots a) in
+      let r = slots_placed slots x (All-tail (IsSlotIn d coords old) s slots a) in
       All-cons (IsSlotIn d coords new) s slots (record { placed = x.placed s h.placed; fields = subst (Terms.IsLineOf d) (sym (x.same s h.placed)) h.fields }) r
 
-  -- the lists have a further line, and there is no slot for it yet
-  pub line_kept : (slots slots2 : List Slot) (now : List Terms.Line) → Extends coords old new → All (IsSlotIn d coords old) slots → map (line_in coords old) slots ≡ now → slots2 ≡ slots → map (line_in coords new) slots2 ≡ now
-  line_kept slots slots2 now x a v e = rw e (lines_kept slots x a ∙ v)
+  -- the lists have grown, and there is no further slot
+  pub lines_kept : (slots slots2 : List Slot) (now : List Terms.Line) → Grows old new → All (IsSlotIn d coords old) slots → map (line_in coords old) slots ≡ now → slots2 ≡ slots → map (line_in coords new) slots2 ≡ now
+  lines_kept slots slots2 now g a v e = rw e (lines_same slots (extends coords old new g) a ∙ v)
 
-  -- with its slot
-  pub line_added : (slots slots2 : List Slot) (s : Slot) (l : Terms.Line) (now : List Terms.Line) → Extends coords old new → All (IsSlotIn d coords old) slots → map (line_in coords old) slots ≡ now → slots2 ≡ slots ++ s ∷ [] → line_in coords new s ≡ l → map (line_in coords new) slots2 ≡ now ++ l ∷ []
-  line_added slots slots2 s l now x a v e is = rw e (map-append (line_in coords new) slots (s ∷ []) ∙ ap (λ ls. ls ++ line_in coords new s ∷ []) (lines_kept slots x a ∙ v) ∙ ap (λ m. now ++ m ∷ []) is)
+  pub slots_kept : (slots slots2 : List Slot) → Grows old new → All (IsSlotIn d coords old) slots → slots2 ≡ slots → All (IsSlotIn d coords new) slots2
+  slots_kept slots slots2 g a e = rw e (slots_placed slots (extends coords old new g) a)
 
-  pub line_placed : (slots slots2 : List Slot) (s : Slot) (l : Terms.Line) → Extends coords old new → All (IsSlotIn d coords old) slots → slots2 ≡ slots ++ s ∷ [] → line_in coords new s ≡ l → IsPlaced new s → Terms.IsLineOf d l → All (IsSlotIn d coords new) slots2
-  line_placed slots slots2 s l x a e is p f = rw e (All-push (IsSlotIn d coords new) slots s (slots_kept slots x a) (record { placed = p; fields = subst (Terms.IsLineOf d) (sym is) f }))
+  -- with a slot for a further line
+  pub line_added : (slots slots2 : List Slot) (s : Slot) (l : Terms.Line) (now : List Terms.Line) → Grows old new → All (IsSlotIn d coords old) slots → map (line_in coords old) slots ≡ now → slots2 ≡ slots ++ s ∷ [] → IsKept coords new s l
+      → map (line_in coords new) slots2 ≡ now ++ l ∷ []
+  line_added slots slots2 s l now g a v e k = rw e (map-append (line_in coords new) slots (s ∷ []) ∙ ap (λ ls. ls ++ line_in coords new s ∷ []) (lines_same slots (extends coords old new g) a ∙ v) ∙ ap (λ m. now ++ m ∷ []) k.is)
+
+  pub slot_added : (slots slots2 : List Slot) (s : Slot) (l : Terms.Line) → Grows old new → All (IsSlotIn d coords old) slots → slots2 ≡ slots ++ s ∷ [] → IsKept coords new s l → Terms.IsLineOf d l → All (IsSlotIn d coords new) slots2
+  slot_added slots slots2 s l g a e k f =
+      rw e (All-push (IsSlotIn d coords new) slots s (slots_placed slots (extends coords old new g) a) (record { placed = k.placed; fields = subst (Terms.IsLineOf d) (sym k.is) f }))

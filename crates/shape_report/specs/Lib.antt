@@ -4,3 +4,4 @@ pub mod Slots
 pub mod Flow
 pub mod Reading
 pub mod Entries
+pub mod Shelves

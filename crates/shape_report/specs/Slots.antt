@@ -1,6 +1,6 @@
 -- How a report keeps its lines: a slot for each line, which says its kind and its place among the lines of that kind.
 -- A slot whose place is past the end stands for no line; a report has none such.
-use Rattle.std.specs.Prelude.{ℕ, ℤ, List, ◌<◌, length, slice_get, take}
+use Rattle.std.specs.Prelude.{◌≡◌, ℕ, ℤ, List, ◌<◌, length, slice_get, take}
 use Rattle.std.specs.Option.{option_map_or}
 use Rattle.shape_terms.specs.Lines as Terms
 use Rattle.shape_terms.specs.Lines.{IsLineOf}
@@ -16,8 +16,8 @@ use Rattle.shape_report.specs.declared.shelf.GapCut.{GapCut}
 use Rattle.shape_report.specs.declared.shelf.Slot.{Slot}
 use Rattle.shape_report.specs.declared.shelf.Slot.TheVariants.{Shape, Parts, Near, Contour, At, Seg, Turn, Cut, End}
 
--- the lists of a report, one for each kind of line with fields
-pub record Shelves (P : Type 0) : Type 0 where
+-- what stands on the shelves of a report, a list for each kind of line with fields
+pub record Lists (P : Type 0) : Type 0 where
   pub headings : List (Heading P)
   pub counts : List PartCount
   pub distances : List (Distance P)
@@ -53,7 +53,7 @@ module _ {P : Type 0} where
   at_line coords p = Terms.Line.At (coords p)
 
   -- the line that a slot stands for
-  abbrev pub line_in : (P → List ℤ) → Shelves P → Slot → Terms.Line
+  abbrev pub line_in : (P → List ℤ) → Lists P → Slot → Terms.Line
   line_in coords kept (Shape i) = option_map_or (heading_line coords) (slice_get kept.headings i) Terms.Line.End
   line_in coords kept (Parts i) = option_map_or count_line (slice_get kept.counts i) Terms.Line.End
   line_in coords kept (Near i) = option_map_or (distance_line coords) (slice_get kept.distances i) Terms.Line.End
@@ -65,7 +65,7 @@ module _ {P : Type 0} where
   line_in coords kept End = Terms.Line.End
 
   -- the slot's place is one of its kind
-  abbrev pub IsPlaced : Shelves P → Slot → Type 0
+  abbrev pub IsPlaced : Lists P → Slot → Type 0
   IsPlaced kept (Shape i) = i < length kept.headings
   IsPlaced kept (Parts i) = i < length kept.counts
   IsPlaced kept (Near i) = i < length kept.distances
@@ -77,6 +77,29 @@ module _ {P : Type 0} where
   IsPlaced kept End = Unit {0}
 
   -- the slot stands for a line of the reports of pictures with d axes
-  pub record IsSlotIn (d : ℕ) (coords : P → List ℤ) (kept : Shelves P) (s : Slot) : Type 0 where
+  pub record IsSlotIn (d : ℕ) (coords : P → List ℤ) (kept : Lists P) (s : Slot) : Type 0 where
     pub placed : IsPlaced kept s
     pub fields : IsLineOf d (line_in coords kept s)
+
+  -- the slot has its place, and stands for the line
+  pub record IsKept (coords : P → List ℤ) (kept : Lists P) (s : Slot) (l : Terms.Line) : Type 0 where
+    pub placed : IsPlaced kept s
+    pub is : line_in coords kept s ≡ l
+
+-- ---- what is added
+
+-- each element of the first list stands at its place in the second
+pub record IsFront {A : Type 0} (xs ys : List A) : Type 0 where
+  pub within : (i : ℕ) → i < length xs → i < length ys
+  pub same : (i : ℕ) → i < length xs → slice_get ys i ≡ slice_get xs i
+
+-- each old list is a front of the new one
+pub record Grows {P : Type 0} (old new : Lists P) : Type 0 where
+  pub headings : IsFront old.headings new.headings
+  pub counts : IsFront old.counts new.counts
+  pub distances : IsFront old.distances new.distances
+  pub contours : IsFront old.contours new.contours
+  pub points : IsFront old.points new.points
+  pub segments : IsFront old.segments new.segments
+  pub turns : IsFront old.turns new.turns
+  pub cuts : IsFront old.cuts new.cuts
