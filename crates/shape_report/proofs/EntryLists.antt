@@ -1,10 +1,10 @@
 -- Lists of entries: how many there are, and then the words of each.
 -- Laws for entries of any kind that have as many words each; places and steps with their weights are such.
-use Rattle.std.proofs.Common.{◌≡◌, ℕ, ◌+◌, ◌<◌, ◌≤◌, List, [], ◌∷◌, ◌++◌, length, refl, sym, ◌∙◌, arith, append_assoc}
+use Rattle.std.proofs.Common.{◌≡◌, ℕ, ◌<◌, ◌≤◌, List, [], ◌∷◌, ◌++◌, length, refl, sym, ◌∙◌, arith, append_assoc}
 use Rattle.std.specs.Prelude.{All, flat_map}
 use Rattle.std.specs.Fmt.{decimal}
 use Rattle.std.proofs.lemmas.List.Elements.{All-head, All-tail}
-use Rattle.shape_terms.specs.Refutations.{Share, StepShare, Refutation}
+use Rattle.shape_terms.specs.Refutations.{Share, Refutation}
 use Rattle.shape_terms.specs.Lines.{share_words, step_share_words, why_words, IsWhy}
 use Rattle.shape_report.specs.Reading.{BeginsWithField, NoField}
 use Rattle.shape_report.specs.Entries.{IsShare, IsStepShare, share_entry, step_share_entry, counted_words, AreFew}

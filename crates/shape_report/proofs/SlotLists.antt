@@ -1,6 +1,6 @@
 -- The lines that slots stand for stay the same when lists of a report grow.
--- A further kind of line brings one lemma `.._grows` and one clause of `extends`; the other laws serve every kind.
-use Rattle.std.proofs.Common.{◌≡◌, ℕ, zero, suc, ◌<◌, ℤ, List, [], ◌∷◌, ◌++◌, length, map, refl, sym, ap, ◌∙◌, subst, arith}
+-- A further kind of line brings the lemmas `.._grows` and `.._kept` and one clause of `extends`; the other laws serve every kind.
+use Rattle.std.proofs.Common.{◌≡◌, ℕ, zero, suc, ◌<◌, ℤ, List, [], ◌∷◌, ◌++◌, length, map, refl, sym, ap, ◌∙◌, subst, arith, Some}
 use Rattle.std.specs.Prelude.{All, slice_get}
 use Rattle.std.specs.Option.{option_map_or}
 use Rattle.std.proofs.lemmas.List.{map-append, length-append}
@@ -54,6 +54,42 @@ module _ {P : Type 0} (old : Lists P) where
 
   pub cut_grows : (cs : List GapCut) (c : GapCut) → cs ≡ old.cuts ++ c ∷ [] → Grows old (record old { cuts = cs })
   cut_grows cs c e = record { headings = front old.headings; counts = front old.counts; distances = front old.distances; contours = front old.contours; points = front old.points; segments = front old.segments; turns = front old.turns; cuts = front_more old.cuts cs c e }
+
+-- the last of a list has its place, and its slot stands for its line
+get_last : {A : Type 0} (xs : List A) (x : A) → slice_get (xs ++ x ∷ []) (length xs) ≡ Some x
+get_last [] x = refl
+get_last (y ∷ xs) x = get_last xs x
+
+last_place : {A : Type 0} (xs ys : List A) (x : A) (place : ℕ) → ys ≡ xs ++ x ∷ [] → place ≡ length xs → place < length ys
+last_place xs ys x place e i = rw e (omega (arith, length-append xs (x ∷ [])))
+
+last_line : {A : Type 0} (f : A → Terms.Line) (xs ys : List A) (x : A) (place : ℕ) (l : Terms.Line) → ys ≡ xs ++ x ∷ [] → place ≡ length xs → l ≡ f x → option_map_or f (slice_get ys place) Terms.Line.End ≡ l
+last_line f xs ys x place l e i m = rw (e, i) (ap (λ o. option_map_or f o Terms.Line.End) (get_last xs x) ∙ sym m)
+
+module _ {P : Type 0} (coords : P → List ℤ) (old : Lists P) where
+  pub heading_kept : (hs : List (Heading P)) (h : Heading P) (place : ℕ) (l : Terms.Line) → hs ≡ old.headings ++ h ∷ [] → place ≡ length old.headings → l ≡ heading_line coords h → IsKept coords (record old { headings = hs }) (Shape place) l
+  heading_kept hs h place l e i m = record { placed = last_place old.headings hs h place e i; is = last_line (heading_line coords) old.headings hs h place l e i m }
+
+  pub count_kept : (cs : List PartCount) (c : PartCount) (place : ℕ) (l : Terms.Line) → cs ≡ old.counts ++ c ∷ [] → place ≡ length old.counts → l ≡ count_line c → IsKept coords (record old { counts = cs }) (Parts place) l
+  count_kept cs c place l e i m = record { placed = last_place old.counts cs c place e i; is = last_line count_line old.counts cs c place l e i m }
+
+  pub distance_kept : (ds : List (Distance P)) (d : Distance P) (place : ℕ) (l : Terms.Line) → ds ≡ old.distances ++ d ∷ [] → place ≡ length old.distances → l ≡ distance_line coords d → IsKept coords (record old { distances = ds }) (Near place) l
+  distance_kept ds d place l e i m = record { placed = last_place old.distances ds d place e i; is = last_line (distance_line coords) old.distances ds d place l e i m }
+
+  pub contour_kept : (cs : List (ContourHead P)) (c : ContourHead P) (place : ℕ) (l : Terms.Line) → cs ≡ old.contours ++ c ∷ [] → place ≡ length old.contours → l ≡ contour_line coords c → IsKept coords (record old { contours = cs }) (Contour place) l
+  contour_kept cs c place l e i m = record { placed = last_place old.contours cs c place e i; is = last_line (contour_line coords) old.contours cs c place l e i m }
+
+  pub point_kept : (ps : List P) (p : P) (place : ℕ) (l : Terms.Line) → ps ≡ old.points ++ p ∷ [] → place ≡ length old.points → l ≡ at_line coords p → IsKept coords (record old { points = ps }) (At place) l
+  point_kept ps p place l e i m = record { placed = last_place old.points ps p place e i; is = last_line (at_line coords) old.points ps p place l e i m }
+
+  pub segment_kept : (ss : List Segment) (s : Segment) (place : ℕ) (l : Terms.Line) → ss ≡ old.segments ++ s ∷ [] → place ≡ length old.segments → l ≡ seg_line s → IsKept coords (record old { segments = ss }) (Seg place) l
+  segment_kept ss s place l e i m = record { placed = last_place old.segments ss s place e i; is = last_line seg_line old.segments ss s place l e i m }
+
+  pub turn_kept : (ts : List GapTurn) (t : GapTurn) (place : ℕ) (l : Terms.Line) → ts ≡ old.turns ++ t ∷ [] → place ≡ length old.turns → l ≡ turn_line t → IsKept coords (record old { turns = ts }) (Turn place) l
+  turn_kept ts t place l e i m = record { placed = last_place old.turns ts t place e i; is = last_line turn_line old.turns ts t place l e i m }
+
+  pub cut_kept : (cs : List GapCut) (c : GapCut) (place : ℕ) (l : Terms.Line) → cs ≡ old.cuts ++ c ∷ [] → place ≡ length old.cuts → l ≡ cut_line c → IsKept coords (record old { cuts = cs }) (Cut place) l
+  cut_kept cs c place l e i m = record { placed = last_place old.cuts cs c place e i; is = last_line cut_line old.cuts cs c place l e i m }
 
 -- ---- slots
 
