@@ -35,8 +35,9 @@ pub enum Line<P> {
     At {
         p: P,
     },
-    /// The next segment of the contour of a flat picture: the places of its first and last points in the contour, counted from 0
-    /// at the contour's first point, and a naive line that holds its points. The line's third coefficient does not count.
+    /// The next segment of the contour of a flat picture: the places of its first and last points, counted from 0 at the contour's
+    /// first point and on past its last (there the points come round again), and a naive line that holds its points. The line's
+    /// third coefficient does not count.
     Seg {
         first: u32,
         last: u32,
