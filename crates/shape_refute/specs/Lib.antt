@@ -1,4 +1,5 @@
 pub mod Shown
+pub mod Kept
 pub mod Sums
 pub mod Terms
 pub mod Weights

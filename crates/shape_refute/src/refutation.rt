@@ -13,7 +13,7 @@ use crate::share::{Shares, Step, StepShares};
 use shape_space::Point;
 
 /// Weights of low points, of high points and of steps.
-#[derive(Drop)]
+#[derive(Clone, Copy)]
 pub struct Refutation {
     /// Places of points at which `a.p` is at least `mu`.
     pub low: Shares,

@@ -35,22 +35,27 @@ pub struct StepShare {
 }
 
 /// At most four weighed places.
-#[derive(Drop)]
+#[derive(Clone, Copy)]
 pub struct Shares {
     entries: [Share; 4],
     count: usize,
 }
 
 impl Model for Shares {
-    ghost use Rattle.std.specs.Prelude.{◌≡◌, ◌≤◌, List, length, map, take};
+    ghost use Rattle.std.specs.Prelude.{◌≡◌, ◌≤◌, ◌-◌, List, length, map, take, drop, replicate, refl};
     ghost use Rattle.shape_terms.specs.Refutations.{Share as Weighed};
     ghost use Rattle.shape_refute.specs.Shown.{share_of};
+    ghost use Rattle.shape_refute.specs.Kept.{kept_share, no_share, four_places, refilled, recounted};
 
     ghost Value = { List Weighed };
 
     ghost view = { λ s. map share_of (take s.count s.entries) };
 
-    ghost invariant = { λ s. (s.count ≤ 4) × (length s.entries ≡ 4) };
+    ghost invariant = { λ s. (s.count ≤ 4) × (length s.entries ≡ 4) × (drop s.count s.entries ≡ replicate (4 - s.count) no_share) };
+
+    ghost inverse = { λ seen. record { entries = four_places kept_share no_share seen; count = length seen } };
+
+    ghost inverse_ok = { λ s h i. record { entries = refilled share_of kept_share (λ x. refl) no_share s.entries s.count h.0 h.1 h.2 i; count = recounted share_of s.entries s.count h.0 h.1 i } };
 }
 
 impl Shares {
@@ -95,22 +100,27 @@ impl Shares {
 }
 
 /// At most four weighed steps.
-#[derive(Drop)]
+#[derive(Clone, Copy)]
 pub struct StepShares {
     entries: [StepShare; 4],
     count: usize,
 }
 
 impl Model for StepShares {
-    ghost use Rattle.std.specs.Prelude.{◌≡◌, ◌≤◌, List, length, map, take};
+    ghost use Rattle.std.specs.Prelude.{◌≡◌, ◌≤◌, ◌-◌, List, length, map, take, drop, replicate};
     ghost use Rattle.shape_terms.specs.Refutations.{StepShare as WeighedStep};
     ghost use Rattle.shape_refute.specs.Shown.{step_share_of};
+    ghost use Rattle.shape_refute.specs.Kept.{kept_step_share, no_step_share, four_places, refilled, recounted, same_step_share};
 
     ghost Value = { List WeighedStep };
 
     ghost view = { λ s. map step_share_of (take s.count s.entries) };
 
-    ghost invariant = { λ s. (s.count ≤ 4) × (length s.entries ≡ 4) };
+    ghost invariant = { λ s. (s.count ≤ 4) × (length s.entries ≡ 4) × (drop s.count s.entries ≡ replicate (4 - s.count) no_step_share) };
+
+    ghost inverse = { λ seen. record { entries = four_places kept_step_share no_step_share seen; count = length seen } };
+
+    ghost inverse_ok = { λ s h i. record { entries = refilled step_share_of kept_step_share same_step_share no_step_share s.entries s.count h.0 h.1 h.2 i; count = recounted step_share_of s.entries s.count h.0 h.1 i } };
 }
 
 impl StepShares {

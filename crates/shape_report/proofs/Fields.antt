@@ -6,13 +6,13 @@ use Rattle.std.specs.Int.{w32, w64, FitsUnsignedBits}
 use Rattle.std.specs.Fmt.{decimal, signed_decimal}
 use Rattle.std.specs.Result.{OkIff, result_ok}
 use Rattle.std.proofs.lemmas.List.{length-map, map-append, take_more_set, length-take, take_all, take-append-drop}
-use Rattle.std.proofs.lemmas.List.Elements.{All-get_or, All-push}
+use Rattle.std.proofs.lemmas.List.Elements.{All-get_or, All-push, All-head, All-tail}
 use Rattle.std.proofs.lemmas.Fmt.{decimal_is_IsNumeral, decimal_injective}
 use Rattle.std.proofs.Math.Seq.{drop-cons}
-use Rattle.shape_terms.specs.Lines.{number_words, IsShortPoint, IsCount, IsWeight}
+use Rattle.shape_terms.specs.Lines.{number_words, IsShortPoint, IsRow, IsCount, IsWeight}
 use Rattle.shape_desk.specs.Number.{number_front, SpellsNumber}
 use Rattle.shape_desk.proofs.Numbers.{number_front-signed_decimal, no_minus}
-use Rattle.shape_report.specs.Reading.{IsSide, BeginsWithField, NoField, ReadsField}
+use Rattle.shape_report.specs.Reading.{BeginsWithField, NoField, ReadsField}
 
 -- ---- numbers
 
@@ -86,17 +86,18 @@ no_weight words left word w h n rest g e =
     let k : word ≡ decimal n = cc in
     h (pos n) (record { sfits = omega (arith, g) }) k
 
--- words that begin with a larger count begin with no number of a side
-pub no_side : (words left : List (List ℕ)) (n : ℕ) → BeginsWithField IsCount (λ k. decimal k ∷ []) words left n → 4 ≤ n → NoField IsSide (λ k. decimal k ∷ []) words
-no_side words left n b h v rest a e =
+-- words that begin with a count begin with no other
+pub same_count : (words left rest : List (List ℕ)) (n m : ℕ) → BeginsWithField IsCount (λ k. decimal k ∷ []) words left n → IsCount m → words ≡ decimal m ∷ rest → n ≡ m
+same_count words left rest n m b h e =
     let s = b.split in
-    let k : decimal n ≡ decimal v = cc in
-    let m = decimal_injective n v (omega (arith, b.range)) (omega (arith, a)) k in
-    absurd (omega arith)
+    let k : decimal n ≡ decimal m = cc in
+    decimal_injective n m (omega (arith, b.range)) (omega (arith, h)) k
 
--- words that begin with no count begin with no number of a side
-pub no_small : (words : List (List ℕ)) → NoField IsCount (λ k. decimal k ∷ []) words → NoField IsSide (λ k. decimal k ∷ []) words
-no_small words h v rest a e = h v rest (omega (arith, a)) e
+-- words that begin with a count begin with no smaller number
+pub no_smaller : (InRange : ℕ → Type 0) (words left : List (List ℕ)) (n : ℕ) → BeginsWithField IsCount (λ k. decimal k ∷ []) words left n → ((v : ℕ) → InRange v → v < n) → NoField InRange (λ k. decimal k ∷ []) words
+no_smaller InRange words left n b below v rest a e =
+    let l = below v a in
+    absurd (omega (arith, b.range, same_count words left rest n v b (omega (arith, b.range)) e))
 
 -- ---- fields of as many words
 
@@ -104,7 +105,7 @@ no_small words h v rest a e = h v rest (omega (arith, a)) e
 abbrev pub AreAsLong : {V : Type 0} → (V → Type 0) → (V → List (List ℕ)) → Type 0
 AreAsLong InRange spell = (u v : _) → InRange u → InRange v → length (spell u) ≡ length (spell v)
 
-same_rest : (xs ys r s : List (List ℕ)) → length xs ≡ length ys → xs ++ r ≡ ys ++ s → r ≡ s
+pub same_rest : (xs ys r s : List (List ℕ)) → length xs ≡ length ys → xs ++ r ≡ ys ++ s → r ≡ s
 same_rest [] [] r s l e = e
 same_rest [] (y ∷ ys) r s l e = absurd (omega arith)
 same_rest (x ∷ xs) [] r s l e = absurd (omega arith)
@@ -113,6 +114,10 @@ same_rest (x ∷ xs) (y ∷ ys) r s l e = same_rest xs ys r s (omega arith) (ap 
 -- what follows a field that was read follows it in each line of these words
 pub after : {V : Type 0} (InRange : V → Type 0) (spell : V → List (List ℕ)) → AreAsLong InRange spell → (words left rest : List (List ℕ)) (v u : V) → BeginsWithField InRange spell words left v → InRange u → words ≡ spell u ++ rest → left ≡ rest
 after InRange spell long words left rest v u b a e = same_rest (spell v) (spell u) left rest (long v u b.range a) (sym b.split ∙ e)
+
+-- what follows the first word
+pub after_word : {words left rest : List (List ℕ)} {v u : List ℕ} → words ≡ v ∷ left → words ≡ u ∷ rest → left ≡ rest
+after_word a b = ap (drop 1) (sym a ∙ b)
 
 -- ---- points
 
@@ -149,3 +154,23 @@ pub point_whole : (d : ℕ) (start words : List (List ℕ)) (p : List ℤ) (k : 
 point_whole d start words p k l h s a =
     let e : take k p ≡ p = take_all k p (omega arith) in
     record { range = record { axes = l; fits = subst (All (FitsSigned w32)) e a }; split = s ∙ ap (λ q. number_words q ++ words) e }
+
+-- ---- coefficients of the plane
+
+-- where the first is missing there are none
+pub no_row : (words : List (List ℕ)) → NoField (FitsSigned w64) (λ z. signed_decimal z ∷ []) words → NoField (IsRow 2) number_words words
+no_row words n [] rest a e = absurd (omega (arith, a.axes))
+no_row words n (x ∷ []) rest a e = absurd (omega (arith, a.axes))
+no_row words n (x ∷ y ∷ []) rest a e = n x (signed_decimal y ∷ rest) (All-head (FitsSigned w64) x (y ∷ []) a.fits) e
+no_row words n (x ∷ y ∷ z ∷ r) rest a e = absurd (omega (arith, a.axes))
+
+-- where the second is missing there are none
+pub no_row_more : (words left : List (List ℕ)) (z : ℤ) → BeginsWithField (FitsSigned w64) (λ z. signed_decimal z ∷ []) words left z → NoField (FitsSigned w64) (λ z. signed_decimal z ∷ []) left → NoField (IsRow 2) number_words words
+no_row_more words left z b n [] rest a e = absurd (omega (arith, a.axes))
+no_row_more words left z b n (x ∷ []) rest a e = absurd (omega (arith, a.axes))
+no_row_more words left z b n (x ∷ y ∷ []) rest a e =
+    n y rest (All-head (FitsSigned w64) y [] (All-tail (FitsSigned w64) x (y ∷ []) a.fits)) (ap (drop 1) (sym b.split ∙ e))
+no_row_more words left z b n (x ∷ y ∷ w ∷ r) rest a e = absurd (omega (arith, a.axes))
+
+pub rows_as_long : AreAsLong (IsRow 2) number_words
+rows_as_long a b r s = length-map a signed_decimal ∙ r.axes ∙ sym s.axes ∙ sym (length-map b signed_decimal)

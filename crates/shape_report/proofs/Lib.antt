@@ -4,3 +4,4 @@ pub mod Flowing
 pub mod SplitWords
 pub mod Fields
 pub mod LineKinds
+pub mod EntryLists

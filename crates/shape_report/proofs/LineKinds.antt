@@ -1,16 +1,18 @@
 -- The kinds of lines: a line's first word tells its kind, and its other words its fields.
 -- A further kind of line brings one lemma `.._only` here, and one clause of `split_spelling`.
-use Rattle.std.proofs.Common.{◌≡◌, ◌≢◌, ℕ, ◌+◌, ℤ, Option, Some, None, MatchOption, List, [], ◌∷◌, ◌++◌, length, sym, ap, ◌∙◌, arith, append-nil}
-use Rattle.std.specs.Prelude.{◌*◌, fold, codes}
-use Rattle.std.specs.Fmt.{decimal}
+use Rattle.std.proofs.Common.{◌≡◌, ◌≢◌, ℕ, ◌+◌, ℤ, Option, Some, None, MatchOption, List, [], ◌∷◌, ◌++◌, length, sym, ap, subst, ◌∙◌, arith, append-nil}
+use Rattle.std.specs.Prelude.{◌*◌, fold, codes, FitsSigned}
+use Rattle.std.specs.Int.{w64}
+use Rattle.std.specs.Fmt.{decimal, signed_decimal}
 use Rattle.std.specs.List.{join_with_byte}
 use Rattle.shape_terms.specs.Points.{Point}
+use Rattle.shape_terms.specs.Refutations.{Refutation}
 use Rattle.shape_terms.specs.Lines as Terms
-use Rattle.shape_terms.specs.Lines.{line_words, spelling, number_words, kind_word, IsLineOf, IsShortPoint, IsName, IsCount, IsWeight}
+use Rattle.shape_terms.specs.Lines.{line_words, spelling, number_words, kind_word, axis_letter, why_words, IsLineOf, IsShortPoint, IsRow, IsName, IsCount, IsWeight, IsWhy}
 use Rattle.shape_terms.proofs.Spelled.{words_of_line}
 use Rattle.shape_report.specs.declared.line.Line.{Line}
 use Rattle.shape_report.specs.LineOf.{line_of}
-use Rattle.shape_report.specs.Reading.{split_words, IsSide, ReadsWords}
+use Rattle.shape_report.specs.Reading.{split_words, IsSide, IsFlatAxis, ReadsWords}
 use Rattle.shape_report.proofs.SplitWords.{join-split_words, split_words-join}
 
 -- a number that tells first words apart
@@ -53,6 +55,30 @@ pub at_only : (d : ℕ) (words : List (List ℕ)) → ((p : Point) → d ≡ 2 �
 at_only d words h (Terms.Line.At p) a e = let f : number_words p ≡ words = cc in h p a.0 a.1 (sym f ∙ sym (append-nil (number_words p)))
 at_only d words h _ a e = let f = ap first_code e in absurd (omega arith)
 
+-- only a `seg` line has these words
+pub seg_only : (d : ℕ) (words : List (List ℕ)) → ((b e t : ℕ) (a : List ℤ) (mu : ℤ) → d ≡ 2 → IsCount b → IsCount e → IsFlatAxis t → IsRow 2 a → FitsSigned w64 mu → words ≢ decimal b ∷ decimal e ∷ (axis_letter t ∷ []) ∷ (number_words a ++ signed_decimal mu ∷ []))
+    → (l : Terms.Line) → IsLineOf d l → line_words l ≢ codes "seg" ∷ words
+seg_only d words h (Terms.Line.Seg b e t a mu) r s =
+    let f : decimal b ∷ decimal e ∷ (axis_letter t ∷ []) ∷ (number_words a ++ signed_decimal mu ∷ []) ≡ words = cc in
+    h b e t a mu r.0 r.1 r.2 (omega (arith, r.0, r.3)) (subst (λ k. IsRow k a) r.0 r.4) r.5 (sym f)
+seg_only d words h _ a e = let f = ap first_code e in absurd (omega arith)
+
+-- only a `turn` line has these words
+pub turn_only : (d : ℕ) (words : List (List ℕ)) → ((t i j : ℕ) → d ≡ 2 → IsFlatAxis t → IsCount i → IsCount j → words ≢ (axis_letter t ∷ []) ∷ decimal i ∷ decimal j ∷ [])
+    → (l : Terms.Line) → IsLineOf d l → line_words l ≢ codes "turn" ∷ words
+turn_only d words h (Terms.Line.Turn t i j) a e =
+    let f : (axis_letter t ∷ []) ∷ decimal i ∷ decimal j ∷ [] ≡ words = cc in
+    h t i j a.0 (omega (arith, a.0, a.1)) a.2 a.3 (sym f)
+turn_only d words h _ a e = let f = ap first_code e in absurd (omega arith)
+
+-- only a `cut` line has these words
+pub cut_only : (d : ℕ) (words : List (List ℕ)) → ((t : ℕ) (why : Refutation) → d ≡ 2 → IsFlatAxis t → IsWhy 2 why → words ≢ (axis_letter t ∷ []) ∷ (why_words why ++ []))
+    → (l : Terms.Line) → IsLineOf d l → line_words l ≢ codes "cut" ∷ words
+cut_only d words h (Terms.Line.Cut t why) a e =
+    let f : (axis_letter t ∷ []) ∷ why_words why ≡ words = cc in
+    h t why a.0 (omega (arith, a.0, a.1)) (subst (λ k. IsWhy k why) a.0 a.2) (sym f ∙ ap (λ ws. (axis_letter t ∷ []) ∷ ws) (sym (append-nil (why_words why))))
+cut_only d words h _ a e = let f = ap first_code e in absurd (omega arith)
+
 -- ---- from words to bytes
 
 split_spelling : (d : ℕ) (l : Terms.Line) → IsLineOf d l → split_words (spelling l) ≡ line_words l
@@ -61,6 +87,9 @@ split_spelling d (Terms.Line.Parts n o b) a = split_words-join _ _ (words_of_lin
 split_spelling d (Terms.Line.Near p q s) a = split_words-join _ _ (words_of_line d (Terms.Line.Near p q s) a)
 split_spelling d (Terms.Line.Contour p side n m) a = split_words-join _ _ (words_of_line d (Terms.Line.Contour p side n m) a)
 split_spelling d (Terms.Line.At p) a = split_words-join _ _ (words_of_line d (Terms.Line.At p) a)
+split_spelling d (Terms.Line.Seg b e t r mu) a = split_words-join _ _ (words_of_line d (Terms.Line.Seg b e t r mu) a)
+split_spelling d (Terms.Line.Turn t i j) a = split_words-join _ _ (words_of_line d (Terms.Line.Turn t i j) a)
+split_spelling d (Terms.Line.Cut t why) a = split_words-join _ _ (words_of_line d (Terms.Line.Cut t why) a)
 split_spelling d Terms.Line.End a = split_words-join _ _ (words_of_line d Terms.Line.End a)
 
 -- a line has the words of a text exactly where it has its bytes

@@ -3,3 +3,5 @@ pub mod Texts
 pub mod Slots
 pub mod Flow
 pub mod Reading
+pub mod Entries
+pub mod Shelves

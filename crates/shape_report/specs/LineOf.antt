@@ -1,16 +1,20 @@
 -- What a line of the program says, as a line of the definitions.
 -- Points are seen as their coordinates, a name as its letters.
-use Rattle.std.specs.Prelude.{ℤ, List}
+use Rattle.std.specs.Prelude.{ℤ, List, take}
 use Rattle.shape_terms.specs.Lines as Terms
 use Rattle.shape_rules.specs.Names.{word_of}
+use Rattle.shape_refute.specs.Weights.{refutation_of}
 use Rattle.shape_report.specs.declared.line.Line.{Line}
-use Rattle.shape_report.specs.declared.line.Line.TheVariants.{Shape, Parts, Near, Contour, At, End}
+use Rattle.shape_report.specs.declared.line.Line.TheVariants.{Shape, Parts, Near, Contour, At, Seg, Turn, Cut, End}
 
--- the line, where `coords` gives the coordinates of a point
+-- the line, where `coords` gives the coordinates of a point; the lines of segments are of flat pictures alone
 abbrev pub line_of : {P : Type 0} → (P → List ℤ) → Line P → Terms.Line
 line_of coords (Shape sides rule) = Terms.Line.Shape (coords sides) (word_of rule)
 line_of coords (Parts n o b) = Terms.Line.Parts n o b
 line_of coords (Near p q s) = Terms.Line.Near (coords p) (coords q) s
 line_of coords (Contour p side n m) = Terms.Line.Contour (coords p) side n m
 line_of coords (At p) = Terms.Line.At (coords p)
+line_of coords (Seg b e n) = Terms.Line.Seg b e n.axis (take 2 n.a) n.mu
+line_of coords (Turn t i j) = Terms.Line.Turn t i j
+line_of coords (Cut t why) = Terms.Line.Cut t (refutation_of why)
 line_of coords End = Terms.Line.End

@@ -27,6 +27,10 @@ words_left (Some text) = split_words text.now
 abbrev pub IsSide : ℕ → Type 0
 IsSide n = n < 4
 
+-- the number of an axis of the plane
+abbrev pub IsFlatAxis : ℕ → Type 0
+IsFlatAxis t = t < 2
+
 -- the words begin with the spelling of a value in range, and `left` follows
 pub record BeginsWithField {V : Type 0} (InRange : V → Type 0) (spell : V → List (List ℕ)) (words left : List (List ℕ)) (v : V) : Type 0 where
   pub range : InRange v

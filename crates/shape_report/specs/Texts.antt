@@ -1,15 +1,16 @@
 -- The text of words, one behind another.
 -- A line's spelling is its first word and then each word behind a blank.
-use Rattle.std.specs.Prelude.{ℕ, List, ◌∷◌, ◌++◌, length, codes, flat_map}
-use Rattle.std.specs.Fmt.{decimal}
+use Rattle.std.specs.Prelude.{ℕ, ℤ, List, ◌∷◌, ◌++◌, length, codes, flat_map}
+use Rattle.std.specs.Fmt.{decimal, signed_decimal}
 use Rattle.shape_terms.specs.Points.{Point}
-use Rattle.shape_terms.specs.Lines.{kind_word, number_words}
+use Rattle.shape_terms.specs.Refutations.{Refutation}
+use Rattle.shape_terms.specs.Lines.{kind_word, number_words, axis_letter, why_words}
 
 -- each word behind a blank
 abbrev pub behind_blanks : List (List ℕ) → List ℕ
 behind_blanks words = flat_map (λ w. 32 ∷ w) words
 
--- the text of a `shape` line, of a `parts` line, of a `near` line, of a `contour` line and of an `at` line
+-- ---- the texts of lines, one for each kind
 abbrev pub shape_text : Point → List ℕ → List ℕ
 shape_text sides rule = codes "shape 1 " ++ kind_word (length sides) ++ behind_blanks (number_words sides) ++ 32 ∷ rule
 
@@ -24,3 +25,12 @@ contour_text p side n m = codes "contour" ++ behind_blanks (number_words p) ++ 3
 
 abbrev pub at_text : Point → List ℕ
 at_text p = codes "at" ++ behind_blanks (number_words p)
+
+abbrev pub seg_text : (first last axis : ℕ) → List ℤ → ℤ → List ℕ
+seg_text b e t a mu = codes "seg" ++ 32 ∷ decimal b ++ 32 ∷ decimal e ++ 32 ∷ axis_letter t ∷ behind_blanks (number_words a) ++ 32 ∷ signed_decimal mu
+
+abbrev pub turn_text : (axis i j : ℕ) → List ℕ
+turn_text t i j = codes "turn " ++ axis_letter t ∷ 32 ∷ decimal i ++ 32 ∷ decimal j
+
+abbrev pub cut_text : (axis : ℕ) → Refutation → List ℕ
+cut_text t why = codes "cut " ++ axis_letter t ∷ behind_blanks (why_words why)

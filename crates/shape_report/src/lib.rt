@@ -2,10 +2,14 @@
 //! Spelling and lines are one to one; what a line claims of a picture is judged elsewhere.
 #![tactic(auto)]
 
+mod field;
 mod line;
+mod put;
 mod read;
 mod report;
+mod shelf;
 mod spell;
+mod why;
 mod words;
 mod write;
 

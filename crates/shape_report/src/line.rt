@@ -1,5 +1,6 @@
 //! The lines of reports: one variant for each kind of line.
 //! A further kind of line is a variant here, a constructor of the definitions' line, and a case of `line_of`.
+use shape_refute::{Naive, Refutation};
 use shape_rules::Name;
 
 /// A line of a report of a picture whose points are of type `P`.
@@ -33,6 +34,27 @@ pub enum Line<P> {
     /// The next point of the contour of a flat picture.
     At {
         p: P,
+    },
+    /// The next segment of the contour of a flat picture: the places of its first and last points, counted from 0 at the contour's
+    /// first point and on past its last (there the points come round again), and a naive line that holds its points. The line's
+    /// third coefficient does not count.
+    Seg {
+        first: u32,
+        last: u32,
+        line: Naive,
+    },
+    /// Two places of the next gap between segments of the contour of a flat picture, which are a turn of its run for an axis
+    /// (0 for x, 1 for y).
+    Turn {
+        axis: u8,
+        i: u32,
+        j: u32,
+    },
+    /// Weights that refute the run of the next gap between segments of the contour of a flat picture, for an axis (0 for x,
+    /// 1 for y).
+    Cut {
+        axis: u8,
+        why: Refutation,
     },
     /// The last line.
     End,

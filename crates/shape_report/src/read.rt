@@ -1,78 +1,18 @@
 //! Reading one line of a report: the inverse of its spelling.
-//! A further kind of line is one more case of `line` and a function that reads its fields in turn.
-ghost use Rattle.std.specs.Prelude.{◌≡◌, ◌≢◌, ◌∷◌, [], List, ℕ, ℤ, codes, decimal, FitsSigned, MatchOption};
-ghost use Rattle.std.specs.Int.{w32};
-ghost use Rattle.std.specs.Fmt.{signed_decimal};
+//! A further kind of line is one more case of `line` and a function that reads its fields one after another.
+ghost use Rattle.std.specs.Prelude.{◌≡◌, ◌≢◌, ◌∷◌, codes, MatchOption};
 ghost use Rattle.shape_terms.specs.Lines as Terms;
-ghost use Rattle.shape_terms.specs.Lines.{number_words, spelling, IsLineOf, IsShortPoint, IsName, IsCount, IsWeight};
-ghost use Rattle.shape_rules.specs.Names.{word_of};
+ghost use Rattle.shape_terms.specs.Lines.{spelling, IsLineOf};
 ghost use Rattle.shape_report.specs.LineOf.{line_of};
-ghost use Rattle.shape_report.specs.Reading.{IsSide, ReadsField, ReadsNumberWord, ReadsWords};
+ghost use Rattle.shape_report.specs.Reading.{ReadsWords};
 
+use crate::field::{axis, coefficients, count, name, point, side, signed, weight};
 use crate::line::Line;
-use crate::spell::kind;
+use crate::put::kind;
+use crate::why::read_why;
 use crate::words::Words;
-use shape_desk::read_number;
-use shape_rules::Name;
+use shape_refute::Naive;
 use shape_space::Point;
-
-// The number that a whole word spells.
-fn number(word: &[u8]) -> Option<i64>
-    ensures { ReadsNumberWord word.now result }
-{
-    let (value, len) = read_number(word)?;
-    if len == word.len() { Some(value) } else { None }
-}
-
-// Reads a coordinate.
-fn coordinate(words: &mut Words) -> Option<i32>
-    ensures { ReadsField (λ z. z) (FitsSigned w32) (λ z. signed_decimal z ∷ []) words.old words.new result }
-{
-    i32::try_from(number(words.next_word()?)?).ok()
-}
-
-// Reads a count.
-fn count(words: &mut Words) -> Option<u32>
-    ensures { ReadsField (λ n. n) IsCount (λ n. decimal n ∷ []) words.old words.new result }
-{
-    u32::try_from(number(words.next_word()?)?).ok()
-}
-
-// A pixel has so many sides.
-const SIDES: u32 = 4;
-
-// Reads the number of a side of a pixel.
-fn side(words: &mut Words) -> Option<u8>
-    ensures { ReadsField (λ n. n) IsSide (λ n. decimal n ∷ []) words.old words.new result }
-{
-    let side = count(words)?;
-    if side < SIDES { Some(side as u8) } else { None }
-}
-
-// Reads a weight or a squared distance.
-fn weight(words: &mut Words) -> Option<u64>
-    ensures { ReadsField (λ n. n) IsWeight (λ n. decimal n ∷ []) words.old words.new result }
-{
-    u64::try_from(number(words.next_word()?)?).ok()
-}
-
-// Reads a name.
-fn name(words: &mut Words) -> Option<Name>
-    ensures { ReadsField word_of IsName (λ word. word ∷ []) words.old words.new result }
-{
-    Name::new(words.next_word()?)
-}
-
-// Reads the coordinates of a point.
-fn point<P: Point>(words: &mut Words) -> Option<P>
-    ensures { ReadsField P.coords (IsShortPoint P.DIM) number_words words.old words.new result }
-{
-    let mut point = P::origin();
-    for axis in 0..P::DIM {
-        point = point.with(axis, coordinate(words)?);
-    }
-    Some(point)
-}
 
 // Reads the words of a `shape` line behind the first. Reports of this kind have the number 1.
 fn shape<P: Point>(words: &mut Words) -> Option<Line<P>>
@@ -144,6 +84,53 @@ fn at<P: Point>(words: &mut Words) -> Option<Line<P>>
     Some(Line::At { p })
 }
 
+// Reads the words of a `seg` line behind the first. It is a line of flat pictures alone.
+fn seg<P: Point>(words: &mut Words) -> Option<Line<P>>
+    ensures { ReadsWords P.DIM P.coords (codes "seg" ∷ words.old) result }
+{
+    if P::DIM != 2 {
+        return None;
+    }
+    let first = count(words)?;
+    let last = count(words)?;
+    let axis = axis(words)?;
+    let a = coefficients(words)?;
+    let mu = signed(words)?;
+    words.end()?;
+    Some(Line::Seg {
+        first,
+        last,
+        line: Naive { a, mu, axis },
+    })
+}
+
+// Reads the words of a `turn` line behind the first. It is a line of flat pictures alone.
+fn turn<P: Point>(words: &mut Words) -> Option<Line<P>>
+    ensures { ReadsWords P.DIM P.coords (codes "turn" ∷ words.old) result }
+{
+    if P::DIM != 2 {
+        return None;
+    }
+    let axis = axis(words)?;
+    let i = count(words)?;
+    let j = count(words)?;
+    words.end()?;
+    Some(Line::Turn { axis, i, j })
+}
+
+// Reads the words of a `cut` line behind the first. It is a line of flat pictures alone.
+fn cut<P: Point>(words: &mut Words) -> Option<Line<P>>
+    ensures { ReadsWords P.DIM P.coords (codes "cut" ∷ words.old) result }
+{
+    if P::DIM != 2 {
+        return None;
+    }
+    let axis = axis(words)?;
+    let why = read_why(words)?;
+    words.end()?;
+    Some(Line::Cut { axis, why })
+}
+
 // Reads what stands behind the word `end`: nothing.
 fn end<P: Point>(words: &Words) -> Option<Line<P>>
     ensures { ReadsWords P.DIM P.coords (codes "end" ∷ words.now) result }
@@ -167,6 +154,12 @@ fn line<P: Point>(words: &mut Words) -> Option<Line<P>>
         contour(words)
     } else if word == b"at".as_slice() {
         at(words)
+    } else if word == b"seg".as_slice() {
+        seg(words)
+    } else if word == b"turn".as_slice() {
+        turn(words)
+    } else if word == b"cut".as_slice() {
+        cut(words)
     } else if word == b"end".as_slice() {
         end(words)
     } else {
@@ -189,6 +182,7 @@ pub fn read_claim<P: Point>(bytes: &[u8]) -> Option<Line<P>>
 #[cfg(test)]
 mod tests {
     use super::*;
+    use shape_refute::{Share, Step, StepShare};
     use shape_space::P2;
 
     #[test]
@@ -207,6 +201,15 @@ mod tests {
                 })
             )
         );
+        let Some(Line::Shape { sides, rule }) = read_claim::<P2>(b"shape 1 pbm 3 1024 none") else {
+            panic!(rt; "a `shape` line")
+        };
+        assert_eq!(rt; sides, P2 { x: 3, y: 1024 });
+        assert_eq!(rt; rule.word(), b"none".as_slice());
+    }
+
+    #[test]
+    fn lines_of_contours_are_read(rt: HostRuntime) {
         assert!(rt;
             matches!(
                 read_claim::<P2>(b"contour 0 0 3 4 0"),
@@ -226,11 +229,60 @@ mod tests {
                 })
             )
         );
-        let Some(Line::Shape { sides, rule }) = read_claim::<P2>(b"shape 1 pbm 3 1024 none") else {
-            panic!(rt; "a `shape` line")
+        assert!(rt;
+            matches!(
+                read_claim::<P2>(b"turn x 2 7"),
+                Some(Line::Turn {
+                    axis: 0,
+                    i: 2,
+                    j: 7
+                })
+            )
+        );
+        let Some(Line::Seg { first, last, line }) = read_claim::<P2>(
+            b"seg 1 4 y -9223372036854775808 3 -2",
+        ) else {
+            panic!(rt; "a `seg` line")
         };
-        assert_eq!(rt; sides, P2 { x: 3, y: 1024 });
-        assert_eq!(rt; rule.word(), b"none".as_slice());
+        assert_eq!(rt; (first, last), (1, 4));
+        let naive = Naive {
+            a: [i64::MIN, 3, 0],
+            mu: -2,
+            axis: 1,
+        };
+        assert_eq!(rt; line, naive);
+    }
+
+    #[test]
+    fn weights_are_read(rt: HostRuntime) {
+        let Some(Line::Cut { axis, why }) = read_claim::<P2>(
+            b"cut y 2 1 0 1 4 1 2 2 2 3 up 9223372036854775807 up-x",
+        ) else {
+            panic!(rt; "a `cut` line")
+        };
+        assert_eq!(rt; axis, 1);
+        assert_eq!(rt; why.low.len(), 2);
+        assert_eq!(rt;
+            why.low.get(1),
+            Share {
+                weight: 1,
+                place: 4
+            }
+        );
+        assert_eq!(rt; why.high.len(), 1);
+        assert_eq!(rt;
+            why.high.get(0),
+            Share {
+                weight: 2,
+                place: 2
+            }
+        );
+        assert_eq!(rt; why.steps.len(), 2);
+        let back = StepShare {
+            weight: 9223372036854775807,
+            step: Step::Minus(0),
+        };
+        assert_eq!(rt; why.steps.get(1), back);
     }
 
     #[test]
@@ -258,6 +310,18 @@ mod tests {
             "contour 0 0 3 4 4294967296",
             "at 1",
             "at 1 2 3",
+            "seg 1 4 z -1 3 0",
+            "seg 1 4 y -1 3",
+            "seg 1 4 y -1 9223372036854775808 0",
+            "turn z 2 7",
+            "turn x 2 -7",
+            "cut z 0 0 0",
+            "cut x 5 1 0 1 1 1 2 1 3 1 4 0 0",
+            "cut x 1 9223372036854775808 0 0 0",
+            "cut x 0 0 1 1 up+z",
+            "cut x 0 0 1 1 Up",
+            "cut x 0 0 2 1 up",
+            "cut x 0 0 0 0",
             "shape 1 raw 1 1 none",
             "shape 2 pbm 1 1 none",
             "shape 1 pbm 1 1 None",

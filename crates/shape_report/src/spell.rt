@@ -1,40 +1,18 @@
 //! The spelling of a line: its words, each behind a blank, put one after another into a buffer.
-//! A further kind of line is one more case of `put_claim`.
-ghost use Rattle.std.specs.Prelude.{◌≡◌, ◌≤◌, ◌<◌, ◌+◌, ◌^◌, ◌++◌, [], ◌∷◌, ℕ, length, take, pos};
-ghost use Rattle.std.specs.Fmt.{decimal, signed_decimal};
-ghost use Rattle.shape_terms.specs.Lines.{number_words, kind_word, spelling, IsLineOf, IsWeight};
+//! A further kind of line is one more case of `put_claim` and a function that puts its words.
+ghost use Rattle.std.specs.Prelude.{◌≡◌, ◌≤◌, ◌<◌, length, take};
+ghost use Rattle.shape_terms.specs.Lines.{spelling, IsLineOf, IsWeight, IsWhy};
 ghost use Rattle.shape_rules.specs.Names.{word_of};
+ghost use Rattle.shape_refute.specs.Weights.{refutation_of};
 ghost use Rattle.shape_report.specs.LineOf.{line_of};
-ghost use Rattle.shape_report.specs.Texts.{behind_blanks, shape_text, parts_text, near_text, contour_text, at_text};
+ghost use Rattle.shape_report.specs.Texts.{shape_text, parts_text, near_text, contour_text, at_text, seg_text, turn_text, cut_text};
 
 use crate::line::Line;
-use shape_desk::{put_number, put_word};
+use crate::put::{kind, put_coefficients, put_field, put_letter, put_point};
+use crate::why::put_why;
+use shape_desk::put_word;
+use shape_refute::{Naive, Refutation};
 use shape_space::Point;
-
-// Puts a signed number behind a blank.
-fn put_field(n: i64, buf: &mut [u8], at: usize) -> usize
-    requires { at + 21 ≤ length buf.old }
-    ensures text { take result buf.new ≡ take at buf.old ++ 32 ∷ signed_decimal n }
-    ensures room { result ≤ at + 21 }
-    ensures length { length buf.new ≡ length buf.old }
-{
-    let end = put_word(b" ", buf, at);
-    put_number(n, buf, end)
-}
-
-// Puts each coordinate of a point behind a blank.
-fn put_point<P: Point>(p: P, buf: &mut [u8], at: usize) -> usize
-    requires { at + 63 ≤ length buf.old }
-    ensures text { take result buf.new ≡ take at buf.old ++ behind_blanks (number_words (P.coords p)) }
-    ensures room { result ≤ at + 63 }
-    ensures length { length buf.new ≡ length buf.old }
-{
-    let mut end = at;
-    for k in 0..P::DIM {
-        end = put_field(i64::from(p.coord(k)), buf, end);
-    }
-    end
-}
 
 // Puts the words of a `shape` line behind the first.
 fn put_shape<P: Point>(sides: P, rule: &[u8], buf: &mut [u8]) -> usize
@@ -49,13 +27,6 @@ fn put_shape<P: Point>(sides: P, rule: &[u8], buf: &mut [u8]) -> usize
     let end = put_point(sides, buf, end);
     let end = put_word(b" ", buf, end);
     put_word(rule, buf, end)
-}
-
-// The word for the kind of picture.
-pub(crate) fn kind<P: Point>() -> &'static [u8]
-    ensures { result.now ≡ kind_word P.DIM }
-{
-    if P::DIM == 2 { b"pbm" } else { b"raw" }
 }
 
 // Puts the words of a `parts` line.
@@ -110,6 +81,51 @@ fn put_at<P: Point>(p: P, buf: &mut [u8]) -> usize
     put_point(p, buf, end)
 }
 
+// Puts the words of a `seg` line.
+fn put_seg(first: u32, last: u32, line: &Naive, buf: &mut [u8]) -> usize
+    requires room { length buf.old ≡ 1024 }
+    requires axis { line.now.axis < 2 }
+    ensures text { take result buf.new ≡ seg_text first last line.now.axis (take 2 line.now.a) line.now.mu }
+    ensures room { result ≤ 1024 }
+    ensures length { length buf.new ≡ length buf.old }
+{
+    let end = put_word(b"seg", buf, 0);
+    let end = put_field(i64::from(first), buf, end);
+    let end = put_field(i64::from(last), buf, end);
+    let end = put_word(b" ", buf, end);
+    let end = put_letter(line.axis, buf, end);
+    let end = put_coefficients(&line.a, buf, end);
+    put_field(line.mu, buf, end)
+}
+
+// Puts the words of a `turn` line.
+fn put_turn(axis: u8, i: u32, j: u32, buf: &mut [u8]) -> usize
+    requires room { length buf.old ≡ 1024 }
+    requires axis { axis < 2 }
+    ensures text { take result buf.new ≡ turn_text axis i j }
+    ensures room { result ≤ 1024 }
+    ensures length { length buf.new ≡ length buf.old }
+{
+    let end = put_word(b"turn ", buf, 0);
+    let end = put_letter(axis, buf, end);
+    let end = put_field(i64::from(i), buf, end);
+    put_field(i64::from(j), buf, end)
+}
+
+// Puts the words of a `cut` line.
+fn put_cut(axis: u8, why: &Refutation, buf: &mut [u8]) -> usize
+    requires room { length buf.old ≡ 1024 }
+    requires axis { axis < 2 }
+    requires why { IsWhy 2 (refutation_of why.now) }
+    ensures text { take result buf.new ≡ cut_text axis (refutation_of why.now) }
+    ensures room { result ≤ 1024 }
+    ensures length { length buf.new ≡ length buf.old }
+{
+    let end = put_word(b"cut ", buf, 0);
+    let end = put_letter(axis, buf, end);
+    put_why(why, buf, end)
+}
+
 /// Writes the spelling of a line, without its LF, at the front of the buffer, and answers its length.
 ///
 /// It takes no memory.
@@ -133,6 +149,13 @@ pub fn put_claim<P: Point>(line: &Line<P>, buf: &mut [u8; 1024]) -> usize
             segments,
         } => put_contour(*p, *side, *points, *segments, buf),
         Line::At { p } => put_at(*p, buf),
+        Line::Seg {
+            first,
+            last,
+            line: naive,
+        } => put_seg(*first, *last, naive, buf),
+        Line::Turn { axis, i, j } => put_turn(*axis, *i, *j, buf),
+        Line::Cut { axis, why } => put_cut(*axis, why, buf),
         Line::End => put_word(b"end", buf, 0),
     }
 }

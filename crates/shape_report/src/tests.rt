@@ -74,13 +74,38 @@ fn a_small_report(rt: HostRuntime) -> Result<(), Fail> {
 }
 
 #[test]
-fn lines_are_spelled_as_they_are_read(rt: HostRuntime) {
-    for text in ["parts 4 1 2", "contour 0 0 3 4 0", "at 12 7", "end"] {
+fn lines_of_every_kind_are_read_and_written(rt: HostRuntime) -> Result<(), Fail> {
+    let alloc = rt.alloc();
+    let text = b"shape 1 pbm 2 1 few\nparts 4 1 2\nnear 0 0 -1 0 1\ncontour 0 0 3 4 0\nat 12 7\n\
+seg 1 4 y -1 3 0\nturn x 2 7\ncut y 2 1 0 1 4 1 2 2 0\ncut x 0 1 7 1 3 5 up 6 up+y 7 up-y\nend\n"
+        .as_slice();
+    let Some(head) = read_claim::<P2>(b"shape 1 pbm 2 1 few") else {
+        panic!(rt; "a `shape` line")
+    };
+    let Some(parts) = read_claim::<P2>(b"parts 4 1 2") else {
+        panic!(rt; "a `parts` line")
+    };
+    let Ok(mut report) = Report::new(alloc, head, parts) else {
+        return Err(Fail::from(AllocError));
+    };
+    for text in [
+        "near 0 0 -1 0 1",
+        "contour 0 0 3 4 0",
+        "at 12 7",
+        "seg 1 4 y -1 3 0",
+        "turn x 2 7",
+        "cut y 2 1 0 1 4 1 2 2 0",
+        "cut x 0 1 7 1 3 5 up 6 up+y 7 up-y",
+        "end",
+    ] {
         let Some(line) = read_claim::<P2>(text.as_bytes()) else {
             panic!(rt; "no line: {text}")
         };
-        let mut buffer = [0; 1024];
-        let len = put_claim(&line, &mut buffer);
-        assert_eq!(rt; &buffer[..len], text.as_bytes());
+        assert!(rt; report.add(line).is_ok());
     }
+    let Ok(bytes) = report_bytes(alloc, &report) else {
+        return Err(Fail::from(AllocError));
+    };
+    assert_eq!(rt; bytes.as_slice(), text);
+    Ok(())
 }

@@ -1,8 +1,6 @@
-use Rattle.std.proofs.Common.{ℕ, [], ◌∷◌, refl}
-use Rattle.std.specs.Fmt.{decimal}
-use Rattle.shape_terms.specs.Lines.{number_words, IsShortPoint, IsCount}
-use Rattle.shape_report.specs.Reading.{IsSide}
-use Rattle.shape_report.proofs.Fields.{after, points_as_long}
+use Rattle.std.proofs.Common.{[]}
+use Rattle.shape_terms.specs.Lines.{number_words, IsShortPoint}
+use Rattle.shape_report.proofs.Fields.{after, after_word, points_as_long}
 use Rattle.shape_report.proofs.LineKinds.{contour_only}
 use Rattle.shape_report.proofs.read.contour.Goals as goal
 
@@ -20,21 +18,18 @@ returns-in_err-points g c =
     let d = g.P.Point.DIM in
     rw c.from_residual-in_err-points.ensures (contour_only d c.args.words.now (λ p side n m two a x y z e.
     let f = after (IsShortPoint d) number_words (points_as_long d) _ _ _ _ p c.in_ok-p.ensures a e in
-    c.in_err-points.ensures n _ y (after IsSide (λ (k : ℕ). decimal k ∷ []) (λ u v _ _. refl) _ _ _ _ side c.in_ok-side.ensures x f)))
+    c.in_err-points.ensures n _ y (after_word c.in_ok-side.ensures.split f)))
 
 pub returns-in_err-segments : goal.returns-in_err-segments
 returns-in_err-segments g c =
     let d = g.P.Point.DIM in
     rw c.from_residual-in_err-segments.ensures (contour_only d c.args.words.now (λ p side n m two a x y z e.
     let f = after (IsShortPoint d) number_words (points_as_long d) _ _ _ _ p c.in_ok-p.ensures a e in
-    let h = after IsSide (λ (k : ℕ). decimal k ∷ []) (λ u v _ _. refl) _ _ _ _ side c.in_ok-side.ensures x f in
-    c.in_err-segments.ensures m [] z (after IsCount (λ (k : ℕ). decimal k ∷ []) (λ u v _ _. refl) _ _ _ _ n c.in_ok-points.ensures y h)))
+    c.in_err-segments.ensures m [] z (after_word c.in_ok-points.ensures.split (after_word c.in_ok-side.ensures.split f))))
 
 pub returns-in_err-end : goal.returns-in_err-end
 returns-in_err-end g c =
     let d = g.P.Point.DIM in
     rw c.from_residual-in_err-end.ensures (contour_only d c.args.words.now (λ p side n m two a x y z e.
     let f = after (IsShortPoint d) number_words (points_as_long d) _ _ _ _ p c.in_ok-p.ensures a e in
-    let h = after IsSide (λ (k : ℕ). decimal k ∷ []) (λ u v _ _. refl) _ _ _ _ side c.in_ok-side.ensures x f in
-    let k = after IsCount (λ (j : ℕ). decimal j ∷ []) (λ u v _ _. refl) _ _ _ _ n c.in_ok-points.ensures y h in
-    c.in_err-end.ensures (after IsCount (λ (j : ℕ). decimal j ∷ []) (λ u v _ _. refl) _ _ _ _ m c.in_ok-segments.ensures z k)))
+    c.in_err-end.ensures (after_word c.in_ok-segments.ensures.split (after_word c.in_ok-points.ensures.split (after_word c.in_ok-side.ensures.split f)))))
