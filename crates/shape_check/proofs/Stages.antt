@@ -1,11 +1,10 @@
 -- When the next line is good, at each stage of a check, and which lines that stands for.
 -- Laws over pictures and lines; a further stage brings a law for each kind of line that may come there.
 use Rattle.std.proofs.Common.{◌≡◌, ◌≢◌, ℕ, suc, ◌≤◌, Bool, true, false, refl, sym, ap, ◌∙◌, subst, arith, List, [], ◌∷◌, ◌++◌, length, map}
-use Rattle.std.specs.Prelude.{ℤ, pos, ◌↔◌, ◌==◌, IsTrue, All, codes}
+use Rattle.std.specs.Prelude.{ℤ, pos, ◌↔◌, ◌==◌, IsTrue, codes}
 use Rattle.std.specs.Bool.{OnTrue}
 use Rattle.std.proofs.lemmas.Int.{ints}
 use Rattle.std.proofs.lemmas.Option.{slice_get_within}
-use Rattle.std.proofs.lemmas.List.Elements.{All-head, All-tail}
 use Rattle.shape_terms.specs.Points.{Point, AreSides, sides_of}
 use Rattle.shape_terms.specs.Pictures.{Picture, object_points}
 use Rattle.shape_terms.specs.ContourLines.{ContourClaim, ContoursComplete}

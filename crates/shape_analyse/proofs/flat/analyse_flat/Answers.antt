@@ -1,4 +1,4 @@
-use Rattle.std.proofs.Common.{◌≤◌, length, arith, subst, sym, refl}
+use Rattle.std.proofs.Common.{length, subst, sym, refl}
 use Rattle.shape_terms.specs.Lines.{text_of}
 use Rattle.shape_terms.specs.Holds.{Holds}
 use Rattle.shape_terms.specs.Pictures.{object_points}
