@@ -66,7 +66,7 @@ first_few [] = omega arith
 first_few (k ∷ contours) = omega (arith, sum_by-cons (λ (k : Contour). length k.points) k contours)
 
 -- the lines of all contours
-pub few_lines : (X : Picture) (contours : List Contour) → AreContours X contours → box_count X.sides ≤ 2 ^ 23 → room_of (record { contours = contours; standing = record { begun = 0; points = 0 } }) < 2 ^ 60
+pub few_lines : (X : Picture) (contours : List Contour) → AreContours X contours → box_count X.sides ≤ 2 ^ 23 → room_of (record { contours = contours; standing = record { begun = 0; points = 0; declared = 0; stretches = []; gaps = 0 } }) < 2 ^ 60
 few_lines X contours are few =
     let cracks = few_cracks X (flat_map (λ c. c) are.cycles) (λ c i. (are.are.each c).1 i) are.are.once in
     let all = few_in_all X are.cycles are.are.cycle in

@@ -1,19 +1,23 @@
 -- What a judge finds of a line, as the claim of the line after those that the judge stands for.
 -- Laws over pictures, lines and what a judge is seen as.
-use Rattle.std.proofs.Common.{◌≡◌, ℕ, zero, suc, ◌+◌, ◌-◌, ◌<◌, Bool, true, false, List, [], ◌∷◌, ◌++◌, length, drop, refl, ap, sym, ◌∙◌, subst, arith}
+use Rattle.std.proofs.Common.{◌≡◌, ℕ, zero, suc, ◌+◌, ◌-◌, ◌*◌, ◌<◌, ◌≤◌, Bool, true, false, List, [], ◌∷◌, ◌++◌, length, drop, refl, ap, sym, ◌∙◌, subst, arith}
 use Rattle.std.proofs.lemmas.Bool.{eqb-true}
 use Rattle.std.proofs.lemmas.Bool.Decides.{nat_tests}
-use Rattle.std.specs.Prelude.{nat_eq, ◌↔◌, IsTrue, Some, slice_get, slice_index_or}
+use Rattle.std.specs.Prelude.{ℤ, nat_eq, ◌↔◌, IsTrue, Some, slice_get, slice_index_or}
 use Rattle.std.specs.Bool.{OnTrue}
 use Rattle.std.proofs.lemmas.List.Sums.{sum_by-cons}
 use Rattle.std.proofs.lemmas.Option.{get_or_from_slice_get, slice_get_within}
 use Rattle.shape_terms.specs.Points.{Point}
 use Rattle.shape_terms.specs.Pictures.{Picture}
 use Rattle.shape_terms.specs.Contours.{Crack}
+use Rattle.shape_terms.specs.Naive.{Naive}
+use Rattle.shape_terms.specs.Refutations.{Refutation}
+use Rattle.shape_terms.specs.Covers.{Evidence}
+use Rattle.std.proofs.lemmas.List.{length-append}
 use Rattle.shape_terms.specs.Traces.{Contour, AreContours}
 use Rattle.shape_terms.specs.Lines.{Line}
-use Rattle.shape_terms.specs.ContourLines.{Standing, standing, no_contour, open_contour, IsFull, IsContourHead, IsNextPoint, OutlineClaim, ContourClaim, ContoursComplete}
-use Rattle.shape_terms.proofs.ContourGroups.{standing_begun, standing_point}
+use Rattle.shape_terms.specs.ContourLines.{Standing, standing, no_contour, open_contour, IsFull, IsContourHead, IsNextPoint, IsNextSegment, IsNextGap, OutlineClaim, ContourClaim, ContoursComplete}
+use Rattle.shape_terms.proofs.ContourGroups.{declared_begun, standing_begun, standing_point, standing_segment, standing_turn, standing_cut}
 use Rattle.shape_terms.proofs.ContoursShown.{contours_same}
 use Rattle.judge_cover.specs.CoverState.{CoverState, StandsFor, points_in, room_of}
 
@@ -39,37 +43,70 @@ done_test X s lines b f r = (
 )
 
 -- one contour more
-pub begun_stands : (X : Picture) (s s2 : CoverState) (lines : List Line) (p : Point) (side n m : ℕ) (b : Bool) → StandsFor X s lines → s2.contours ≡ s.contours → OnTrue b (s2.standing ≡ record { begun = s.standing.begun + 1; points = 0 }) → OnTrue b (StandsFor X s2 (lines ++ Line.Contour p side n m ∷ []))
+pub begun_stands : (X : Picture) (s s2 : CoverState) (lines : List Line) (p : Point) (side n m : ℕ) (b : Bool) → StandsFor X s lines → s2.contours ≡ s.contours → OnTrue b (s2.standing ≡ record { begun = s.standing.begun + 1; points = 0; declared = m; stretches = []; gaps = 0 }) → OnTrue b (StandsFor X s2 (lines ++ Line.Contour p side n m ∷ []))
 begun_stands X s s2 lines p side n m false f e k = tt
 begun_stands X s s2 lines p side n m true f e k = record {
   flat = f.flat;
   are = subst (AreContours X) (sym e) f.are;
-  stands = standing_begun lines p side n m ∙ ap (λ (w : Standing). record { begun = w.begun + 1; points = 0 }) f.stands ∙ sym k;
+  stands = standing_begun lines p side n m ∙ ap (λ (w : Standing). record { begun = w.begun + 1; points = 0; declared = m; stretches = []; gaps = 0 }) f.stands ∙ sym k;
 }
 
 -- one point more
-pub point_stands : (X : Picture) (s s2 : CoverState) (lines : List Line) (p : Point) (b : Bool) → StandsFor X s lines → s2.contours ≡ s.contours → (IsTrue b ↔ IsNextPoint s.contours s.standing p) → OnTrue b (s2.standing ≡ record { begun = s.standing.begun; points = s.standing.points + 1 }) → OnTrue b (StandsFor X s2 (lines ++ Line.At p ∷ []))
+pub point_stands : (X : Picture) (s s2 : CoverState) (lines : List Line) (p : Point) (b : Bool) → StandsFor X s lines → s2.contours ≡ s.contours → (IsTrue b ↔ IsNextPoint s.contours s.standing p) → OnTrue b (s2.standing ≡ record s.standing { points = s.standing.points + 1 }) → OnTrue b (StandsFor X s2 (lines ++ Line.At p ∷ []))
 point_stands X s s2 lines p false f e r k = tt
 point_stands X s s2 lines p true f e r k =
     let some : 0 < (standing lines).begun = subst (λ (w : Standing). 0 < w.begun) (sym f.stands) (r.0 refl).some in
     record {
       flat = f.flat;
       are = subst (AreContours X) (sym e) f.are;
-      stands = standing_point lines p some ∙ ap (λ (w : Standing). record { begun = w.begun; points = w.points + 1 }) f.stands ∙ sym k;
+      stands = standing_point lines p some ∙ ap (λ (w : Standing). record w { points = w.points + 1 }) f.stands ∙ sym k;
     }
 
--- all contours were begun, and b says whether the last has all its points
-pub done_all : (X : Picture) (s : CoverState) (lines : List Line) (begun n : ℕ) (b : Bool) {contours : List Contour} {points : ℕ} → StandsFor X s lines → record { contours = contours; standing = record { begun = begun; points = points } } ≡ s → n ≡ length contours → begun ≡ n → (IsTrue b ↔ IsFull s.contours s.standing) → (IsTrue b ↔ ContoursComplete X lines)
-done_all X s lines begun n b f view len e r =
-    let all : s.standing.begun ≡ length s.contours = sym (ap (λ (t : CoverState). t.standing.begun) view) ∙ e ∙ len ∙ ap (λ (t : CoverState). length t.contours) view in
-    done_test X s lines b f (λ t. (r.0 t, all), λ h. r.1 h.0)
+-- one segment more
+pub segment_stands : (X : Picture) (s s2 : CoverState) (lines : List Line) (first last t : ℕ) (row : List ℤ) (mu : ℤ) (b : Bool) → StandsFor X s lines → s2.contours ≡ s.contours → (IsTrue b ↔ IsNextSegment s.contours s.standing first last t (record { a = row; mu = mu }))
+    → OnTrue b (s2.standing ≡ record s.standing { stretches = s.standing.stretches ++ record { first = first; last = last } ∷ [] }) → OnTrue b (StandsFor X s2 (lines ++ Line.Seg first last t row mu ∷ []))
+segment_stands X s s2 lines first last t row mu false f e r k = tt
+segment_stands X s s2 lines first last t row mu true f e r k =
+    let more = (r.0 refl).more in
+    let declared : 0 < (standing lines).declared = subst (λ (w : Standing). 0 < w.declared) (sym f.stands) (omega (arith, more)) in
+    record {
+      flat = f.flat;
+      are = subst (AreContours X) (sym e) f.are;
+      stands = standing_segment lines first last t row mu (declared_begun lines declared) ∙ ap (λ (w : Standing). record w { stretches = w.stretches ++ record { first = first; last = last } ∷ [] }) f.stands ∙ sym k;
+    }
+
+-- one gap line more: a turn, or weights
+gap_begun : (X : Picture) (s : CoverState) (lines : List Line) (t : ℕ) (v : Evidence) → StandsFor X s lines → IsNextGap s.contours s.standing t v → 0 < (standing lines).begun
+gap_begun X s lines t v f g =
+    let more = g.more in
+    declared_begun lines (subst (λ (w : Standing). 0 < w.declared) (sym f.stands) (omega (arith, more)))
+
+pub turn_stands : (X : Picture) (s s2 : CoverState) (lines : List Line) (t i j : ℕ) (b : Bool) → StandsFor X s lines → s2.contours ≡ s.contours → (IsTrue b ↔ IsNextGap s.contours s.standing t (Evidence.Turned i j)) → OnTrue b (s2.standing ≡ record s.standing { gaps = s.standing.gaps + 1 }) → OnTrue b (StandsFor X s2 (lines ++ Line.Turn t i j ∷ []))
+turn_stands X s s2 lines t i j false f e r k = tt
+turn_stands X s s2 lines t i j true f e r k = record {
+  flat = f.flat;
+  are = subst (AreContours X) (sym e) f.are;
+  stands = standing_turn lines t i j (gap_begun X s lines t (Evidence.Turned i j) f (r.0 refl)) ∙ ap (λ (w : Standing). record w { gaps = w.gaps + 1 }) f.stands ∙ sym k;
+}
+
+pub cut_stands : (X : Picture) (s s2 : CoverState) (lines : List Line) (t : ℕ) (why : Refutation) (b : Bool) → StandsFor X s lines → s2.contours ≡ s.contours → (IsTrue b ↔ IsNextGap s.contours s.standing t (Evidence.Cut why)) → OnTrue b (s2.standing ≡ record s.standing { gaps = s.standing.gaps + 1 }) → OnTrue b (StandsFor X s2 (lines ++ Line.Cut t why ∷ []))
+cut_stands X s s2 lines t why false f e r k = tt
+cut_stands X s s2 lines t why true f e r k = record {
+  flat = f.flat;
+  are = subst (AreContours X) (sym e) f.are;
+  stands = standing_cut lines t why (gap_begun X s lines t (Evidence.Cut why) f (r.0 refl)) ∙ ap (λ (w : Standing). record w { gaps = w.gaps + 1 }) f.stands ∙ sym k;
+}
+
+-- all contours were begun, and b says whether the last has all its lines
+pub done_all : (X : Picture) (s : CoverState) (lines : List Line) (begun n : ℕ) (b : Bool) → StandsFor X s lines → begun ≡ s.standing.begun → n ≡ length s.contours → begun ≡ n → (IsTrue b ↔ IsFull s.contours s.standing) → (IsTrue b ↔ ContoursComplete X lines)
+done_all X s lines begun n b f here len e r = done_test X s lines b f (λ t. (r.0 t, sym here ∙ e ∙ len), λ h. r.1 h.0)
 
 -- some contour is to come
-pub done_short : (X : Picture) (s : CoverState) (lines : List Line) (begun n : ℕ) {contours : List Contour} {points : ℕ} → StandsFor X s lines → record { contours = contours; standing = record { begun = begun; points = points } } ≡ s → n ≡ length contours → (begun ≡ n → ⊥) → (IsTrue (nat_eq begun n) ↔ ContoursComplete X lines)
-done_short X s lines begun n f view len other =
+pub done_short : (X : Picture) (s : CoverState) (lines : List Line) (begun n : ℕ) → StandsFor X s lines → begun ≡ s.standing.begun → n ≡ length s.contours → (begun ≡ n → ⊥) → (IsTrue (nat_eq begun n) ↔ ContoursComplete X lines)
+done_short X s lines begun n f here len other =
     done_test X s lines (nat_eq begun n) f (
       λ t. absurd (other (eqb-true begun n t)),
-      λ h. ap (nat_eq begun) (sym (ap (λ (t : CoverState). t.standing.begun) view ∙ h.1 ∙ sym (ap (λ (t : CoverState). length t.contours) view) ∙ sym len)) ∙ nat_eq_self begun,
+      λ h. ap (nat_eq begun) (sym (here ∙ h.1 ∙ sym len)) ∙ nat_eq_self begun,
     )
   where
     nat_eq_self : (k : ℕ) → nat_eq k k ≡ true
@@ -83,27 +120,40 @@ drop_here (x ∷ xs) zero k e = let h : x ≡ k = cc in ap (λ y. y ∷ xs) h
 drop_here (x ∷ xs) (suc n) k e = drop_here xs n k e
 
 -- the next contour is one of those to come no more
-less_to_come : (contours : List Contour) (n : ℕ) (k : Contour) (left : ℕ) → slice_get contours n ≡ Some k
-    → (length k.points - 0) + (length contours - (n + 1)) + points_in (drop (n + 1) contours) < left + (length contours - n) + points_in (drop n contours)
-less_to_come contours n k left e =
+less_to_come : (contours : List Contour) (n m : ℕ) (k : Contour) (left : ℕ) → slice_get contours n ≡ Some k → m ≤ length k.points
+    → (length k.points - 0) + (m - 0) + (2 * m - 0) + (length contours - (n + 1)) + 4 * points_in (drop (n + 1) contours) < left + (length contours - n) + 4 * points_in (drop n contours)
+less_to_come contours n m k left e few =
     let l = slice_get_within contours n k e in
     let q : suc n ≡ n + 1 = omega arith in
     let s : points_in (drop n contours) ≡ length k.points + points_in (drop (n + 1) contours) =
     ap points_in (drop_here contours n k e ∙ ap (λ j. k ∷ drop j contours) q) ∙ sum_by-cons (λ (c : Contour). length c.points) k (drop (n + 1) contours) in
-    omega (arith, l, s)
+    omega (arith, l, s, few)
 
-pub begun_room : (s s2 : CoverState) (c : Crack) (n m : ℕ) (b : Bool) → s2.contours ≡ s.contours → (IsTrue b ↔ IsContourHead s.contours s.standing c n m) → OnTrue b (s2.standing ≡ record { begun = s.standing.begun + 1; points = 0 }) → OnTrue b (room_of s2 < room_of s)
+pub begun_room : (s s2 : CoverState) (c : Crack) (n m : ℕ) (b : Bool) → s2.contours ≡ s.contours → (IsTrue b ↔ IsContourHead s.contours s.standing c n m) → OnTrue b (s2.standing ≡ record { begun = s.standing.begun + 1; points = 0; declared = m; stretches = []; gaps = 0 }) → OnTrue b (room_of s2 < room_of s)
 begun_room s s2 c n m false e r k = tt
 begun_room s s2 c n m true e r k =
     let h = r.0 refl in
     let i = s.standing.begun in
     let j : i + 1 - 1 ≡ i = omega arith in
-    let next : open_contour s.contours (record { begun = i + 1; points = 0 }) ≡ record { start = c; points = h.points } = ap (λ q. slice_index_or s.contours q no_contour) j ∙ get_or_from_slice_get s.contours i (record { start = c; points = h.points }) no_contour h.next in
-    rw (e, k, next) (less_to_come s.contours i (record { start = c; points = h.points }) (length (open_contour s.contours s.standing).points - s.standing.points) h.next)
+    let few : m ≤ length h.points = omega (arith, h.segments.1, h.count) in
+    let next : open_contour s.contours (record { begun = i + 1; points = 0; declared = m; stretches = []; gaps = 0 }) ≡ record { start = c; points = h.points } = ap (λ q. slice_index_or s.contours q no_contour) j ∙ get_or_from_slice_get s.contours i (record { start = c; points = h.points }) no_contour h.next in
+    rw (e, k, next) (less_to_come s.contours i m (record { start = c; points = h.points }) ((length (open_contour s.contours s.standing).points - s.standing.points) + (s.standing.declared - length s.standing.stretches) + (2 * s.standing.declared - s.standing.gaps)) h.next few)
 
-pub point_room : (s s2 : CoverState) (p : Point) (b : Bool) → s2.contours ≡ s.contours → (IsTrue b ↔ IsNextPoint s.contours s.standing p) → OnTrue b (s2.standing ≡ record { begun = s.standing.begun; points = s.standing.points + 1 }) → OnTrue b (room_of s2 < room_of s)
+pub point_room : (s s2 : CoverState) (p : Point) (b : Bool) → s2.contours ≡ s.contours → (IsTrue b ↔ IsNextPoint s.contours s.standing p) → OnTrue b (s2.standing ≡ record s.standing { points = s.standing.points + 1 }) → OnTrue b (room_of s2 < room_of s)
 point_room s s2 p false e r k = tt
 point_room s s2 p true e r k =
     let h = r.0 refl in
     let l = slice_get_within (open_contour s.contours s.standing).points s.standing.points p h.next in
     rw (e, k) (omega (arith, l))
+
+pub segment_room : (s s2 : CoverState) (first last t : ℕ) (line : Naive) (b : Bool) → s2.contours ≡ s.contours → (IsTrue b ↔ IsNextSegment s.contours s.standing first last t line) → OnTrue b (s2.standing ≡ record s.standing { stretches = s.standing.stretches ++ record { first = first; last = last } ∷ [] }) → OnTrue b (room_of s2 < room_of s)
+segment_room s s2 first last t line false e r k = tt
+segment_room s s2 first last t line true e r k =
+    let more = (r.0 refl).more in
+    rw (e, k) (omega (arith, more, length-append s.standing.stretches (record { first = first; last = last } ∷ [])))
+
+pub gap_room : (s s2 : CoverState) (t : ℕ) (v : Evidence) (b : Bool) → s2.contours ≡ s.contours → (IsTrue b ↔ IsNextGap s.contours s.standing t v) → OnTrue b (s2.standing ≡ record s.standing { gaps = s.standing.gaps + 1 }) → OnTrue b (room_of s2 < room_of s)
+gap_room s s2 t v false e r k = tt
+gap_room s s2 t v true e r k =
+    let more = (r.0 refl).more in
+    rw (e, k) (omega (arith, more))

@@ -1,8 +1,10 @@
 -- What a judge of the lines of contours is seen as, and which lines it stands for.
 -- It holds no line: it stands for each list of lines that stands where it does.
-use Rattle.std.specs.Prelude.{◌≡◌, ℕ, ◌+◌, ◌-◌, ◌≤◌, List, length, drop, sum_by}
+use Rattle.std.specs.Prelude.{◌≡◌, ℕ, ◌+◌, ◌-◌, ◌*◌, ◌<◌, ◌≤◌, ◌^◌, List, length, drop, sum_by, All}
+use Rattle.shape_terms.specs.Points.{Point}
 use Rattle.shape_terms.specs.Pictures.{Picture}
 use Rattle.shape_terms.specs.Traces.{Contour, AreContours}
+use Rattle.shape_terms.specs.Covers.{Stretch, arc}
 use Rattle.shape_terms.specs.Lines.{Line}
 use Rattle.shape_terms.specs.ContourLines.{Standing, standing, open_contour}
 
@@ -15,9 +17,10 @@ pub record CoverState : Type 0 where
 abbrev pub points_in : List Contour → ℕ
 points_in contours = sum_by (λ k. length k.points) contours
 
--- how many lines may still be taken: those of the points left of the contour that was begun last, and of the contours to come
+-- a bound of the number of lines that may still be taken: those left of the contour that was begun last, and at most four for each point of the contours to come, and one for each of them
 abbrev pub room_of : CoverState → ℕ
-room_of s = (length (open_contour s.contours s.standing).points - s.standing.points) + (length s.contours - s.standing.begun) + points_in (drop s.standing.begun s.contours)
+room_of s = (length (open_contour s.contours s.standing).points - s.standing.points) + (s.standing.declared - length s.standing.stretches) + (2 * s.standing.declared - s.standing.gaps)
+    + (length s.contours - s.standing.begun) + 4 * points_in (drop s.standing.begun s.contours)
 
 -- the judge stands for these lines of contours of the flat picture X
 pub record StandsFor (X : Picture) (s : CoverState) (lines : List Line) : Type 0 where
@@ -25,7 +28,24 @@ pub record StandsFor (X : Picture) (s : CoverState) (lines : List Line) : Type 0
   pub are : AreContours X s.contours
   pub stands : standing lines ≡ s.standing
 
--- no more contours were begun than there are, and no more points given than the last of them has
-pub record IsInStep (contours : List Contour) (begun points : ℕ) : Type 0 where
-  pub few : begun ≤ length contours
-  pub within : points ≤ length (open_contour contours (record { begun = begun; points = points })).points
+-- the places of a stretch of a contour of n points: the first is one of these, and the last less than one round on
+pub record IsAround (n : ℕ) (s : Stretch) : Type 0 where
+  pub begins : s.first < n
+  pub short : s.last < s.first + n
+
+-- no more contours were begun than there are, and of the last of them no more lines taken than it has
+pub record IsInStep (contours : List Contour) (s : Standing) : Type 0 where
+  pub few : s.begun ≤ length contours
+  pub begun : 0 < s.declared → 0 < s.begun
+  pub points_within : s.points ≤ length (open_contour contours s).points
+  pub declared_within : s.declared ≤ length (open_contour contours s).points
+  pub declared_few : s.declared ≤ 2 ^ 24
+  pub listed_within : length s.stretches ≤ s.declared
+  pub gaps_within : s.gaps ≤ 2 * s.declared
+  pub around : All (IsAround (length (open_contour contours s).points)) s.stretches
+
+-- the points of the contour that was begun last stand twice round in the buffer, and buffers of these sizes have room for each contour
+pub record HasRound (contours : List Contour) (s : Standing) (round : List Point) (round_room stretch_room : ℕ) : Type 0 where
+  pub twice : 0 < s.begun → round ≡ arc (open_contour contours s).points 0 (2 * length (open_contour contours s).points - 1)
+  pub round_fits : All (λ k. 2 * length k.points ≤ round_room) contours
+  pub stretches_fit : All (λ k. length k.points ≤ stretch_room) contours

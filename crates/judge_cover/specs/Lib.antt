@@ -1,1 +1,3 @@
 pub mod CoverState
+pub mod Places
+pub mod Reasons

@@ -1,16 +1,25 @@
-//! The judge: it goes through the contours of the picture, and through the points of each.
-//! A further kind of line of a contour is one more function here.
-ghost use Rattle.std.specs.Prelude.{◌≡◌, ◌+◌, ◌<◌, ◌^◌, ◌↔◌, [], ◌∷◌, ◌++◌, List, length, IsTrue, IfOk};
+//! The judge: it goes through the contours of the picture, and through the lines of each.
+//! What a line says of its segment or its gap is tested in `line`, `places` and `evidence`.
+ghost use Rattle.std.specs.Prelude.{◌≡◌, ◌+◌, ◌-◌, ◌*◌, ◌/◌, ◌%◌, ◌<◌, ◌≤◌, ◌^◌, ◌↔◌, [], ◌∷◌, ◌++◌, List, length, map, slice_index_or, IsTrue, IfOk};
 ghost use Rattle.std.specs.Bool.{OnTrue};
 ghost use Rattle.shape_terms.specs.Pictures.{Picture};
+ghost use Rattle.shape_terms.specs.Covers.{IsEvidence, arc, next_first, gap_run};
 ghost use Rattle.shape_terms.specs.Lines as Terms;
-ghost use Rattle.shape_terms.specs.ContourLines.{IsFull, IsContourHead, IsNextPoint, ContourClaim, ContoursComplete};
+ghost use Rattle.shape_terms.specs.ContourLines.{open_contour, HasAllLines, IsFull, IsContourHead, IsNextPoint, IsNextSegment, IsNextGap, ContourClaim, ContoursComplete};
 ghost use Rattle.shape_report.specs.LineOf.{line_of};
+ghost use Rattle.shape_refute.specs.Terms.{naive_of};
 ghost use Rattle.shape_crack.specs.Terms.{point_of, crack_of};
 ghost use Rattle.judge_cover.specs.CoverState.{StandsFor, room_of};
+ghost use Rattle.judge_cover.specs.Places.{stretch_of};
+ghost use Rattle.judge_cover.specs.Reasons.{evidence_of};
 
-use shape_crack::{Contours, Crack, contours};
+use crate::evidence::{Reason, is_good};
+use crate::line::holds_segment;
+use crate::places::{Places, come_next};
+use crate::round::{greatest, load, part};
+use shape_crack::{Contour, Contours, Crack, contours};
 use shape_grid::Grid;
+use shape_refute::{Naive, Turn};
 use shape_report::Line;
 use shape_space::{NoMemory, P2};
 use std::alloc::Global;
@@ -18,24 +27,38 @@ use std::marker::Model;
 
 /// A judge of the lines of the contours of one flat picture, as they come.
 ///
-/// It keeps the contours of the picture and no line. After `take` has answered false it says nothing more, and is only dropped.
+/// It keeps the contours of the picture, and of the one that was begun last the places of its segments and its points; it keeps no line.
+/// After `take` has answered false it says nothing more, and is only dropped.
 #[derive(Drop)]
 pub struct CoverJudge {
     contours: Contours,
-    // How many contours were begun.
+    // How many contours were begun; and of the last of them:
     begun: u32,
-    // How many points the last of them was given.
+    // how many points it was given,
     points: u32,
+    // how many segments its line gives,
+    declared: u32,
+    // the places of those it was given,
+    segments: Vec<Places>,
+    // how many gap lines it has,
+    gaps: u32,
+    // and its points, twice round.
+    round: Vec<P2>,
 }
 
 impl Model for CoverJudge {
-    ghost use Rattle.judge_cover.specs.CoverState.{CoverState, IsInStep};
+    ghost use Rattle.std.specs.Prelude.{map, vec_capacity};
+    ghost use Rattle.shape_terms.specs.ContourLines.{Standing};
+    ghost use Rattle.shape_crack.specs.Terms.{point_of};
+    ghost use Rattle.judge_cover.specs.CoverState.{CoverState, IsInStep, HasRound};
+    ghost use Rattle.judge_cover.specs.Places.{stretch_of};
 
     ghost Value = { CoverState };
 
-    ghost view = { λ j. record { contours = j.contours; standing = record { begun = j.begun; points = j.points } } };
+    ghost view = { λ j. record { contours = j.contours; standing = record { begun = j.begun; points = j.points; declared = j.declared; stretches = map stretch_of j.segments.items; gaps = j.gaps } } };
 
-    ghost invariant = { λ j. IsInStep j.contours j.begun j.points };
+    ghost invariant = { λ j. IsInStep j.contours (record { begun = j.begun; points = j.points; declared = j.declared; stretches = map stretch_of j.segments.items; gaps = j.gaps })
+        × HasRound j.contours (record { begun = j.begun; points = j.points; declared = j.declared; stretches = map stretch_of j.segments.items; gaps = j.gaps }) (map point_of j.round.items) (vec_capacity j.round) (vec_capacity j.segments) };
 }
 
 impl CoverJudge {
@@ -46,35 +69,66 @@ impl CoverJudge {
     {
         let _sides = grid.sides();
         let contours = contours(alloc, grid)?;
+        let greatest = greatest(&contours) as usize;
+        let Ok(segments) = Vec::with_capacity(alloc, greatest) else {
+            return Err(NoMemory);
+        };
+        let Ok(round) = Vec::with_capacity(alloc, 2 * greatest) else {
+            return Err(NoMemory);
+        };
         Ok(CoverJudge {
             contours,
             begun: 0,
             points: 0,
+            declared: 0,
+            segments,
+            gaps: 0,
+            round,
         })
     }
 
-    // Whether no contour is begun and without all its points.
+    // The contour that was begun last.
+    fn open(&self) -> &Contour
+        requires { 0 < self.now.standing.begun }
+        ensures { result.now ≡ open_contour self.now.contours self.now.standing }
+    {
+        self.contours.contour(self.begun - 1)
+    }
+
+    // Whether the contour that was begun last has all its points and segments.
+    fn is_covered(&self) -> bool
+        requires { 0 < self.now.standing.begun }
+        ensures { IsTrue result ↔ ((self.now.standing.points ≡ length (open_contour self.now.contours self.now.standing).points) × (length self.now.standing.stretches ≡ self.now.standing.declared)) }
+    {
+        self.points == self.open().len() && self.segments.len() as u32 == self.declared
+    }
+
+    // Whether no contour is begun and without all its lines.
     fn is_full(&self) -> bool
         ensures { IsTrue result ↔ IsFull self.now.contours self.now.standing }
     {
-        self.begun == 0 || self.points == self.contours.contour(self.begun - 1).len()
+        self.begun == 0 || self.is_covered() && self.gaps == 2 * self.declared
     }
 
     // Takes a `contour` line.
     fn begin(&mut self, start: Crack, points: u32, segments: u32) -> bool
         ensures answer { IsTrue result ↔ IsContourHead self.old.contours self.old.standing (crack_of start) points segments }
         ensures contours { self.new.contours ≡ self.old.contours }
-        ensures next { OnTrue result (self.new.standing ≡ record { begun = self.old.standing.begun + 1; points = 0 }) }
+        ensures next { OnTrue result (self.new.standing ≡ record { begun = self.old.standing.begun + 1; points = 0; declared = segments; stretches = []; gaps = 0 }) }
     {
         if !self.is_full() || self.begun == self.contours.len() {
             return false;
         }
         let next = self.contours.contour(self.begun);
-        if next.start() != start || next.len() != points || segments != 0 {
+        if next.start() != start || next.len() != points || segments < 1 || segments > points {
             return false;
         }
+        load(&mut self.round, next);
+        self.segments.clear();
         self.begun += 1;
         self.points = 0;
+        self.declared = segments;
+        self.gaps = 0;
         true
     }
 
@@ -82,12 +136,12 @@ impl CoverJudge {
     fn go_on(&mut self, p: P2) -> bool
         ensures answer { IsTrue result ↔ IsNextPoint self.old.contours self.old.standing (point_of p) }
         ensures contours { self.new.contours ≡ self.old.contours }
-        ensures next { OnTrue result (self.new.standing ≡ record { begun = self.old.standing.begun; points = self.old.standing.points + 1 }) }
+        ensures next { OnTrue result (self.new.standing ≡ record self.old.standing { points = self.old.standing.points + 1 }) }
     {
-        if self.begun == 0 {
+        if self.begun == 0 || !self.segments.is_empty() {
             return false;
         }
-        let open = self.contours.contour(self.begun - 1);
+        let open = self.open();
         if self.points == open.len() || open.point(self.points) != p {
             return false;
         }
@@ -95,10 +149,97 @@ impl CoverJudge {
         true
     }
 
+    // The points of the contour that was begun last from place to place.
+    fn arc(&self, first: u32, last: u32) -> &[P2]
+        requires begun { 0 < self.now.standing.begun }
+        requires order { first ≤ last }
+        requires within { last < 2 * length (open_contour self.now.contours self.now.standing).points }
+        ensures value { map point_of result.now ≡ arc (open_contour self.now.contours self.now.standing).points first last }
+        ensures few { length result.now < 2 ^ 31 }
+    {
+        let _n = self.open().len();
+        part(self.round.as_slice(), first, last)
+    }
+
+    // Takes a `seg` line.
+    fn take_segment(&mut self, next: Places, line: &Naive) -> bool
+        ensures answer { IsTrue result ↔ IsNextSegment self.old.contours self.old.standing next.first next.last line.now.axis (naive_of 2 line.now) }
+        ensures contours { self.new.contours ≡ self.old.contours }
+        ensures next { OnTrue result (self.new.standing ≡ record self.old.standing { stretches = self.old.standing.stretches ++ stretch_of next ∷ [] }) }
+    {
+        if self.segments.len() as u32 >= self.declared || self.gaps != 0 {
+            return false;
+        }
+        let n = self.open().len();
+        if self.points != n || !come_next(self.segments.as_slice(), self.declared, n, next) {
+            return false;
+        }
+        if !holds_segment(self.arc(next.first, next.last), line) {
+            return false;
+        }
+        self.segments.push_reserved(next);
+        true
+    }
+
+    // The first place of the segment after one, which is one round on after the last.
+    fn next_first(&self, k: usize) -> u32
+        requires begun { 0 < self.now.standing.begun }
+        requires place { k < length self.now.standing.stretches }
+        ensures value { result ≡ next_first (open_contour self.now.contours self.now.standing).points self.now.standing.stretches k }
+    {
+        let count = self.segments.len();
+        if k + 1 < count {
+            self.segments[k + 1].first
+        } else {
+            self.segments[0].first + self.open().len()
+        }
+    }
+
+    // The place after the last one of a segment.
+    fn end(&self, k: usize) -> u32
+        requires begun { 0 < self.now.standing.begun }
+        requires place { k < length self.now.standing.stretches }
+        ensures value { result ≡ (slice_index_or self.now.standing.stretches k (record { first = 0; last = 0 })).last + 1 }
+        ensures within { result < 2 * length (open_contour self.now.contours self.now.standing).points }
+    {
+        let _n = self.open().len();
+        self.segments[k].last + 1
+    }
+
+    // Whether the run of the gap after a segment is refused for an axis.
+    fn is_refused(&self, k: usize, axis: usize, reason: &Reason) -> bool
+        requires begun { 0 < self.now.standing.begun }
+        requires place { k < length self.now.standing.stretches }
+        requires axis { axis < 2 }
+        ensures { IsTrue result ↔ IsEvidence axis (gap_run (open_contour self.now.contours self.now.standing).points self.now.standing.stretches k) (evidence_of reason.now) }
+    {
+        let first = self.next_first(k).saturating_sub(1);
+        let last = self.end(k);
+        first <= last && is_good(self.arc(first, last), axis, reason)
+    }
+
+    // Takes a gap line.
+    fn take_gap(&mut self, axis: u8, reason: &Reason) -> bool
+        ensures answer { IsTrue result ↔ IsNextGap self.old.contours self.old.standing axis (evidence_of reason.now) }
+        ensures contours { self.new.contours ≡ self.old.contours }
+        ensures next { OnTrue result (self.new.standing ≡ record self.old.standing { gaps = self.old.standing.gaps + 1 }) }
+    {
+        if self.gaps >= 2 * self.declared || !self.is_covered() {
+            return false;
+        }
+        let k = self.gaps as usize / 2;
+        if axis as u32 != self.gaps % 2 || !self.is_refused(k, axis as usize, reason) {
+            return false;
+        }
+        self.gaps += 1;
+        true
+    }
+
     /// Takes the next line: whether it is a line of a contour that is good after those that were taken.
     ///
-    /// A `contour` line gives the first crack and the number of points of the next contour, once the one before has all
-    /// its points; an `at` line gives the next point. A line of another kind is not good here.
+    /// A `contour` line gives the first crack, the number of points and that of segments of the next contour, once the one before has all
+    /// its lines; an `at` line gives the next point, a `seg` line the next segment with a line that holds it, and a `turn` or a `cut` line
+    /// why the run of the next gap is not straight for the next axis. A line of another kind is not good here.
     pub fn take(&mut self, line: &Line<P2>) -> bool
         ensures answer { (X : Picture) (lines : List Terms.Line) → StandsFor X self.old lines → (IsTrue result ↔ ContourClaim X lines (line_of point_of line.now)) }
         ensures stands { (X : Picture) (lines : List Terms.Line) → StandsFor X self.old lines → OnTrue result (StandsFor X self.new (lines ++ line_of point_of line.now ∷ [])) }
@@ -112,6 +253,9 @@ impl CoverJudge {
                 segments,
             } => self.begin(Crack { p, side }, points, segments),
             Line::At { p } => self.go_on(p),
+            Line::Seg { first, last, line } => self.take_segment(Places { first, last }, &line),
+            Line::Turn { axis, i, j } => self.take_gap(axis, &Reason::Turned(Turn { i, j })),
+            Line::Cut { axis, why } => self.take_gap(axis, &Reason::Cut(why)),
             Line::Shape { .. } => false,
             Line::Parts { .. } => false,
             Line::Near { .. } => false,

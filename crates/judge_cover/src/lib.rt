@@ -1,8 +1,12 @@
 //! The judge of the lines of contours: whether each next line is good after those that were taken.
-//! It traces the contours of the picture once, and stands on no crate that finds segments.
+//! It traces the contours of the picture once, tests what the lines say of them, and stands on no crate that finds segments.
 #![tactic(auto)]
 
+mod evidence;
 mod judge;
+mod line;
+mod places;
+mod round;
 
 pub use judge::CoverJudge;
 

@@ -20,7 +20,7 @@ use Rattle.shape_terms.proofs.CoverTaken.{CoverSoFar, IsListed}
 -- ---- straight segments
 
 -- a run that keeps its sense has no turn
-sense_no_turn : (t : ℕ) (run : List Point) → KeepsSense t run → (i j : ℕ) → IsTurn t run i j → ⊥
+pub sense_no_turn : (t : ℕ) (run : List Point) → KeepsSense t run → (i j : ℕ) → IsTurn t run i j → ⊥
 sense_no_turn t run (inl h) i j u = u.not_forward (h i u.first, h j u.second)
 sense_no_turn t run (inr h) i j u = u.not_backward (h i u.first, h j u.second)
 

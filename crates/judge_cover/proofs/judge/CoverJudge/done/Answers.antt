@@ -1,8 +1,18 @@
+use Rattle.std.proofs.Common.{ap, ◌∙◌, length}
+use Rattle.judge_cover.specs.CoverState.{CoverState}
 use Rattle.judge_cover.proofs.Standings.{done_all, done_short}
 use Rattle.judge_cover.proofs.judge.CoverJudge.done.Goals as goal
 
 pub returns-then-self-len : goal.returns-then-self-len
-returns-then-self-len c = λ X lines s. done_all X c.args.self.now lines c.self.inside.begun c.len.result c.is_full.result s c.self.view_is c.len.ensures c.if-self-len.true c.is_full.ensures
+returns-then-self-len c =
+    let s = c.args.self.now in
+    let here = ap (λ (t : CoverState). t.standing.begun) c.self.view_is in
+    let all = c.len.ensures ∙ ap (λ (t : CoverState). length t.contours) c.self.view_is in
+    λ X lines f. done_all X s lines c.self.inside.begun c.len.result c.is_full.result f here all c.if-self-len.true c.is_full.ensures
 
 pub returns-else-self-len : goal.returns-else-self-len
-returns-else-self-len c = λ X lines s. done_short X c.args.self.now lines c.self.inside.begun c.len.result s c.self.view_is c.len.ensures c.if-self-len.false
+returns-else-self-len c =
+    let s = c.args.self.now in
+    let here = ap (λ (t : CoverState). t.standing.begun) c.self.view_is in
+    let all = c.len.ensures ∙ ap (λ (t : CoverState). length t.contours) c.self.view_is in
+    λ X lines f. done_short X s lines c.self.inside.begun c.len.result f here all c.if-self-len.false

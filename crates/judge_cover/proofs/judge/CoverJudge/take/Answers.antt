@@ -1,6 +1,10 @@
+use Rattle.std.specs.Prelude.{take}
 use Rattle.shape_terms.specs.Lines as Terms
+use Rattle.shape_terms.specs.Covers.{Evidence}
+use Rattle.shape_refute.specs.Terms.{naive_of}
+use Rattle.shape_refute.specs.Weights.{refutation_of}
 use Rattle.shape_crack.specs.Terms.{point_of, crack_of}
-use Rattle.judge_cover.proofs.Standings.{claim_test, begun_stands, point_stands, begun_room, point_room}
+use Rattle.judge_cover.proofs.Standings.{claim_test, begun_stands, point_stands, segment_stands, turn_stands, cut_stands, begun_room, point_room, segment_room, gap_room}
 use Rattle.judge_cover.proofs.judge.CoverJudge.take.Goals as goal
 
 pub returns-in-Contour-clause-answer : goal.returns-in-Contour-clause-answer
@@ -26,3 +30,51 @@ returns-in-At-clause-stands c = rw c.in-At.is (λ X lines s. point_stands X c.ar
 
 pub returns-in-At-clause-room : goal.returns-in-At-clause-room
 returns-in-At-clause-room c = point_room c.args.self.now c.go_on.new.self (point_of c.in-At.p) c.go_on.result c.go_on.ensures.contours c.go_on.ensures.answer c.go_on.ensures.next
+
+pub returns-in-Seg-clause-answer : goal.returns-in-Seg-clause-answer
+returns-in-Seg-clause-answer c =
+    let l = c.in-Seg in
+    rw l.is (λ X lines s. claim_test X c.args.self.now lines (Terms.Line.Seg l.first l.last l.line.axis (take 2 l.line.a) l.line.mu) c.take_segment.result s c.take_segment.ensures.answer)
+
+pub returns-in-Seg-clause-stands : goal.returns-in-Seg-clause-stands
+returns-in-Seg-clause-stands c =
+    let l = c.in-Seg in
+    rw l.is (λ X lines s. segment_stands X c.args.self.now c.take_segment.new.self lines l.first l.last l.line.axis (take 2 l.line.a) l.line.mu c.take_segment.result s c.take_segment.ensures.contours c.take_segment.ensures.answer c.take_segment.ensures.next)
+
+pub returns-in-Seg-clause-room : goal.returns-in-Seg-clause-room
+returns-in-Seg-clause-room c =
+    let l = c.in-Seg in
+    segment_room c.args.self.now c.take_segment.new.self l.first l.last l.line.axis (naive_of 2 l.line) c.take_segment.result c.take_segment.ensures.contours c.take_segment.ensures.answer c.take_segment.ensures.next
+
+pub returns-in-Turn-clause-answer : goal.returns-in-Turn-clause-answer
+returns-in-Turn-clause-answer c =
+    let l = c.in-Turn in
+    rw l.is (λ X lines s. claim_test X c.args.self.now lines (Terms.Line.Turn l.axis l.i l.j) c.take_gap.result s c.take_gap.ensures.answer)
+
+pub returns-in-Turn-clause-stands : goal.returns-in-Turn-clause-stands
+returns-in-Turn-clause-stands c =
+    let l = c.in-Turn in
+    rw l.is (λ X lines s. turn_stands X c.args.self.now c.take_gap.new.self lines l.axis l.i l.j c.take_gap.result s c.take_gap.ensures.contours c.take_gap.ensures.answer c.take_gap.ensures.next)
+
+pub returns-in-Turn-clause-room : goal.returns-in-Turn-clause-room
+returns-in-Turn-clause-room c =
+    let l = c.in-Turn in
+    gap_room c.args.self.now c.take_gap.new.self l.axis (Evidence.Turned l.i l.j) c.take_gap.result c.take_gap.ensures.contours c.take_gap.ensures.answer c.take_gap.ensures.next
+
+pub returns-in-Cut-clause-answer : goal.returns-in-Cut-clause-answer
+returns-in-Cut-clause-answer c =
+    let l = c.in-Cut in
+    let took = c.take_gap-in-Cut in
+    rw l.is (λ X lines s. claim_test X c.args.self.now lines (Terms.Line.Cut l.axis (refutation_of l.why)) took.result s took.ensures.answer)
+
+pub returns-in-Cut-clause-stands : goal.returns-in-Cut-clause-stands
+returns-in-Cut-clause-stands c =
+    let l = c.in-Cut in
+    let took = c.take_gap-in-Cut in
+    rw l.is (λ X lines s. cut_stands X c.args.self.now took.new.self lines l.axis (refutation_of l.why) took.result s took.ensures.contours took.ensures.answer took.ensures.next)
+
+pub returns-in-Cut-clause-room : goal.returns-in-Cut-clause-room
+returns-in-Cut-clause-room c =
+    let l = c.in-Cut in
+    let took = c.take_gap-in-Cut in
+    gap_room c.args.self.now took.new.self l.axis (Evidence.Cut (refutation_of l.why)) took.result took.ensures.contours took.ensures.answer took.ensures.next

@@ -1,0 +1,82 @@
+-- What the judge keeps of the contour that was begun last: its points twice round, and the places of its segments.
+-- Laws over what the judge is seen as and the lists that it keeps.
+use Rattle.std.proofs.Common.{◌≡◌, ℕ, zero, suc, ◌+◌, ◌-◌, ◌*◌, ◌<◌, ◌≤◌, ◌^◌, List, [], ◌∷◌, ◌++◌, length, map, take, drop, get_or, refl, ap, sym, ◌∙◌, subst, arith}
+use Rattle.std.specs.Prelude.{All, slice_index_or}
+use Rattle.std.proofs.lemmas.List.{length-map, get_or-map}
+use Rattle.std.proofs.lemmas.Option.{slice_get-get_or, slice_get_past}
+use Rattle.shape_terms.specs.Points.{Point}
+use Rattle.shape_terms.specs.Traces.{Contour, IsClosedPath}
+use Rattle.shape_terms.specs.Covers.{Stretch, arc, next_first}
+use Rattle.shape_terms.specs.Naive.{Naive, IsNaiveFor}
+use Rattle.shape_terms.specs.Straight.{KeepsSense}
+use Rattle.shape_terms.specs.ContourLines.{Standing, open_contour, IsNextSegment}
+use Rattle.shape_terms.proofs.ArcRuns.{length-arc}
+use Rattle.judge_cover.specs.CoverState.{CoverState, IsAround, HasRound}
+use Rattle.judge_cover.specs.Places.{AreNextPlaces}
+use Rattle.judge_cover.proofs.RoundParts.{part_is, two_rounds}
+
+-- ---- the points twice round
+
+-- the contour that was begun last, of the judge as it is seen and of its parts
+pub same_open : (cs : List Contour) (s : Standing) (now : CoverState) → record { contours = cs; standing = s } ≡ now → open_contour cs s ≡ open_contour now.contours now.standing
+same_open cs s now view = ap (λ (t : CoverState). open_contour t.contours t.standing) view
+
+module _ {A : Type 0} (f : A → Point) (cs : List Contour) (s : Standing) (now : CoverState) (view : record { contours = cs; standing = s } ≡ now)
+    (round : List A) (rr sr : ℕ) (h : HasRound cs s (map f round) rr sr) (begun : 0 < now.standing.begun) where
+  twice_round : map f round ≡ arc (open_contour now.contours now.standing).points 0 (2 * length (open_contour now.contours now.standing).points - 1)
+  twice_round =
+      let b : 0 < s.begun = omega (arith, ap (λ (t : CoverState). t.standing.begun) view, begun) in
+      subst (λ (k : Contour). map f round ≡ arc k.points 0 (2 * length k.points - 1)) (same_open cs s now view) (h.twice b)
+
+  pub arc_within : (items : List A) (last : ℕ) → items ≡ round → last < 2 * length (open_contour now.contours now.standing).points → last < length items
+  arc_within items last e l =
+      let n = two_rounds f round (open_contour now.contours now.standing).points (omega arith) twice_round in
+      omega (arith, ap length e, n)
+
+  pub arc_value : (items run : List A) (first last : ℕ) → items ≡ round → first ≤ last → last < 2 * length (open_contour now.contours now.standing).points → run ≡ take (last + 1 - first) (drop first items) → map f run ≡ arc (open_contour now.contours now.standing).points first last
+  arc_value items run first last e order l r =
+      part_is f round run (open_contour now.contours now.standing).points first last twice_round order l (r ∙ ap (λ xs. take (last + 1 - first) (drop first xs)) e)
+
+  pub arc_few : (items run : List A) (first last : ℕ) → items ≡ round → first ≤ last → last < 2 * length (open_contour now.contours now.standing).points → run ≡ take (last + 1 - first) (drop first items) → length (open_contour now.contours now.standing).points ≤ 2 ^ 24 → length run < 2 ^ 31
+  arc_few items run first last e order l r few =
+      let n = ap length (arc_value items run first last e order l r) in
+      omega (arith, n, length-map run f, length-arc (open_contour now.contours now.standing).points first last)
+
+-- ---- the places of segments
+
+-- an element of the list, seen as its stretch
+pub stretch_at : {A : Type 0} (f : A → Stretch) (xs : List A) (k : ℕ) (x : A) (e : Stretch) → k < length xs → x ≡ slice_index_or xs k x → f x ≡ slice_index_or (map f xs) k e
+stretch_at f xs k x e l here = ap f here ∙ sym (get_or-map f xs k x e l)
+
+pub around_at : {A : Type 0} (f : A → Stretch) (xs : List A) (k : ℕ) (x : A) (n : ℕ) → All (IsAround n) (map f xs) → k < length xs → x ≡ slice_index_or xs k x → IsAround n (f x)
+around_at f xs k x n all l here = subst (IsAround n) (sym (stretch_at f xs k x (f x) l here)) (all k (f x) (omega (arith, length-map xs f)))
+
+-- the first place of the next segment, where there is one
+pub next_some : (contour : List Point) (stretches : List Stretch) (k : ℕ) (e : Stretch) → k + 1 < length stretches → (slice_index_or stretches (k + 1) e).first ≡ next_first contour stretches k
+next_some contour stretches k e l = rw (slice_get-get_or stretches (k + 1) e l) refl
+
+-- and after the last one
+pub next_none : (contour : List Point) (stretches : List Stretch) (k : ℕ) (e : Stretch) → length stretches ≤ k + 1 → 0 < length stretches → (slice_index_or stretches 0 e).first + length contour ≡ next_first contour stretches k
+next_none contour stretches k e l some = rw (slice_get_past stretches (k + 1) l, slice_get-get_or stretches 0 e some) refl
+
+-- ---- the next segment
+
+-- places that come next and a line that holds their arc make the next segment
+pub next_segment : (contours : List Contour) (s : Standing) (n m b e t : ℕ) (line : Naive) (before : List Stretch) (run : List Point) → n ≡ length (open_contour contours s).points → m ≡ s.declared → before ≡ s.stretches → s.points ≡ n → length before < m → s.gaps ≡ 0
+    → AreNextPlaces n m before b e → run ≡ arc (open_contour contours s).points b e → IsNaiveFor t run line × KeepsSense t run → IsNextSegment contours s b e t line
+next_segment contours s n m b e t line before run all declared listed given more early places is held =
+    let p = subst (λ k. AreNextPlaces k s.declared s.stretches b e) all (subst (λ k. AreNextPlaces n k s.stretches b e) declared (subst (λ ss. AreNextPlaces n m ss b e) listed places)) in
+    record {
+      points = given ∙ all;
+      more = omega (arith, more, declared, ap length listed);
+      early = early;
+      segment = record {
+        begins = p.begins;
+        rises = p.rises;
+        short = p.short;
+        after = p.after;
+        closes = p.closes;
+        naive = subst (λ r. IsNaiveFor t r line) is held.0;
+        sense = subst (KeepsSense t) is held.1;
+      };
+    }

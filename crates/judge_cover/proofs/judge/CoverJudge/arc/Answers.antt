@@ -1,0 +1,27 @@
+use Rattle.std.proofs.Common.{◌≤◌, ◌^◌, length, map, ap, arith}
+use Rattle.std.specs.Prelude.{vec_capacity}
+use Rattle.shape_terms.specs.ContourLines.{Standing, open_contour}
+use Rattle.shape_crack.specs.Terms.{point_of}
+use Rattle.judge_cover.specs.Places.{stretch_of}
+use Rattle.judge_cover.proofs.Steps.{arc_within, arc_value, arc_few}
+use Rattle.judge_cover.proofs.judge.CoverJudge.arc.Goals as goal
+
+pub part-requires-clause-within : goal.part-requires-clause-within
+part-requires-clause-within c =
+    let i = c.self.inside in
+    let s : Standing = record { begun = i.begun; points = i.points; declared = i.declared; stretches = map stretch_of i.segments.items; gaps = i.gaps } in
+    arc_within point_of i.contours s c.args.self.now c.self.view_is i.round.items (vec_capacity i.round) (vec_capacity i.segments) c.self.invariant.1 c.requires.begun c.as_slice.result.now c.args.last c.as_slice.ensures.value c.requires.within
+
+pub returns-clause-value : goal.returns-clause-value
+returns-clause-value c =
+    let i = c.self.inside in
+    let s : Standing = record { begun = i.begun; points = i.points; declared = i.declared; stretches = map stretch_of i.segments.items; gaps = i.gaps } in
+    arc_value point_of i.contours s c.args.self.now c.self.view_is i.round.items (vec_capacity i.round) (vec_capacity i.segments) c.self.invariant.1 c.requires.begun c.as_slice.result.now c.part.result.now c.args.first c.args.last c.as_slice.ensures.value c.requires.order c.requires.within c.part.ensures
+
+pub returns-clause-few : goal.returns-clause-few
+returns-clause-few c =
+    let i = c.self.inside in
+    let s : Standing = record { begun = i.begun; points = i.points; declared = i.declared; stretches = map stretch_of i.segments.items; gaps = i.gaps } in
+    let now = c.args.self.now in
+    let few : length (open_contour now.contours now.standing).points ≤ 2 ^ 24 = rw c.open.ensures at c.len-n.ensures.path.few in
+    arc_few point_of i.contours s now c.self.view_is i.round.items (vec_capacity i.round) (vec_capacity i.segments) c.self.invariant.1 c.requires.begun c.as_slice.result.now c.part.result.now c.args.first c.args.last c.as_slice.ensures.value c.requires.order c.requires.within c.part.ensures few
