@@ -93,6 +93,9 @@ impl<P: Point> FieldJudge<P> {
             Line::Parts { .. } => false,
             Line::Contour { .. } => false,
             Line::At { .. } => false,
+            Line::Seg { .. } => false,
+            Line::Turn { .. } => false,
+            Line::Cut { .. } => false,
             Line::End => false,
         }
     }

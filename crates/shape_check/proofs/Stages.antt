@@ -51,6 +51,9 @@ shape_follows true s O lines t (Line.Parts n o c) f r = absurd (let e : 1 ≡ 0 
 shape_follows true s O lines t (Line.Near p q n) f r = absurd (let e : 2 ≡ 0 = first_is_shape s.picture (Line.Near p q n) (r.0 refl) in omega arith)
 shape_follows true s O lines t (Line.Contour p side n m) f r = absurd (let e : 3 ≡ 0 = first_is_shape s.picture (Line.Contour p side n m) (r.0 refl) in omega arith)
 shape_follows true s O lines t (Line.At p) f r = absurd (let e : 3 ≡ 0 = first_is_shape s.picture (Line.At p) (r.0 refl) in omega arith)
+shape_follows true s O lines t (Line.Seg b e u row mu) f r = absurd (let e : 3 ≡ 0 = first_is_shape s.picture (Line.Seg b e u row mu) (r.0 refl) in omega arith)
+shape_follows true s O lines t (Line.Turn u i j) f r = absurd (let e : 3 ≡ 0 = first_is_shape s.picture (Line.Turn u i j) (r.0 refl) in omega arith)
+shape_follows true s O lines t (Line.Cut u why) f r = absurd (let e : 3 ≡ 0 = first_is_shape s.picture (Line.Cut u why) (r.0 refl) in omega arith)
 shape_follows true s O lines t Line.End f r = absurd (let e : 4 ≡ 0 = first_is_shape s.picture Line.End (r.0 refl) in omega arith)
 
 -- ---- the second line
@@ -120,6 +123,9 @@ outline_good b s O lines (Line.Parts n o c) k f r = absurd (omega arith)
 outline_good b s O lines (Line.Near p q d) k f r = absurd (omega arith)
 outline_good b s O lines (Line.Contour p side n m) k f r = (λ t. good_at s.picture lines (Line.Contour p side n m) f.0 (r.0 t), λ good. r.1 good.claim)
 outline_good b s O lines (Line.At p) k f r = (λ t. good_at s.picture lines (Line.At p) f.0 (r.0 t), λ good. r.1 good.claim)
+outline_good b s O lines (Line.Seg x y t row mu) k f r = (λ g. good_at s.picture lines (Line.Seg x y t row mu) f.0 (r.0 g), λ good. r.1 good.claim)
+outline_good b s O lines (Line.Turn t i j) k f r = (λ g. good_at s.picture lines (Line.Turn t i j) f.0 (r.0 g), λ good. r.1 good.claim)
+outline_good b s O lines (Line.Cut t why) k f r = (λ g. good_at s.picture lines (Line.Cut t why) f.0 (r.0 g), λ good. r.1 good.claim)
 outline_good b s O lines Line.End k f r = absurd (omega arith)
 
 pub outline_follows : (b : Bool) (s : FieldState) (O O2 : List Line → Type 0) (lines : List Line) (l : Line) → section l ≡ 3 → Follows Outlines s O lines → OnTrue b (O2 (section_lines 3 lines ++ l ∷ [])) → OnTrue b (Follows Outlines s O2 (lines ++ l ∷ []))

@@ -106,6 +106,9 @@ impl<P: Point, J: OutlineJudge<P>> Progress<P, J> {
             Line::Near { .. } => false,
             Line::Contour { .. } => false,
             Line::At { .. } => false,
+            Line::Seg { .. } => false,
+            Line::Turn { .. } => false,
+            Line::Cut { .. } => false,
             Line::End => false,
         }
     }
@@ -164,6 +167,9 @@ impl<P: Point, J: OutlineJudge<P>> Progress<P, J> {
                 Line::Near { .. } => false,
                 Line::Contour { .. } => false,
                 Line::At { .. } => false,
+                Line::Seg { .. } => false,
+                Line::Turn { .. } => false,
+                Line::Cut { .. } => false,
                 Line::End => false,
             },
             Stage::Nears => match line {
@@ -172,6 +178,9 @@ impl<P: Point, J: OutlineJudge<P>> Progress<P, J> {
                 Line::Near { .. } => self.field.near(line),
                 Line::Contour { .. } => self.leave_nears(line),
                 Line::At { .. } => self.leave_nears(line),
+                Line::Seg { .. } => self.leave_nears(line),
+                Line::Turn { .. } => self.leave_nears(line),
+                Line::Cut { .. } => self.leave_nears(line),
                 Line::End => self.end_nears(),
             },
             Stage::Outlines => match line {
@@ -180,6 +189,9 @@ impl<P: Point, J: OutlineJudge<P>> Progress<P, J> {
                 Line::Near { .. } => false,
                 Line::Contour { .. } => self.outline.take_outline(line),
                 Line::At { .. } => self.outline.take_outline(line),
+                Line::Seg { .. } => self.outline.take_outline(line),
+                Line::Turn { .. } => self.outline.take_outline(line),
+                Line::Cut { .. } => self.outline.take_outline(line),
                 Line::End => {
                     self.stage = Stage::Ended;
                     self.outline.outlines_done()

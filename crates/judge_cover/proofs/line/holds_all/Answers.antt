@@ -8,11 +8,13 @@ use Rattle.judge_cover.proofs.line.holds_all.Goals as goal
 
 pub returns-then-not-holds : goal.returns-then-not-holds
 returns-then-not-holds c =
-    let line = c.args.line.now in
-    (λ f. cc, λ all.
-        let t = c.holds.ensures.1 (not_held point_of c.args.run.now _ line.axis (naive_of 2 line) c.loop-i.i (omega (arith, c.loop-i.auto.i-end)) all) in
-        let g : true ≡ false = sym t ∙ c.if-not-holds.true in
-        cc)
+    let line = c.args.line.now in (
+      λ f. cc,
+      λ all.
+          let t = c.holds.ensures.1 (not_held point_of c.args.run.now _ line.axis (naive_of 2 line) c.loop-i.i (omega (arith, c.loop-i.auto.i-end)) all) in
+          let g : true ≡ false = sym t ∙ c.if-not-holds.true in
+          cc,
+    )
 
 pub returns : goal.returns
 returns c =

@@ -33,3 +33,12 @@ returns-else-ne g c =
 
 pub returns-in-Contour : goal.returns-in-Contour
 returns-in-Contour g c = rw c.in-Contour.is (λ f. cc, λ good. absurd (let e : 3 ≡ 0 = first_is_shape c.args.self.now.field.picture _ good in omega arith))
+
+pub returns-in-Seg : goal.returns-in-Seg
+returns-in-Seg g c = rw c.in-Seg.is (λ f. cc, λ good. absurd (let e : 3 ≡ 0 = first_is_shape c.args.self.now.field.picture _ good in omega arith))
+
+pub returns-in-Turn : goal.returns-in-Turn
+returns-in-Turn g c = rw c.in-Turn.is (λ f. cc, λ good. absurd (let e : 3 ≡ 0 = first_is_shape c.args.self.now.field.picture _ good in omega arith))
+
+pub returns-in-Cut : goal.returns-in-Cut
+returns-in-Cut g c = rw c.in-Cut.is (λ f. cc, λ good. absurd (let e : 3 ≡ 0 = first_is_shape c.args.self.now.field.picture _ good in omega arith))

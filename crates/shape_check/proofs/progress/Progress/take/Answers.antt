@@ -1,5 +1,7 @@
 use Rattle.std.proofs.Common.{List, refl, sym, subst, arith}
+use Rattle.std.specs.Prelude.{take}
 use Rattle.shape_terms.specs.Lines.{Line}
+use Rattle.shape_refute.specs.Weights.{refutation_of}
 use Rattle.shape_terms.specs.Good.{section_lines}
 use Rattle.shape_report.specs.LineOf.{line_of}
 use Rattle.shape_check.proofs.Stages.{shape_follows, parts_good, parts_follows, near_follows, other_good, no_later_near, outline_follows, end_good, end_follows, ended_good}
@@ -86,3 +88,48 @@ returns-in-Ended-clause-answer g c =
     let s = c.args.self.now.field in
     let O = g.J.OutlineJudge.stands s.picture c.args.self.now.outline in
     rw c.in-Ended.is (λ lines f. (λ t. cc, λ good. absurd (ended_good s O lines _ f good)))
+
+pub returns-in-Seg-clause-answer : goal.returns-in-Seg-clause-answer
+returns-in-Seg-clause-answer g c =
+    let s = c.args.self.now.field in
+    let O = g.J.OutlineJudge.stands s.picture c.args.self.now.outline in
+    rw (c.in-Opened.is, c.in-Seg.is) (λ lines f. (λ t. cc, λ good. absurd (other_good s O lines c.in-Opened.tally _ f (λ e. omega arith) good)))
+
+pub returns-in-Turn-clause-answer : goal.returns-in-Turn-clause-answer
+returns-in-Turn-clause-answer g c =
+    let s = c.args.self.now.field in
+    let O = g.J.OutlineJudge.stands s.picture c.args.self.now.outline in
+    rw (c.in-Opened.is, c.in-Turn.is) (λ lines f. (λ t. cc, λ good. absurd (other_good s O lines c.in-Opened.tally _ f (λ e. omega arith) good)))
+
+pub returns-in-Cut-clause-answer : goal.returns-in-Cut-clause-answer
+returns-in-Cut-clause-answer g c =
+    let s = c.args.self.now.field in
+    let O = g.J.OutlineJudge.stands s.picture c.args.self.now.outline in
+    rw (c.in-Opened.is, c.in-Cut.is) (λ lines f. (λ t. cc, λ good. absurd (other_good s O lines c.in-Opened.tally _ f (λ e. omega arith) good)))
+
+pub returns-in-Seg-line-2-clause-follows : goal.returns-in-Seg-line-2-clause-follows
+returns-in-Seg-line-2-clause-follows g c =
+    let s = c.args.self.now.field in
+    let took = c.take_outline-in-Seg-line-2 in
+    let O = g.J.OutlineJudge.stands s.picture c.args.self.now.outline in
+    let O2 = g.J.OutlineJudge.stands s.picture took.new.self in
+    let l = c.in-Seg-line-2 in
+    rw (c.in-Outlines.is, l.is) (λ lines f. outline_follows took.result s O O2 lines (Line.Seg l.first l.last l.line.axis (take 2 l.line.a) l.line.mu) refl f (rw l.is at (took.ensures.stands s.picture (section_lines 3 lines) f.1)))
+
+pub returns-in-Turn-line-2-clause-follows : goal.returns-in-Turn-line-2-clause-follows
+returns-in-Turn-line-2-clause-follows g c =
+    let s = c.args.self.now.field in
+    let took = c.take_outline-in-Turn-line-2 in
+    let O = g.J.OutlineJudge.stands s.picture c.args.self.now.outline in
+    let O2 = g.J.OutlineJudge.stands s.picture took.new.self in
+    let l = c.in-Turn-line-2 in
+    rw (c.in-Outlines.is, l.is) (λ lines f. outline_follows took.result s O O2 lines (Line.Turn l.axis l.i l.j) refl f (rw l.is at (took.ensures.stands s.picture (section_lines 3 lines) f.1)))
+
+pub returns-in-Cut-line-2-clause-follows : goal.returns-in-Cut-line-2-clause-follows
+returns-in-Cut-line-2-clause-follows g c =
+    let s = c.args.self.now.field in
+    let took = c.take_outline-in-Cut-line-2 in
+    let O = g.J.OutlineJudge.stands s.picture c.args.self.now.outline in
+    let O2 = g.J.OutlineJudge.stands s.picture took.new.self in
+    let l = c.in-Cut-line-2 in
+    rw (c.in-Outlines.is, l.is) (λ lines f. outline_follows took.result s O O2 lines (Line.Cut l.axis (refutation_of l.why)) refl f (rw l.is at (took.ensures.stands s.picture (section_lines 3 lines) f.1)))
