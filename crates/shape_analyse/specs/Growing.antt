@@ -1,12 +1,15 @@
 -- A report while it grows: good lines that have come to a section.
 -- The sections of the `near` lines and of the contours are those with many lines so far.
 use Rattle.std.specs.Prelude.{◌≡◌, ◌≤◌, ℕ, List, length, All}
+use Rattle.shape_terms.specs.Points.{Point}
 use Rattle.shape_terms.specs.Pictures.{Picture}
 use Rattle.shape_terms.specs.Traces.{Contour, AreContours}
+use Rattle.shape_terms.specs.Covers.{Evidence}
 use Rattle.shape_terms.specs.Lines.{Line, spelling, IsLineOf}
 use Rattle.shape_terms.specs.ContourLines.{Standing, standing, IsFull}
 use Rattle.shape_terms.specs.Good.{GoodSoFar, section_lines}
 use Rattle.shape_terms.specs.Progress.{HasCome}
+use Rattle.shape_cover.specs.Found.{Found, IsCoverOf}
 
 -- short lines of the reports of pictures like X, each good after those before it
 pub record AreGood (X : Picture) (lines : List Line) : Type 0 where
@@ -30,6 +33,16 @@ pub record IsOutlined (X : Picture) (contours : List Contour) (s : Standing) (li
 
 -- the first k contours have all their lines
 pub record HasOutlined (X : Picture) (contours : List Contour) (k : ℕ) (lines : List Line) : Type 0 where
-  pub points : ℕ
-  pub full : IsFull contours (record { begun = k; points = points })
-  pub outlined : IsOutlined X contours (record { begun = k; points = points }) lines
+  pub stand : Standing
+  pub begun : stand.begun ≡ k
+  pub full : IsFull contours stand
+  pub outlined : IsOutlined X contours stand lines
+
+-- what was found is the cover of some contour
+abbrev pub IsSomeCover : List Found → Type 0
+IsSomeCover found = (points : List Point) × IsCoverOf points found
+
+-- the gap line of an axis that gives this evidence
+abbrev pub gap_line : ℕ → Evidence → Line
+gap_line t (Evidence.Turned i j) = Line.Turn t i j
+gap_line t (Evidence.Cut why) = Line.Cut t why

@@ -1,16 +1,16 @@
 //! The report of a picture, section by section.
 //! The parts that serve every dimension are generic; `analyse_flat` puts them together for flat pictures.
-ghost use Rattle.std.specs.Prelude.{◌≡◌, ◌≤◌, ◌<◌, ◌+◌, ℕ, List, Some, slice_get, IfOk, OnOk, length, codes, All};
+ghost use Rattle.std.specs.Prelude.{◌≡◌, ◌≤◌, IfOk, OnOk, length, codes, All};
 ghost use Rattle.shape_terms.specs.Lines.{text_of};
-ghost use Rattle.shape_terms.specs.Pictures.{Picture, object_points};
-ghost use Rattle.shape_terms.specs.Traces.{Contour as Trace};
+ghost use Rattle.shape_terms.specs.Pictures.{object_points};
 ghost use Rattle.shape_terms.specs.Distances.{IsField, IsFramed};
 ghost use Rattle.shape_terms.specs.Holds.{Holds};
 ghost use Rattle.shape_rules.specs.Names.{word_of};
-ghost use Rattle.shape_analyse.specs.Growing.{IsGrowing, HasOutlined};
+ghost use Rattle.shape_analyse.specs.Growing.{IsGrowing};
 
+use crate::contour::add_contours;
 use shape_adj::{Pairing, parts};
-use shape_crack::{Contour, Contours, contours};
+use shape_crack::contours;
 use shape_dist::{Field, nearest};
 use shape_grid::Grid;
 use shape_report::{Line, Report};
@@ -89,57 +89,15 @@ fn begin<P: Pairing>(alloc: Global, grid: &Grid<P>) -> Result<Report<P>, NoMemor
     }
 }
 
-// Adds the lines of a contour.
-fn add_contour(contour: &Contour, report: &mut Report<P2>) -> Result<(), NoMemory>
-    requires side { contour.now.start.side < 4 }
-    ensures { (X : Picture) (contours : List Trace) (k : ℕ) → slice_get contours k ≡ Some contour.now
-        → HasOutlined X contours k report.old → OnOk result (HasOutlined X contours (k + 1) report.new) }
-{
-    let start = contour.start();
-    let head = Line::Contour {
-        p: start.p,
-        side: start.side,
-        points: contour.len(),
-        segments: 0,
-    };
-    match report.add(head) {
-        Ok(()) => {}
-        Err(e) => return Err(e),
-    }
-    for i in 0..contour.len() {
-        match report.add(Line::At {
-            p: contour.point(i),
-        }) {
-            Ok(()) => {}
-            Err(e) => return Err(e),
-        }
-    }
-    Ok(())
-}
-
-// Adds the lines of each contour.
-fn add_contours(contours: &Contours, report: &mut Report<P2>) -> Result<(), NoMemory>
-    requires sides { All (λ c. c.start.side < 4) contours.now }
-    ensures { (X : Picture) → HasOutlined X contours.now 0 report.old → OnOk result (HasOutlined X contours.now (length contours.now) report.new) }
-{
-    for k in 0..contours.len() {
-        match add_contour(contours.contour(k), report) {
-            Ok(()) => {}
-            Err(e) => return Err(e),
-        }
-    }
-    Ok(())
-}
-
 /// The report of a flat picture. Its lines, spelled, hold of the picture.
 ///
-/// The distances cost a search of the framed box for each object point.
+/// The distances cost a search of the framed box for each object point, and each contour a search of its segments.
 pub fn analyse_flat(alloc: Global, grid: &Grid<P2>) -> Result<Report<P2>, NoMemory>
     ensures { IfOk result (λ r. Holds grid.now (text_of r)) }
 {
     let mut report = begin(alloc, grid)?;
     let contours = contours(alloc, grid)?;
-    add_contours(&contours, &mut report)?;
+    add_contours(alloc, &contours, &mut report)?;
     report.add(Line::End)?;
     Ok(report)
 }

@@ -2,6 +2,7 @@
 //! One function adds the lines of each section; what the lines claim is found by the crates below.
 #![tactic(auto)]
 
+mod contour;
 mod flat;
 
 pub use flat::analyse_flat;

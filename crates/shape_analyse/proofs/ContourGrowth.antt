@@ -1,0 +1,180 @@
+-- A report grows by the good lines of contours, and at its end it holds.
+-- One law for each kind of line that is added.
+use Rattle.std.proofs.Common.{◌≡◌, ◌+◌, ◌-◌, ◌*◌, ◌/◌, ◌%◌, ◌<◌, ◌≤◌, ℕ, zero, suc, List, [], ◌∷◌, ◌++◌, length, map, take, refl, sym, ap, ◌∙◌, subst, arith, Some, true}
+use Rattle.std.specs.Prelude.{◌==◌, All, Contains, flat_map, slice_get, slice_index_or}
+use Rattle.std.proofs.lemmas.List.{append-nil}
+use Rattle.std.proofs.lemmas.List.Elements.{All-nil, All-cons, All-head, All-tail, Contains-append_right}
+use Rattle.std.proofs.lemmas.Option.{get_or_from_slice_get, slice_get_within}
+use Rattle.shape_terms.specs.Points.{Point}
+use Rattle.shape_terms.specs.Pictures.{Picture, object_points}
+use Rattle.shape_terms.specs.Contours.{Crack, IsCrack, IsCycle}
+use Rattle.shape_terms.specs.Traces.{Contour, AreContours, contour_of}
+use Rattle.shape_terms.specs.Naive.{Naive}
+use Rattle.shape_terms.specs.Covers.{Stretch, Evidence, IsEvidence, IsSegment, gap_run}
+use Rattle.shape_terms.specs.Lines.{Line, text_of, IsLineOf}
+use Rattle.shape_terms.specs.ContourLines.{Standing, standing, no_contour, open_contour, IsFull, OutlineClaim, ContourClaim}
+use Rattle.shape_terms.specs.Good.{section, section_lines, Claim, GoodAfter}
+use Rattle.shape_terms.specs.Holds.{Holds}
+use Rattle.shape_terms.proofs.GoodSteps.{none_past, come_more, come_past, good_at, section_push}
+use Rattle.shape_terms.proofs.ContourGroups.{standing_begun, standing_point, standing_segment, standing_turn, standing_cut}
+use Rattle.shape_analyse.specs.Growing.{IsGrowing, IsOutlined, HasOutlined, gap_line}
+use Rattle.shape_analyse.proofs.Growth.{good_more}
+
+-- no contour was begun yet
+pub outlined_none : (X : Picture) (n : ℕ) (lines : List Line) (contours : List Contour) → IsGrowing X n lines → n ≡ length (object_points X) → length X.sides ≡ 2 → AreContours X contours → HasOutlined X contours 0 lines
+outlined_none X n lines contours h all flat are = record {
+  stand = record { begun = 0; points = 0; declared = 0; stretches = []; gaps = 0 };
+  begun = refl;
+  full = λ l. absurd (omega arith);
+  outlined = record {
+    flat = flat;
+    are = are;
+    lines_good = h.lines_good;
+    come = come_past X 2 lines h.come (h.nears ∙ all);
+    stands = ap standing (none_past 2 lines 3 (omega arith) h.come.order);
+  };
+}
+
+-- ---- one more line of a contour
+
+claim_is : (X : Picture) (lines : List Line) (l : Line) → section l ≡ 3 → ContourClaim X (section_lines 3 lines) l → Claim X lines l
+claim_is X lines (Line.Shape sides rule) k c = absurd (omega arith)
+claim_is X lines (Line.Parts n o b) k c = absurd (omega arith)
+claim_is X lines (Line.Near p q s) k c = absurd (omega arith)
+claim_is X lines (Line.Contour p side n m) k c = c
+claim_is X lines (Line.At p) k c = c
+claim_is X lines (Line.Seg b e t a mu) k c = c
+claim_is X lines (Line.Turn t i j) k c = c
+claim_is X lines (Line.Cut t why) k c = c
+claim_is X lines Line.End k c = absurd (omega arith)
+
+outlined_more : (X : Picture) (contours : List Contour) (s s2 : Standing) (lines : List Line) (l : Line) → IsOutlined X contours s lines → section l ≡ 3 → OutlineClaim contours s l → IsLineOf 2 l → standing (section_lines 3 lines ++ l ∷ []) ≡ s2 → IsOutlined X contours s2 (lines ++ l ∷ [])
+outlined_more X contours s s2 lines l o k claim fields next =
+    let good : GoodAfter X lines l = record {
+      order = λ i d m. let h = o.come.order i d m in omega (arith, k);
+      complete = λ j m. o.come.complete j (omega (arith, k));
+      claim = claim_is X lines l k (contours, o.are, subst (λ w. OutlineClaim contours w l) (sym o.stands) claim);
+    } in
+    record {
+      flat = o.flat;
+      are = o.are;
+      lines_good = good_more X lines l o.lines_good (omega (arith, o.flat)) (subst (λ d. IsLineOf d l) (sym o.flat) fields) good;
+      come = come_more X 3 lines l o.come k;
+      stands = ap standing (section_push 3 lines l (three (section l) k)) ∙ next;
+    }
+  where
+    three : (n : ℕ) → n ≡ 3 → (n == 3) ≡ true
+    three n e = rw e refl
+
+-- the next contour is begun
+pub outlined_begun : (X : Picture) (contours : List Contour) (k : ℕ) (lines : List Line) (c : Contour) (p : Point) (side n m : ℕ) → HasOutlined X contours k lines → slice_get contours k ≡ Some c → record { pixel = p; side = side } ≡ c.start → n ≡ length c.points → 1 ≤ m → m ≤ n
+    → IsLineOf 2 (Line.Contour p side n m) → IsOutlined X contours (record { begun = k + 1; points = 0; declared = m; stretches = []; gaps = 0 }) (lines ++ Line.Contour p side n m ∷ [])
+outlined_begun X contours k lines c p side n m h next start count some few fields =
+    let same : c ≡ record { start = record { pixel = p; side = side }; points = c.points } = λ i. record { start = sym start i; points = c.points } in
+    outlined_more X contours h.stand _ lines (Line.Contour p side n m) h.outlined refl (record {
+      full = h.full;
+      points = c.points;
+      next = ap (slice_get contours) h.begun ∙ next ∙ ap Some same;
+      count = count;
+      segments = (some, few);
+    }) fields (standing_begun (section_lines 3 lines) p side n m ∙ ap (λ b. record { begun = b + 1; points = 0; declared = m; stretches = []; gaps = 0 }) (ap (λ (s : Standing). s.begun) h.outlined.stands ∙ h.begun))
+
+-- the contour that was begun last
+last_begun : (contours : List Contour) (s : Standing) (k : ℕ) (c : Contour) → s.begun ≡ k + 1 → slice_get contours k ≡ Some c → open_contour contours s ≡ c
+last_begun contours s k c b there =
+    let e : s.begun - 1 ≡ k = omega (arith, b) in
+    ap (λ j. slice_index_or contours j no_contour) e ∙ get_or_from_slice_get contours k c no_contour there
+
+-- where some contour was begun, the lines have a `contour` line
+some_begun : (X : Picture) (contours : List Contour) (s : Standing) (lines : List Line) (k : ℕ) → IsOutlined X contours s lines → s.begun ≡ k + 1 → 0 < (standing (section_lines 3 lines)).begun
+some_begun X contours s lines k o b = let e = ap (λ (w : Standing). w.begun) o.stands in omega (arith, e, b)
+
+-- it is given its next point
+pub outlined_point : (X : Picture) (contours : List Contour) (k i m : ℕ) (lines : List Line) (c : Contour) (p : Point) → IsOutlined X contours (record { begun = k + 1; points = i; declared = m; stretches = []; gaps = 0 }) lines → slice_get contours k ≡ Some c → slice_get c.points i ≡ Some p → IsLineOf 2 (Line.At p)
+    → IsOutlined X contours (record { begun = k + 1; points = i + 1; declared = m; stretches = []; gaps = 0 }) (lines ++ Line.At p ∷ [])
+outlined_point X contours k i m lines c p o there next fields =
+    let s : Standing = record { begun = k + 1; points = i; declared = m; stretches = []; gaps = 0 } in
+    let last = last_begun contours s k c refl there in
+    outlined_more X contours s _ lines (Line.At p) o refl (record {
+      some = omega arith;
+      early = refl;
+      next = ap (λ (d : Contour). slice_get d.points i) last ∙ next;
+    }) fields (standing_point (section_lines 3 lines) p (some_begun X contours s lines k o refl) ∙ ap (λ (w : Standing). record w { points = w.points + 1 }) o.stands)
+
+-- its next segment
+pub outlined_segment : (X : Picture) (contours : List Contour) (k m : ℕ) (before : List Stretch) (lines : List Line) (c : Contour) (b e t : ℕ) (line : Naive) → IsOutlined X contours (record { begun = k + 1; points = length c.points; declared = m; stretches = before; gaps = 0 }) lines → slice_get contours k ≡ Some c
+    → length before < m → IsSegment c.points m before b e t line → IsLineOf 2 (Line.Seg b e t line.a line.mu)
+    → IsOutlined X contours (record { begun = k + 1; points = length c.points; declared = m; stretches = before ++ record { first = b; last = e } ∷ []; gaps = 0 }) (lines ++ Line.Seg b e t line.a line.mu ∷ [])
+outlined_segment X contours k m before lines c b e t line o there more segment fields =
+    let s : Standing = record { begun = k + 1; points = length c.points; declared = m; stretches = before; gaps = 0 } in
+    let last = last_begun contours s k c refl there in
+    outlined_more X contours s _ lines (Line.Seg b e t line.a line.mu) o refl (record {
+      points = ap (λ (d : Contour). length d.points) (sym last);
+      more = more;
+      early = refl;
+      segment = subst (λ (d : Contour). IsSegment d.points m before b e t line) (sym last) segment;
+    }) fields (standing_segment (section_lines 3 lines) b e t line.a line.mu (some_begun X contours s lines k o refl) ∙ ap (λ (w : Standing). record w { stretches = w.stretches ++ record { first = b; last = e } ∷ [] }) o.stands)
+
+-- and its next gap line
+pub outlined_gap : (X : Picture) (contours : List Contour) (k : ℕ) (stretches : List Stretch) (g j t : ℕ) (lines : List Line) (c : Contour) (v : Evidence) → IsOutlined X contours (record { begun = k + 1; points = length c.points; declared = length stretches; stretches = stretches; gaps = g }) lines → slice_get contours k ≡ Some c
+    → g ≡ 2 * j + t → j < length stretches → t < 2 → IsEvidence t (gap_run c.points stretches j) v → IsLineOf 2 (gap_line t v)
+    → IsOutlined X contours (record { begun = k + 1; points = length c.points; declared = length stretches; stretches = stretches; gaps = g + 1 }) (lines ++ gap_line t v ∷ [])
+outlined_gap X contours k stretches g j t lines c (Evidence.Turned x y) o there count place two good fields =
+    let s : Standing = record { begun = k + 1; points = length c.points; declared = length stretches; stretches = stretches; gaps = g } in
+    let last = last_begun contours s k c refl there in
+    let half : j ≡ g / 2 = omega (arith, count, two) in
+    outlined_more X contours s _ lines (Line.Turn t x y) o refl (record {
+      points = ap (λ (d : Contour). length d.points) (sym last);
+      segments = refl;
+      more = omega (arith, count, two, place);
+      axis = omega (arith, count, two);
+      good = subst (λ (d : Contour). IsEvidence t (gap_run d.points stretches (g / 2)) (Evidence.Turned x y)) (sym last) (subst (λ q. IsEvidence t (gap_run c.points stretches q) (Evidence.Turned x y)) half good);
+    }) fields (standing_turn (section_lines 3 lines) t x y (some_begun X contours s lines k o refl) ∙ ap (λ (w : Standing). record w { gaps = w.gaps + 1 }) o.stands)
+outlined_gap X contours k stretches g j t lines c (Evidence.Cut why) o there count place two good fields =
+    let s : Standing = record { begun = k + 1; points = length c.points; declared = length stretches; stretches = stretches; gaps = g } in
+    let last = last_begun contours s k c refl there in
+    let half : j ≡ g / 2 = omega (arith, count, two) in
+    outlined_more X contours s _ lines (Line.Cut t why) o refl (record {
+      points = ap (λ (d : Contour). length d.points) (sym last);
+      segments = refl;
+      more = omega (arith, count, two, place);
+      axis = omega (arith, count, two);
+      good = subst (λ (d : Contour). IsEvidence t (gap_run d.points stretches (g / 2)) (Evidence.Cut why)) (sym last) (subst (λ q. IsEvidence t (gap_run c.points stretches q) (Evidence.Cut why)) half good);
+    }) fields (standing_cut (section_lines 3 lines) t why (some_begun X contours s lines k o refl) ∙ ap (λ (w : Standing). record w { gaps = w.gaps + 1 }) o.stands)
+
+-- it has all its lines
+pub outlined_full : (X : Picture) (contours : List Contour) (k m : ℕ) (stretches : List Stretch) (lines : List Line) (c : Contour) → slice_get contours k ≡ Some c → length stretches ≡ m → IsOutlined X contours (record { begun = k + 1; points = length c.points; declared = m; stretches = stretches; gaps = 2 * m }) lines → HasOutlined X contours (k + 1) lines
+outlined_full X contours k m stretches lines c there all o = record {
+  stand = record { begun = k + 1; points = length c.points; declared = m; stretches = stretches; gaps = 2 * m };
+  begun = refl;
+  full = λ l. record {
+    points = ap (λ (d : Contour). length d.points) (sym (last_begun contours (record { begun = k + 1; points = length c.points; declared = m; stretches = stretches; gaps = 2 * m }) k c refl there));
+    segments = all;
+    gaps = refl;
+  };
+  outlined = o;
+}
+
+-- ---- the last line
+
+pub outlined_done : (X : Picture) (contours : List Contour) (lines : List Line) → HasOutlined X contours (length contours) lines → Holds X (text_of (lines ++ Line.End ∷ []))
+outlined_done X contours lines h =
+    let o = h.outlined in
+    let come = come_past X 3 lines o.come (λ flat. (contours, o.are, subst (IsFull contours) (sym o.stands) h.full, ap (λ (s : Standing). s.begun) o.stands ∙ h.begun)) in
+    let good : GoodAfter X lines Line.End = good_at X lines Line.End come (none_past 3 lines 4 (omega arith) o.come.order) in
+    let all = good_more X lines Line.End o.lines_good (omega (arith, o.flat)) tt good in
+    (lines, record { split = sym (append-nil (text_of (lines ++ Line.End ∷ []))); fields = all.fields; short = all.short; good = all.good })
+
+-- ---- the first cracks of contours
+
+-- each contour begins with a crack of the picture
+pub contour_starts : (X : Picture) (contours : List Contour) → AreContours X contours → All (λ c. c.start.side < 4) contours
+contour_starts X contours are = subst (All (λ c. c.start.side < 4)) (sym are.contours_are) (starts are.cycles are.are.cycle (λ c i. (are.are.each c).1 i))
+  where
+    starts : (cycles : List (List Crack)) → All (IsCycle X) cycles → ((c : Crack) → Contains (flat_map (λ x. x) cycles) c → IsCrack X c) → All (λ c. c.start.side < 4) (map (contour_of X) cycles)
+    starts [] a each = All-nil (λ c. c.start.side < 4)
+    starts ([] ∷ cycles) a each = absurd (All-head (IsCycle X) [] cycles a)
+    starts ((c ∷ cracks) ∷ cycles) a each =
+        All-cons (λ c. c.start.side < 4) (contour_of X (c ∷ cracks)) (map (contour_of X) cycles)
+        (each c (0, omega arith, refl)).side
+        (starts cycles (All-tail (IsCycle X) (c ∷ cracks) cycles a) (λ d i. each d (Contains-append_right (c ∷ cracks) (flat_map (λ x. x) cycles) d i)))

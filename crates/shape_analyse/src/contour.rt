@@ -1,0 +1,158 @@
+//! The lines of the contours of a flat picture: each with its points, its segments, and the evidence for the gaps between these.
+//! What is found of a contour comes from `shape_crack` and `shape_cover`.
+ghost use Rattle.std.specs.Prelude.{◌≡◌, ◌≤◌, ◌<◌, ◌+◌, ◌*◌, ℕ, List, [], ◌∷◌, ◌++◌, Some, slice_get, OnOk, length, All};
+ghost use Rattle.shape_terms.specs.Pictures.{Picture};
+ghost use Rattle.shape_terms.specs.Traces.{Contour as Trace};
+ghost use Rattle.shape_terms.specs.Lines.{IsLineOf};
+ghost use Rattle.shape_report.specs.LineOf.{line_of};
+ghost use Rattle.shape_crack.specs.Terms.{point_of};
+ghost use Rattle.shape_cover.specs.Evidences.{evidence_of};
+ghost use Rattle.shape_cover.specs.Found.{stretches_of, IsCoverOf};
+ghost use Rattle.shape_analyse.specs.Growing.{IsOutlined, HasOutlined, IsSomeCover, gap_line};
+
+use shape_cover::{Cover, Refusal, cover};
+use shape_crack::{Contour, Contours};
+use shape_report::{Line, Report};
+use shape_space::{NoMemory, P2};
+use std::alloc::Global;
+
+// Adds the `contour` line and the points of a contour, of which so many segments are to come.
+fn add_outline(
+    contour: &Contour,
+    segments: u32,
+    report: &mut Report<P2>,
+) -> Result<(), NoMemory>
+    requires side { contour.now.start.side < 4 }
+    requires some { 1 ≤ segments }
+    requires few { segments ≤ length contour.now.points }
+    ensures { (X : Picture) (contours : List Trace) (k : ℕ) → slice_get contours k ≡ Some contour.now → HasOutlined X contours k report.old
+        → OnOk result (IsOutlined X contours (record { begun = k + 1; points = length contour.now.points; declared = segments; stretches = []; gaps = 0 }) report.new) }
+{
+    let start = contour.start();
+    let head = Line::Contour {
+        p: start.p,
+        side: start.side,
+        points: contour.len(),
+        segments,
+    };
+    match report.add(head) {
+        Ok(()) => {}
+        Err(e) => return Err(e),
+    }
+    for i in 0..contour.len() {
+        match report.add(Line::At {
+            p: contour.point(i),
+        }) {
+            Ok(()) => {}
+            Err(e) => return Err(e),
+        }
+    }
+    Ok(())
+}
+
+// Adds the segments of a contour.
+fn add_segments(cover: &Cover, report: &mut Report<P2>) -> Result<(), NoMemory>
+    requires { IsSomeCover cover.now }
+    ensures { (X : Picture) (contours : List Trace) (k : ℕ) (contour : Trace) → slice_get contours k ≡ Some contour → IsCoverOf contour.points cover.now
+        → IsOutlined X contours (record { begun = k + 1; points = length contour.points; declared = length cover.now; stretches = []; gaps = 0 }) report.old
+        → OnOk result (IsOutlined X contours (record { begun = k + 1; points = length contour.points; declared = length cover.now; stretches = stretches_of cover.now; gaps = 0 }) report.new) }
+{
+    for j in 0..cover.len() {
+        let segment = cover.segment(j);
+        match report.add(Line::Seg {
+            first: segment.first,
+            last: segment.last,
+            line: segment.line,
+        }) {
+            Ok(()) => {}
+            Err(e) => return Err(e),
+        }
+    }
+    Ok(())
+}
+
+// Adds the line of a gap for one axis.
+fn add_gap(axis: u8, refusal: Refusal, report: &mut Report<P2>) -> Result<(), NoMemory>
+    requires { IsLineOf 2 (gap_line axis (evidence_of refusal)) }
+    ensures { OnOk result (report.new ≡ report.old ++ gap_line axis (evidence_of refusal) ∷ []) }
+{
+    let line = match refusal {
+        Refusal::Turned(turn) => Line::Turn {
+            axis,
+            i: turn.i,
+            j: turn.j,
+        },
+        Refusal::Cut(why) => Line::Cut { axis, why },
+    };
+    match report.add(line) {
+        Ok(()) => Ok(()),
+        Err(e) => Err(e),
+    }
+}
+
+// Adds the lines of the gaps of a contour, for each the one of the axis x and then the one of the axis y.
+fn add_gaps(cover: &Cover, report: &mut Report<P2>) -> Result<(), NoMemory>
+    requires { IsSomeCover cover.now }
+    ensures { (X : Picture) (contours : List Trace) (k : ℕ) (contour : Trace) → slice_get contours k ≡ Some contour → IsCoverOf contour.points cover.now
+        → IsOutlined X contours (record { begun = k + 1; points = length contour.points; declared = length cover.now; stretches = stretches_of cover.now; gaps = 0 }) report.old
+        → OnOk result (IsOutlined X contours (record { begun = k + 1; points = length contour.points; declared = length cover.now; stretches = stretches_of cover.now; gaps = 2 * length cover.now }) report.new) }
+{
+    for j in 0..cover.len() {
+        let gap = cover.gap(j);
+        match add_gap(0, gap.x, report) {
+            Ok(()) => {}
+            Err(e) => return Err(e),
+        }
+        match add_gap(1, gap.y, report) {
+            Ok(()) => {}
+            Err(e) => return Err(e),
+        }
+    }
+    Ok(())
+}
+
+// Adds all lines of a contour.
+fn add_contour(
+    alloc: Global,
+    contour: &Contour,
+    report: &mut Report<P2>,
+) -> Result<(), NoMemory>
+    requires side { contour.now.start.side < 4 }
+    ensures { (X : Picture) (contours : List Trace) (k : ℕ) → slice_get contours k ≡ Some contour.now
+        → HasOutlined X contours k report.old → OnOk result (HasOutlined X contours (k + 1) report.new) }
+{
+    let cover = match cover(alloc, contour) {
+        Ok(cover) => cover,
+        Err(e) => return Err(e),
+    };
+    match add_outline(contour, cover.len(), report) {
+        Ok(()) => {}
+        Err(e) => return Err(e),
+    }
+    match add_segments(&cover, report) {
+        Ok(()) => {}
+        Err(e) => return Err(e),
+    }
+    match add_gaps(&cover, report) {
+        Ok(()) => Ok(()),
+        Err(e) => Err(e),
+    }
+}
+
+// Adds the lines of each contour.
+pub(crate) fn add_contours(
+    alloc: Global,
+    contours: &Contours,
+    report: &mut Report<P2>,
+) -> Result<(), NoMemory>
+    requires sides { All (λ c. c.start.side < 4) contours.now }
+    ensures { (X : Picture) → HasOutlined X contours.now 0 report.old → OnOk result (HasOutlined X contours.now (length contours.now) report.new) }
+{
+    for k in 0..contours.len() {
+        match add_contour(alloc, contours.contour(k), report) {
+            Ok(()) => {}
+            Err(e) => return Err(e),
+        }
+    }
+    Ok(())
+}
