@@ -38,11 +38,15 @@ shares_fit shares h = (h.few, λ i d l. (h.weights i d l, h.places i d l))
 -- a gap line of an axis of the plane
 pub gap_fits : (t : ℕ) (run : List Point) (v : Evidence) → t < 2 → IsEvidence t run v → IsShortEvidence v → IsLineOf 2 (gap_line t v)
 gap_fits t run (Evidence.Turned i j) ht h s = (refl, ht, s.0, s.1)
-gap_fits t run (Evidence.Cut why) ht h s = (refl, ht, record {
-  low = shares_fit why.low s.low;
-  high = shares_fit why.high s.high;
-  steps = (s.few_steps, λ i d l. (s.steps i d l, step_in t (slice_index_or why.steps i d) (h.1.steps_of_axis i d l)));
-})
+gap_fits t run (Evidence.Cut why) ht h s = (
+  refl,
+  ht,
+  record {
+    low = shares_fit why.low s.low;
+    high = shares_fit why.high s.high;
+    steps = (s.few_steps, λ i d l. (s.steps i d l, step_in t (slice_index_or why.steps i d) (h.1.steps_of_axis i d l)));
+  },
+)
 
 -- the stretches up to one more
 pub stretches_more : (found : List Found) (j : ℕ) → j < length found → take j (stretches_of found) ++ (found_at found j).stretch ∷ [] ≡ take (j + 1) (stretches_of found)

@@ -17,11 +17,7 @@ use shape_space::{NoMemory, P2};
 use std::alloc::Global;
 
 // Adds the `contour` line and the points of a contour, of which so many segments are to come.
-fn add_outline(
-    contour: &Contour,
-    segments: u32,
-    report: &mut Report<P2>,
-) -> Result<(), NoMemory>
+fn add_outline(contour: &Contour, segments: u32, report: &mut Report<P2>) -> Result<(), NoMemory>
     requires side { contour.now.start.side < 4 }
     requires some { 1 ≤ segments }
     requires few { segments ≤ length contour.now.points }
@@ -112,11 +108,7 @@ fn add_gaps(cover: &Cover, report: &mut Report<P2>) -> Result<(), NoMemory>
 }
 
 // Adds all lines of a contour.
-fn add_contour(
-    alloc: Global,
-    contour: &Contour,
-    report: &mut Report<P2>,
-) -> Result<(), NoMemory>
+fn add_contour(alloc: Global, contour: &Contour, report: &mut Report<P2>) -> Result<(), NoMemory>
     requires side { contour.now.start.side < 4 }
     ensures { (X : Picture) (contours : List Trace) (k : ℕ) → slice_get contours k ≡ Some contour.now
         → HasOutlined X contours k report.old → OnOk result (HasOutlined X contours (k + 1) report.new) }

@@ -27,14 +27,18 @@ fn a_full_picture(rt: HostRuntime) -> Result<(), Fail> {
     let Ok(bytes) = report_bytes(alloc, &report) else {
         return Err(Fail::from(AllocError));
     };
-    assert_eq!(rt; report.len(), 21);
+    assert_eq!(rt; report.len(), 33);
     assert!(rt; bytes.starts_with(b"shape 1 pbm 3 3 none\nparts 9 1 1\nnear 0 0 ".as_slice()));
-    let mut last = Vec::new(alloc);
+    // The kind of each line, and of a `near` line its distance.
+    let mut kinds = Vec::new(alloc);
     for line in bytes.as_slice().split(|&c| c == b'\n') {
-        if let Some(c) = line.last() {
-            last.push(*c)?;
+        if let (Some(first), Some(last)) = (line.first(), line.last()) {
+            kinds.push(if *first == b'n' { *last } else { *first })?;
         }
     }
-    assert_eq!(rt; last.as_slice(), b"e1111141111000012221d".as_slice());
+    assert_eq!(rt;
+        kinds.as_slice(),
+        b"sp111141111caaaaaaaasssstttttttte".as_slice()
+    );
     Ok(())
 }

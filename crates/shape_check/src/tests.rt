@@ -41,7 +41,7 @@ fn answer(
 
 // The report of one pixel, in front of its last line.
 const ONE_PIXEL: &[u8] =
-    b"shape 1 pbm 1 1 none\nparts 1 1 1\nnear 0 0 0 -1 1\ncontour 0 0 0 1 0\nat 0 0\n";
+    b"shape 1 pbm 1 1 none\nparts 1 1 1\nnear 0 0 0 -1 1\ncontour 0 0 0 1 1\nat 0 0\nseg 0 0 y 0 1 0\nturn x 0 0\nturn y 0 0\n";
 
 #[test]
 fn one_pixel(rt: HostRuntime) -> Result<(), Fail> {
@@ -49,10 +49,10 @@ fn one_pixel(rt: HostRuntime) -> Result<(), Fail> {
     let grid = full(alloc, 1, 1)?;
     let endings: [(&[u8], Judgement); 5] = [
         (b"end\n", Judgement::Yes),
-        (b"", Judgement::No { line: 6 }),
-        (b"end", Judgement::No { line: 6 }),
-        (b"end\r\n", Judgement::No { line: 6 }),
-        (b"end\n\n", Judgement::No { line: 7 }),
+        (b"", Judgement::No { line: 9 }),
+        (b"end", Judgement::No { line: 9 }),
+        (b"end\r\n", Judgement::No { line: 9 }),
+        (b"end\n\n", Judgement::No { line: 10 }),
     ];
     for (ending, want) in endings {
         let mut report = Vec::from_slice(alloc, ONE_PIXEL)?;
@@ -68,26 +68,39 @@ fn one_pixel(rt: HostRuntime) -> Result<(), Fail> {
     Ok(())
 }
 
-// Each line of a report of the full picture of 2 by 2 points, and beside it the line with one thing changed.
-const SQUARE: [(&[u8], &[u8]); 12] = [
-    (b"shape 1 pbm 2 2 none\n", b"shape 1 pbm 2 1 none\n"),
-    (b"parts 4 1 1\n", b"parts 4 1 2\n"),
-    (b"near 0 0 0 -1 1\n", b"near 0 0 0 -1 2\n"),
-    (b"near 1 0 1 -1 1\n", b"near 1 0 0 -1 1\n"),
-    (b"near 0 1 -1 1 1\n", b"near 0 1 0 0 1\n"),
-    (b"near 1 1 2 1 1\n", b"near 01 1 2 1 1\n"),
-    (b"contour 0 0 0 4 0\n", b"contour 0 0 3 4 0\n"),
-    (b"at 0 0\n", b"at 1 0\n"),
-    (b"at 1 0\n", b"at 1 1\n"),
-    (b"at 1 1\n", b"at 0 1\n"),
-    (b"at 0 1\n", b"at 0 0\n"),
-    (b"end\n", b"end \n"),
+// Each line of a report of the full picture of 2 by 2 points, the line with one thing changed, and the first bad line where it is left out:
+// that a segment is missing shows only where a gap line comes too early.
+const SQUARE: [(&[u8], &[u8], u64); 24] = [
+    (b"shape 1 pbm 2 2 none\n", b"shape 1 pbm 2 1 none\n", 1),
+    (b"parts 4 1 1\n", b"parts 4 1 2\n", 2),
+    (b"near 0 0 0 -1 1\n", b"near 0 0 0 -1 2\n", 3),
+    (b"near 1 0 1 -1 1\n", b"near 1 0 0 -1 1\n", 4),
+    (b"near 0 1 -1 1 1\n", b"near 0 1 0 0 1\n", 5),
+    (b"near 1 1 2 1 1\n", b"near 01 1 2 1 1\n", 6),
+    (b"contour 0 0 0 4 4\n", b"contour 0 0 3 4 4\n", 7),
+    (b"at 0 0\n", b"at 1 0\n", 8),
+    (b"at 1 0\n", b"at 1 1\n", 9),
+    (b"at 1 1\n", b"at 0 1\n", 10),
+    (b"at 0 1\n", b"at 0 0\n", 11),
+    (b"seg 0 1 y 0 1 0\n", b"seg 0 1 y 0 1 1\n", 15),
+    (b"seg 1 2 x 1 0 1\n", b"seg 1 2 y 1 0 1\n", 15),
+    (b"seg 2 3 y 0 1 1\n", b"seg 2 4 y 0 1 1\n", 15),
+    (b"seg 3 4 x 1 0 0\n", b"seg 3 4 x 0 0 0\n", 15),
+    (b"turn x 0 0\n", b"turn y 1 1\n", 16),
+    (b"turn y 1 1\n", b"turn y 0 0\n", 17),
+    (b"turn x 1 1\n", b"turn x 1 2\n", 18),
+    (b"turn y 0 0\n", b"turn z 0 0\n", 19),
+    (b"turn x 0 0\n", b"cut x 1 1 0 1 1 0 0\n", 20),
+    (b"turn y 1 1\n", b"cut y 0 0 0\n", 21),
+    (b"turn x 1 1\n", b"turn x 4294967296 1\n", 22),
+    (b"turn y 0 0\n", b"turn y 4294967295 0\n", 23),
+    (b"end\n", b"end \n", 24),
 ];
 
 // The report, where the line at a place stands so many times, or is changed.
 fn square(alloc: Global, place: usize, times: usize, is_changed: bool) -> Result<Vec<u8>, Fail> {
     let mut report = Vec::new(alloc);
-    for (i, (line, changed)) in SQUARE.iter().enumerate() {
+    for (i, (line, changed, _)) in SQUARE.iter().enumerate() {
         let bytes = if i == place && is_changed {
             changed
         } else {
@@ -108,10 +121,10 @@ fn each_single_change(rt: HostRuntime) -> Result<(), Fail> {
     let whole = square(alloc, 0, 1, false)?;
     let got = answer(alloc, &grid, whole.as_slice(), &[])?;
     assert!(rt; matches!(got, Ok(Judgement::Yes)));
-    for place in 0..SQUARE.len() {
+    for (place, (_, _, missing)) in SQUARE.iter().enumerate() {
         let number = place as u64 + 1;
         let bad = [
-            (square(alloc, place, 0, false)?, number),
+            (square(alloc, place, 0, false)?, *missing),
             (square(alloc, place, 1, true)?, number),
             (square(alloc, place, 2, false)?, number + 1),
         ];
@@ -119,6 +132,58 @@ fn each_single_change(rt: HostRuntime) -> Result<(), Fail> {
             let got = answer(alloc, &grid, report.as_slice(), &[])?;
             assert!(rt; matches!(got, Ok(Judgement::No { line }) if line == *want));
         }
+    }
+    Ok(())
+}
+
+// The report of three pixels in a row up to its first gap line, which is line 13.
+const ROW: &[u8] =
+    b"shape 1 pbm 3 1 none\nparts 3 1 1\nnear 0 0 0 -1 1\nnear 1 0 1 -1 1\nnear 2 0 2 -1 1\ncontour 0 0 0 4 2\nat 0 0\nat 1 0\nat 2 0\nat 1 0\nseg 0 2 y 0 1 0\nseg 2 4 y 0 1 0\n";
+
+// A report of the full picture of 2 by 2 points with two segments so far apart that their gap has no run, up to its first gap line.
+const APART: &[u8] =
+    b"shape 1 pbm 2 2 none\nparts 4 1 1\nnear 0 0 0 -1 1\nnear 1 0 1 -1 1\nnear 0 1 -1 1 1\nnear 1 1 2 1 1\ncontour 0 0 0 4 2\nat 0 0\nat 1 0\nat 1 1\nat 0 1\nseg 0 0 y 0 1 0\nseg 3 3 y 0 1 1\n";
+
+#[test]
+fn gap_without_run(rt: HostRuntime) -> Result<(), Fail> {
+    let alloc = rt.alloc();
+    let grid = full(alloc, 2, 2)?;
+    let lines: [&[u8]; 2] = [b"turn x 0 0\n", b"cut x 0 0 0\n"];
+    for line in lines {
+        let mut report = Vec::from_slice(alloc, APART)?;
+        report.extend_from_slice(line)?;
+        let got = answer(alloc, &grid, report.as_slice(), &[])?;
+        assert!(rt; matches!(got, Ok(Judgement::No { line: 14 })));
+    }
+    Ok(())
+}
+
+#[test]
+fn hostile_lines(rt: HostRuntime) -> Result<(), Fail> {
+    let alloc = rt.alloc();
+    let grid = full(alloc, 3, 1)?;
+    let lines: [(&[u8], u64); 9] = [
+        (
+            b"cut x 1 9223372036854775807 0 1 9223372036854775807 0 0\n",
+            13,
+        ),
+        (
+            b"cut x 1 9223372036854775807 0 0 1 9223372036854775807 up\n",
+            13,
+        ),
+        (b"cut x 0 0 0\n", 13),
+        (b"cut x 1 0 0 1 0 0 1 0 up\n", 13),
+        (b"cut x 1 1 0 1 1 3 0\n", 13),
+        (b"cut x 1 1 0 1 1 0 1 1 up-x\n", 13),
+        (b"cut x 1 9223372036854775808 0 0 0\n", 13),
+        (b"turn x 0 0\ncut y 1 1 0 1 1 0 0\n", 14),
+        (b"turn x 0 0\nturn y 0 2\n", 14),
+    ];
+    for (line, want) in lines {
+        let mut report = Vec::from_slice(alloc, ROW)?;
+        report.extend_from_slice(line)?;
+        let got = answer(alloc, &grid, report.as_slice(), &[])?;
+        assert!(rt; matches!(got, Ok(Judgement::No { line }) if line == want));
     }
     Ok(())
 }

@@ -20,7 +20,7 @@ fn desk(
         bad_reads.to_vec(alloc)?,
         bad_writes.to_vec(alloc)?,
         4,
-        1000,
+        9000,
     ) {
         Ok(desk) => Ok(desk),
         Err(_) => Err(Fail::from(AllocError)),
@@ -44,7 +44,7 @@ fn one_pixel(rt: HostRuntime) -> Result<(), Fail> {
     assert_eq!(rt; outcome, Outcome::Done);
     let text = desk.output();
     assert!(rt; text.starts_with(b"shape 1 pbm 1 1 none\nparts 1 1 1\nnear 0 0 ".as_slice()));
-    assert!(rt; text.ends_with(b" 1\ncontour 0 0 0 1 0\nat 0 0\nend\n".as_slice()));
+    assert!(rt; text.ends_with(b" 0\nturn x 0 0\nturn y 0 0\nend\n".as_slice()));
     Ok(())
 }
 
@@ -65,19 +65,19 @@ fn reports_of_one_pixel(rt: HostRuntime) -> Result<(), Fail> {
     let alloc = rt.alloc();
     let table = [
         (
-            b"shape 1 pbm 1 1 none\nparts 1 1 1\nnear 0 0 0 -1 1\ncontour 0 0 0 1 0\nat 0 0\nend\n".as_slice(),
+            b"shape 1 pbm 1 1 none\nparts 1 1 1\nnear 0 0 0 -1 1\ncontour 0 0 0 1 1\nat 0 0\nseg 0 0 y 0 1 0\nturn x 0 0\nturn y 0 0\nend\n".as_slice(),
             Outcome::Yes,
         ),
         (
-            b"shape 1 pbm 1 1 none\nparts 1 1 1\nnear 0 0 1 0 1\ncontour 0 0 0 1 0\nat 0 0\nend\n".as_slice(),
+            b"shape 1 pbm 1 1 none\nparts 1 1 1\nnear 0 0 1 0 1\ncontour 0 0 0 1 1\nat 0 0\nseg 0 0 y 0 1 0\nturn x 0 0\nturn y 0 0\nend\n".as_slice(),
             Outcome::Yes,
         ),
         (
-            b"shape 1 pbm 1 1 none\nparts 1 1 1\nnear 0 0 0 -1 2\ncontour 0 0 0 1 0\nat 0 0\nend\n".as_slice(),
+            b"shape 1 pbm 1 1 none\nparts 1 1 1\nnear 0 0 0 -1 2\ncontour 0 0 0 1 1\nat 0 0\nseg 0 0 y 0 1 0\nturn x 0 0\nturn y 0 0\nend\n".as_slice(),
             Outcome::No { line: 3 },
         ),
         (
-            b"shape 1 pbm 1 1 none\nparts 1 1 1\nnear 00 0 0 -1 1\ncontour 0 0 0 1 0\nat 0 0\nend\n".as_slice(),
+            b"shape 1 pbm 1 1 none\nparts 1 1 1\nnear 00 0 0 -1 1\ncontour 0 0 0 1 1\nat 0 0\nseg 0 0 y 0 1 0\nturn x 0 0\nturn y 0 0\nend\n".as_slice(),
             Outcome::No { line: 3 },
         ),
         (
@@ -85,23 +85,23 @@ fn reports_of_one_pixel(rt: HostRuntime) -> Result<(), Fail> {
             Outcome::No { line: 4 },
         ),
         (
-            b"shape 1 pbm 1 1 none\nparts 1 1 1\nnear 0 0 0 -1 1\ncontour 0 0 0 1 0\nat 0 0\n".as_slice(),
-            Outcome::No { line: 6 },
+            b"shape 1 pbm 1 1 none\nparts 1 1 1\nnear 0 0 0 -1 1\ncontour 0 0 0 1 1\nat 0 0\nseg 0 0 y 0 1 0\nturn x 0 0\nturn y 0 0\n".as_slice(),
+            Outcome::No { line: 9 },
         ),
         (
-            b"shape 1 pbm 1 1 none\nparts 1 1 1\nnear 0 0 0 -1 1\ncontour 0 0 0 1 0\nat 0 0\nend".as_slice(),
-            Outcome::No { line: 6 },
+            b"shape 1 pbm 1 1 none\nparts 1 1 1\nnear 0 0 0 -1 1\ncontour 0 0 0 1 1\nat 0 0\nseg 0 0 y 0 1 0\nturn x 0 0\nturn y 0 0\nend".as_slice(),
+            Outcome::No { line: 9 },
         ),
         (
-            b"shape 1 pbm 1 1 none\nparts 1 1 1\nnear 0 0 0 -1 1\ncontour 0 0 0 1 0\nat 0 0\nend\nx".as_slice(),
-            Outcome::No { line: 7 },
+            b"shape 1 pbm 1 1 none\nparts 1 1 1\nnear 0 0 0 -1 1\ncontour 0 0 0 1 1\nat 0 0\nseg 0 0 y 0 1 0\nturn x 0 0\nturn y 0 0\nend\nx".as_slice(),
+            Outcome::No { line: 10 },
         ),
         (
-            b"shape 1 pbm 1 1 none\nparts 1 1 2\nnear 0 0 0 -1 1\ncontour 0 0 0 1 0\nat 0 0\nend\n".as_slice(),
+            b"shape 1 pbm 1 1 none\nparts 1 1 2\nnear 0 0 0 -1 1\ncontour 0 0 0 1 1\nat 0 0\nseg 0 0 y 0 1 0\nturn x 0 0\nturn y 0 0\nend\n".as_slice(),
             Outcome::No { line: 2 },
         ),
         (
-            b"shape 1 pbm 1 1 zzz\nparts 1 1 1\nnear 0 0 0 -1 1\ncontour 0 0 0 1 0\nat 0 0\nend\n".as_slice(),
+            b"shape 1 pbm 1 1 zzz\nparts 1 1 1\nnear 0 0 0 -1 1\ncontour 0 0 0 1 1\nat 0 0\nseg 0 0 y 0 1 0\nturn x 0 0\nturn y 0 0\nend\n".as_slice(),
             Outcome::No { line: 1 },
         ),
         (

@@ -11,8 +11,8 @@ returns-in-Ok-add_gaps c =
     let found = c.in-Ok.cover in
     let cover = c.in-Ok.ensures in
     λ X contours k there h.
-        let outline = c.in-Ok-add_outline.ensures X contours k there h in
-        let declared = subst (λ m. IsOutlined X contours (record { begun = k + 1; points = length contour.points; declared = m; stretches = []; gaps = 0 }) c.add_outline.new.report) c.len.ensures outline in
-        let segments = c.in-Ok-add_segments.ensures X contours k contour there cover declared in
-        let gaps = c.in-Ok-add_gaps.ensures X contours k contour there cover segments in
-        outlined_full X contours k (length found) (stretches_of found) c.add_gaps.new.report contour there (length-map found (λ (f : Found). f.stretch)) gaps
+    let outline = c.in-Ok-add_outline.ensures X contours k there h in
+    let declared = subst (λ m. IsOutlined X contours (record { begun = k + 1; points = length contour.points; declared = m; stretches = []; gaps = 0 }) c.add_outline.new.report) c.len.ensures outline in
+    let segments = c.in-Ok-add_segments.ensures X contours k contour there cover declared in
+    let gaps = c.in-Ok-add_gaps.ensures X contours k contour there cover segments in
+    outlined_full X contours k (length found) (stretches_of found) c.add_gaps.new.report contour there (length-map found (λ (f : Found). f.stretch)) gaps

@@ -35,17 +35,17 @@ loop-j-preserved c =
     let y_fits : IsLineOf 2 (gap_line 1 (evidence_of gap.y)) = subst (λ v. IsLineOf 2 (gap_line 1 v)) (sym is.y) (gap_fits 1 (gap_run c.requires.0 (stretches_of found) j) (found_at found j).y (omega arith) (some.gap_y j l) (some.short_y j l)) in
     let new : c.add_gap-in-loop-j.new.report ≡ (c.loop-j.report ++ gap_line 0 (evidence_of gap.x) ∷ []) ++ gap_line 1 (evidence_of gap.y) ∷ [] = c.in-Ok-add_gap.ensures ∙ ap (λ lines. lines ++ gap_line 1 (evidence_of gap.y) ∷ []) c.in-Ok.ensures in
     λ X contours k contour there cover o.
-        let x_good = subst (IsEvidence 0 (gap_run contour.points (stretches_of found) j)) (sym is.x) (cover.gap_x j l) in
-        let y_good = subst (IsEvidence 1 (gap_run contour.points (stretches_of found) j)) (sym is.y) (cover.gap_y j l) in
-        let at : 2 * j ≡ 2 * j + 0 = omega arith in
-        let here = subst (λ g. IsOutlined X contours (record { begun = k + 1; points = length contour.points; declared = length found; stretches = stretches_of found; gaps = g }) c.loop-j.report) at (c.loop-j.invariant X contours k contour there cover o) in
-        let first = found_gap X contours k contour found j 0 (evidence_of gap.x) c.loop-j.report here there l (omega arith) x_good x_fits in
-        let mid : 2 * j + 0 + 1 ≡ 2 * j + 1 = omega arith in
-        let half = subst (λ g. IsOutlined X contours (record { begun = k + 1; points = length contour.points; declared = length found; stretches = stretches_of found; gaps = g }) (c.loop-j.report ++ gap_line 0 (evidence_of gap.x) ∷ [])) mid first in
-        let second = found_gap X contours k contour found j 1 (evidence_of gap.y) (c.loop-j.report ++ gap_line 0 (evidence_of gap.x) ∷ []) half there l (omega arith) y_good y_fits in
-        let last : 2 * j + 1 + 1 ≡ 2 * (j + 1) = omega arith in
-        subst (λ lines. IsOutlined X contours (record { begun = k + 1; points = length contour.points; declared = length found; stretches = stretches_of found; gaps = 2 * (j + 1) }) lines) (sym new)
-        (subst (λ g. IsOutlined X contours (record { begun = k + 1; points = length contour.points; declared = length found; stretches = stretches_of found; gaps = g }) ((c.loop-j.report ++ gap_line 0 (evidence_of gap.x) ∷ []) ++ gap_line 1 (evidence_of gap.y) ∷ [])) last second)
+    let x_good = subst (IsEvidence 0 (gap_run contour.points (stretches_of found) j)) (sym is.x) (cover.gap_x j l) in
+    let y_good = subst (IsEvidence 1 (gap_run contour.points (stretches_of found) j)) (sym is.y) (cover.gap_y j l) in
+    let at : 2 * j ≡ 2 * j + 0 = omega arith in
+    let here = subst (λ g. IsOutlined X contours (record { begun = k + 1; points = length contour.points; declared = length found; stretches = stretches_of found; gaps = g }) c.loop-j.report) at (c.loop-j.invariant X contours k contour there cover o) in
+    let first = found_gap X contours k contour found j 0 (evidence_of gap.x) c.loop-j.report here there l (omega arith) x_good x_fits in
+    let mid : 2 * j + 0 + 1 ≡ 2 * j + 1 = omega arith in
+    let half = subst (λ g. IsOutlined X contours (record { begun = k + 1; points = length contour.points; declared = length found; stretches = stretches_of found; gaps = g }) (c.loop-j.report ++ gap_line 0 (evidence_of gap.x) ∷ [])) mid first in
+    let second = found_gap X contours k contour found j 1 (evidence_of gap.y) (c.loop-j.report ++ gap_line 0 (evidence_of gap.x) ∷ []) half there l (omega arith) y_good y_fits in
+    let last : 2 * j + 1 + 1 ≡ 2 * (j + 1) = omega arith in
+    subst (λ lines. IsOutlined X contours (record { begun = k + 1; points = length contour.points; declared = length found; stretches = stretches_of found; gaps = 2 * (j + 1) }) lines) (sym new)
+    (subst (λ g. IsOutlined X contours (record { begun = k + 1; points = length contour.points; declared = length found; stretches = stretches_of found; gaps = g }) ((c.loop-j.report ++ gap_line 0 (evidence_of gap.x) ∷ []) ++ gap_line 1 (evidence_of gap.y) ∷ [])) last second)
 
 pub returns : goal.returns
 returns c =
