@@ -1,12 +1,16 @@
 -- Greatest common divisors, exact quotients and fractions in lowest terms.
 -- Beside the program's slope, plain variables alone stand here.
-use Rattle.std.proofs.Common.{◌≡◌, ℕ, zero, suc, ◌*◌, ◌≤◌, ◌<◌, ◌∙◌, arith, ap, sym}
-use Rattle.std.specs.Prelude.{ℤ, pos, negsuc, ◌+ℤ◌, ◌*ℤ◌, ◌-ℤ◌, neg_ℤ, ◌≤ℤ◌, ◌<ℤ◌, unsigned_abs}
+use Rattle.std.proofs.Common.{◌≡◌, ℕ, zero, suc, ◌*◌, ◌≤◌, ◌<◌, ◌∙◌, arith, ap, sym, refl, inl, inr, ◌⊎◌, List, [], ◌∷◌, ◌++◌}
+use Rattle.std.specs.Prelude.{ℤ, pos, negsuc, ◌*ℤ◌, neg_ℤ, ◌≤ℤ◌, ◌<ℤ◌, unsigned_abs}
 use Rattle.std.specs.Int.{◌∣◌, IsGcd}
 use Rattle.std.specs.Int.RustNames.{int_div, int_rem}
 use Rattle.std.proofs.lemmas.Int.{ints, quot-rem, unsigned_abs-mul}
-use Rattle.std.proofs.lemmas.Nat.Gcd.{mod-eq-zero_of_dvd, le_of_dvd}
+use Rattle.std.proofs.lemmas.Nat.Gcd.{mod-eq-zero_of_dvd, le_of_dvd, IsGcd-swap, IsGcd-from_zero}
 use Rattle.std.proofs.Math.Nat.{mul-dvd-mul_right, dvd_of_mul-dvd-mul_right, one-dvd, eq-zero_of_zero-dvd}
+use Rattle.shape_terms.specs.Points.{Point}
+use Rattle.shape_refute.specs.declared.naive.Naive.{Naive}
+use Rattle.shape_line.specs.Values.{row, HasWay}
+use Rattle.shape_line.specs.Verdict.{IsLowestLine}
 use Rattle.shape_line.specs.declared.slope.Slope.{Slope}
 use Rattle.shape_line.specs.Between.{IsSlope}
 use Rattle.shape_line.specs.Lowest.{IsLowest}
@@ -98,3 +102,22 @@ gcd_small p q g h k d = divisor_small q g h k d.1
 
 pub same_gcd : (a b p q g : ℕ) → a ≡ p → b ≡ q → IsGcd a b g → IsGcd p q g
 same_gcd a b p q g e f h = rw (sym e) (rw (sym f) h)
+
+same_size : (p r : ℤ) → (P Q : Type 0) → (P × (r ≡ neg_ℤ p)) ⊎ (Q × (r ≡ p)) → unsigned_abs p ≡ unsigned_abs r
+same_size p r P Q (inl a) = omega (arith, ints, a.1)
+same_size p r P Q (inr a) = omega (arith, ints, a.1)
+
+-- the opposite has the same divisors
+pub way_coprime : (t : ℕ) (run : List Point) (p r q : ℤ) → HasWay t run p r → IsGcd (unsigned_abs p) (unsigned_abs q) 1 → IsGcd (unsigned_abs r) (unsigned_abs q) 1
+way_coprime t run p r q h g =
+    let e : unsigned_abs p ≡ unsigned_abs r = same_size p r _ _ h.way in
+    same_gcd _ _ _ _ 1 e refl g
+
+-- 0 and 1 have no common divisor but 1
+pub unit_coprime : IsGcd 0 1 1
+unit_coprime = IsGcd-swap 1 0 1 (IsGcd-from_zero 1 0 refl)
+
+-- the coefficients of the row, in the order of the axes
+pub lowest_line : (t : ℕ) (r q : ℤ) (line : Naive) → IsGcd (unsigned_abs r) (unsigned_abs q) 1 → line.a ≡ row t r q ++ pos 0 ∷ [] → IsLowestLine line
+lowest_line zero r q line g e = rw e (IsGcd-swap _ _ 1 g)
+lowest_line (suc t) r q line g e = rw e g
