@@ -6,6 +6,7 @@ pub mod SpanRefutes
 pub mod SpanLine
 pub mod Points
 pub mod Tightening
+pub mod Divisors
 pub mod Slanting
 pub mod LeastValues
 pub mod Ways

@@ -4,5 +4,6 @@ pub mod Values
 pub mod Terms
 pub mod Bounding
 pub mod Between
+pub mod Lowest
 pub mod Verdict
 pub mod GivenRuns

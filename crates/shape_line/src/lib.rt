@@ -3,6 +3,7 @@
 #![tactic(auto)]
 
 mod bounds;
+mod divisor;
 mod exact;
 mod line;
 mod pair;

@@ -1,6 +1,7 @@
 //! A naive line that holds a run whose bounds of the slope leave room.
 //! Another choice of the slope changes nothing here.
 ghost use Rattle.std.specs.Prelude.{◌≡◌, ◌<◌, ◌≤◌, [], ◌∷◌, ◌++◌, length, pos, ◌≤ℤ◌, neg_ℤ, unsigned_abs};
+ghost use Rattle.std.specs.Int.{IsGcd};
 ghost use Rattle.shape_terms.specs.Naive.{IsNaiveFor};
 ghost use Rattle.shape_terms.specs.Straight.{KeepsSense};
 ghost use Rattle.shape_refute.specs.Terms.{naive_of};
@@ -9,7 +10,7 @@ ghost use Rattle.shape_line.specs.Slopes.{levels, AreBounds, HasRoom};
 ghost use Rattle.shape_line.specs.Values.{IsLeastOf, StayWithin, row, value as value_of};
 ghost use Rattle.shape_line.specs.Terms.{run_of, span, AreSmall};
 ghost use Rattle.shape_line.specs.Bounding.{AreSpans};
-ghost use Rattle.shape_line.specs.Verdict.{IsSmallLine};
+ghost use Rattle.shape_line.specs.Verdict.{IsSmallLine, IsLowestLine};
 
 use crate::bounds::Bounds;
 use crate::exact::{lesser, plus, times};
@@ -85,10 +86,12 @@ pub fn line_of(points: &[P2], axis: usize, q: i64, r: i64) -> Naive
     requires q_small { unsigned_abs q ≤ 2046 }
     requires r_low { neg_ℤ q ≤ℤ r }
     requires r_high { r ≤ℤ q }
+    requires coprime { IsGcd (unsigned_abs r) (unsigned_abs q) 1 }
     requires within { StayWithin (value_of axis (run_of points.now) r q) (length points.now) q }
     ensures axis { result.axis ≡ axis }
     ensures naive { IsNaiveFor axis (run_of points.now) (naive_of 2 result) }
     ensures small { IsSmallLine result }
+    ensures lowest { IsLowestLine result }
 {
     let mu = least_value(points, axis, q, r);
     with_axis(axis, q, r, mu)
@@ -108,6 +111,7 @@ pub fn straight_line(points: &[P2], axis: usize, best: Bounds) -> Naive
     ensures axis { result.axis ≡ axis }
     ensures naive { IsNaiveFor axis (run_of points.now) (naive_of 2 result) }
     ensures small { IsSmallLine result }
+    ensures lowest { IsLowestLine result }
 {
     let s = slope_of(points, axis, best);
     line_of(points, axis, s.q, other_coefficient(points, axis, s.p))

@@ -152,3 +152,34 @@ fn bends_of_both_ways_are_refused(rt: HostRuntime) {
         _ => assert!(rt; false),
     }
 }
+
+// The two coefficients of the line of the verdict, where there is one.
+fn coefficients(verdict: RunVerdict) -> Option<(i64, i64)> {
+    match verdict {
+        RunVerdict::Straight(line) => Some((line.a[0], line.a[1])),
+        _ => None,
+    }
+}
+
+#[test]
+fn lines_are_in_lowest_terms(rt: HostRuntime) {
+    let row = [P2 { x: 0, y: 3 }, P2 { x: 1, y: 3 }, P2 { x: 2, y: 3 }];
+    assert!(rt; coefficients(decide(&row, 1)) == Some((0, 1)));
+    let column = [P2 { x: 7, y: 0 }, P2 { x: 7, y: 1 }, P2 { x: 7, y: 2 }];
+    assert!(rt; coefficients(decide(&column, 0)) == Some((1, 0)));
+    let diagonal = [P2 { x: 0, y: 0 }, P2 { x: 1, y: 1 }, P2 { x: 2, y: 2 }];
+    assert!(rt; coefficients(decide(&diagonal, 1)) == Some((-1, 1)));
+    assert!(rt; coefficients(decide(&diagonal, 0)) == Some((1, -1)));
+}
+
+#[test]
+fn the_line_of_a_staircase_is_in_lowest_terms(rt: HostRuntime) {
+    let run = [
+        P2 { x: 0, y: 0 },
+        P2 { x: 1, y: 1 },
+        P2 { x: 2, y: 1 },
+        P2 { x: 3, y: 1 },
+        P2 { x: 4, y: 2 },
+    ];
+    assert!(rt; coefficients(decide(&run, 1)) == Some((-1, 3)));
+}
