@@ -1,11 +1,11 @@
 -- What the judge keeps of the contour that was begun last: its points twice round, and the places of its segments.
 -- Laws over what the judge is seen as and the lists that it keeps.
-use Rattle.std.proofs.Common.{◌≡◌, ℕ, zero, suc, ◌+◌, ◌-◌, ◌*◌, ◌<◌, ◌≤◌, ◌^◌, List, [], ◌∷◌, ◌++◌, length, map, take, drop, get_or, refl, ap, sym, ◌∙◌, subst, arith}
+use Rattle.std.proofs.Common.{◌≡◌, ℕ, ◌+◌, ◌-◌, ◌*◌, ◌<◌, ◌≤◌, ◌^◌, List, length, map, take, drop, refl, ap, sym, ◌∙◌, subst, arith}
 use Rattle.std.specs.Prelude.{All, slice_index_or}
 use Rattle.std.proofs.lemmas.List.{length-map, get_or-map}
 use Rattle.std.proofs.lemmas.Option.{slice_get-get_or, slice_get_past}
 use Rattle.shape_terms.specs.Points.{Point}
-use Rattle.shape_terms.specs.Traces.{Contour, IsClosedPath}
+use Rattle.shape_terms.specs.Traces.{Contour}
 use Rattle.shape_terms.specs.Covers.{Stretch, arc, next_first}
 use Rattle.shape_terms.specs.Naive.{Naive, IsNaiveFor}
 use Rattle.shape_terms.specs.Straight.{KeepsSense}

@@ -1,9 +1,8 @@
 -- The lines that are made of what is found of a contour: their fields are in range, and each segment stands in its place.
 -- Laws over what was found; the program stands in none.
-use Rattle.std.proofs.Common.{◌≡◌, ◌+◌, ◌<◌, ◌≤◌, ◌^◌, ℕ, zero, suc, ℤ, pos, negsuc, List, [], ◌∷◌, ◌++◌, length, map, take, refl, sym, ap, ◌∙◌, subst, arith}
+use Rattle.std.proofs.Common.{◌≡◌, ◌+◌, ◌<◌, ◌≤◌, ◌^◌, ℕ, zero, suc, ℤ, pos, negsuc, List, [], ◌∷◌, ◌++◌, length, take, refl, sym, ap, ◌∙◌, subst, arith}
 use Rattle.std.specs.Prelude.{◌*◌, All, FitsSigned, Some, nat_abs, slice_get, slice_index_or}
 use Rattle.std.specs.Int.{w64}
-use Rattle.std.proofs.lemmas.Int.{ints}
 use Rattle.std.proofs.lemmas.List.{length-map, length-take-le}
 use Rattle.shape_terms.specs.Points.{Point}
 use Rattle.shape_terms.specs.Pictures.{Picture}
@@ -11,7 +10,7 @@ use Rattle.shape_terms.specs.Traces.{Contour}
 use Rattle.shape_terms.specs.Naive.{Naive}
 use Rattle.shape_terms.specs.Refutations.{Share, Step, StepShare, IsStepOf}
 use Rattle.shape_terms.specs.Covers.{Evidence, IsEvidence, gap_run}
-use Rattle.shape_terms.specs.Lines.{Line, IsLineOf, IsRow, IsWhy, IsStepIn, IsCount, IsWeight}
+use Rattle.shape_terms.specs.Lines.{Line, IsLineOf, IsStepIn, IsCount, IsWeight}
 use Rattle.shape_cover.specs.Found.{Found, stretches_of, found_at, IsCoverOf, IsShortLine, AreShortShares, IsShortEvidence}
 use Rattle.shape_analyse.specs.Growing.{IsOutlined, gap_line}
 use Rattle.shape_analyse.proofs.ContourGrowth.{outlined_segment, outlined_gap}

@@ -5,7 +5,7 @@ use Rattle.std.specs.Prelude.{All, FitsSigned, codes, slice_get, nat_abs}
 use Rattle.std.specs.Int.{w32}
 use Rattle.std.proofs.lemmas.Int.{ints}
 use Rattle.std.proofs.lemmas.List.{length-append}
-use Rattle.std.proofs.lemmas.List.Elements.{All-nil, All-cons, All-push, All-head, All-tail, All-from_get_or}
+use Rattle.std.proofs.lemmas.List.Elements.{All-nil, All-push, All-head, All-tail, All-from_get_or}
 use Rattle.shape_terms.specs.Points.{Point, coordinate, AreSides, sides_of}
 use Rattle.shape_terms.specs.Pictures.{Picture, object_points, Least}
 use Rattle.shape_terms.specs.Parts.{Counts}

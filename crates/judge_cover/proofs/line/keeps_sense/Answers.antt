@@ -1,6 +1,5 @@
 use Rattle.std.proofs.Common.{refl, map, arith}
 use Rattle.std.proofs.lemmas.List.{length-map}
-use Rattle.shape_terms.proofs.CoverShown.{sense_no_turn}
 use Rattle.shape_crack.specs.Terms.{point_of}
 use Rattle.judge_cover.proofs.Runs.{sense_kept}
 use Rattle.judge_cover.proofs.line.keeps_sense.Goals as goal

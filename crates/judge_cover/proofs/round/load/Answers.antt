@@ -1,4 +1,4 @@
-use Rattle.std.proofs.Common.{◌≡◌, ◌+◌, ◌%◌, ◌∙◌, ap, arith, length}
+use Rattle.std.proofs.Common.{◌≡◌, ◌+◌, ◌%◌, ◌∙◌, ap, length}
 use Rattle.std.specs.Prelude.{slice_get, Some}
 use Rattle.shape_crack.specs.Terms.{point_of}
 use Rattle.judge_cover.proofs.RoundParts.{put_more}

@@ -1,4 +1,4 @@
-use Rattle.std.proofs.Common.{◌≡◌, ◌+◌, ◌*◌, [], length, ap, subst, sym, ◌∙◌}
+use Rattle.std.proofs.Common.{◌+◌, [], length, subst}
 use Rattle.std.proofs.lemmas.List.{length-map}
 use Rattle.shape_cover.specs.Found.{Found, stretches_of}
 use Rattle.shape_analyse.specs.Growing.{IsOutlined}

@@ -1,6 +1,4 @@
-use Rattle.std.proofs.Common.{◌≡◌, ◌+◌, ◌≤◌, List, [], length, rules, arith, subst, sym, ◌∙◌}
-use Rattle.shape_terms.specs.Pictures.{Picture}
-use Rattle.shape_terms.specs.Traces.{Contour}
+use Rattle.std.proofs.Common.{◌≡◌, ◌+◌, ◌≤◌, [], length, rules, arith, subst, sym}
 use Rattle.shape_terms.specs.Lines.{Line, IsLineOf}
 use Rattle.shape_crack.specs.Terms.{point_of}
 use Rattle.shape_analyse.specs.Growing.{IsOutlined}

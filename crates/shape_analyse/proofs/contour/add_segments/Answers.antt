@@ -1,6 +1,5 @@
-use Rattle.std.proofs.Common.{◌≡◌, ◌+◌, ◌<◌, ◌^◌, ◌++◌, ◌∷◌, [], List, length, take, rules, arith, ap, subst, sym, ◌∙◌}
+use Rattle.std.proofs.Common.{◌≡◌, ◌+◌, ◌<◌, ◌^◌, ◌++◌, ◌∷◌, [], length, take, rules, arith, ap, subst, sym, ◌∙◌}
 use Rattle.std.proofs.lemmas.List.{length-map, take_all}
-use Rattle.shape_terms.specs.Covers.{Stretch}
 use Rattle.shape_terms.specs.Lines.{Line, IsLineOf}
 use Rattle.shape_refute.specs.Terms.{naive_of}
 use Rattle.shape_cover.specs.Found.{Found, stretches_of, found_at, IsShortLine}

@@ -1,4 +1,4 @@
-use Rattle.std.proofs.Common.{◌≤◌, ◌^◌, length, map, ap, arith}
+use Rattle.std.proofs.Common.{◌≤◌, ◌^◌, length, map}
 use Rattle.std.specs.Prelude.{vec_capacity}
 use Rattle.shape_terms.specs.ContourLines.{Standing, open_contour}
 use Rattle.shape_crack.specs.Terms.{point_of}
