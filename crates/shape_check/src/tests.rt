@@ -140,20 +140,35 @@ fn each_single_change(rt: HostRuntime) -> Result<(), Fail> {
 const ROW: &[u8] =
     b"shape 1 pbm 3 1 none\nparts 3 1 1\nnear 0 0 0 -1 1\nnear 1 0 1 -1 1\nnear 2 0 2 -1 1\ncontour 0 0 0 4 2\nat 0 0\nat 1 0\nat 2 0\nat 1 0\nseg 0 2 y 0 1 0\nseg 2 4 y 0 1 0\n";
 
-// A report of the full picture of 2 by 2 points with two segments so far apart that their gap has no run, up to its first gap line.
-const APART: &[u8] =
-    b"shape 1 pbm 2 2 none\nparts 4 1 1\nnear 0 0 0 -1 1\nnear 1 0 1 -1 1\nnear 0 1 -1 1 1\nnear 1 1 2 1 1\ncontour 0 0 0 4 2\nat 0 0\nat 1 0\nat 1 1\nat 0 1\nseg 0 0 y 0 1 0\nseg 3 3 y 0 1 1\n";
+// The report of the full picture of 2 by 2 points up to the lines of its contour.
+const POINTS: &[u8] =
+    b"shape 1 pbm 2 2 none\nparts 4 1 1\nnear 0 0 0 -1 1\nnear 1 0 1 -1 1\nnear 0 1 -1 1 1\nnear 1 1 2 1 1\n";
 
 #[test]
-fn gap_without_run(rt: HostRuntime) -> Result<(), Fail> {
+fn gaps_that_are_too_wide(rt: HostRuntime) -> Result<(), Fail> {
     let alloc = rt.alloc();
     let grid = full(alloc, 2, 2)?;
-    let lines: [&[u8]; 2] = [b"turn x 0 0\n", b"cut x 0 0 0\n"];
-    for line in lines {
-        let mut report = Vec::from_slice(alloc, APART)?;
-        report.extend_from_slice(line)?;
+    let table: [(&[u8], u64); 3] = [
+        // A maximal run between two listed ones is missing: it is the run of their gap, so no evidence is good.
+        (
+            b"contour 0 0 0 4 3\nat 0 0\nat 1 0\nat 1 1\nat 0 1\nseg 0 1 y 0 1 0\nseg 2 3 y 0 1 1\nseg 3 4 x 1 0 0\nturn x 0 0\n",
+            15,
+        ),
+        // Segments so far apart that their gap has no run.
+        (
+            b"contour 0 0 0 4 2\nat 0 0\nat 1 0\nat 1 1\nat 0 1\nseg 0 0 y 0 1 0\nseg 3 3 y 0 1 1\nturn x 0 0\n",
+            14,
+        ),
+        (
+            b"contour 0 0 0 4 2\nat 0 0\nat 1 0\nat 1 1\nat 0 1\nseg 0 0 y 0 1 0\nseg 3 3 y 0 1 1\ncut x 0 0 0\n",
+            14,
+        ),
+    ];
+    for (lines, want) in table {
+        let mut report = Vec::from_slice(alloc, POINTS)?;
+        report.extend_from_slice(lines)?;
         let got = answer(alloc, &grid, report.as_slice(), &[])?;
-        assert!(rt; matches!(got, Ok(Judgement::No { line: 14 })));
+        assert!(rt; matches!(got, Ok(Judgement::No { line }) if line == want));
     }
     Ok(())
 }
