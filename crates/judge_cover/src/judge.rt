@@ -1,5 +1,5 @@
 //! The judge: it goes through the contours of the picture, and through the lines of each.
-//! What a line says of its segment or its gap is tested in `line`, `places` and `evidence`.
+//! What a line says of its segment or its gap is tested in `line` and `places`.
 ghost use Rattle.std.specs.Prelude.{◌≡◌, ◌+◌, ◌-◌, ◌*◌, ◌/◌, ◌%◌, ◌<◌, ◌≤◌, ◌^◌, ◌↔◌, [], ◌∷◌, ◌++◌, List, length, map, slice_index_or, IsTrue, IfOk};
 ghost use Rattle.std.specs.Bool.{OnTrue};
 ghost use Rattle.shape_terms.specs.Pictures.{Picture};
@@ -11,15 +11,14 @@ ghost use Rattle.shape_refute.specs.Terms.{naive_of};
 ghost use Rattle.shape_crack.specs.Terms.{point_of, crack_of};
 ghost use Rattle.judge_cover.specs.CoverState.{StandsFor, room_of};
 ghost use Rattle.judge_cover.specs.Places.{stretch_of};
-ghost use Rattle.judge_cover.specs.Reasons.{evidence_of};
+ghost use Rattle.shape_refute.specs.Evidences.{evidence_of};
 
-use crate::evidence::{Reason, is_good};
 use crate::line::holds_segment;
 use crate::places::{Places, come_next};
 use crate::round::{greatest, load, part};
 use shape_crack::{Contour, Contours, Crack, contours};
 use shape_grid::Grid;
-use shape_refute::{Naive, Turn};
+use shape_refute::{Naive, Refusal, Turn, refuses};
 use shape_report::Line;
 use shape_space::{NoMemory, P2};
 use std::alloc::Global;
@@ -207,20 +206,20 @@ impl CoverJudge {
     }
 
     // Whether the run of the gap after a segment is refused for an axis.
-    fn is_refused(&self, k: usize, axis: usize, reason: &Reason) -> bool
+    fn is_refused(&self, k: usize, axis: usize, refusal: &Refusal) -> bool
         requires begun { 0 < self.now.standing.begun }
         requires place { k < length self.now.standing.stretches }
         requires axis { axis < 2 }
-        ensures { IsTrue result ↔ IsEvidence axis (gap_run (open_contour self.now.contours self.now.standing).points self.now.standing.stretches k) (evidence_of reason.now) }
+        ensures { IsTrue result ↔ IsEvidence axis (gap_run (open_contour self.now.contours self.now.standing).points self.now.standing.stretches k) (evidence_of refusal.now) }
     {
         let first = self.next_first(k).saturating_sub(1);
         let last = self.end(k);
-        first <= last && is_good(self.arc(first, last), axis, reason)
+        first <= last && refuses(self.arc(first, last), axis, refusal)
     }
 
     // Takes a gap line.
-    fn take_gap(&mut self, axis: u8, reason: &Reason) -> bool
-        ensures answer { IsTrue result ↔ IsNextGap self.old.contours self.old.standing axis (evidence_of reason.now) }
+    fn take_gap(&mut self, axis: u8, refusal: &Refusal) -> bool
+        ensures answer { IsTrue result ↔ IsNextGap self.old.contours self.old.standing axis (evidence_of refusal.now) }
         ensures contours { self.new.contours ≡ self.old.contours }
         ensures next { OnTrue result (self.new.standing ≡ record self.old.standing { gaps = self.old.standing.gaps + 1 }) }
     {
@@ -228,7 +227,7 @@ impl CoverJudge {
             return false;
         }
         let k = self.gaps as usize / 2;
-        if axis as u32 != self.gaps % 2 || !self.is_refused(k, axis as usize, reason) {
+        if axis as u32 != self.gaps % 2 || !self.is_refused(k, axis as usize, refusal) {
             return false;
         }
         self.gaps += 1;
@@ -254,8 +253,8 @@ impl CoverJudge {
             } => self.begin(Crack { p, side }, points, segments),
             Line::At { p } => self.go_on(p),
             Line::Seg { first, last, line } => self.take_segment(Places { first, last }, &line),
-            Line::Turn { axis, i, j } => self.take_gap(axis, &Reason::Turned(Turn { i, j })),
-            Line::Cut { axis, why } => self.take_gap(axis, &Reason::Cut(why)),
+            Line::Turn { axis, i, j } => self.take_gap(axis, &Refusal::Turned(Turn { i, j })),
+            Line::Cut { axis, why } => self.take_gap(axis, &Refusal::Cut(why)),
             Line::Shape { .. } => false,
             Line::Parts { .. } => false,
             Line::Near { .. } => false,

@@ -2,7 +2,6 @@
 //! It traces the contours of the picture once, tests what the lines say of them, and stands on no crate that finds segments.
 #![tactic(auto)]
 
-mod evidence;
 mod judge;
 mod line;
 mod places;

@@ -6,12 +6,13 @@ ghost use Rattle.shape_terms.specs.Traces.{Contour as Trace};
 ghost use Rattle.shape_terms.specs.Lines.{IsLineOf};
 ghost use Rattle.shape_report.specs.LineOf.{line_of};
 ghost use Rattle.shape_crack.specs.Terms.{point_of};
-ghost use Rattle.shape_cover.specs.Evidences.{evidence_of};
+ghost use Rattle.shape_refute.specs.Evidences.{evidence_of};
 ghost use Rattle.shape_cover.specs.Found.{stretches_of, IsCoverOf};
 ghost use Rattle.shape_analyse.specs.Growing.{IsOutlined, HasOutlined, IsSomeCover, gap_line};
 
-use shape_cover::{Cover, Refusal, cover};
+use shape_cover::{Cover, cover};
 use shape_crack::{Contour, Contours};
+use shape_refute::Refusal;
 use shape_report::{Line, Report};
 use shape_space::{NoMemory, P2};
 use std::alloc::Global;

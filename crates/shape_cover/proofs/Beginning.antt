@@ -9,7 +9,7 @@ use Rattle.shape_terms.proofs.ArcRuns.{arc_runs, Straight, maximal_from}
 use Rattle.shape_cover.specs.declared.reach.Reach.{Reach}
 use Rattle.shape_cover.specs.declared.walk.Passed.{Passed}
 use Rattle.shape_cover.specs.Arcs.{IsBent}
-use Rattle.shape_cover.specs.Evidences.{evidence_of}
+use Rattle.shape_refute.specs.Evidences.{evidence_of}
 use Rattle.shape_cover.specs.Entries.{stretch_of}
 use Rattle.shape_cover.specs.Searches.{IsReach, IsPassed}
 use Rattle.shape_cover.specs.Walking.{IsStart}

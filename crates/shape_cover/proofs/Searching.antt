@@ -10,7 +10,7 @@ use Rattle.shape_refute.specs.Terms.{naive_of}
 use Rattle.shape_cover.specs.declared.stretch.Stretch.{Stretch}
 use Rattle.shape_cover.specs.declared.reach.Reach.{Reach}
 use Rattle.shape_cover.specs.Arcs.{IsBent}
-use Rattle.shape_cover.specs.Evidences.{evidence_of}
+use Rattle.shape_refute.specs.Evidences.{evidence_of}
 use Rattle.shape_cover.specs.Entries.{stretch_of}
 use Rattle.shape_cover.specs.Searches.{IsStretch, IsReach}
 use Rattle.shape_cover.specs.Walking.{IsLongest}

@@ -5,7 +5,7 @@ use Rattle.shape_refute.specs.Terms.{naive_of}
 use Rattle.shape_cover.specs.declared.stretch.Stretch.{Stretch}
 use Rattle.shape_cover.specs.declared.list.Entry.{Entry}
 use Rattle.shape_cover.specs.Found.{Found}
-use Rattle.shape_cover.specs.Evidences.{evidence_of}
+use Rattle.shape_refute.specs.Evidences.{evidence_of}
 
 -- the places alone
 abbrev pub stretch_of : Stretch → Term

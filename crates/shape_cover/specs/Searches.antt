@@ -12,7 +12,7 @@ use Rattle.shape_cover.specs.declared.start.NextStart.{NextStart}
 use Rattle.shape_cover.specs.declared.walk.Passed.{Passed}
 use Rattle.shape_cover.specs.declared.list.Entry.{Entry}
 use Rattle.shape_cover.specs.Arcs.{IsHeld, IsBent}
-use Rattle.shape_cover.specs.Evidences.{evidence_of}
+use Rattle.shape_refute.specs.Evidences.{evidence_of}
 use Rattle.shape_cover.specs.Entries.{stretch_of, found_of}
 use Rattle.shape_cover.specs.Walking.{IsFollowedBy}
 

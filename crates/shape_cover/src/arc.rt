@@ -5,13 +5,13 @@ ghost use Rattle.shape_terms.specs.Covers.{arc};
 ghost use Rattle.shape_refute.specs.Terms.{flat_point};
 ghost use Rattle.shape_line.specs.Runs.{AreInside, AreNear};
 ghost use Rattle.shape_cover.specs.Arcs.{IsRefused};
-ghost use Rattle.shape_cover.specs.Evidences.{evidence_of};
+ghost use Rattle.shape_refute.specs.Evidences.{evidence_of};
 ghost use Rattle.shape_cover.specs.Searches.{IsArcVerdict};
 
-use crate::gap::{Gap, Refusal};
+use crate::gap::Gap;
 use shape_crack::Contour;
 use shape_line::{RunVerdict, decide_run};
-use shape_refute::Naive;
+use shape_refute::{Naive, Refusal};
 use shape_space::{NoMemory, P2};
 use std::alloc::Global;
 

@@ -11,7 +11,7 @@ mod stretch;
 mod stride;
 mod walk;
 
-pub use gap::{Gap, Refusal};
+pub use gap::Gap;
 pub use list::Cover;
 pub use stretch::Stretch;
 pub use walk::cover;

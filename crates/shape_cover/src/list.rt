@@ -3,11 +3,12 @@
 ghost use Rattle.std.specs.Prelude.{◌≡◌, ◌<◌, ◌^◌, length, map};
 ghost use Rattle.shape_refute.specs.Terms.{naive_of};
 ghost use Rattle.shape_cover.specs.Found.{found_at};
-ghost use Rattle.shape_cover.specs.Evidences.{evidence_of};
+ghost use Rattle.shape_refute.specs.Evidences.{evidence_of};
 ghost use Rattle.shape_cover.specs.Entries.{stretch_of, found_of};
 
-use crate::gap::{Gap, Refusal};
+use crate::gap::Gap;
 use crate::stretch::Stretch;
+use shape_refute::Refusal;
 use std::marker::Model;
 
 /// A stretch, and why the gap after it is not straight.

@@ -1,3 +1,4 @@
+pub mod Evidences
 pub mod Shown
 pub mod Kept
 pub mod Sums

@@ -110,7 +110,9 @@ fn put<T: Copy>(shelf: &mut Vec<T>, item: T) -> Result<u32, NoMemory>
 
 impl<P: Point> Shelves<P> {
     /// Empty shelves.
-    pub fn new(alloc: Global) -> Shelves<P> {
+    pub fn new(alloc: Global) -> Shelves<P>
+        ensures { lists_of result ≡ record { headings = []; counts = []; distances = []; contours = []; points = []; segments = []; turns = []; cuts = [] } }
+    {
         Shelves {
             headings: Vec::new(alloc),
             counts: Vec::new(alloc),

@@ -2,7 +2,7 @@ use Rattle.std.proofs.Common.{◌≡◌, ◌+◌, ◌*◌, ◌<◌, ◌++◌, �
 use Rattle.shape_terms.specs.Covers.{IsEvidence, gap_run}
 use Rattle.shape_terms.specs.Lines.{IsLineOf}
 use Rattle.shape_cover.specs.Found.{stretches_of, found_at}
-use Rattle.shape_cover.specs.Evidences.{evidence_of}
+use Rattle.shape_refute.specs.Evidences.{evidence_of}
 use Rattle.shape_analyse.specs.Growing.{IsOutlined, gap_line}
 use Rattle.shape_analyse.proofs.FoundLines.{gap_fits, found_gap}
 use Rattle.shape_analyse.proofs.contour.add_gaps.Goals as goal

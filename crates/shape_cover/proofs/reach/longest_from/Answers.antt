@@ -3,7 +3,7 @@ use Rattle.shape_terms.specs.Covers.{arc}
 use Rattle.shape_cover.specs.declared.arc.ArcVerdict.{ArcVerdict}
 use Rattle.shape_cover.specs.declared.stretch.Stretch.{Stretch}
 use Rattle.shape_cover.specs.Arcs.{IsBent}
-use Rattle.shape_cover.specs.Evidences.{evidence_of}
+use Rattle.shape_refute.specs.Evidences.{evidence_of}
 use Rattle.shape_cover.specs.Searches.{IsStretch, IsArcVerdict}
 use Rattle.shape_cover.proofs.Searching.{stretch_short}
 use Rattle.shape_cover.proofs.reach.longest_from.Goals as goal

@@ -2,7 +2,7 @@ use Rattle.std.proofs.Common.{arith, subst, ◌≡◌, ◌+◌, ◌-◌, ℕ}
 use Rattle.shape_terms.specs.Covers.{arc}
 use Rattle.shape_cover.specs.declared.arc.ArcVerdict.{ArcVerdict}
 use Rattle.shape_cover.specs.Arcs.{IsBent}
-use Rattle.shape_cover.specs.Evidences.{evidence_of}
+use Rattle.shape_refute.specs.Evidences.{evidence_of}
 use Rattle.shape_cover.specs.Searches.{IsArcVerdict}
 use Rattle.shape_cover.proofs.Searching.{bent_before}
 use Rattle.shape_cover.proofs.start.next_start.Goals as goal

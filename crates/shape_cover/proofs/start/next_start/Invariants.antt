@@ -1,7 +1,7 @@
 use Rattle.std.proofs.Common.{◌+◌, ◌-◌, ◌*◌, ◌≤◌}
 use Rattle.shape_terms.specs.Covers.{arc}
 use Rattle.shape_cover.specs.Arcs.{IsBent}
-use Rattle.shape_cover.specs.Evidences.{evidence_of}
+use Rattle.shape_refute.specs.Evidences.{evidence_of}
 use Rattle.shape_cover.proofs.start.next_start.Given as goal
 
 abbrev pub invariant-loop-line : goal.invariant-loop-line

@@ -2,7 +2,7 @@ use Rattle.std.proofs.Common.{arith, subst, ◌+◌, ◌-◌, ℕ, length}
 use Rattle.shape_terms.specs.Covers.{arc}
 use Rattle.shape_refute.specs.Terms.{naive_of}
 use Rattle.shape_cover.specs.declared.arc.ArcVerdict.{ArcVerdict}
-use Rattle.shape_cover.specs.Evidences.{evidence_of}
+use Rattle.shape_refute.specs.Evidences.{evidence_of}
 use Rattle.shape_cover.specs.Searches.{IsArcVerdict}
 use Rattle.shape_cover.proofs.Verdicts.{arc_straight}
 use Rattle.shape_cover.proofs.Beginning.{begins_at_first, begins_at_next}

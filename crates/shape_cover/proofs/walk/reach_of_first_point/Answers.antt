@@ -1,7 +1,7 @@
 use Rattle.std.proofs.Common.{subst}
 use Rattle.shape_terms.specs.Covers.{arc}
 use Rattle.shape_cover.specs.declared.arc.ArcVerdict.{ArcVerdict}
-use Rattle.shape_cover.specs.Evidences.{evidence_of}
+use Rattle.shape_refute.specs.Evidences.{evidence_of}
 use Rattle.shape_cover.specs.Searches.{IsArcVerdict}
 use Rattle.shape_cover.proofs.OnePoint.{place_straight}
 use Rattle.shape_cover.proofs.Verdicts.{bent_shows}

@@ -2,8 +2,8 @@
 -- A further kind of reason is one more clause.
 use Rattle.shape_terms.specs.Covers.{Evidence}
 use Rattle.shape_refute.specs.Weights.{refutation_of}
-use Rattle.shape_cover.specs.declared.gap.Refusal.{Refusal}
-use Rattle.shape_cover.specs.declared.gap.Refusal.TheVariants.{Turned, Cut}
+use Rattle.shape_refute.specs.declared.refusal.Refusal.{Refusal}
+use Rattle.shape_refute.specs.declared.refusal.Refusal.TheVariants.{Turned, Cut}
 
 abbrev pub evidence_of : Refusal → Evidence
 evidence_of (Turned turn) = Evidence.Turned turn.i turn.j
