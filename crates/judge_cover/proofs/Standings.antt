@@ -15,10 +15,10 @@ use Rattle.shape_terms.specs.Refutations.{Refutation}
 use Rattle.shape_terms.specs.Covers.{Evidence}
 use Rattle.std.proofs.lemmas.List.{length-append}
 use Rattle.shape_terms.specs.Traces.{Contour, AreContours}
-use Rattle.shape_terms.specs.Lines.{Line}
-use Rattle.shape_terms.specs.ContourLines.{Standing, standing, no_contour, open_contour, IsFull, IsContourHead, IsNextPoint, IsNextSegment, IsNextGap, OutlineClaim, ContourClaim, ContoursComplete}
-use Rattle.shape_terms.proofs.ContourGroups.{declared_begun, standing_begun, standing_point, standing_segment, standing_turn, standing_cut}
-use Rattle.shape_terms.proofs.ContoursShown.{contours_same}
+use Rattle.report_terms.specs.Lines.{Line}
+use Rattle.report_terms.specs.ContourLines.{Standing, standing, no_contour, open_contour, IsFull, IsContourHead, IsNextPoint, IsNextSegment, IsNextGap, OutlineClaim, ContourClaim, ContoursComplete}
+use Rattle.report_terms.proofs.ContourGroups.{declared_begun, standing_begun, standing_point, standing_segment, standing_turn, standing_cut}
+use Rattle.report_terms.proofs.ContoursShown.{contours_same}
 use Rattle.judge_cover.specs.CoverState.{CoverState, StandsFor, points_in, room_of}
 
 -- a line is good where its claim is true of the judge's contours

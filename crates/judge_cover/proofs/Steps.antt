@@ -9,7 +9,7 @@ use Rattle.shape_terms.specs.Traces.{Contour}
 use Rattle.shape_terms.specs.Covers.{Stretch, arc, next_first}
 use Rattle.shape_terms.specs.Naive.{Naive, IsNaiveFor}
 use Rattle.shape_terms.specs.Straight.{KeepsSense}
-use Rattle.shape_terms.specs.ContourLines.{Standing, open_contour, IsNextSegment}
+use Rattle.report_terms.specs.ContourLines.{Standing, open_contour, IsNextSegment}
 use Rattle.shape_terms.proofs.ArcRuns.{length-arc}
 use Rattle.judge_cover.specs.CoverState.{CoverState, IsAround, HasRound}
 use Rattle.judge_cover.specs.Places.{AreNextPlaces}

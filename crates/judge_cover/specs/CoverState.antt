@@ -5,8 +5,8 @@ use Rattle.shape_terms.specs.Points.{Point}
 use Rattle.shape_terms.specs.Pictures.{Picture}
 use Rattle.shape_terms.specs.Traces.{Contour, AreContours}
 use Rattle.shape_terms.specs.Covers.{Stretch, arc}
-use Rattle.shape_terms.specs.Lines.{Line}
-use Rattle.shape_terms.specs.ContourLines.{Standing, standing, open_contour}
+use Rattle.report_terms.specs.Lines.{Line}
+use Rattle.report_terms.specs.ContourLines.{Standing, standing, open_contour}
 
 -- the contours of the picture, and where the lines stand
 pub record CoverState : Type 0 where

@@ -4,8 +4,8 @@ ghost use Rattle.std.specs.Prelude.{◌≡◌, ◌+◌, ◌-◌, ◌*◌, ◌/�
 ghost use Rattle.std.specs.Bool.{OnTrue};
 ghost use Rattle.shape_terms.specs.Pictures.{Picture};
 ghost use Rattle.shape_terms.specs.Covers.{IsEvidence, arc, next_first, gap_run};
-ghost use Rattle.shape_terms.specs.Lines as Terms;
-ghost use Rattle.shape_terms.specs.ContourLines.{open_contour, HasAllLines, IsFull, IsContourHead, IsNextPoint, IsNextSegment, IsNextGap, ContourClaim, ContoursComplete};
+ghost use Rattle.report_terms.specs.Lines as Terms;
+ghost use Rattle.report_terms.specs.ContourLines.{open_contour, HasAllLines, IsFull, IsContourHead, IsNextPoint, IsNextSegment, IsNextGap, ContourClaim, ContoursComplete};
 ghost use Rattle.shape_report.specs.LineOf.{line_of};
 ghost use Rattle.shape_refute.specs.Terms.{naive_of};
 ghost use Rattle.shape_crack.specs.Terms.{point_of, crack_of};
@@ -47,7 +47,7 @@ pub struct CoverJudge {
 
 impl Model for CoverJudge {
     ghost use Rattle.std.specs.Prelude.{map, vec_capacity};
-    ghost use Rattle.shape_terms.specs.ContourLines.{Standing};
+    ghost use Rattle.report_terms.specs.ContourLines.{Standing};
     ghost use Rattle.shape_crack.specs.Terms.{point_of};
     ghost use Rattle.judge_cover.specs.CoverState.{CoverState, IsInStep, HasRound};
     ghost use Rattle.judge_cover.specs.Places.{stretch_of};

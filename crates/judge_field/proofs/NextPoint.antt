@@ -1,14 +1,16 @@
 -- The next object point of a judge, and the lines that it stands for.
 -- Laws over pictures, lines and what a judge is seen as.
 use Rattle.std.proofs.Common.{◌≡◌, ◌+◌, ◌<◌, ℕ, zero, suc, List, [], ◌∷◌, ◌++◌, length, take, drop, inl, inr, Some, sym, ap, ◌∙◌, subst, arith}
-use Rattle.std.specs.Prelude.{slice_get}
+use Rattle.std.specs.Prelude.{slice_get, Bool, IsTrue, All, filter}
+use Rattle.std.proofs.lemmas.Bool.{cond_both}
+use Rattle.std.proofs.lemmas.List.Elements.{All-nil, All-cons, All-head}
 use Rattle.std.proofs.lemmas.List.{length-drop, length-append}
 use Rattle.std.proofs.lemmas.Option.{slice_get_within}
-use Rattle.shape_terms.specs.Points.{Point, raster_point}
-use Rattle.shape_terms.specs.Pictures.{Picture, object_points, objects_from}
-use Rattle.shape_terms.specs.Lines.{Line}
-use Rattle.shape_terms.specs.Good.{NearClaim}
-use Rattle.shape_terms.proofs.Checking.{get_push}
+use Rattle.shape_terms.specs.Points.{Point, raster_point, box_points}
+use Rattle.shape_terms.specs.Pictures.{Picture, at, object_points, objects_from}
+use Rattle.report_terms.specs.Lines.{Line}
+use Rattle.report_terms.specs.Good.{NearClaim}
+use Rattle.report_terms.proofs.Checking.{get_push}
 use Rattle.judge_field.specs.FieldState.{FieldState, StandsFor, IsInStep}
 
 first_behind : (xs : List Point) (n : ℕ) (y : Point) (ys : List Point) → drop n xs ≡ y ∷ ys → (slice_get xs n ≡ Some y) × (drop (suc n) xs ≡ ys) × (n < length xs)
@@ -68,3 +70,13 @@ stands_push old new lines l same more s claim = record {
     | inr h ↦ subst (λ ls. NearClaim old.picture ls m) (sym h.1) (subst (NearClaim old.picture lines) h.0 claim)
   ]);
 }
+
+-- the next object point is one
+all_pass : (p : Point → Bool) (xs : List Point) → All (λ x. IsTrue (p x)) (filter p xs)
+all_pass p [] = All-nil (λ x. IsTrue (p x))
+all_pass p (x ∷ xs) = cond_both (p x) (x ∷ filter p xs) (filter p xs) (All (λ y. IsTrue (p y)))
+    (λ t. All-cons (λ y. IsTrue (p y)) x (filter p xs) t (all_pass p xs))
+    (λ f. all_pass p xs)
+
+pub next_is_object : (X : Picture) (next : ℕ) (p : Point) (rest : List Point) → objects_from X next ≡ p ∷ rest → IsTrue (at X p)
+next_is_object X next p rest e = All-head (λ p. IsTrue (at X p)) p rest (subst (All (λ p. IsTrue (at X p))) e (all_pass (at X) (drop next (box_points X.sides))))

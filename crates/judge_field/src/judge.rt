@@ -2,12 +2,13 @@
 //! What a line says of its point is tested in `least`.
 ghost use Rattle.std.specs.Prelude.{◌≡◌, ◌<◌, ◌^◌, ◌↔◌, [], ◌∷◌, ◌++◌, List, IsTrue, IfOk};
 ghost use Rattle.std.specs.Bool.{OnTrue};
-ghost use Rattle.shape_terms.specs.Lines as Terms;
-ghost use Rattle.shape_terms.specs.Good.{NearClaim, NearsComplete};
+ghost use Rattle.report_terms.specs.Lines as Terms;
+ghost use Rattle.report_terms.specs.Good.{NearClaim, NearsComplete};
 ghost use Rattle.shape_report.specs.LineOf.{line_of};
 ghost use Rattle.judge_field.specs.FieldState.{StandsFor, room_of};
 
 use crate::least::is_least;
+use crate::scans::Scans;
 use shape_grid::Grid;
 use shape_report::Line;
 use shape_space::{NoMemory, Point};
@@ -16,10 +17,10 @@ use std::marker::Model;
 
 /// A judge of the `near` lines of a report of one picture, as they come.
 ///
-/// It keeps a picture of its own and no line. After `near` has answered false it says nothing more, and is only dropped.
+/// It keeps the scans of the picture and no line. After `near` has answered false it says nothing more, and is only dropped.
 #[derive(Drop)]
 pub struct FieldJudge<P: Point> {
-    grid: Grid<P>,
+    scans: Scans<P>,
     // The number of object points.
     objects: u32,
     // The raster number from which the next object point is looked for.
@@ -32,9 +33,9 @@ impl<P: Point> Model for FieldJudge<P> {
 
     ghost Value = { FieldState };
 
-    ghost view = { λ j. record { picture = j.grid; taken = j.taken } };
+    ghost view = { λ j. record { picture = j.scans; taken = j.taken } };
 
-    ghost invariant = { λ j. IsInStep j.grid j.objects j.next j.taken };
+    ghost invariant = { λ j. IsInStep j.scans j.objects j.next j.taken };
 }
 
 impl<P: Point> FieldJudge<P> {
@@ -44,9 +45,9 @@ impl<P: Point> FieldJudge<P> {
         ensures stands { IfOk result (λ j. StandsFor j []) }
         ensures room { IfOk result (λ j. room_of j < 2 ^ 60) }
     {
-        match grid.copy(alloc) {
-            Ok(copy) => Ok(FieldJudge {
-                grid: copy,
+        match Scans::new(alloc, grid) {
+            Ok(scans) => Ok(FieldJudge {
+                scans,
                 objects: grid.count(),
                 next: 0,
                 taken: 0,
@@ -62,14 +63,15 @@ impl<P: Point> FieldJudge<P> {
         ensures stands { (lines : List Terms.Line) → StandsFor self.old lines → OnTrue result (StandsFor self.new (lines ++ Terms.Line.Near (P.coords p) (P.coords q) s ∷ [])) }
         ensures room { OnTrue result (room_of self.new < room_of self.old) }
     {
-        let Some(i) = self.grid.first_from(self.next) else {
+        let grid = self.scans.grid();
+        let Some(i) = grid.first_from(self.next) else {
             return false;
         };
-        let point = self.grid.sides().unraster(i);
+        let point = grid.sides().unraster(i);
         if p != point {
             return false;
         }
-        if !is_least(&self.grid, point, q, s) {
+        if !is_least(&self.scans, point, q, s) {
             return false;
         }
         self.next = i + 1;

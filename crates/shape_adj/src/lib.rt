@@ -4,7 +4,6 @@
 
 mod answers;
 mod flood;
-mod frame;
 mod net;
 mod pairing;
 mod picture;

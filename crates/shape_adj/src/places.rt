@@ -8,7 +8,6 @@ ghost use Rattle.shape_terms.specs.Places.{ObjectPlace, NearPlaces, object_link,
 ghost use Rattle.shape_terms.proofs.ObjectPlaces.{object_net};
 ghost use Rattle.shape_terms.proofs.BackgroundPlaces.{background_net};
 
-use crate::frame::{framed_number, in_frame};
 use crate::net::Net;
 use crate::pairing::Pairing;
 use shape_grid::Grid;
@@ -91,8 +90,8 @@ impl<'a, P: Pairing> Net for Background<'a, P> {
     fn follow(&self, place: u32, link: usize) -> Option<u32> {
         let sides = self.grid.sides();
         let q = sides.framed_point(place).side(link);
-        if in_frame(&sides, q) && !self.grid.has(q) {
-            Some(framed_number(&sides, q))
+        if sides.in_frame(q) && !self.grid.has(q) {
+            Some(sides.framed_number(q))
         } else {
             None
         }

@@ -11,12 +11,12 @@ use Rattle.shape_terms.specs.Contours.{Crack, IsCrack, IsCycle}
 use Rattle.shape_terms.specs.Traces.{Contour, AreContours, contour_of}
 use Rattle.shape_terms.specs.Naive.{Naive}
 use Rattle.shape_terms.specs.Covers.{Stretch, Evidence, IsEvidence, IsSegment, gap_run}
-use Rattle.shape_terms.specs.Lines.{Line, text_of, IsLineOf}
-use Rattle.shape_terms.specs.ContourLines.{Standing, standing, no_contour, open_contour, IsFull, OutlineClaim, ContourClaim}
-use Rattle.shape_terms.specs.Good.{section, section_lines, Claim, GoodAfter}
-use Rattle.shape_terms.specs.Holds.{Holds}
-use Rattle.shape_terms.proofs.GoodSteps.{none_past, come_more, come_past, good_at, section_push}
-use Rattle.shape_terms.proofs.ContourGroups.{standing_begun, standing_point, standing_segment, standing_turn, standing_cut}
+use Rattle.report_terms.specs.Lines.{Line, text_of, IsLineOf}
+use Rattle.report_terms.specs.ContourLines.{Standing, standing, no_contour, open_contour, IsFull, OutlineClaim, ContourClaim}
+use Rattle.report_terms.specs.Good.{section, section_lines, Claim, GoodAfter}
+use Rattle.report_terms.specs.Holds.{Holds}
+use Rattle.report_terms.proofs.GoodSteps.{none_past, come_more, come_past, good_at, section_push}
+use Rattle.report_terms.proofs.ContourGroups.{standing_begun, standing_point, standing_segment, standing_turn, standing_cut}
 use Rattle.shape_analyse.specs.Growing.{IsGrowing, IsOutlined, HasOutlined, gap_line}
 use Rattle.shape_analyse.proofs.Growth.{good_more}
 

@@ -10,7 +10,7 @@ use Rattle.shape_terms.specs.Traces.{Contour}
 use Rattle.shape_terms.specs.Naive.{Naive}
 use Rattle.shape_terms.specs.Refutations.{Share, Step, StepShare, IsStepOf}
 use Rattle.shape_terms.specs.Covers.{Evidence, IsEvidence, gap_run}
-use Rattle.shape_terms.specs.Lines.{Line, IsLineOf, IsStepIn, IsCount, IsWeight}
+use Rattle.report_terms.specs.Lines.{Line, IsLineOf, IsStepIn, IsCount, IsWeight}
 use Rattle.shape_cover.specs.Found.{Found, stretches_of, found_at, IsCoverOf, IsShortLine, AreShortShares, IsShortEvidence}
 use Rattle.shape_analyse.specs.Growing.{IsOutlined, gap_line}
 use Rattle.shape_analyse.proofs.ContourGrowth.{outlined_segment, outlined_gap}

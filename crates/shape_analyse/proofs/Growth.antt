@@ -10,11 +10,11 @@ use Rattle.shape_terms.specs.Points.{Point, coordinate, AreSides, sides_of}
 use Rattle.shape_terms.specs.Pictures.{Picture, object_points, Least}
 use Rattle.shape_terms.specs.Parts.{Counts}
 use Rattle.shape_terms.specs.Distances.{NearFact, IsField, IsFramed}
-use Rattle.shape_terms.specs.Lines.{Line, spelling, IsLineOf, IsWeight, IsName}
-use Rattle.shape_terms.specs.Good.{section_lines, GoodAfter}
-use Rattle.shape_terms.proofs.Checking.{good_push}
-use Rattle.shape_terms.proofs.GoodSteps.{come_none, come_more, come_past, good_at, section_push}
-use Rattle.shape_terms.proofs.ShortLines.{short_line, within_short, distance_fits}
+use Rattle.report_terms.specs.Lines.{Line, spelling, IsLineOf, IsWeight, IsName}
+use Rattle.report_terms.specs.Good.{section_lines, GoodAfter}
+use Rattle.report_terms.proofs.Checking.{good_push}
+use Rattle.report_terms.proofs.GoodSteps.{come_none, come_more, come_past, good_at, section_push}
+use Rattle.report_terms.proofs.ShortLines.{short_line, within_short, distance_fits}
 use Rattle.shape_terms.proofs.Boxes.{abs_is}
 use Rattle.shape_analyse.specs.Growing.{AreGood, IsGrowing}
 

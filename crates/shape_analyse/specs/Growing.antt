@@ -5,10 +5,10 @@ use Rattle.shape_terms.specs.Points.{Point}
 use Rattle.shape_terms.specs.Pictures.{Picture}
 use Rattle.shape_terms.specs.Traces.{Contour, AreContours}
 use Rattle.shape_terms.specs.Covers.{Evidence}
-use Rattle.shape_terms.specs.Lines.{Line, spelling, IsLineOf}
-use Rattle.shape_terms.specs.ContourLines.{Standing, standing, IsFull}
-use Rattle.shape_terms.specs.Good.{GoodSoFar, section_lines}
-use Rattle.shape_terms.specs.Progress.{HasCome}
+use Rattle.report_terms.specs.Lines.{Line, spelling, IsLineOf}
+use Rattle.report_terms.specs.ContourLines.{Standing, standing, IsFull}
+use Rattle.report_terms.specs.Good.{GoodSoFar, section_lines}
+use Rattle.report_terms.specs.Progress.{HasCome}
 use Rattle.shape_cover.specs.Found.{Found, IsCoverOf}
 
 -- short lines of the reports of pictures like X, each good after those before it

@@ -3,7 +3,7 @@
 ghost use Rattle.std.specs.Prelude.{◌≡◌, ◌≤◌, ◌<◌, ◌+◌, ◌*◌, ℕ, List, [], ◌∷◌, ◌++◌, Some, slice_get, OnOk, length, All};
 ghost use Rattle.shape_terms.specs.Pictures.{Picture};
 ghost use Rattle.shape_terms.specs.Traces.{Contour as Trace};
-ghost use Rattle.shape_terms.specs.Lines.{IsLineOf};
+ghost use Rattle.report_terms.specs.Lines.{IsLineOf};
 ghost use Rattle.shape_report.specs.LineOf.{line_of};
 ghost use Rattle.shape_crack.specs.Terms.{point_of};
 ghost use Rattle.shape_refute.specs.Evidences.{evidence_of};

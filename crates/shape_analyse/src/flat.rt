@@ -1,10 +1,10 @@
 //! The report of a picture, section by section.
 //! The parts that serve every dimension are generic; `analyse_flat` puts them together for flat pictures.
 ghost use Rattle.std.specs.Prelude.{◌≡◌, ◌≤◌, IfOk, OnOk, length, codes, All};
-ghost use Rattle.shape_terms.specs.Lines.{text_of};
+ghost use Rattle.report_terms.specs.Lines.{text_of};
 ghost use Rattle.shape_terms.specs.Pictures.{object_points};
 ghost use Rattle.shape_terms.specs.Distances.{IsField, IsFramed};
-ghost use Rattle.shape_terms.specs.Holds.{Holds};
+ghost use Rattle.report_terms.specs.Holds.{Holds};
 ghost use Rattle.shape_rules.specs.Names.{word_of};
 ghost use Rattle.shape_analyse.specs.Growing.{IsGrowing};
 

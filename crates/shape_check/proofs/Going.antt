@@ -4,11 +4,11 @@ use Rattle.std.proofs.Common.{◌≡◌, ℕ, ◌+◌, refl, sym, ap, ◌∙◌,
 use Rattle.std.proofs.lemmas.List.{length-append}
 use Rattle.shape_desk.specs.Line.{IfTold}
 use Rattle.shape_terms.specs.Pictures.{Picture}
-use Rattle.shape_terms.specs.Lines.{Line}
-use Rattle.shape_terms.specs.Good.{GoodAfter}
-use Rattle.shape_terms.specs.Holds.{BeginsWith, Holds, FirstBad}
-use Rattle.shape_terms.proofs.Checking.{begins_none, begins_next, first_bad, no_line_at_end, one_line}
-use Rattle.shape_terms.proofs.GoodSteps.{not_ended}
+use Rattle.report_terms.specs.Lines.{Line}
+use Rattle.report_terms.specs.Good.{GoodAfter}
+use Rattle.report_terms.specs.Holds.{BeginsWith, Holds, FirstBad}
+use Rattle.report_terms.proofs.Checking.{begins_none, begins_next, first_bad, no_line_at_end, one_line}
+use Rattle.report_terms.proofs.GoodSteps.{not_ended}
 use Rattle.judge_field.specs.FieldState.{FieldState}
 use Rattle.shape_check.specs.declared.progress.Stage.{Stage}
 use Rattle.shape_check.specs.declared.progress.Stage.TheVariants.{Start, Opened, Nears, Outlines, Ended}

@@ -4,9 +4,9 @@ use Rattle.std.proofs.Common.{◌≡◌, ◌≢◌, ℕ, ◌≤◌, refl, sym, a
 use Rattle.std.proofs.lemmas.List.{append_assoc, length-append}
 use Rattle.shape_desk.specs.Desk.{IsEnd}
 use Rattle.shape_desk.specs.Line.{IfTold, IsTooLong, IsCutShort, TakesLine}
-use Rattle.shape_terms.specs.Lines as Terms
-use Rattle.shape_terms.specs.Lines.{spelling, IsLineOf}
-use Rattle.shape_terms.proofs.Checking.{no_line_without_lf, no_line_too_long, no_line_misspelt}
+use Rattle.report_terms.specs.Lines as Terms
+use Rattle.report_terms.specs.Lines.{spelling, IsLineOf}
+use Rattle.report_terms.proofs.Checking.{no_line_without_lf, no_line_too_long, no_line_misspelt}
 use Rattle.shape_check.specs.Next.{TakesClaim, IsBad}
 
 -- the line that was read is one of the reports

@@ -7,14 +7,14 @@ use Rattle.std.proofs.lemmas.Int.{ints}
 use Rattle.std.proofs.lemmas.Option.{slice_get_within}
 use Rattle.shape_terms.specs.Points.{Point, AreSides, sides_of}
 use Rattle.shape_terms.specs.Pictures.{Picture, object_points}
-use Rattle.shape_terms.specs.ContourLines.{ContourClaim, ContoursComplete}
+use Rattle.report_terms.specs.ContourLines.{ContourClaim, ContoursComplete}
 use Rattle.shape_terms.specs.Adjacency.{Near, Side}
 use Rattle.shape_terms.specs.Parts.{Counts, Object, FramedBackground}
-use Rattle.shape_terms.specs.Lines.{Line}
-use Rattle.shape_terms.specs.Good.{section, section_lines, NearsComplete, GoodAfter}
+use Rattle.report_terms.specs.Lines.{Line}
+use Rattle.report_terms.specs.Good.{section, section_lines, NearsComplete, GoodAfter}
 use Rattle.shape_terms.proofs.Boxes.{abs_is}
 use Rattle.shape_terms.proofs.PartCount.{one_count}
-use Rattle.shape_terms.proofs.GoodSteps.{none_past, come_none, come_more, come_past, good_at, section_push, section_skip, first_is_shape, second_is_parts, none_after_end}
+use Rattle.report_terms.proofs.GoodSteps.{none_past, come_none, come_more, come_past, good_at, section_push, section_skip, first_is_shape, second_is_parts, none_after_end}
 use Rattle.judge_field.specs.FieldState.{FieldState, StandsFor}
 use Rattle.shape_check.specs.declared.progress.Tally.{Tally}
 use Rattle.shape_check.specs.declared.progress.Stage.TheVariants.{Start, Opened, Nears, Outlines, Ended}

@@ -1,10 +1,10 @@
 -- How far a report was judged, and which lines that stands for.
 -- A further section is one more stage. What the judge of outlines stands for is handed in, since there is one for each dimension.
 use Rattle.std.specs.Prelude.{◌≡◌, ℕ, ◌+◌, List, [], ◌∷◌, ◌++◌}
-use Rattle.shape_terms.specs.Lines.{Line}
-use Rattle.shape_terms.specs.Good.{section_lines}
+use Rattle.report_terms.specs.Lines.{Line}
+use Rattle.report_terms.specs.Good.{section_lines}
 use Rattle.shape_terms.specs.Parts.{Counts}
-use Rattle.shape_terms.specs.Progress.{HasCome}
+use Rattle.report_terms.specs.Progress.{HasCome}
 use Rattle.judge_field.specs.FieldState.{FieldState, StandsFor, room_of}
 use Rattle.shape_check.specs.declared.progress.Stage.{Stage}
 use Rattle.shape_check.specs.declared.progress.Stage.TheVariants.{Start, Opened, Nears, Outlines, Ended}

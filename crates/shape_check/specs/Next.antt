@@ -2,8 +2,8 @@
 use Rattle.std.specs.Prelude.{◌≡◌, ◌≢◌, ℕ, ℤ, List, [], Option, Some, Result, Ok, Err}
 use Rattle.shape_desk.specs.Desk.{Rose}
 use Rattle.shape_desk.specs.Line.{IfTold}
-use Rattle.shape_terms.specs.Lines as Terms
-use Rattle.shape_terms.specs.Progress.{StartsWithLine, StartsWithNoLine}
+use Rattle.report_terms.specs.Lines as Terms
+use Rattle.report_terms.specs.Progress.{StartsWithLine, StartsWithNoLine}
 use Rattle.shape_report.specs.LineOf.{line_of}
 use Rattle.shape_check.specs.declared.answer.CheckFault.{CheckFault}
 use Rattle.shape_check.specs.declared.answer.CheckFault.TheVariants.{ReadFault, NoMemory}

@@ -3,8 +3,8 @@
 ghost use Rattle.std.specs.Prelude.{◌≡◌, ◌<◌, ◌^◌, ◌↔◌, ℕ, [], ◌∷◌, ◌++◌, List, length, IsTrue, IfOk};
 ghost use Rattle.std.specs.Bool.{OnTrue};
 ghost use Rattle.shape_terms.specs.Pictures.{Picture};
-ghost use Rattle.shape_terms.specs.Lines as Terms;
-ghost use Rattle.shape_terms.specs.ContourLines.{ContourClaim, ContoursComplete};
+ghost use Rattle.report_terms.specs.Lines as Terms;
+ghost use Rattle.report_terms.specs.ContourLines.{ContourClaim, ContoursComplete};
 ghost use Rattle.shape_report.specs.LineOf.{line_of};
 
 use judge_cover::CoverJudge;

@@ -3,8 +3,8 @@
 use Rattle.std.proofs.Common.{inl, ◌≤◌, ℕ, List, arith, subst}
 use Rattle.std.specs.Prelude.{Option, None, Some, IsSome, MatchOption, Result, Ok, Err}
 use Rattle.shape_terms.specs.Pictures.{Picture}
-use Rattle.shape_terms.specs.Holds.{Holds}
-use Rattle.shape_terms.proofs.HoldsShows.{holds_shows}
+use Rattle.report_terms.specs.Holds.{Holds}
+use Rattle.report_terms.proofs.HoldsShows.{holds_shows}
 use Rattle.shape_desk.specs.Desk.{Files, Rose, IsAtFront}
 use Rattle.shape_desk.specs.Line.{IfTold}
 use Rattle.shape_check.specs.Checks.{Checks}

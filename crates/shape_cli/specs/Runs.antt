@@ -3,8 +3,8 @@
 use Rattle.std.specs.Prelude.{◌≡◌, ◌⊎◌, ℕ, List, ◌++◌, codes, ⊤, Option, None, Some, MatchOption, Result, Ok, Err}
 use Rattle.std.specs.Fmt.{decimal}
 use Rattle.shape_terms.specs.Pictures.{Picture}
-use Rattle.shape_terms.specs.Holds.{Holds, FirstBad}
-use Rattle.shape_terms.specs.Shows.{TextShows}
+use Rattle.report_terms.specs.Holds.{Holds, FirstBad}
+use Rattle.report_terms.specs.Shows.{TextShows}
 use Rattle.shape_desk.specs.Desk.{Files, Rose, IsMissing, Puts, PutsFront}
 use Rattle.shape_picture.specs.Plain.{PlainFault}
 use Rattle.shape_picture.specs.Answers.{most_side, most_bytes, SpellsPicture}

@@ -1,13 +1,30 @@
 //! The field of a picture: a nearest background point for each object point.
-//! Another way of finding them changes `nearest` alone.
-ghost use Rattle.std.specs.Prelude.{◌≡◌, ◌<◌, length, IfOk, All, Some, slice_get};
+//! Another way of finding them changes nothing above `all_found`.
+ghost use Rattle.std.specs.Prelude.{◌≡◌, ◌<◌, length, IfOk, All, Some, slice_get, IsTrue, negsuc, pos};
+ghost use Rattle.shape_terms.specs.Points.{in_box, box_count};
+ghost use Rattle.shape_terms.specs.Pictures.{Least};
+ghost use Rattle.shape_terms.specs.FramedBox.{framed_sides, IsWithin};
 ghost use Rattle.shape_terms.specs.Distances.{IsField, IsFramed};
+ghost use Rattle.shape_dist.specs.Spreads.{AreNearestOn};
 
-use crate::search::{Near, nearest_of};
+use crate::axes::all_found;
+use crate::found::Found;
 use shape_grid::Grid;
-use shape_space::{NoMemory, Point};
+use shape_space::{NoMemory, Point, Steps};
 use std::alloc::Global;
-use std::marker::Model;
+use std::marker::{Brand, Model};
+use std::sync::ledger::{Blank, Ledger};
+
+/// A point, a background point that is nearest to it, and the square of their Euclidean distance.
+#[derive(Clone, Copy, Debug, PartialEq, Eq)]
+pub struct Near<P> {
+    /// The point.
+    pub p: P,
+    /// A background point of the whole space, which may lie outside the box. Where several are nearest, it is one of them.
+    pub q: P,
+    /// The sum of the squared differences of their coordinates.
+    pub s: u64,
+}
 
 /// A nearest background point for each object point of a grid, in raster order.
 #[derive(Drop)]
@@ -26,10 +43,36 @@ impl<P: Point> Model for Field<P> {
     ghost invariant = { λ f. length f.entries.items < 2 ^ 32 };
 }
 
-/// A nearest background point for each object point.
-///
-/// Each object point costs a search of the whole framed box.
-pub fn nearest<P: Point>(alloc: Global, grid: &Grid<P>) -> Result<Field<P>, NoMemory>
+// The entry of a point of the box.
+fn near_of<P: Point>(grid: &Grid<P>, cells: &[Option<Found>], p: P) -> Near<P>
+    requires inside { IsTrue (in_box grid.now.sides (P.coords p)) }
+    requires long { length cells.now ≡ box_count (framed_sides grid.now.sides) }
+    requires near { AreNearestOn grid.now (box_count (framed_sides grid.now.sides)) cells.now }
+    ensures point { result.p ≡ p }
+    ensures least { Least grid.now (P.coords p) (P.coords result.q) result.s }
+    ensures p_within { IsWithin (negsuc 0) (pos 4096) (P.coords p) }
+    ensures q_within { IsWithin (negsuc 0) (pos 4096) (P.coords result.q) }
+{
+    let sides = grid.sides();
+    let i = sides.framed_number(p);
+    match cells[i as usize] {
+        Some(f) => Near {
+            p,
+            q: sides.framed_point(f.q),
+            s: f.s as u64,
+        },
+        None => unreachable!(),
+    }
+}
+
+// The entries of all object points.
+fn collected<P: Point>(
+    alloc: Global,
+    grid: &Grid<P>,
+    cells: &[Option<Found>],
+) -> Result<Field<P>, NoMemory>
+    requires long { length cells.now ≡ box_count (framed_sides grid.now.sides) }
+    requires near { AreNearestOn grid.now (box_count (framed_sides grid.now.sides)) cells.now }
     ensures field { IfOk result (IsField grid.now) }
     ensures framed { IfOk result (All IsFramed) }
 {
@@ -37,11 +80,40 @@ pub fn nearest<P: Point>(alloc: Global, grid: &Grid<P>) -> Result<Field<P>, NoMe
         return Err(NoMemory);
     };
     for p in grid.objects() {
-        if entries.push(nearest_of(grid, p)).is_err() {
+        if entries.push(near_of(grid, cells, p)).is_err() {
             return Err(NoMemory);
         }
     }
     Ok(Field { entries })
+}
+
+// The same as `nearest`, with a ledger for the steps.
+fn counted<P: Point, L: Ledger>(
+    alloc: Global,
+    grid: &Grid<P>,
+    blank: Blank,
+) -> Result<Field<P>, NoMemory>
+    requires name { blank.name ≡ L.name }
+    requires parts { blank.parts ≡ L.parts }
+    requires whole { blank.parts ≡ 1 }
+    ensures field { IfOk result (IsField grid.now) }
+    ensures framed { IfOk result (All IsFramed) }
+{
+    let mut steps = Steps::<L>::new(blank);
+    match all_found(alloc, grid, &mut steps) {
+        Ok(cells) => collected(alloc, grid, &cells),
+        Err(NoMemory) => Err(NoMemory),
+    }
+}
+
+/// A nearest background point for each object point.
+///
+/// Its time is linear in the number of points of the framed box, and it takes some words of memory for each of them.
+pub fn nearest<P: Point>(alloc: Global, grid: &Grid<P>) -> Result<Field<P>, NoMemory>
+    ensures field { IfOk result (IsField grid.now) }
+    ensures framed { IfOk result (All IsFramed) }
+{
+    counted::<P, Brand>(alloc, grid, Blank::new(1))
 }
 
 impl<P: Point> Field<P> {

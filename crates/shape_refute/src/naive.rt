@@ -2,12 +2,10 @@
 //! A further dimension adds an entry to `Naive::a` and to the product.
 ghost use Rattle.std.specs.Prelude.{◌≡◌, ◌≤◌, ◌<◌, ◌^◌, ◌↔◌, ℕ, pos, unsigned_abs, nat_abs, ◌+ℤ◌, ◌*ℤ◌, ◌≤ℤ◌, ◌<ℤ◌, IsTrue, take};
 ghost use Rattle.shape_terms.specs.Points.{coordinate};
-ghost use Rattle.shape_terms.specs.Vectors.{dot};
 ghost use Rattle.shape_terms.specs.Naive.{IsProper, HoldsPoint};
 ghost use Rattle.shape_refute.specs.Terms.{naive_of};
 
-use crate::exact::sum;
-use shape_space::Point;
+use shape_space::{Point, dot};
 
 /// The parameters of a naive line or plane, in Reveillès' form: it holds a point `p` where `mu <= a.p < mu + a[axis]`.
 ///
@@ -20,26 +18,6 @@ pub struct Naive {
     pub mu: i64,
     /// The main axis: 0 for x, 1 for y and 2 for z.
     pub axis: u8,
-}
-
-// A product of a coefficient and a coordinate.
-fn product(a: i64, x: i32) -> i128
-    ensures value { result ≡ a *ℤ x }
-    ensures small { unsigned_abs result ≤ 2 ^ 94 }
-{
-    a as i128 * x as i128
-}
-
-// The scalar product.
-fn dot<P: Point>(a: &[i64; 3], p: P) -> i128
-    ensures { result ≡ dot (take P.DIM a.now) (P.coords p) }
-{
-    let flat = sum(product(a[0], p.coord(0)), product(a[1], p.coord(1)));
-    if P::DIM == 2 {
-        flat
-    } else {
-        sum(flat, product(a[2], p.coord(2)))
-    }
 }
 
 // The coefficient of the main axis, and 0 where the space has no such axis.

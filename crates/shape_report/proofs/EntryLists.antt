@@ -5,7 +5,7 @@ use Rattle.std.specs.Prelude.{All, flat_map}
 use Rattle.std.specs.Fmt.{decimal}
 use Rattle.std.proofs.lemmas.List.Elements.{All-head, All-tail}
 use Rattle.shape_terms.specs.Refutations.{Share, Refutation}
-use Rattle.shape_terms.specs.Lines.{share_words, step_share_words, why_words, IsWhy}
+use Rattle.report_terms.specs.Lines.{share_words, step_share_words, why_words, IsWhy}
 use Rattle.shape_report.specs.Reading.{BeginsWithField, NoField}
 use Rattle.shape_report.specs.Entries.{IsShare, IsStepShare, share_entry, step_share_entry, counted_words, AreFew}
 use Rattle.shape_report.proofs.Fields.{AreAsLong, same_rest, same_count}

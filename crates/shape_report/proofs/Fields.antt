@@ -9,7 +9,7 @@ use Rattle.std.proofs.lemmas.List.{length-map, map-append, take_more_set, length
 use Rattle.std.proofs.lemmas.List.Elements.{All-get_or, All-push, All-head, All-tail}
 use Rattle.std.proofs.lemmas.Fmt.{decimal_is_IsNumeral, decimal_injective}
 use Rattle.std.proofs.Math.Seq.{drop-cons}
-use Rattle.shape_terms.specs.Lines.{number_words, IsShortPoint, IsRow, IsCount, IsWeight}
+use Rattle.report_terms.specs.Lines.{number_words, IsShortPoint, IsRow, IsCount, IsWeight}
 use Rattle.shape_desk.specs.Number.{number_front, SpellsNumber}
 use Rattle.shape_desk.proofs.Numbers.{number_front-signed_decimal, no_minus}
 use Rattle.shape_report.specs.Reading.{BeginsWithField, NoField, ReadsField}

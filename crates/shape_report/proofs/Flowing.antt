@@ -7,7 +7,7 @@ use Rattle.std.proofs.lemmas.Option.{unwrap_or-slice_get, slice_get_within}
 use Rattle.std.proofs.lemmas.Grind.{flat_map-append}
 use Rattle.shape_desk.specs.Desk.{Puts, PutsFront}
 use Rattle.shape_desk.proofs.Writes.{Puts-more, PutsFront-more, PutsFront-after}
-use Rattle.shape_terms.specs.Lines.{Line, spelling, text_of}
+use Rattle.report_terms.specs.Lines.{Line, spelling, text_of}
 use Rattle.shape_report.specs.Flow.{Flows}
 
 pub flows_none : (w : Option (List ℕ)) → Puts w w [] → Flows w w [] [] []

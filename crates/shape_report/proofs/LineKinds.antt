@@ -7,9 +7,9 @@ use Rattle.std.specs.Fmt.{decimal, signed_decimal}
 use Rattle.std.specs.List.{join_with_byte}
 use Rattle.shape_terms.specs.Points.{Point}
 use Rattle.shape_terms.specs.Refutations.{Refutation}
-use Rattle.shape_terms.specs.Lines as Terms
-use Rattle.shape_terms.specs.Lines.{line_words, spelling, number_words, kind_word, axis_letter, why_words, IsLineOf, IsShortPoint, IsRow, IsName, IsCount, IsWeight, IsWhy}
-use Rattle.shape_terms.proofs.Spelled.{words_of_line}
+use Rattle.report_terms.specs.Lines as Terms
+use Rattle.report_terms.specs.Lines.{line_words, spelling, number_words, kind_word, axis_letter, why_words, IsLineOf, IsShortPoint, IsRow, IsName, IsCount, IsWeight, IsWhy}
+use Rattle.report_terms.proofs.Spelled.{words_of_line}
 use Rattle.shape_report.specs.declared.line.Line.{Line}
 use Rattle.shape_report.specs.LineOf.{line_of}
 use Rattle.shape_report.specs.Reading.{split_words, IsSide, IsFlatAxis, ReadsWords}

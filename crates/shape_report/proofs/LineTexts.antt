@@ -8,7 +8,7 @@ use Rattle.std.proofs.lemmas.List.{append-nil}
 use Rattle.std.proofs.lemmas.Grind.{flat_map-append}
 use Rattle.shape_terms.specs.Points.{Point}
 use Rattle.shape_terms.specs.Refutations.{Refutation}
-use Rattle.shape_terms.specs.Lines.{Line, spelling, kind_word, number_words, axis_letter, why_words}
+use Rattle.report_terms.specs.Lines.{Line, spelling, kind_word, number_words, axis_letter, why_words}
 use Rattle.shape_report.specs.Texts.{behind_blanks, shape_text, parts_text, near_text, contour_text, at_text, seg_text, turn_text, cut_text}
 
 pub join_is : (w : List ℕ) (ws : List (List ℕ)) → join_with_byte 32 (w ∷ ws) ≡ w ++ behind_blanks ws

@@ -5,7 +5,7 @@ use Rattle.std.specs.Prelude.{All, slice_get}
 use Rattle.std.specs.Option.{option_map_or}
 use Rattle.std.proofs.lemmas.List.{map-append, length-append}
 use Rattle.std.proofs.lemmas.List.Elements.{All-head, All-tail, All-nil, All-cons, All-push}
-use Rattle.shape_terms.specs.Lines as Terms
+use Rattle.report_terms.specs.Lines as Terms
 use Rattle.shape_report.specs.declared.shelf.Heading.{Heading}
 use Rattle.shape_report.specs.declared.shelf.PartCount.{PartCount}
 use Rattle.shape_report.specs.declared.shelf.Distance.{Distance}

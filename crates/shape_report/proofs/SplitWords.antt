@@ -10,7 +10,7 @@ use Rattle.std.proofs.lemmas.List.Sums.{prefix_len_passes}
 use Rattle.std.proofs.lemmas.List.Elements.{All-from_recursion, All-from_get_or, All-weaker}
 use Rattle.std.proofs.lemmas.List.Splits.{slice_split_first, slice_split_none, slice_split_at, join_with_byte-slice_split}
 use Rattle.shape_report.specs.Reading.{split_words}
-use Rattle.shape_terms.proofs.WordLists.{IsWord}
+use Rattle.report_terms.proofs.WordLists.{IsWord}
 
 none_since : (b : Bool) (x : ℕ) → cond b (Some x) None ≡ None → b ≡ false
 none_since true x e = cc

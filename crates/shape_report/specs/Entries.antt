@@ -3,7 +3,7 @@
 use Rattle.std.specs.Prelude.{◌≤◌, ℕ, List, [], ◌∷◌, length, take, flat_map, All}
 use Rattle.std.specs.Fmt.{decimal}
 use Rattle.shape_terms.specs.Refutations.{Share, StepShare}
-use Rattle.shape_terms.specs.Lines.{step_word, IsWeight, IsCount, IsStepIn}
+use Rattle.report_terms.specs.Lines.{step_word, IsWeight, IsCount, IsStepIn}
 
 -- the words of an entry
 abbrev pub share_entry : Share → List (List ℕ)

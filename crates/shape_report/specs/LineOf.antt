@@ -1,7 +1,7 @@
 -- What a line of the program says, as a line of the definitions.
 -- Points are seen as their coordinates, a name as its letters.
 use Rattle.std.specs.Prelude.{ℤ, List, take}
-use Rattle.shape_terms.specs.Lines as Terms
+use Rattle.report_terms.specs.Lines as Terms
 use Rattle.shape_rules.specs.Names.{word_of}
 use Rattle.shape_refute.specs.Weights.{refutation_of}
 use Rattle.shape_report.specs.declared.line.Line.{Line}

@@ -5,8 +5,8 @@ use Rattle.std.specs.List.{slice_split}
 use Rattle.std.specs.Borrow.{Bor}
 use Rattle.std.specs.Int.{w64}
 use Rattle.std.specs.Fmt.{signed_decimal}
-use Rattle.shape_terms.specs.Lines as Terms
-use Rattle.shape_terms.specs.Lines.{line_words, spelling, IsLineOf}
+use Rattle.report_terms.specs.Lines as Terms
+use Rattle.report_terms.specs.Lines.{line_words, spelling, IsLineOf}
 use Rattle.shape_report.specs.declared.line.Line.{Line}
 use Rattle.shape_report.specs.LineOf.{line_of}
 

@@ -2,8 +2,8 @@
 -- A slot whose place is past the end stands for no line; a report has none such.
 use Rattle.std.specs.Prelude.{◌≡◌, ℕ, ℤ, List, ◌<◌, length, slice_get, take}
 use Rattle.std.specs.Option.{option_map_or}
-use Rattle.shape_terms.specs.Lines as Terms
-use Rattle.shape_terms.specs.Lines.{IsLineOf}
+use Rattle.report_terms.specs.Lines as Terms
+use Rattle.report_terms.specs.Lines.{IsLineOf}
 use Rattle.shape_rules.specs.Names.{word_of}
 use Rattle.shape_refute.specs.Weights.{refutation_of}
 use Rattle.shape_report.specs.declared.shelf.Heading.{Heading}

@@ -4,7 +4,7 @@ use Rattle.std.specs.Prelude.{ℕ, ℤ, List, ◌∷◌, ◌++◌, length, codes
 use Rattle.std.specs.Fmt.{decimal, signed_decimal}
 use Rattle.shape_terms.specs.Points.{Point}
 use Rattle.shape_terms.specs.Refutations.{Refutation}
-use Rattle.shape_terms.specs.Lines.{kind_word, number_words, axis_letter, why_words}
+use Rattle.report_terms.specs.Lines.{kind_word, number_words, axis_letter, why_words}
 
 -- each word behind a blank
 abbrev pub behind_blanks : List (List ℕ) → List ℕ

@@ -3,7 +3,7 @@
 ghost use Rattle.std.specs.Prelude.{◌≡◌, ◌≢◌, ◌∷◌, [], List, ℕ, ℤ, decimal, take, FitsSigned};
 ghost use Rattle.std.specs.Int.{w32, w64};
 ghost use Rattle.std.specs.Fmt.{signed_decimal};
-ghost use Rattle.shape_terms.specs.Lines.{number_words, axis_letter, IsShortPoint, IsRow, IsName, IsCount, IsWeight};
+ghost use Rattle.report_terms.specs.Lines.{number_words, axis_letter, IsShortPoint, IsRow, IsName, IsCount, IsWeight};
 ghost use Rattle.shape_rules.specs.Names.{word_of};
 ghost use Rattle.shape_report.specs.Reading.{IsSide, IsFlatAxis, ReadsField, ReadsNumberWord};
 

@@ -2,7 +2,7 @@
 //! A further kind of field is one more function here; which fields a line has is told in `spell`.
 ghost use Rattle.std.specs.Prelude.{◌≡◌, ◌≤◌, ◌<◌, ◌+◌, ◌++◌, [], ◌∷◌, length, take};
 ghost use Rattle.std.specs.Fmt.{signed_decimal};
-ghost use Rattle.shape_terms.specs.Lines.{number_words, kind_word, axis_letter};
+ghost use Rattle.report_terms.specs.Lines.{number_words, kind_word, axis_letter};
 ghost use Rattle.shape_report.specs.Texts.{behind_blanks};
 
 use shape_desk::{put_number, put_word};

@@ -1,8 +1,8 @@
 //! Reading one line of a report: the inverse of its spelling.
 //! A further kind of line is one more case of `line` and a function that reads its fields one after another.
 ghost use Rattle.std.specs.Prelude.{◌≡◌, ◌≢◌, ◌∷◌, codes, MatchOption};
-ghost use Rattle.shape_terms.specs.Lines as Terms;
-ghost use Rattle.shape_terms.specs.Lines.{spelling, IsLineOf};
+ghost use Rattle.report_terms.specs.Lines as Terms;
+ghost use Rattle.report_terms.specs.Lines.{spelling, IsLineOf};
 ghost use Rattle.shape_report.specs.LineOf.{line_of};
 ghost use Rattle.shape_report.specs.Reading.{ReadsWords};
 

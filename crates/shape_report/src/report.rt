@@ -1,7 +1,7 @@
 //! A report: its lines in order, each kept on the shelf of its kind in as little room as it needs.
 //! Which kinds there are, and how each is kept, is told in `shelf`.
 ghost use Rattle.std.specs.Prelude.{◌≡◌, ◌<◌, ◌++◌, [], ◌∷◌, IfOk, OnOk, OnErr, length, slice_get, Some};
-ghost use Rattle.shape_terms.specs.Lines.{IsLineOf};
+ghost use Rattle.report_terms.specs.Lines.{IsLineOf};
 ghost use Rattle.shape_report.specs.LineOf.{line_of};
 
 use crate::line::Line;
@@ -19,7 +19,7 @@ pub struct Report<P: Point> {
 
 impl<P: Point> Model for Report<P> {
     ghost use Rattle.std.specs.Prelude.{List, map, All};
-    ghost use Rattle.shape_terms.specs.Lines.{Line};
+    ghost use Rattle.report_terms.specs.Lines.{Line};
     ghost use Rattle.shape_report.specs.Slots.{line_in, IsSlotIn};
     ghost use Rattle.shape_report.specs.Shelves.{lists_of};
 

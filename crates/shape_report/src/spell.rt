@@ -1,7 +1,7 @@
 //! The spelling of a line: its words, each behind a blank, put one after another into a buffer.
 //! A further kind of line is one more case of `put_claim` and a function that puts its words.
 ghost use Rattle.std.specs.Prelude.{◌≡◌, ◌≤◌, ◌<◌, length, take};
-ghost use Rattle.shape_terms.specs.Lines.{spelling, IsLineOf, IsWeight, IsWhy};
+ghost use Rattle.report_terms.specs.Lines.{spelling, IsLineOf, IsWeight, IsWhy};
 ghost use Rattle.shape_rules.specs.Names.{word_of};
 ghost use Rattle.shape_refute.specs.Weights.{refutation_of};
 ghost use Rattle.shape_report.specs.LineOf.{line_of};

@@ -1,7 +1,7 @@
 //! The weights of a `cut` line: their words are put into a buffer, and read.
 //! A further kind of step is one more case of `put_step` and of `step`; what weights show is no matter here.
 ghost use Rattle.std.specs.Prelude.{◌≡◌, ◌≤◌, ◌+◌, ◌++◌, [], ◌∷◌, length, take, decimal};
-ghost use Rattle.shape_terms.specs.Lines.{share_words, step_share_words, step_word, why_words, IsStepIn, IsWhy};
+ghost use Rattle.report_terms.specs.Lines.{share_words, step_share_words, step_word, why_words, IsStepIn, IsWhy};
 ghost use Rattle.shape_refute.specs.Shown.{share_of, shift_of, step_share_of};
 ghost use Rattle.shape_refute.specs.Weights.{refutation_of};
 ghost use Rattle.shape_report.specs.Texts.{behind_blanks};

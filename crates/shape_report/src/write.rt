@@ -1,7 +1,7 @@
 //! The writing of a whole report, in large pieces through a fixed buffer.
 //! The text is the lines' spellings, each with its LF; how it is cut into pieces is free.
 ghost use Rattle.std.specs.Prelude.{◌≡◌, ◌≤◌, ◌+◌, ◌++◌, [], ◌∷◌, length, take, OnOk, OnErr, IfOk};
-ghost use Rattle.shape_terms.specs.Lines.{spelling, text_of, IsLineOf};
+ghost use Rattle.report_terms.specs.Lines.{spelling, text_of, IsLineOf};
 ghost use Rattle.shape_desk.specs.Desk.{Puts, PutsFront, PutsText, HasCause, KeepsPlaces};
 ghost use Rattle.shape_report.specs.LineOf.{line_of};
 ghost use Rattle.shape_report.specs.Flow.{Flows};

@@ -1,8 +1,9 @@
 //! The framed box: the box and one more point on each side of each axis, numbered in raster order.
 //! It holds a nearest background point of each point of the box; nothing here looks at a picture.
-ghost use Rattle.std.specs.Prelude.{◌≡◌, ◌+◌, ◌%◌, ◌<◌, ◌≤◌, ◌^◌, ◌-ℤ◌, negsuc, pos, nat_abs};
+ghost use Rattle.std.specs.Prelude.{◌≡◌, ◌+◌, ◌%◌, ◌<◌, ◌≤◌, ◌^◌, ◌+ℤ◌, ◌-ℤ◌, ◌≤ℤ◌, IsTrue, negsuc, pos, nat_abs};
 ghost use Rattle.shape_terms.specs.Points.{coordinate, sides_of, box_count, squared_distance};
 ghost use Rattle.shape_terms.specs.FramedBox.{framed_sides, framed_point, IsWithin};
+ghost use Rattle.shape_terms.specs.Places.{in_frame, framed_number};
 
 use crate::point::Point;
 use crate::sides::Sides;
@@ -16,9 +17,18 @@ fn framed_coordinate(left: u32, side: u32) -> i32
     (left % side) as i32 - 1
 }
 
+// How far a coordinate of the framed box is from the first, which is -1.
+fn from_first(x: i32) -> u32
+    requires low { negsuc 0 ≤ℤ x }
+    requires high { x ≤ℤ pos 4096 }
+    ensures { result ≡ nat_abs (x +ℤ pos 1) }
+{
+    (x + 1) as u32
+}
+
 impl<P: Point> Sides<P> {
-    // The side of the framed box on an axis.
-    fn framed_side(&self, k: usize) -> u32
+    /// The side of the framed box on an axis: two more than that of the box.
+    pub fn framed_side(&self, k: usize) -> u32
         requires { k < P.DIM }
         ensures value { result ≡ nat_abs (coordinate (P.coords self.now.lengths) k) + 2 }
         ensures most { result ≤ 2050 }
@@ -51,6 +61,31 @@ impl<P: Point> Sides<P> {
             left /= side;
         }
         p
+    }
+
+    /// Whether a point is in the framed box: each coordinate is from -1 up to the side.
+    pub fn in_frame(&self, p: P) -> bool
+        ensures { result ≡ in_frame (sides_of (P.coords self.now.lengths)) (P.coords p) }
+    {
+        for k in 0..P::DIM {
+            let x = p.coord(k);
+            if x < -1 || x > self.side(k) {
+                return false;
+            }
+        }
+        true
+    }
+
+    /// The number of a point of the framed box: the inverse of `framed_point`.
+    pub fn framed_number(&self, p: P) -> u32
+        requires { IsTrue (in_frame (sides_of (P.coords self.now.lengths)) (P.coords p)) }
+        ensures { result ≡ framed_number (sides_of (P.coords self.now.lengths)) (P.coords p) }
+    {
+        let mut i: u32 = 0;
+        for k in (0..P::DIM).rev() {
+            i = i * self.framed_side(k) + from_first(p.coord(k));
+        }
+        i
     }
 }
 

@@ -1,14 +1,23 @@
 //! Points of the plane and of space, and the boxes that pictures stand in.
-//! Everything here is generic over the dimension and takes no memory.
+//! A row of cells is the one thing here that takes memory; nothing here knows of pictures.
 #![tactic(auto)]
 
+mod counter;
+mod crossing;
+mod frac;
 mod frame;
 mod point;
+mod row;
 mod sides;
+mod vector;
 
+pub use counter::Steps;
+pub use frac::Frac;
 pub use frame::squared_distance;
 pub use point::{P2, Point};
+pub use row::Row;
 pub use sides::{Sides, raster_order};
+pub use vector::dot;
 
 /// Memory was wanted and there was none.
 #[derive(Clone, Copy, Debug, PartialEq, Eq)]

@@ -1,6 +1,12 @@
-//! Calls of the crate at flat points, with values counted by hand.
+//! Calls of the crate at flat points, and a row of four cells, with values counted by hand.
+ghost use Rattle.std.specs.Prelude.{◌≡◌};
+
 use super::*;
+use std::alloc::{AllocError, Global};
 use std::cmp::Ordering;
+use std::marker::Brand;
+use std::sync::ledger::{Blank, Ledger};
+use std::test::Fail;
 
 #[test]
 fn a_flat_box(rt: HostRuntime) {
@@ -11,7 +17,12 @@ fn a_flat_box(rt: HostRuntime) {
     assert_eq!(rt; (sides.side(0), sides.side(1), sides.count()), (3, 2, 6));
     assert_eq!(rt; sides.framed_count(), 20);
     assert_eq!(rt; sides.framed_point(0), P2 { x: -1, y: -1 });
-    assert_eq!(rt; sides.framed_point(19), P2 { x: 3, y: 2 });
+    let corner = P2 { x: 3, y: 2 };
+    assert_eq!(rt; sides.framed_point(19), corner);
+    assert!(rt; !sides.in_frame(P2 { x: 4, y: 2 }));
+    if sides.in_frame(corner) {
+        assert_eq!(rt; sides.framed_number(corner), 19);
+    }
     assert!(rt; !sides.inside(P2 { x: 3, y: 0 }));
     let p = P2 { x: 2, y: 1 };
     let q = P2 { x: 0, y: 1 };
@@ -21,7 +32,45 @@ fn a_flat_box(rt: HostRuntime) {
         assert_eq!(rt; raster_order(&sides, q, p), Ordering::Less);
     }
     assert_eq!(rt; sides.unraster(4), P2 { x: 1, y: 1 });
+    assert_eq!(rt; dot(&[3, -5, 7], p), 1);
     assert!(rt; Sides::try_new(P2 { x: 1024, y: 1 }).is_some());
     assert!(rt; Sides::try_new(P2 { x: 1025, y: 1 }).is_none());
     assert!(rt; Sides::try_new(P2 { x: 1, y: 0 }).is_none());
+}
+
+// The first better places of the cells 4, empty, 0, 9, and whether the second and the third are filled.
+fn compared<L: Ledger>(alloc: Global, blank: Blank) -> Result<(i64, i64, bool, bool), Fail>
+    requires name { blank.name ≡ L.name }
+    requires parts { blank.parts ≡ L.parts }
+    requires whole { blank.parts ≡ 1 }
+{
+    let mut steps = Steps::<L>::new(blank);
+    let Ok(mut row) = Row::new(alloc, 4) else {
+        return Err(Fail::from(AllocError));
+    };
+    row.set(0, Some(4));
+    row.set(2, Some(0));
+    row.set(3, Some(9));
+    let empty = row.filled(1, &mut steps);
+    let filled = row.filled(2, &mut steps);
+    let early = row.first_better(0, 2, &mut steps);
+    let late = row.first_better(2, 3, &mut steps);
+    Ok((early, late, empty, filled))
+}
+
+#[test]
+fn four_cells(rt: HostRuntime) -> Result<(), Fail> {
+    let (early, late, empty, filled) = compared::<Brand>(rt.alloc(), Blank::new(1))?;
+    assert_eq!(rt; (early, late), (0, 7));
+    assert!(rt; filled && !empty);
+    Ok(())
+}
+
+#[test]
+fn fractions(rt: HostRuntime) {
+    let third = Frac { num: 1, den: 3 };
+    let half = Frac { num: 1, den: 2 };
+    assert!(rt; third.less(&half) && !half.less(&third) && !half.less(&half));
+    let middle = Frac::between(&third, &half);
+    assert_eq!(rt; (middle.num, middle.den), (2, 5));
 }

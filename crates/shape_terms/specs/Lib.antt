@@ -6,11 +6,6 @@ pub mod Parts
 pub mod Net
 pub mod Places
 pub mod Distances
-pub mod Lines
-pub mod Good
-pub mod Holds
-pub mod Shows
-pub mod Progress
 pub mod Steps
 pub mod Contours
 pub mod Traces
@@ -22,5 +17,5 @@ pub mod Turns
 pub mod Straight
 pub mod Covers
 pub mod GapCover
-pub mod ContourFacts
-pub mod ContourLines
+pub mod Rows
+pub mod AxisLines

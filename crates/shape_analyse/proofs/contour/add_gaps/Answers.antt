@@ -1,6 +1,6 @@
 use Rattle.std.proofs.Common.{◌≡◌, ◌+◌, ◌*◌, ◌<◌, ◌++◌, ◌∷◌, [], length, arith, ap, subst, sym, ◌∙◌}
 use Rattle.shape_terms.specs.Covers.{IsEvidence, gap_run}
-use Rattle.shape_terms.specs.Lines.{IsLineOf}
+use Rattle.report_terms.specs.Lines.{IsLineOf}
 use Rattle.shape_cover.specs.Found.{stretches_of, found_at}
 use Rattle.shape_refute.specs.Evidences.{evidence_of}
 use Rattle.shape_analyse.specs.Growing.{IsOutlined, gap_line}

@@ -1,5 +1,5 @@
 use Rattle.std.proofs.Common.{◌≡◌, ◌+◌, ◌≤◌, [], length, rules, arith, subst, sym}
-use Rattle.shape_terms.specs.Lines.{Line, IsLineOf}
+use Rattle.report_terms.specs.Lines.{Line, IsLineOf}
 use Rattle.shape_crack.specs.Terms.{point_of}
 use Rattle.shape_analyse.specs.Growing.{IsOutlined}
 use Rattle.shape_analyse.proofs.ContourGrowth.{outlined_begun, outlined_point}

@@ -1,6 +1,6 @@
 use Rattle.std.proofs.Common.{◌≡◌, ◌+◌, ◌<◌, ◌^◌, ◌++◌, ◌∷◌, [], length, take, rules, arith, ap, subst, sym, ◌∙◌}
 use Rattle.std.proofs.lemmas.List.{length-map, take_all}
-use Rattle.shape_terms.specs.Lines.{Line, IsLineOf}
+use Rattle.report_terms.specs.Lines.{Line, IsLineOf}
 use Rattle.shape_refute.specs.Terms.{naive_of}
 use Rattle.shape_cover.specs.Found.{Found, stretches_of, found_at, IsShortLine}
 use Rattle.shape_analyse.specs.Growing.{IsOutlined}

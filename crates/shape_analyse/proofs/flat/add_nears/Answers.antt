@@ -1,5 +1,5 @@
 use Rattle.std.proofs.Common.{◌+◌, ◌≤◌, length, arith, subst, sym}
-use Rattle.shape_terms.specs.Lines.{Line, IsLineOf}
+use Rattle.report_terms.specs.Lines.{Line, IsLineOf}
 use Rattle.shape_analyse.specs.Growing.{IsGrowing}
 use Rattle.shape_analyse.proofs.Growth.{fact_at, growing_more}
 use Rattle.shape_analyse.proofs.flat.add_nears.Goals as goal

@@ -1,6 +1,6 @@
 use Rattle.std.proofs.Common.{length, subst, sym, refl}
-use Rattle.shape_terms.specs.Lines.{text_of}
-use Rattle.shape_terms.specs.Holds.{Holds}
+use Rattle.report_terms.specs.Lines.{text_of}
+use Rattle.report_terms.specs.Holds.{Holds}
 use Rattle.shape_terms.specs.Pictures.{object_points}
 use Rattle.shape_analyse.proofs.ContourGrowth.{contour_starts, outlined_none, outlined_done}
 use Rattle.shape_analyse.proofs.flat.analyse_flat.Goals as goal

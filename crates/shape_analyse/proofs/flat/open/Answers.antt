@@ -1,6 +1,6 @@
 use Rattle.std.proofs.Common.{◌≡◌, ◌≤◌, length, inl, inr, arith, rules, subst, sym, ◌∙◌}
 use Rattle.std.proofs.lemmas.Result.{IfOk-weaker}
-use Rattle.shape_terms.specs.Lines.{Line, IsLineOf}
+use Rattle.report_terms.specs.Lines.{Line, IsLineOf}
 use Rattle.shape_terms.specs.Parts.{Counts}
 use Rattle.shape_rules.specs.Names.{word_of}
 use Rattle.shape_analyse.specs.Growing.{IsGrowing}

@@ -1,4 +1,4 @@
-use Rattle.shape_terms.proofs.HoldsShows.{holds_shows}
+use Rattle.report_terms.proofs.HoldsShows.{holds_shows}
 use Rattle.shape_check.proofs.law.holding_shows.Goals as goal
 
 pub returns : goal.returns

@@ -1,7 +1,7 @@
 use Rattle.std.proofs.Common.{◌≡◌, ◌++◌, take, FitsSigned}
 use Rattle.std.specs.Prelude.{All}
 use Rattle.std.specs.Int.{w32}
-use Rattle.shape_terms.specs.Lines.{number_words}
+use Rattle.report_terms.specs.Lines.{number_words}
 use Rattle.shape_report.proofs.field.point.Given as goal
 
 abbrev pub invariant-loop-axis : goal.invariant-loop-axis

@@ -1,5 +1,5 @@
 use Rattle.std.proofs.Common.{◌≡◌, ◌≤◌, ◌+◌, ◌*◌, ◌++◌, length, take}
-use Rattle.shape_terms.specs.Lines.{number_words}
+use Rattle.report_terms.specs.Lines.{number_words}
 use Rattle.shape_report.specs.Texts.{behind_blanks}
 use Rattle.shape_report.proofs.put.put_point.Given as goal
 

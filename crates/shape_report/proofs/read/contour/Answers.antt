@@ -1,5 +1,5 @@
 use Rattle.std.proofs.Common.{[]}
-use Rattle.shape_terms.specs.Lines.{number_words, IsShortPoint}
+use Rattle.report_terms.specs.Lines.{number_words, IsShortPoint}
 use Rattle.shape_report.proofs.Fields.{after, after_word, points_as_long}
 use Rattle.shape_report.proofs.LineKinds.{contour_only}
 use Rattle.shape_report.proofs.read.contour.Goals as goal

@@ -1,6 +1,6 @@
 use Rattle.std.proofs.Common.{[], ◌∷◌, refl}
 use Rattle.std.specs.Fmt.{decimal}
-use Rattle.shape_terms.specs.Lines.{number_words, IsShortPoint, IsWeight}
+use Rattle.report_terms.specs.Lines.{number_words, IsShortPoint, IsWeight}
 use Rattle.shape_report.proofs.Fields.{after, points_as_long}
 use Rattle.shape_report.proofs.LineKinds.{near_only}
 use Rattle.shape_report.proofs.read.near.Goals as goal

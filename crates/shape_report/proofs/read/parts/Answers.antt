@@ -1,6 +1,6 @@
 use Rattle.std.proofs.Common.{ℕ, [], ◌∷◌, refl}
 use Rattle.std.specs.Fmt.{decimal}
-use Rattle.shape_terms.specs.Lines.{IsCount}
+use Rattle.report_terms.specs.Lines.{IsCount}
 use Rattle.shape_report.proofs.Fields.{after}
 use Rattle.shape_report.proofs.LineKinds.{parts_only}
 use Rattle.shape_report.proofs.read.parts.Goals as goal

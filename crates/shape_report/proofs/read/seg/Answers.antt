@@ -1,5 +1,5 @@
 use Rattle.std.proofs.Common.{[]}
-use Rattle.shape_terms.specs.Lines.{number_words, IsRow}
+use Rattle.report_terms.specs.Lines.{number_words, IsRow}
 use Rattle.shape_report.proofs.Fields.{after, after_word, rows_as_long}
 use Rattle.shape_report.proofs.LineKinds.{seg_only}
 use Rattle.shape_report.proofs.read.seg.Goals as goal

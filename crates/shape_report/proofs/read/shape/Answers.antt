@@ -1,5 +1,5 @@
 use Rattle.std.proofs.Common.{◌∙◌, [], sym, ap, drop}
-use Rattle.shape_terms.specs.Lines.{number_words, IsShortPoint}
+use Rattle.report_terms.specs.Lines.{number_words, IsShortPoint}
 use Rattle.shape_report.proofs.Fields.{after, points_as_long}
 use Rattle.shape_report.proofs.LineKinds.{shape_only}
 use Rattle.shape_report.proofs.read.shape.Goals as goal

@@ -1,5 +1,5 @@
 use Rattle.std.proofs.Common.{◌∙◌, ◌++◌, ◌∷◌, [], ap, sym}
-use Rattle.shape_terms.specs.Lines.{spelling}
+use Rattle.report_terms.specs.Lines.{spelling}
 use Rattle.shape_report.specs.LineOf.{line_of}
 use Rattle.shape_report.proofs.Flowing.{text_next}
 use Rattle.shape_report.proofs.write.report_bytes.Goals as goal

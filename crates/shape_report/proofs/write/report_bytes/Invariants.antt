@@ -1,5 +1,5 @@
 use Rattle.std.proofs.Common.{◌≡◌, take}
-use Rattle.shape_terms.specs.Lines.{text_of}
+use Rattle.report_terms.specs.Lines.{text_of}
 use Rattle.shape_report.proofs.write.report_bytes.Given as goal
 
 abbrev pub invariant-loop-i : goal.invariant-loop-i

@@ -1,5 +1,5 @@
 use Rattle.std.proofs.Common.{◌++◌, ◌∷◌, [], take, sym, subst, arith}
-use Rattle.shape_terms.specs.Lines.{spelling, text_of}
+use Rattle.report_terms.specs.Lines.{spelling, text_of}
 use Rattle.shape_desk.proofs.Writes.{KeepsPlaces-more}
 use Rattle.shape_report.specs.LineOf.{line_of}
 use Rattle.shape_report.specs.Flow.{Flows}

@@ -1,5 +1,5 @@
 use Rattle.std.proofs.Common.{◌≤◌, [], take}
-use Rattle.shape_terms.specs.Lines.{text_of}
+use Rattle.report_terms.specs.Lines.{text_of}
 use Rattle.shape_desk.specs.Desk.{KeepsPlaces}
 use Rattle.shape_report.specs.Flow.{Flows}
 use Rattle.shape_report.proofs.write.write_report.Given as goal

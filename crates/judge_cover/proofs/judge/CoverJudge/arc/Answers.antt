@@ -1,6 +1,6 @@
 use Rattle.std.proofs.Common.{◌≤◌, ◌^◌, length, map}
 use Rattle.std.specs.Prelude.{vec_capacity}
-use Rattle.shape_terms.specs.ContourLines.{Standing, open_contour}
+use Rattle.report_terms.specs.ContourLines.{Standing, open_contour}
 use Rattle.shape_crack.specs.Terms.{point_of}
 use Rattle.judge_cover.specs.Places.{stretch_of}
 use Rattle.judge_cover.proofs.Steps.{arc_within, arc_value, arc_few}

@@ -1,6 +1,6 @@
 use Rattle.std.proofs.Common.{◌≤◌, ◌<◌, ◌^◌, length, map, ap, arith}
 use Rattle.std.proofs.lemmas.List.{length-map}
-use Rattle.shape_terms.specs.ContourLines.{Standing, open_contour}
+use Rattle.report_terms.specs.ContourLines.{Standing, open_contour}
 use Rattle.judge_cover.specs.CoverState.{CoverState}
 use Rattle.judge_cover.specs.Places.{stretch_of}
 use Rattle.judge_cover.proofs.Steps.{same_open, around_at}

@@ -1,5 +1,5 @@
 use Rattle.std.specs.Prelude.{take}
-use Rattle.shape_terms.specs.Lines as Terms
+use Rattle.report_terms.specs.Lines as Terms
 use Rattle.shape_terms.specs.Covers.{Evidence}
 use Rattle.shape_refute.specs.Terms.{naive_of}
 use Rattle.shape_refute.specs.Weights.{refutation_of}

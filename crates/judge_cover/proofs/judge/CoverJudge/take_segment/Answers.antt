@@ -1,6 +1,6 @@
 use Rattle.std.proofs.Common.{◌≡◌, ◌<◌, length, map, refl, ap, sym, ◌∙◌, arith}
 use Rattle.std.proofs.lemmas.List.{length-map}
-use Rattle.shape_terms.specs.ContourLines.{open_contour}
+use Rattle.report_terms.specs.ContourLines.{open_contour}
 use Rattle.shape_refute.specs.Terms.{naive_of}
 use Rattle.shape_crack.specs.Terms.{point_of}
 use Rattle.judge_cover.specs.CoverState.{CoverState}

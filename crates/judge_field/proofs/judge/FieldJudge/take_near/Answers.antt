@@ -2,10 +2,10 @@ use Rattle.std.proofs.Common.{◌≡◌, ◌+◌, ℕ, List, length, Some, true,
 use Rattle.std.specs.Prelude.{not, slice_get}
 use Rattle.shape_terms.specs.Points.{Point, raster_point}
 use Rattle.shape_terms.specs.Pictures.{Picture, object_points, Least}
-use Rattle.shape_terms.specs.Lines as Terms
-use Rattle.shape_terms.specs.Good.{NearClaim}
+use Rattle.report_terms.specs.Lines as Terms
+use Rattle.report_terms.specs.Good.{NearClaim}
 use Rattle.judge_field.specs.FieldState.{FieldState}
-use Rattle.judge_field.proofs.NextPoint.{next_is, none_is, next_left, stands_push}
+use Rattle.judge_field.proofs.NextPoint.{next_is, none_is, next_left, next_is_object, stands_push}
 use Rattle.judge_field.proofs.judge.FieldJudge.take_near.Goals as goal
 
 not_false : (b : Bool) → false ≡ not b → b ≡ true
@@ -15,29 +15,35 @@ not_false false e = cc
 pub returns-in_default-clause-answer : goal.returns-in_default-clause-answer
 returns-in_default-clause-answer g c =
     let i = c.self.inside in
-    λ lines s. (λ f. cc, λ claim. absurd (none_is c.args.self.now i.grid i.objects i.next i.taken c.self.view_is c.self.invariant c.in_default.ensures.next lines s (g.P.Point.coords c.args.p) claim.0))
+    λ lines s. (λ f. cc, λ claim. absurd (none_is c.args.self.now i.scans i.objects i.next i.taken c.self.view_is c.self.invariant (rw c.grid-grid.ensures at c.in_default.ensures.next) lines s (g.P.Point.coords c.args.p) claim.0))
 
 pub returns-then-ne-clause-answer : goal.returns-then-ne-clause-answer
 returns-then-ne-clause-answer g c =
     let i = c.self.inside in
-    let next = next_is c.args.self.now i.grid i.objects i.next i.taken c.in-Some.i c.self.view_is c.self.invariant c.in-Some.ensures.next in
-    let point : g.P.Point.coords c.unraster-point.result ≡ raster_point i.grid.sides c.in-Some.i = c.unraster-point.ensures.value ∙ rw c.sides.ensures.value refl in
+    let next = next_is c.args.self.now i.scans i.objects i.next i.taken c.in-Some.i c.self.view_is c.self.invariant (rw c.grid-grid.ensures at c.in-Some.ensures.next) in
+    let point : g.P.Point.coords c.unraster-point.result ≡ raster_point i.scans.sides c.in-Some.i = c.unraster-point.ensures.value ∙ rw (c.sides.ensures.value, c.grid-grid.ensures) refl in
     λ lines s. (
       λ f. cc,
       λ claim.
           let n = next lines s in
           let m = claim.0 in
-          let e : raster_point i.grid.sides c.in-Some.i ≡ g.P.Point.coords c.args.p = cc in
+          let e : raster_point i.scans.sides c.in-Some.i ≡ g.P.Point.coords c.args.p = cc in
           let same = g.met.P.Point.same c.unraster-point.result c.args.p (point ∙ e) in
           let equal : g.P.PartialEq.eq c.args.p c.unraster-point.result ≡ true = ap (g.P.PartialEq.eq c.args.p) same ∙ g.met.P.Eq.laws.refl c.args.p in
           let f : true ≡ false = c.if-ne.ensures ∙ ap not equal in
           cc,
     )
 
+pub is_least-requires : goal.is_least-requires
+is_least-requires g c =
+    let i = c.self.inside in
+    let is : g.P.Point.coords c.unraster-point.result ≡ raster_point i.scans.sides c.in-Some.i = c.unraster-point.ensures.value ∙ rw (c.sides.ensures.value, c.grid-grid.ensures) refl in
+    rw is (next_is_object i.scans i.next (raster_point i.scans.sides c.in-Some.i) _ (rw c.grid-grid.ensures at c.in-Some.ensures.next))
+
 pub invariant_of-self : goal.invariant_of-self
 invariant_of-self g c =
     let i = c.self.inside in
-    (next_left i.grid i.objects i.next i.taken c.in-Some.i c.self.invariant c.in-Some.ensures.next).1
+    (next_left i.scans i.objects i.next i.taken c.in-Some.i c.self.invariant (rw c.grid-grid.ensures at c.in-Some.ensures.next)).1
 
 -- the line's claim, from what the tests found
 claim : (old : FieldState) (X : Picture) (lines : List Terms.Line) (p p2 q r : Point) (s : ℕ) → old.picture ≡ X → p ≡ p2 → p2 ≡ r → slice_get (object_points old.picture) (length lines) ≡ Some r → Least X p2 q s → NearClaim old.picture lines (Terms.Line.Near p q s)
@@ -47,15 +53,15 @@ pub returns-clause-answer : goal.returns-clause-answer
 returns-clause-answer g c =
     let i = c.self.inside in
     let point = c.unraster-point.result in
-    let next = next_is c.args.self.now i.grid i.objects i.next i.taken c.in-Some.i c.self.view_is c.self.invariant c.in-Some.ensures.next in
-    let is : g.P.Point.coords point ≡ raster_point i.grid.sides c.in-Some.i = c.unraster-point.ensures.value ∙ rw c.sides.ensures.value refl in
+    let next = next_is c.args.self.now i.scans i.objects i.next i.taken c.in-Some.i c.self.view_is c.self.invariant (rw c.grid-grid.ensures at c.in-Some.ensures.next) in
+    let is : g.P.Point.coords point ≡ raster_point i.scans.sides c.in-Some.i = c.unraster-point.ensures.value ∙ rw (c.sides.ensures.value, c.grid-grid.ensures) refl in
     let same = ap g.P.Point.coords (g.met.P.Point.equal c.args.p point (not_false _ c.if-ne.ensures)) in
     let picture = ap (λ (t : FieldState). t.picture) (sym c.self.view_is) in
     let least = c.is_least.ensures.0 c.if-not-is_least.false in
-    λ lines s. (λ t. claim c.args.self.now i.grid lines (g.P.Point.coords c.args.p) (g.P.Point.coords point) (g.P.Point.coords c.args.q) (raster_point i.grid.sides c.in-Some.i) c.args.s picture same is (next lines s) least, λ h. refl)
+    λ lines s. (λ t. claim c.args.self.now i.scans lines (g.P.Point.coords c.args.p) (g.P.Point.coords point) (g.P.Point.coords c.args.q) (raster_point i.scans.sides c.in-Some.i) c.args.s picture same is (next lines s) least, λ h. refl)
 
 pub returns-clause-stands : goal.returns-clause-stands
 returns-clause-stands g c =
     let i = c.self.inside in
     let l = Terms.Line.Near (g.P.Point.coords c.args.p) (g.P.Point.coords c.args.q) c.args.s in
-    λ lines s. stands_push c.args.self.now (record { picture = i.grid; taken = i.taken + 1 }) lines l (ap (λ (t : FieldState). t.picture) c.self.view_is) (ap (λ (t : FieldState). t.taken + 1) c.self.view_is) s ((returns-clause-answer g c lines s).0 refl)
+    λ lines s. stands_push c.args.self.now (record { picture = i.scans; taken = i.taken + 1 }) lines l (ap (λ (t : FieldState). t.picture) c.self.view_is) (ap (λ (t : FieldState). t.taken + 1) c.self.view_is) s ((returns-clause-answer g c lines s).0 refl)

@@ -1,4 +1,4 @@
-use Rattle.shape_terms.specs.Good.{section_lines}
+use Rattle.report_terms.specs.Good.{section_lines}
 use Rattle.shape_check.proofs.Stages.{nears_given, end_good}
 use Rattle.shape_check.proofs.progress.Progress.end_nears.Goals as goal
 

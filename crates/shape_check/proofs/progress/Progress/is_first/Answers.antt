@@ -1,7 +1,7 @@
 use Rattle.std.proofs.Common.{arith, ◌≡◌, Bool, true, false, refl, sym, ap, ◌∙◌}
 use Rattle.std.specs.Prelude.{not}
 use Rattle.shape_rules.specs.Names.{word_of}
-use Rattle.shape_terms.proofs.GoodSteps.{first_is_shape}
+use Rattle.report_terms.proofs.GoodSteps.{first_is_shape}
 use Rattle.shape_check.proofs.Stages.{first_same, first_other}
 use Rattle.shape_check.proofs.progress.Progress.is_first.Goals as goal
 

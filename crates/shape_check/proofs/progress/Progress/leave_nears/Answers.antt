@@ -1,4 +1,4 @@
-use Rattle.shape_terms.specs.Good.{section_lines}
+use Rattle.report_terms.specs.Good.{section_lines}
 use Rattle.shape_report.specs.LineOf.{line_of}
 use Rattle.shape_check.proofs.Stages.{nears_given, outline_good, outline_follows}
 use Rattle.shape_check.proofs.progress.Progress.leave_nears.Goals as goal

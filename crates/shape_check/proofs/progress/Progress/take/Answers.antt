@@ -1,8 +1,8 @@
 use Rattle.std.proofs.Common.{List, refl, sym, subst, arith}
 use Rattle.std.specs.Prelude.{take}
-use Rattle.shape_terms.specs.Lines.{Line}
+use Rattle.report_terms.specs.Lines.{Line}
 use Rattle.shape_refute.specs.Weights.{refutation_of}
-use Rattle.shape_terms.specs.Good.{section_lines}
+use Rattle.report_terms.specs.Good.{section_lines}
 use Rattle.shape_report.specs.LineOf.{line_of}
 use Rattle.shape_check.proofs.Stages.{shape_follows, parts_good, parts_follows, near_follows, other_good, no_later_near, outline_follows, end_good, end_follows, ended_good}
 use Rattle.shape_check.proofs.progress.Progress.take.Goals as goal

@@ -1,0 +1,184 @@
+-- Squares on one axis more, before the first axis and behind the last.
+-- Laws over pictures, squares and numbers alone.
+use Rattle.std.proofs.Common.{◌≡◌, ◌⊎◌, inl, inr, ℕ, ◌+◌, ◌*◌, ◌-◌, ◌/◌, ◌%◌, ◌<◌, ◌≤◌, ◌^◌, true, false, List, [], ◌∷◌, ◌++◌, length, get_or, refl, sym, ap, ◌∙◌, subst, arith, mul_comm}
+use Rattle.std.specs.Prelude.{ℤ, pos, ◌≤ℤ◌, IsTrue}
+use Rattle.std.proofs.lemmas.Bool.{cases_Bool, cases_lt, cases_eq}
+use Rattle.std.proofs.lemmas.List.{get_or_push, get_or_append_left, get_or_past, length_push}
+use Rattle.std.proofs.lemmas.Nat.{mod-mul-add, mul-le}
+use Rattle.shape_terms.specs.Points.{Point, AreSides, sides_of, box_count, in_box, squared_distance}
+use Rattle.shape_terms.specs.Pictures.{Picture, at, Least}
+use Rattle.shape_terms.specs.FramedBox.{framed_sides, framed_point}
+use Rattle.shape_terms.specs.Places.{framed_number}
+use Rattle.shape_terms.proofs.FramedBoxes.{length-framed_point}
+use Rattle.shape_terms.proofs.FramedNumbers.{framed_number_below, framed_point-framed_number}
+use Rattle.shape_terms.proofs.NearestFound.{least_found, corner_background}
+use Rattle.shape_terms.specs.AxisLines.{place, gap, apart, IsBare}
+use Rattle.shape_terms.proofs.FramedLines.{distance_same}
+use Rattle.shape_terms.proofs.AxisPlaces.{HasPlace, place_of, place_line, place_high, place_below, same_digits}
+use Rattle.shape_terms.proofs.FramedEnds.{level_all, in_box_in_frame}
+use Rattle.judge_field.specs.Scanned.{IsLeastSquare, IsLeastAlong, HasScanned, HasBare, AreSquaresOn, digit, line_start, IsScannedAt, IsFirstSquare}
+
+-- ---- a number's place on its line
+
+pub digit_is : (c w low x high : ℕ) → low < c → x < w → digit c w (place c w low x high) ≡ x
+digit_is c w low x high l h =
+    let e : place c w low x high / c ≡ high * w + x = place_line c w low x high l ∙ turned x w high in
+    rw (e, mod-mul-add high w x h) refl
+  where
+    turned : (x w high : ℕ) → x + w * high ≡ high * w + x
+    turned x w high = omega (arith, mul_comm w high)
+
+pub line_is : (c w low x high y : ℕ) → low < c → x < w → line_start c w (place c w low x high) + y * c ≡ place c w low y high
+line_is c w low x high y l h =
+    let d = digit_is c w low x high l h in
+    rw d (moved c w low x high y)
+  where
+    moved : (c w low x high y : ℕ) → place c w low x high - x * c + y * c ≡ place c w low y high
+    moved c w low x high y = omega arith
+
+some_side : (w x : ℕ) → x < w → 0 < w
+some_side w x l = omega arith
+
+-- what a scan of the line of i owes
+pub line_facts : (c w rows i : ℕ) → i < c * (w * rows) → (digit c w i < w) × (digit c w i * c ≤ i) × ((y : ℕ) → y < w → line_start c w i + y * c < c * (w * rows))
+line_facts c w rows i l =
+    let p = place_of c w rows i l in
+    let d : digit c w i ≡ p.x = ap (digit c w) p.is ∙ digit_is c w p.low p.x p.high p.low_below p.x_below in
+    let m : p.x * c ≤ i = subst (λ n. p.x * c ≤ n) (sym p.is) (own c w p.low p.x p.high) in (
+      subst (λ n. n < w) (sym d) p.x_below,
+      subst (λ n. n * c ≤ i) (sym d) m,
+      λ y h.
+          let e : line_start c w i + y * c ≡ place c w p.low y p.high = ap (λ n. line_start c w n + y * c) p.is ∙ line_is c w p.low p.x p.high y p.low_below p.x_below in
+          subst (λ n. n < c * (w * rows)) (sym e) (place_below c w rows p.low y p.high p.low_below h p.high_below),
+    )
+  where
+    own : (c w low x high : ℕ) → x * c ≤ place c w low x high
+    own c w low x high = omega arith
+
+along_same : (a b : ℕ → ℕ) (w x s : ℕ) → ((y : ℕ) → y < w → a y ≡ b y) → IsLeastAlong a w x s → IsLeastAlong b w x s
+along_same a b w x s same t = record {
+  y = t.y;
+  inside = t.inside;
+  reached = t.reached ∙ ap (λ n. n + gap x t.y * gap x t.y) (same t.y t.inside);
+  least = λ z l. subst (λ n. s ≤ n + gap x z * gap x z) (same z l) (t.least z l);
+}
+
+pub scanned : (c w rows n : ℕ) (old new : List ℕ) → n ≡ c * (w * rows) → ((i : ℕ) → i < n → IsScannedAt c w old i (get_or new i 0)) → HasScanned c w rows old new
+scanned c w rows n old new e all low x high l h k =
+    let i = place c w low x high in
+    let t = all i (subst (λ m. i < m) (sym e) (place_below c w rows low x high l h k)) in
+    let d = digit_is c w low x high l h in
+    along_same (λ y. get_or old (line_start c w i + y * c) 0) (λ y. get_or old (place c w low y high) 0) w x (get_or new i 0) (λ y m. ap (λ j. get_or old j 0) (line_is c w low x high y l h))
+    (subst (λ x. IsLeastAlong (λ y. get_or old (line_start c w i + y * c) 0) w x (get_or new i 0)) d t)
+
+-- ---- one axis more
+
+module _ (X : Picture) (c w rows : ℕ) (count : box_count (framed_sides X.sides) ≡ c * (w * rows))
+    (splits : (low low2 x y high : ℕ) → low < c → low2 < c → x < w → y < w → high < rows → apart X.sides (place c w low x high) (place c w low2 y high) ≡ apart X.sides (place c w low y high) (place c w low2 y high) + gap x y * gap x y)
+    (old : List ℕ) (before : AreSquaresOn X c old) where
+  below : (low x high : ℕ) → low < c → x < w → high < rows → place c w low x high < box_count (framed_sides X.sides)
+  below low x high l h k = subst (λ n. place c w low x high < n) (sym count) (place_below c w rows low x high l h k)
+
+  same_line : (low low2 y high : ℕ) → low < c → low2 < c → place c w low2 y high / c ≡ place c w low y high / c
+  same_line low low2 y high l l2 = place_line c w low2 y high l2 ∙ sym (place_line c w low y high l)
+
+  least_at_place : (low x high s : ℕ) → low < c → x < w → high < rows → IsLeastAlong (λ y. get_or old (place c w low y high) 0) w x s → (r : ℕ) → IsBare X r → r / (c * w) ≡ place c w low x high / (c * w) → s ≤ apart X.sides (place c w low x high) r
+  least_at_place low x high s l h k t r b e =
+      let p = place_of c w rows r (subst (λ n. r < n) count b.0) in
+      let q : p.high ≡ high = sym (place_high c w p.low p.x p.high p.low_below p.x_below) ∙ ap (λ n. n / (c * w)) (sym p.is) ∙ e ∙ place_high c w low x high l h in
+      let is : r ≡ place c w p.low p.x high = p.is ∙ ap (λ n. place c w p.low p.x n) q in
+      let j = place c w low p.x high in
+      let near = before.least j r (below low p.x high l p.x_below k) b (ap (λ n. n / c) is ∙ same_line low p.low p.x high l p.low_below) in
+      let far : apart X.sides (place c w low x high) r ≡ apart X.sides j r + gap x p.x * gap x p.x = subst (λ n. apart X.sides (place c w low x high) n ≡ apart X.sides j n + gap x p.x * gap x p.x) (sym is) (splits low p.low x p.x high l p.low_below h p.x_below k) in
+      omega (arith, t.least p.x p.x_below, near, far)
+
+  reached_at_place : (low x high s : ℕ) → low < c → x < w → high < rows → IsLeastAlong (λ y. get_or old (place c w low y high) 0) w x s → s < 2 ^ 26 → HasBare X (c * w) (place c w low x high) s
+  reached_at_place low x high s l h k t small =
+      let j = place c w low t.y high in
+      let has = before.reached j (below low t.y high l t.inside k) (omega (arith, t.reached)) in
+      let p = place_of c w rows has.q (subst (λ n. has.q < n) count has.bare.0) in
+      let e : p.x + w * p.high ≡ t.y + w * high = sym (place_line c w p.low p.x p.high p.low_below) ∙ ap (λ n. n / c) (sym p.is) ∙ has.level ∙ place_line c w low t.y high l in
+      let d = same_digits w p.x t.y p.high high p.x_below t.inside e in
+      let is : has.q ≡ place c w p.low t.y high = p.is ∙ ap (λ n. place c w p.low n p.high) d.1 ∙ ap (λ n. place c w p.low t.y n) d.0 in
+      let far : apart X.sides (place c w low x high) has.q ≡ apart X.sides j has.q + gap x t.y * gap x t.y = subst (λ n. apart X.sides (place c w low x high) n ≡ apart X.sides j n + gap x t.y * gap x t.y) (sym is) (splits low p.low x t.y high l p.low_below h t.inside k) in
+      record {
+        q = has.q;
+        bare = has.bare;
+        level = ap (λ n. n / (c * w)) p.is ∙ place_high c w p.low p.x p.high p.low_below p.x_below ∙ d.0 ∙ sym (place_high c w low x high l h);
+        distance = omega (arith, t.reached, has.distance, far);
+      }
+
+  pub scan_more : (new : List ℕ) → HasScanned c w rows old new → AreSquaresOn X (c * w) new
+  scan_more new scan = record {
+    least = λ i r l b e.
+        let p = place_of c w rows i (subst (λ n. i < n) count l) in
+        subst (λ n. get_or new n 0 ≤ apart X.sides n r) (sym p.is) (least_at_place p.low p.x p.high (get_or new (place c w p.low p.x p.high) 0) p.low_below p.x_below p.high_below (scan p.low p.x p.high p.low_below p.x_below p.high_below) r b (e ∙ ap (λ n. n / (c * w)) p.is));
+    reached = λ i l small.
+        let p = place_of c w rows i (subst (λ n. i < n) count l) in
+        subst (λ n. HasBare X (c * w) n (get_or new n 0)) (sym p.is) (reached_at_place p.low p.x p.high (get_or new (place c w p.low p.x p.high) 0) p.low_below p.x_below p.high_below (scan p.low p.x p.high p.low_below p.x_below p.high_below) (subst (λ n. get_or new n 0 < 2 ^ 26) p.is small));
+  }
+
+-- ---- before the first axis
+
+by_one : (i : ℕ) → i / 1 ≡ i
+by_one i = omega arith
+
+first_least : (X : Picture) (i r s : ℕ) → IsFirstSquare X i s → IsBare X r → r / 1 ≡ i / 1 → s ≤ apart X.sides i r
+first_least X i r s h b e =
+    let same : r ≡ i = sym (by_one r) ∙ e ∙ by_one i in
+    omega (arith, h.bare (subst (λ n. at X (framed_point X.sides n) ≡ false) same b.1))
+
+first_reached : (X : Picture) (i s : ℕ) → i < box_count (framed_sides X.sides) → IsFirstSquare X i s → s < 2 ^ 26 → HasBare X 1 i s
+first_reached X i s l h small = elim (cases_Bool (at X (framed_point X.sides i))) [
+  | inl t ↦ absurd (omega (arith, h.object t))
+  | inr f ↦ record { q = i; bare = (l, f); level = refl; distance = h.bare f ∙ sym (distance_same (framed_point X.sides i)) }
+]
+
+pub first_squares : (X : Picture) (squares : List ℕ) → ((i : ℕ) → i < box_count (framed_sides X.sides) → IsFirstSquare X i (get_or squares i 0)) → AreSquaresOn X 1 squares
+first_squares X squares h = record {
+  least = λ i r l b e. first_least X i r (get_or squares i 0) (h i l) b e;
+  reached = λ i l small. first_reached X i (get_or squares i 0) l (h i l) small;
+}
+
+pub first_small : (X : Picture) (i s : ℕ) → IsFirstSquare X i s → s ≤ 2 ^ 26
+first_small X i s h = elim (cases_Bool (at X (framed_point X.sides i))) [
+  | inl t ↦ omega (arith, h.object t)
+  | inr f ↦ omega (arith, h.bare f)
+]
+
+-- ---- behind the last axis
+
+-- the square of a point of the box is the least of the whole space
+pub least_of_all : (X : Picture) (p : Point) (i : ℕ) (squares : List ℕ) → 0 < length X.sides → IsTrue (in_box X.sides p) → i ≡ framed_number X.sides p → ((j : ℕ) → apart X.sides i j < 2 ^ 26) → AreSquaresOn X (box_count (framed_sides X.sides)) squares → IsLeastSquare X p (get_or squares i 0)
+least_of_all X p i squares d h e small t =
+    let frame = in_box_in_frame X.sides p h in
+    let below : i < box_count (framed_sides X.sides) = subst (λ n. n < box_count (framed_sides X.sides)) (sym e) (framed_number_below X.sides p frame) in
+    let is : framed_point X.sides i ≡ p = ap (framed_point X.sides) e ∙ framed_point-framed_number X.sides p frame in
+    let some : 0 < box_count (framed_sides X.sides) = omega arith in
+    let corner : IsBare X 0 = (some, (corner_background X d).value) in
+    let near = t.least i 0 below corner (level_all _ 0 i some below) in
+    let has = t.reached i below (omega (arith, near, small 0)) in
+    record {
+      q = framed_point X.sides has.q;
+      least = least_found X p (framed_point X.sides has.q) (get_or squares i 0) h
+          (record { point = length-framed_point X.sides has.q; value = has.bare.1 })
+          (has.distance ∙ ap (λ q. squared_distance q (framed_point X.sides has.q)) is)
+          (λ r l b. subst (λ q. get_or squares i 0 ≤ squared_distance q (framed_point X.sides r)) is (t.least i r below (l, b) (level_all _ r i l below)));
+    }
+
+-- ---- a list that grows
+
+pub pushed_each : (P : ℕ → ℕ → Type 0) (xs : List ℕ) (s i : ℕ) → length xs ≡ i → ((j : ℕ) → j < i → P j (get_or xs j 0)) → P i s → (j : ℕ) → j < i + 1 → P j (get_or (xs ++ s ∷ []) j 0)
+pushed_each P xs s i e all one j l = elim (cases_eq j i) [
+  | inl same ↦ subst (λ n. P n (get_or (xs ++ s ∷ []) n 0)) (sym same) (subst (P i) (sym (get_or_push xs s 0 i e)) one)
+  | inr other ↦ subst (P j) (sym (get_or_append_left xs (s ∷ []) 0 j (omega arith))) (all j (omega arith))
+]
+
+pub pushed_small : (m : ℕ) (xs : List ℕ) (s : ℕ) → ((j : ℕ) → get_or xs j 0 ≤ m) → s ≤ m → (j : ℕ) → get_or (xs ++ s ∷ []) j 0 ≤ m
+pushed_small m xs s all one j = elim (cases_lt j (length xs)) [
+  | inl l ↦ omega (arith, all j, get_or_append_left xs (s ∷ []) 0 j l)
+  | inr l ↦ elim (cases_eq j (length xs)) [
+    | inl same ↦ subst (λ n. get_or (xs ++ s ∷ []) n 0 ≤ m) (sym same) (omega (arith, get_or_push xs s 0 (length xs) refl, one))
+    | inr other ↦ omega (arith, get_or_past (xs ++ s ∷ []) j 0 (omega (arith, length_push xs s)))
+  ]
+]

@@ -1,0 +1,67 @@
+use Rattle.std.proofs.Common.{◌≡◌, ◌<◌, ◌≤◌, ◌+◌, ◌*◌, ◌^◌, ◌/◌, ◌∙◌, take, drop, length, refl, ap, subst, sym, arith}
+use Rattle.shape_terms.specs.Points.{box_count, sides_of, coordinate}
+use Rattle.shape_terms.specs.FramedBox.{framed_sides}
+use Rattle.shape_terms.proofs.FramedBoxes.{few_framed}
+use Rattle.shape_terms.proofs.AxisCounts.{whole_count, before_step, before_few, some_framed, apart_on_axis}
+use Rattle.judge_field.specs.Scanned.{IsScannedAt}
+use Rattle.judge_field.proofs.ScanAxes.{scanned, scan_more}
+use Rattle.judge_field.proofs.scans.all_squares.Goals as goal
+
+pub scan_axis-requires-clause-whole : goal.scan_axis-requires-clause-whole
+scan_axis-requires-clause-whole g c =
+    let ns = g.P.Point.coords c.sides-sides.result.lengths in
+    let k = c.loop-k.k in
+    let a = g.met.P.Point.axes c.sides-sides.result.lengths in
+    let l : k < length ns = omega arith in
+    let i = c.loop-k.invariant in (
+      box_count (framed_sides (sides_of (drop (k + 1) ns))),
+      ap length c.deref.ensures.value ∙ i.long ∙ ap (λ s. box_count (framed_sides s)) (sym c.sides-sides.ensures.value) ∙ whole_count ns k c.loop-k.before c.framed_side-side.result _ l i.before c.framed_side-side.ensures.value refl,
+    )
+
+pub scan_axis-requires-clause-apart : goal.scan_axis-requires-clause-apart
+scan_axis-requires-clause-apart g c = omega (arith, c.loop-k.invariant.before, some_framed (sides_of (take c.loop-k.k (g.P.Point.coords c.sides-sides.result.lengths))))
+
+pub scan_axis-requires-clause-few : goal.scan_axis-requires-clause-few
+scan_axis-requires-clause-few g c =
+    let s = c.sides-sides.result in
+    let ns = g.P.Point.coords s.lengths in
+    let a = g.met.P.Point.axes s.lengths in
+    let f = few_framed g.P.Point.MAX_SIDE ns s.in_range g.met.P.Point.flat_side (rw a g.met.P.Point.two_or_three) (rw a g.met.P.Point.solid_side) in
+    let long : length c.deref.result.now ≡ box_count (framed_sides (sides_of ns)) = ap length c.deref.ensures.value ∙ c.loop-k.invariant.long ∙ ap (λ s. box_count (framed_sides s)) (sym c.sides-sides.ensures.value) in
+    omega (arith, f, long)
+
+pub overflow_mul-before : goal.overflow_mul-before
+overflow_mul-before g c =
+    let s = c.sides-sides.result in
+    let ns = g.P.Point.coords s.lengths in
+    let k = c.loop-k.k in
+    let a = g.met.P.Point.axes s.lengths in
+    let l : k < length ns = omega arith in
+    let f = few_framed g.P.Point.MAX_SIDE ns s.in_range g.met.P.Point.flat_side (rw a g.met.P.Point.two_or_three) (rw a g.met.P.Point.solid_side) in
+    let total = whole_count ns k c.loop-k.before c.framed_side-side.result _ l c.loop-k.invariant.before c.framed_side-side.ensures.value refl in
+    let few = before_few c.loop-k.before c.framed_side-side.result _ (box_count (framed_sides (sides_of ns))) (sides_of (drop (k + 1) ns)) refl total in
+    omega (arith, few, f)
+
+pub loop-k-preserved : goal.loop-k-preserved
+loop-k-preserved g c =
+    let X = c.args.grid.now in
+    let s = c.sides-sides.result in
+    let ns = g.P.Point.coords s.lengths in
+    let k = c.loop-k.k in
+    let a = g.met.P.Point.axes s.lengths in
+    let l : k < length ns = omega arith in
+    let i = c.loop-k.invariant in
+    let side = c.framed_side-side.result in
+    let w = c.framed_side-side.ensures.value in
+    let is = sym c.sides-sides.ensures.value in
+    let rows = box_count (framed_sides (sides_of (drop (k + 1) ns))) in
+    let total : box_count (framed_sides X.sides) ≡ c.loop-k.before * (side * rows) = ap (λ s. box_count (framed_sides s)) is ∙ whole_count ns k c.loop-k.before side rows l i.before w refl in
+    let same = c.deref.ensures.value in
+    let long : length c.deref.result.now ≡ box_count (framed_sides X.sides) = ap length same ∙ i.long in
+    let scan = scanned c.loop-k.before side rows (length c.deref.result.now) c.deref.result.now c.in-Ok-scan_axis.next.items (long ∙ total) c.in-Ok-scan_axis.ensures.scanned in
+    record {
+      before = before_step ns k c.loop-k.before side l w i.before;
+      long = c.in-Ok-scan_axis.ensures.long ∙ long;
+      squares = scan_more X c.loop-k.before side rows total (λ low low2 x y high p q h j m. apart_on_axis X.sides ns k c.loop-k.before side low low2 x y high is l i.before w p q h j) c.loop-k.squares.items i.squares c.in-Ok-scan_axis.next.items (rw same at scan);
+      small = c.in-Ok-scan_axis.ensures.small;
+    }

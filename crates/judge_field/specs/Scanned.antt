@@ -1,0 +1,57 @@
+-- What scans of a framed box have found: a square for each of its points, axis after axis.
+use Rattle.std.specs.Prelude.{◌≡◌, ℕ, ◌+◌, ◌*◌, ◌/◌, ◌%◌, ◌-◌, ◌^◌, ◌<◌, ◌≤◌, true, false, List, slice_index}
+use Rattle.shape_terms.specs.Points.{Point, box_count}
+use Rattle.shape_terms.specs.Pictures.{Picture, at, Least}
+use Rattle.shape_terms.specs.FramedBox.{framed_sides, framed_point}
+use Rattle.shape_terms.specs.AxisLines.{place, gap, apart, IsBare}
+
+-- s is the squared distance of p and a nearest background point of the whole space
+pub record IsLeastSquare (X : Picture) (p : Point) (s : ℕ) : Type 0 where
+  pub q : Point
+  pub least : Least X p q s
+
+-- s is the least of what the w squares of a line give its place x: the square of the way is added
+pub record IsLeastAlong (line : ℕ → ℕ) (w x s : ℕ) : Type 0 where
+  pub y : ℕ
+  pub inside : y < w
+  pub reached : s ≡ line y + gap x y * gap x y
+  pub least : (z : ℕ) → z < w → s ≤ line z + gap x z * gap x z
+
+-- the same so far: at the places from low to below high
+pub record IsLeastFrom (line : ℕ → ℕ) (w x low high s : ℕ) : Type 0 where
+  pub y : ℕ
+  pub inside : y < w
+  pub reached : s ≡ line y + gap x y * gap x y
+  pub least : (z : ℕ) → low ≤ z → z < high → s ≤ line z + gap x z * gap x z
+
+-- the digit of i on an axis with c numbers before it and w on it, and the number of the first place of its line
+abbrev pub digit : ℕ → ℕ → ℕ → ℕ
+digit c w i = (i / c) % w
+
+abbrev pub line_start : ℕ → ℕ → ℕ → ℕ
+line_start c w i = i - digit c w i * c
+
+-- s is the least of what the line of i gives it
+abbrev pub IsScannedAt : ℕ → ℕ → List ℕ → ℕ → ℕ → Type 0
+IsScannedAt c w old i s = IsLeastAlong (λ y. slice_index old (line_start c w i + y * c)) w (digit c w i) s
+
+-- each line of w squares, c places apart, was scanned
+abbrev pub HasScanned : ℕ → ℕ → ℕ → List ℕ → List ℕ → Type 0
+HasScanned c w rows old new = (low x high : ℕ) → low < c → x < w → high < rows → IsLeastAlong (λ y. slice_index old (place c w low y high)) w x (slice_index new (place c w low x high))
+
+-- a background point at a squared distance from i, with the same digits behind the first ones, which count to c
+pub record HasBare (X : Picture) (c i s : ℕ) : Type 0 where
+  pub q : ℕ
+  pub bare : IsBare X q
+  pub level : q / c ≡ i / c
+  pub distance : s ≡ apart X.sides i q
+
+-- no square is above that of such a point, and each below 2^26 is that of one
+pub record AreSquaresOn (X : Picture) (c : ℕ) (squares : List ℕ) : Type 0 where
+  pub least : (i r : ℕ) → i < box_count (framed_sides X.sides) → IsBare X r → r / c ≡ i / c → slice_index squares i ≤ apart X.sides i r
+  pub reached : (i : ℕ) → i < box_count (framed_sides X.sides) → slice_index squares i < 2 ^ 26 → HasBare X c i (slice_index squares i)
+
+-- a background point is at its own, and an object point as far away as no point is
+pub record IsFirstSquare (X : Picture) (i s : ℕ) : Type 0 where
+  pub object : at X (framed_point X.sides i) ≡ true → s ≡ 2 ^ 26
+  pub bare : at X (framed_point X.sides i) ≡ false → s ≡ 0

@@ -1,0 +1,164 @@
+//! The squared distances of the points of a picture to the background, by plain scans along each axis.
+//! On the first axes a point's square is the least over the background points that differ from it on these alone.
+ghost use Rattle.std.specs.Prelude.{◌≡◌, ◌+◌, ◌*◌, ◌-◌, ◌<◌, ◌≤◌, ◌^◌, ℕ, IsTrue, IfOk, length, slice_index};
+ghost use Rattle.shape_terms.specs.Points.{box_count};
+ghost use Rattle.shape_terms.specs.Pictures.{at};
+ghost use Rattle.shape_terms.specs.FramedBox.{framed_sides};
+ghost use Rattle.judge_field.specs.Scanned.{IsLeastSquare, IsFirstSquare, IsScannedAt, HasScanned, AreSquaresOn};
+
+use crate::line::least_at;
+use shape_grid::Grid;
+use shape_space::{NoMemory, Point};
+use std::alloc::Global;
+use std::marker::Model;
+
+// A square that no two points of a framed box are apart.
+const FAR: u32 = 67108864;
+
+/// The squared distance of each object point of a picture to its nearest background points, found beforehand.
+///
+/// It keeps the picture, and a number for each point of the framed box.
+#[derive(Drop)]
+pub struct Scans<P: Point> {
+    grid: Grid<P>,
+    squares: Vec<u32>,
+}
+
+impl<P: Point> Model for Scans<P> {
+    ghost use Rattle.std.specs.Prelude.{◌≡◌};
+    ghost use Rattle.shape_terms.specs.Points.{box_count};
+    ghost use Rattle.shape_terms.specs.Pictures.{Picture};
+    ghost use Rattle.shape_terms.specs.FramedBox.{framed_sides};
+    ghost use Rattle.judge_field.specs.Scanned.{AreSquaresOn};
+
+    ghost Value = { Picture };
+
+    ghost view = { λ s. s.grid };
+
+    ghost invariant = { λ s. (s.squares.len ≡ box_count (framed_sides s.grid.sides)) × AreSquaresOn s.grid (box_count (framed_sides s.grid.sides)) s.squares.items };
+}
+
+// The square of a framed point before the first axis.
+fn first_square<P: Point>(grid: &Grid<P>, i: u32) -> u32
+    ensures { IsFirstSquare grid.now i result }
+{
+    if grid.has(grid.sides().framed_point(i)) {
+        FAR
+    } else {
+        0
+    }
+}
+
+// The squares of all framed points before the first axis.
+fn first_squares<P: Point>(alloc: Global, grid: &Grid<P>) -> Result<Vec<u32>, NoMemory>
+    ensures long { IfOk result (λ v. length v.items ≡ box_count (framed_sides grid.now.sides)) }
+    ensures squares { IfOk result (λ v. AreSquaresOn grid.now 1 v.items) }
+    ensures small { IfOk result (λ v. (i : ℕ) → slice_index v.items i ≤ 2 ^ 26) }
+{
+    let n = grid.sides().framed_count();
+    let Ok(mut squares) = Vec::with_capacity(alloc, n as usize) else {
+        return Err(NoMemory);
+    };
+    for i in 0..n {
+        if squares.push(first_square(grid, i)).is_err() {
+            return Err(NoMemory);
+        }
+    }
+    Ok(squares)
+}
+
+// The least of what its line gives a framed point, where `before` counts the points on the axes before that of the line.
+fn scan_at(squares: &[u32], i: u32, before: u32, side: u32) -> u32
+    requires whole { (rows : ℕ) × (length squares.now ≡ before * (side * rows)) }
+    requires inside { i < length squares.now }
+    requires apart { 0 < before }
+    requires some { 1 ≤ side }
+    requires near { side ≤ 4096 }
+    requires few { length squares.now < 2 ^ 31 }
+    requires small { (i : ℕ) → slice_index squares.now i ≤ 2 ^ 26 }
+    ensures least { IsScannedAt before side squares.now i result }
+    ensures small { result ≤ 2 ^ 26 }
+{
+    let x = (i / before) % side;
+    let start = i - x * before;
+    least_at(squares, start as usize, before as usize, side, x)
+}
+
+// The squares on one axis more.
+fn scan_axis(alloc: Global, squares: &[u32], before: u32, side: u32) -> Result<Vec<u32>, NoMemory>
+    requires whole { (rows : ℕ) × (length squares.now ≡ before * (side * rows)) }
+    requires apart { 0 < before }
+    requires some { 1 ≤ side }
+    requires near { side ≤ 4096 }
+    requires few { length squares.now < 2 ^ 31 }
+    requires small { (i : ℕ) → slice_index squares.now i ≤ 2 ^ 26 }
+    ensures long { IfOk result (λ v. length v.items ≡ length squares.now) }
+    ensures scanned { IfOk result (λ v. (i : ℕ) → i < length squares.now → IsScannedAt before side squares.now i (slice_index v.items i)) }
+    ensures small { IfOk result (λ v. (i : ℕ) → slice_index v.items i ≤ 2 ^ 26) }
+{
+    let n = squares.len() as u32;
+    let Ok(mut next) = Vec::with_capacity(alloc, n as usize) else {
+        return Err(NoMemory);
+    };
+    for i in 0..n {
+        if next.push(scan_at(squares, i, before, side)).is_err() {
+            return Err(NoMemory);
+        }
+    }
+    Ok(next)
+}
+
+// The squares on all axes.
+fn all_squares<P: Point>(alloc: Global, grid: &Grid<P>) -> Result<Vec<u32>, NoMemory>
+    ensures long { IfOk result (λ v. length v.items ≡ box_count (framed_sides grid.now.sides)) }
+    ensures squares { IfOk result (λ v. AreSquaresOn grid.now (box_count (framed_sides grid.now.sides)) v.items) }
+{
+    let sides = grid.sides();
+    let Ok(mut squares) = first_squares(alloc, grid) else {
+        return Err(NoMemory);
+    };
+    let mut before: u32 = 1;
+    for k in 0..P::DIM {
+        let side = sides.framed_side(k);
+        let Ok(next) = scan_axis(alloc, &squares, before, side) else {
+            return Err(NoMemory);
+        };
+        squares = next;
+        before *= side;
+    }
+    Ok(squares)
+}
+
+impl<P: Point> Scans<P> {
+    /// The squares of a picture. It takes all its memory here.
+    pub fn new(alloc: Global, grid: &Grid<P>) -> Result<Scans<P>, NoMemory>
+        ensures { IfOk result (λ s. s ≡ grid.now) }
+    {
+        let Ok(squares) = all_squares(alloc, grid) else {
+            return Err(NoMemory);
+        };
+        match grid.copy(alloc) {
+            Ok(copy) => Ok(Scans {
+                grid: copy,
+                squares,
+            }),
+            Err(NoMemory) => Err(NoMemory),
+        }
+    }
+
+    /// The picture.
+    pub fn grid(&self) -> &Grid<P>
+        ensures { result.now ≡ self.now }
+    {
+        &self.grid
+    }
+
+    /// The squared distance of an object point and a nearest background point of the whole space.
+    pub fn least(&self, p: P) -> u64
+        requires { IsTrue (at self.now (P.coords p)) }
+        ensures { IsLeastSquare self.now (P.coords p) result }
+    {
+        let sides = self.grid.sides();
+        self.squares[sides.framed_number(p) as usize] as u64
+    }
+}

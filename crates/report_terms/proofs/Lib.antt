@@ -1,0 +1,17 @@
+pub mod Checking
+pub mod ContourGroups
+pub mod ContourSaid
+pub mod ContoursShown
+pub mod FirstBadOnce
+pub mod GoodSteps
+pub mod HoldsShows
+pub mod LineWords
+pub mod RefutationWords
+pub mod ShortLines
+pub mod Spelled
+pub mod TextLines
+pub mod WordLists
+pub mod SectionLines
+pub mod CoverTaken
+pub mod CoverShown
+pub mod ListPushes

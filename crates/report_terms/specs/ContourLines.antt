@@ -1,0 +1,142 @@
+-- The lines of contours in a report: how they stand in groups, and when one is good after those before it.
+-- Only the lines of this section stand here; how sections follow each other stands in `Good`.
+use Rattle.std.specs.Prelude.{◌≡◌, ℕ, ◌-◌, ◌*◌, ◌/◌, ◌%◌, ◌<◌, ◌≤◌, Bool, true, false, not, if◌then◌else◌, List, [], ◌∷◌, length, filter_map, take_while, slice_get, slice_index_or, Option, Some, None}
+use Rattle.shape_terms.specs.Points.{Point}
+use Rattle.shape_terms.specs.Pictures.{Picture}
+use Rattle.shape_terms.specs.Naive.{Naive}
+use Rattle.shape_terms.specs.Contours.{Crack}
+use Rattle.shape_terms.specs.Traces.{Contour, AreContours}
+use Rattle.shape_terms.specs.Covers.{Stretch, IsSegment, Evidence, IsEvidence, gap_run}
+use Rattle.report_terms.specs.ContourFacts.{Segment, stretches_of, GapKind, GapFact}
+use Rattle.report_terms.specs.Lines.{Line}
+
+-- ---- groups of lines
+
+-- the lines in groups: each group begins with a line that passes the test, and goes up to the next such line
+abbrev pub groups : (Line → Bool) → List Line → List (List Line)
+groups test [] = []
+groups test (l ∷ lines) = if test l then (l ∷ take_while (λ x. not (test x)) lines) ∷ groups test lines else groups test lines
+
+abbrev pub is_contour : Line → Bool
+is_contour (Line.Contour _ _ _ _) = true
+is_contour _ = false
+
+-- the lines of each contour
+abbrev pub contour_groups : List Line → List (List Line)
+contour_groups lines = groups is_contour lines
+
+-- the lines of the contour that was begun last
+abbrev pub open_group : List Line → List Line
+open_group lines = slice_index_or (contour_groups lines) (length (contour_groups lines) - 1) []
+
+-- ---- what the lines of a group give
+
+-- the point that an `at` line gives
+abbrev pub point_of : Line → Option Point
+point_of (Line.At p) = Some p
+point_of _ = None
+
+-- the segment that a `seg` line gives
+abbrev pub segment_of : Line → Option Segment
+segment_of (Line.Seg b e t a mu) = Some (record { stretch = record { first = b; last = e }; axis = t; line = record { a = a; mu = mu } })
+segment_of _ = None
+
+-- the refusal that a gap line, a `turn` or a `cut`, gives
+abbrev pub gap_of : Line → Option GapFact
+gap_of (Line.Turn t _ _) = Some (record { axis = t; kind = GapKind.ByTurn })
+gap_of (Line.Cut t _) = Some (record { axis = t; kind = GapKind.ByCut })
+gap_of _ = None
+
+-- the number of segments that the `contour` line gives
+abbrev pub declared_of : List Line → ℕ
+declared_of (Line.Contour _ _ _ m ∷ _) = m
+declared_of _ = 0
+
+-- ---- where the lines stand
+
+-- how many contours were begun; and of the last of them, how many points it was given, how many segments its `contour` line gives, the stretches of those it was given, and how many gap lines it has
+pub record Standing : Type 0 where
+  pub begun : ℕ
+  pub points : ℕ
+  pub declared : ℕ
+  pub stretches : List Stretch
+  pub gaps : ℕ
+
+-- the same where so many contours were begun, the last with this group of lines
+abbrev pub standing_with : ℕ → List Line → Standing
+standing_with n group = record {
+  begun = n;
+  points = length (filter_map point_of group);
+  declared = declared_of group;
+  stretches = stretches_of (filter_map segment_of group);
+  gaps = length (filter_map gap_of group);
+}
+
+abbrev pub standing : List Line → Standing
+standing lines = standing_with (length (contour_groups lines)) (open_group lines)
+
+-- a contour without points, which no picture has
+abbrev pub no_contour : Contour
+no_contour = record { start = record { pixel = []; side = 0 }; points = [] }
+
+-- the contour that was begun last
+abbrev pub open_contour : List Contour → Standing → Contour
+open_contour contours s = slice_index_or contours (s.begun - 1) no_contour
+
+-- the contour that was begun last has all its points, all its segments and two gap lines for each of them
+pub record HasAllLines (contours : List Contour) (s : Standing) : Type 0 where
+  pub points : s.points ≡ length (open_contour contours s).points
+  pub segments : length s.stretches ≡ s.declared
+  pub gaps : s.gaps ≡ 2 * s.declared
+
+-- no contour is begun and without all its lines
+abbrev pub IsFull : List Contour → Standing → Type 0
+IsFull contours s = 0 < s.begun → HasAllLines contours s
+
+-- ---- claims
+
+-- the claim of a `contour` line: the next contour begins with this crack and has so many points; it has at least one segment, and no more than points
+pub record IsContourHead (contours : List Contour) (s : Standing) (c : Crack) (n m : ℕ) : Type 0 where
+  pub full : IsFull contours s
+  pub points : List Point
+  pub next : slice_get contours s.begun ≡ Some (record { start = c; points = points })
+  pub count : n ≡ length points
+  pub segments : (1 ≤ m) × (m ≤ n)
+
+-- the claim of an `at` line: before any segment, it gives the next point of the contour that was begun last
+pub record IsNextPoint (contours : List Contour) (s : Standing) (p : Point) : Type 0 where
+  pub some : 0 < s.begun
+  pub early : s.stretches ≡ []
+  pub next : slice_get (open_contour contours s).points s.points ≡ Some p
+
+-- the claim of a `seg` line: all points are given, a segment is wanted, no gap line came yet, and the segment is good after those before it
+pub record IsNextSegment (contours : List Contour) (s : Standing) (b e t : ℕ) (line : Naive) : Type 0 where
+  pub points : s.points ≡ length (open_contour contours s).points
+  pub more : length s.stretches < s.declared
+  pub early : s.gaps ≡ 0
+  pub segment : IsSegment (open_contour contours s).points s.declared s.stretches b e t line
+
+-- the claim of a gap line: all points and segments are given, the gap line of this axis comes next, and its evidence is good for the run of its gap
+pub record IsNextGap (contours : List Contour) (s : Standing) (t : ℕ) (evidence : Evidence) : Type 0 where
+  pub points : s.points ≡ length (open_contour contours s).points
+  pub segments : length s.stretches ≡ s.declared
+  pub more : s.gaps < 2 * s.declared
+  pub axis : t ≡ s.gaps % 2
+  pub good : IsEvidence t (gap_run (open_contour contours s).points s.stretches (s.gaps / 2)) evidence
+
+-- the claim of a line of a contour, where `contours` are the picture's
+abbrev pub OutlineClaim : List Contour → Standing → Line → Type 0
+OutlineClaim contours s (Line.Contour p side n m) = IsContourHead contours s (record { pixel = p; side = side }) n m
+OutlineClaim contours s (Line.At p) = IsNextPoint contours s p
+OutlineClaim contours s (Line.Seg b e t a mu) = IsNextSegment contours s b e t (record { a = a; mu = mu })
+OutlineClaim contours s (Line.Turn t i j) = IsNextGap contours s t (Evidence.Turned i j)
+OutlineClaim contours s (Line.Cut t why) = IsNextGap contours s t (Evidence.Cut why)
+OutlineClaim contours s _ = ⊥
+
+-- the claim of a line of a contour of the picture, after the lines of contours before it
+abbrev pub ContourClaim : Picture → List Line → Line → Type 0
+ContourClaim X lines l = (contours : List Contour) × AreContours X contours × OutlineClaim contours (standing lines) l
+
+-- each contour of the picture has its lines
+abbrev pub ContoursComplete : Picture → List Line → Type 0
+ContoursComplete X lines = (contours : List Contour) × AreContours X contours × IsFull contours (standing lines) × ((standing lines).begun ≡ length contours)

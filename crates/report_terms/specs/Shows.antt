@@ -1,0 +1,72 @@
+-- What a report says of a picture, in geometry alone.
+-- No line, spelling or judge stands in what is shown, only in how it is read off the lines.
+use Rattle.std.specs.Prelude.{◌≡◌, ℕ, List, [], ◌∷◌, length, map, filter_map, Option, Some, None, All}
+use Rattle.shape_terms.specs.Pictures.{Picture}
+use Rattle.shape_terms.specs.Parts.{Counts}
+use Rattle.shape_terms.specs.Distances.{NearFact, IsField}
+use Rattle.shape_terms.specs.Contours.{Crack}
+use Rattle.shape_terms.specs.Traces.{Contour}
+use Rattle.report_terms.specs.ContourFacts.{ContourFact, in_pairs, ContoursShow}
+use Rattle.report_terms.specs.Lines.{Line, text_of, IsLineOf}
+use Rattle.report_terms.specs.ContourLines.{contour_groups, point_of, segment_of, gap_of}
+use Rattle.report_terms.specs.Good.{section_lines}
+
+-- what a `parts` line says of the picture: how many object points it has, and how many components its object and its background
+pub record PartsFact : Type 0 where
+  pub points : ℕ
+  pub object : ℕ
+  pub background : ℕ
+
+abbrev pub parts_fact : Line → Option PartsFact
+parts_fact (Line.Parts n o b) = Some (record { points = n; object = o; background = b })
+parts_fact _ = None
+
+-- what a `near` line says of one object point
+abbrev pub near_fact : Line → Option NearFact
+near_fact (Line.Near p q s) = Some (record { p = p; q = q; s = s })
+near_fact _ = None
+
+-- the crack that a group of lines gives first
+abbrev pub start_of : List Line → Crack
+start_of (Line.Contour p side _ _ ∷ _) = record { pixel = p; side = side }
+start_of _ = record { pixel = []; side = 0 }
+
+-- what the lines of a contour say of its outline: its first crack, and its points in order
+abbrev pub outline_of : List Line → Contour
+outline_of lines = record { start = start_of lines; points = filter_map point_of lines }
+
+-- and of its cover: its segments in order, and how the gap after each is refused
+abbrev pub contour_fact : List Line → ContourFact
+contour_fact lines = record { outline = outline_of lines; segments = filter_map segment_of lines; gaps = in_pairs (filter_map gap_of lines) }
+
+-- the report's content: what its lines say, section by section
+pub record Content : Type 0 where
+  pub parts : List PartsFact
+  pub nears : List NearFact
+  pub contours : List ContourFact
+
+abbrev pub content_of : List Line → Content
+content_of lines = record {
+  parts = filter_map parts_fact lines;
+  nears = filter_map near_fact lines;
+  contours = map contour_fact (contour_groups (section_lines 3 lines));
+}
+
+-- the counts of the picture, said once
+pub record ShowsParts (X : Picture) (facts : List PartsFact) : Type 0 where
+  pub fact : PartsFact
+  pub once : facts ≡ fact ∷ []
+  pub counts : Counts X fact.points fact.object fact.background
+
+-- the counts of the picture; each object point once, in raster order, with a nearest background point of the whole space; and the contours of a flat picture, each from its least crack and with its points and its cover
+pub record Shows (X : Picture) (content : Content) : Type 0 where
+  pub parts : ShowsParts X content.parts
+  pub nears : IsField X content.nears
+  pub contours : length X.sides ≡ 2 → ContoursShow X content.contours
+
+-- the text is made of lines that show of the picture what they say
+pub record TextShows (X : Picture) (text : List ℕ) : Type 0 where
+  pub lines : List Line
+  pub fields : All (IsLineOf (length X.sides)) lines
+  pub text_is : text ≡ text_of lines
+  pub shows : Shows X (content_of lines)

@@ -1,6 +1,0 @@
-use Rattle.std.proofs.Common.{◌<◌, ℕ, negsuc, ◌≤ℤ◌}
-use Rattle.shape_terms.specs.Points.{coordinate}
-use Rattle.shape_adj.proofs.frame.in_frame.Given as goal
-
-abbrev pub invariant-loop-k : goal.invariant-loop-k
-invariant-loop-k g l = (k : ℕ) → k < l.k → (negsuc 0 ≤ℤ coordinate (g.P.Point.coords l.p) k) × (coordinate (g.P.Point.coords l.p) k ≤ℤ coordinate (g.P.Point.coords l.sides.lengths) k)

@@ -1,0 +1,225 @@
+-- The slopes that pairs of places ask of a line, and the lines that hold a run: each is told of the other.
+-- How least lines are found belongs elsewhere.
+use Rattle.std.proofs.Common.{◌≡◌, ℕ, zero, suc, ◌+◌, ◌-◌, ◌<◌, ◌≤◌, List, [], ◌∷◌, length, map, refl, ap, sym, subst, ◌∙◌, arith}
+use Rattle.std.specs.Prelude.{◌≢◌, ℤ, pos, negsuc, ◌+ℤ◌, ◌-ℤ◌, ◌*ℤ◌, neg_ℤ, ◌≤ℤ◌, ◌<ℤ◌, nat_abs, unsigned_abs, All}
+use Rattle.std.proofs.lemmas.Int.{ints, by_lt_z}
+use Rattle.std.proofs.lemmas.List.{get_or-map, length-map}
+use Rattle.shape_space.specs.declared.point.P2.{P2}
+use Rattle.shape_refute.specs.Terms.{flat_point}
+use Rattle.shape_terms.specs.Points.{Point, coordinate}
+use Rattle.shape_terms.specs.Vectors.{dot, difference}
+use Rattle.shape_terms.specs.Naive.{Naive, IsProper, HoldsPoint, IsNaiveFor}
+use Rattle.shape_terms.specs.Refutations.{point_at}
+use Rattle.shape_terms.specs.Turns.{other_axis}
+use Rattle.shape_terms.proofs.Linear.{dot_none, dot-difference}
+use Rattle.shape_terms.proofs.Products.{rings}
+use Rattle.shape_least.specs.Least.{IsLeastLine, Pairs, Meets, ShowsLeast}
+use Rattle.shape_least.specs.Slopes.{IsSlope}
+use Rattle.shape_least.proofs.ShortSlopes.{IsNear, near, HasShort, short_slope}
+
+-- the row with the coefficient q on the axis t of the plane and r on the other
+abbrev row : ℕ → ℤ → ℤ → List ℤ
+row zero r q = q ∷ r ∷ []
+row (suc t) r q = r ∷ q ∷ []
+
+two_coordinates : (p : Point) → length p ≡ 2 → p ≡ coordinate p 0 ∷ coordinate p 1 ∷ []
+two_coordinates [] e = absurd (omega arith)
+two_coordinates (x ∷ []) e = absurd (omega arith)
+two_coordinates (x ∷ y ∷ []) e = refl
+two_coordinates (x ∷ y ∷ z ∷ p) e = absurd (omega arith)
+
+-- ---- values
+
+dot_flat : (a : List ℤ) (x y : ℤ) → dot a (x ∷ y ∷ []) ≡ coordinate a 0 *ℤ x +ℤ coordinate a 1 *ℤ y
+dot_flat [] x y = omega (arith, ints)
+dot_flat (p ∷ []) x y = omega (arith, ints)
+dot_flat (p ∷ q ∷ a) x y = let e = dot_none a in omega (arith, ints, e)
+
+-- the value of a row at a point, by the axis t and the other one
+value_flat : (t : ℕ) (a : List ℤ) (x y : ℤ) → t < 2 → dot a (x ∷ y ∷ []) ≡ coordinate a (other_axis t) *ℤ coordinate (x ∷ y ∷ []) (other_axis t) +ℤ coordinate a t *ℤ coordinate (x ∷ y ∷ []) t
+value_flat zero a x y l = let e = dot_flat a x y in omega (arith, ints, e)
+value_flat (suc zero) a x y l = dot_flat a x y
+value_flat (suc (suc t)) a x y l = absurd (omega arith)
+
+pub value_on : (t : ℕ) (a : List ℤ) (p : Point) → t < 2 → length p ≡ 2 → dot a p ≡ coordinate a (other_axis t) *ℤ coordinate p (other_axis t) +ℤ coordinate a t *ℤ coordinate p t
+value_on t a p l two = subst (λ (q : Point). dot a q ≡ coordinate a (other_axis t) *ℤ coordinate q (other_axis t) +ℤ coordinate a t *ℤ coordinate q t) (sym (two_coordinates p two)) (value_flat t a (coordinate p 0) (coordinate p 1) l)
+
+-- how far apart two points are on the other axis, and one less how far on the axis t
+abbrev pub side_of : ℕ → Point → Point → ℤ
+side_of t p q = coordinate q (other_axis t) -ℤ coordinate p (other_axis t)
+
+abbrev pub room_of : ℕ → Point → Point → ℤ
+room_of t p q = pos 1 -ℤ (coordinate q t -ℤ coordinate p t)
+
+rise : (t : ℕ) (a : List ℤ) (p q : Point) → t < 2 → length p ≡ 2 → length q ≡ 2 → dot a (difference q p) ≡ coordinate a (other_axis t) *ℤ side_of t p q +ℤ coordinate a t *ℤ (coordinate q t -ℤ coordinate p t)
+rise t a p q l hp hq = by (dot a q) (dot a p) (coordinate a (other_axis t)) (coordinate a t) (coordinate q (other_axis t)) (coordinate q t) (coordinate p (other_axis t)) (coordinate p t) (dot a (difference q p)) (dot-difference a q p) (value_on t a q l hq) (value_on t a p l hp)
+  where
+    by : (v w c b x y z u d : ℤ) → d ≡ v -ℤ w → v ≡ c *ℤ x +ℤ b *ℤ y → w ≡ c *ℤ z +ℤ b *ℤ u → d ≡ c *ℤ (x -ℤ z) +ℤ b *ℤ (y -ℤ u)
+    by v w c b x y z u d e f g = omega (arith, ints, rings, e, f, g)
+
+less_to : (c s b d v : ℤ) → v ≡ c *ℤ s +ℤ b *ℤ d → v <ℤ b → (c *ℤ s) <ℤ (b *ℤ (pos 1 -ℤ d))
+less_to c s b d v e h = omega (arith, ints, rings, e, h)
+
+less_from : (c s b d v : ℤ) → v ≡ c *ℤ s +ℤ b *ℤ d → (c *ℤ s) <ℤ (b *ℤ (pos 1 -ℤ d)) → v <ℤ b
+less_from c s b d v e h = omega (arith, ints, rings, e, h)
+
+-- ---- axes
+
+other_is : (t : ℕ) → t < 2 → other_axis t ≢ t
+other_is zero l e = absurd (let q : 1 ≡ 0 = e in omega arith)
+other_is (suc zero) l e = absurd (let q : 0 ≡ 1 = e in omega arith)
+other_is (suc (suc t)) l e = absurd (omega arith)
+
+size : (c b : ℤ) → pos (nat_abs c) ≤ℤ b → (neg_ℤ b ≤ℤ c) × (c ≤ℤ b)
+size c b h = (omega (arith, ints, h), omega (arith, ints, h))
+
+unsize : (c b : ℤ) → neg_ℤ b ≤ℤ c → c ≤ℤ b → pos (nat_abs c) ≤ℤ b
+unsize c b h k = omega (arith, ints, h, k)
+
+-- the row with coefficients c and b is proper
+row_proper : (t : ℕ) (c b : ℤ) → t < 2 → pos 1 ≤ℤ b → neg_ℤ b ≤ℤ c → c ≤ℤ b → IsProper t (record { a = row t c b; mu = pos 0 })
+row_proper zero c b l some low high = record { main = some; others = others }
+  where
+    others : (u : ℕ) → u ≢ 0 → pos (nat_abs (coordinate (b ∷ c ∷ []) u)) ≤ℤ b
+    others zero n = absurd (n refl)
+    others (suc zero) n = unsize c b low high
+    others (suc (suc u)) n = omega (arith, ints, some)
+row_proper (suc zero) c b l some low high = record { main = some; others = others }
+  where
+    others : (u : ℕ) → u ≢ 1 → pos (nat_abs (coordinate (c ∷ b ∷ []) u)) ≤ℤ b
+    others zero n = unsize c b low high
+    others (suc zero) n = absurd (n refl)
+    others (suc (suc u)) n = omega (arith, ints, some)
+row_proper (suc (suc t)) c b l some low high = absurd (omega arith)
+
+row_main : (t : ℕ) (c b : ℤ) → t < 2 → coordinate (row t c b) t ≡ b
+row_main zero c b l = refl
+row_main (suc zero) c b l = refl
+row_main (suc (suc t)) c b l = absurd (omega arith)
+
+row_side : (t : ℕ) (c b : ℤ) → t < 2 → coordinate (row t c b) (other_axis t) ≡ c
+row_side zero c b l = refl
+row_side (suc zero) c b l = refl
+row_side (suc (suc t)) c b l = absurd (omega arith)
+
+-- ---- the slopes of lines
+module _ (t : ℕ) (run : List Point) (l : t < 2) (flat : (i : ℕ) → i < length run → length (point_at run i) ≡ 2) where
+  pub meets_slope : (n : Naive) (i j : ℕ) → i < length run → j < length run → Meets t run n i j → (coordinate n.a (other_axis t) *ℤ side_of t (point_at run i) (point_at run j)) <ℤ (coordinate n.a t *ℤ room_of t (point_at run i) (point_at run j))
+  meets_slope n i j li lj m = less_to (coordinate n.a (other_axis t)) (side_of t (point_at run i) (point_at run j)) (coordinate n.a t) (coordinate (point_at run j) t -ℤ coordinate (point_at run i) t) (dot n.a (difference (point_at run j) (point_at run i))) (rise t n.a (point_at run i) (point_at run j) l (flat i li) (flat j lj)) m
+
+  pub slope_meets : (n : Naive) (i j : ℕ) → i < length run → j < length run → (coordinate n.a (other_axis t) *ℤ side_of t (point_at run i) (point_at run j)) <ℤ (coordinate n.a t *ℤ room_of t (point_at run i) (point_at run j)) → Meets t run n i j
+  slope_meets n i j li lj m = less_from (coordinate n.a (other_axis t)) (side_of t (point_at run i) (point_at run j)) (coordinate n.a t) (coordinate (point_at run j) t -ℤ coordinate (point_at run i) t) (dot n.a (difference (point_at run j) (point_at run i))) (rise t n.a (point_at run i) (point_at run j) l (flat i li) (flat j lj)) m
+
+  -- a line that holds the run meets each pair
+  pub holds_meets : (n : Naive) (i j : ℕ) → i < length run → j < length run → IsNaiveFor t run n → Meets t run n i j
+  holds_meets n i j li lj h =
+      let p = h.holds i [] li in
+      let q = h.holds j [] lj in
+      within (dot n.a (difference (point_at run j) (point_at run i))) (dot n.a (point_at run j)) (dot n.a (point_at run i)) n.mu (coordinate n.a t) (dot-difference n.a (point_at run j) (point_at run i)) p.low q.high
+    where
+      within : (d v w mu b : ℤ) → d ≡ v -ℤ w → mu ≤ℤ w → v <ℤ (mu +ℤ b) → d <ℤ b
+      within d v w mu b e f g = omega (arith, ints, e, f, g)
+
+  pub side_size : (n : Naive) → IsProper t n → (neg_ℤ (coordinate n.a t) ≤ℤ coordinate n.a (other_axis t)) × (coordinate n.a (other_axis t) ≤ℤ coordinate n.a t)
+  side_size n h = size (coordinate n.a (other_axis t)) (coordinate n.a t) (h.others (other_axis t) (other_is t l))
+
+  -- so two points of the run differ in height by at most the side
+  pub pair_near : (n : Naive) (i j : ℕ) → i < length run → j < length run → IsNaiveFor t run n → IsNear (side_of t (point_at run i) (point_at run j)) (room_of t (point_at run i) (point_at run j))
+  pair_near n i j li lj h =
+      let s = side_size n h.proper in
+      let up = rise t n.a (point_at run i) (point_at run j) l (flat i li) (flat j lj) in
+      let down = rise t n.a (point_at run j) (point_at run i) l (flat j lj) (flat i li) in
+      let pi = point_at run i in
+      let pj = point_at run j in
+      let a = coordinate n.a (other_axis t) in
+      let b = coordinate n.a t in
+      near a b (side_of t pi pj) (coordinate pj t -ℤ coordinate pi t) h.proper.main s.0 s.1 (same (dot n.a (difference pj pi)) (a *ℤ side_of t pi pj +ℤ b *ℤ (coordinate pj t -ℤ coordinate pi t)) b up (holds_meets n i j li lj h))
+      (opposite (dot n.a (difference pi pj)) a (coordinate pi (other_axis t)) (coordinate pj (other_axis t)) b (coordinate pi t) (coordinate pj t) down (holds_meets n j i lj li h))
+    where
+      same : (v w b : ℤ) → v ≡ w → v <ℤ b → w <ℤ b
+      same v w b e h = omega (arith, ints, e, h)
+
+      opposite : (v c x y b z w : ℤ) → v ≡ c *ℤ (x -ℤ y) +ℤ b *ℤ (z -ℤ w) → v <ℤ b → neg_ℤ b <ℤ (c *ℤ (y -ℤ x) +ℤ b *ℤ (w -ℤ z))
+      opposite v c x y b z w e h = omega (arith, ints, rings, e, h)
+
+  module _ (p : Pairs) (l1 : p.low1 < length run) (h1 : p.high1 < length run) (l2 : p.low2 < length run) (h2 : p.high2 < length run) where
+    abbrev s1 : ℤ
+    s1 = side_of t (point_at run p.low1) (point_at run p.high1)
+
+    abbrev r1 : ℤ
+    r1 = room_of t (point_at run p.low1) (point_at run p.high1)
+
+    abbrev s2 : ℤ
+    s2 = side_of t (point_at run p.low2) (point_at run p.high2)
+
+    abbrev r2 : ℤ
+    r2 = room_of t (point_at run p.low2) (point_at run p.high2)
+
+    line_slope : (n : Naive) → IsProper t n → Meets t run n p.low1 p.high1 → Meets t run n p.low2 p.high2 → IsSlope s1 r1 s2 r2 (coordinate n.a (other_axis t)) (coordinate n.a t)
+    line_slope n h m1 m2 = let s = side_size n h in record { some = h.main; low = s.0; high = s.1; first = meets_slope n p.low1 p.high1 l1 h1 m1; second = meets_slope n p.low2 p.high2 l2 h2 m2 }
+
+    pub lowest_shows : (q : ℤ) → ((b c : ℤ) → IsSlope s1 r1 s2 r2 c b → q ≤ℤ b) → ShowsLeast t run q p
+    lowest_shows q h = record {
+      first_low = l1;
+      first_high = h1;
+      second_low = l2;
+      second_high = h2;
+      none = λ n proper less m1 m2. (let k = h (coordinate n.a t) (coordinate n.a (other_axis t)) (line_slope n proper m1 m2) in absurd (omega (arith, ints, k, less)));
+    }
+
+    pub shows_lowest : (q : ℤ) → ShowsLeast t run q p → (b c : ℤ) → IsSlope s1 r1 s2 r2 c b → q ≤ℤ b
+    shows_lowest q h b c s = by_lt_z b q (λ (k : b <ℤ q). absurd (
+        let n : Naive = record { a = row t c b; mu = pos 0 } in
+        let m = row_main t c b l in
+        let o = row_side t c b l in
+        h.none n (row_proper t c b l s.some s.low s.high) (subst (λ (z : ℤ). z <ℤ q) (sym m) k)
+        (slope_meets n p.low1 p.high1 l1 h1 (subst (λ (z : ℤ). (z *ℤ s1) <ℤ (coordinate (row t c b) t *ℤ r1)) (sym o) (subst (λ (z : ℤ). (c *ℤ s1) <ℤ (z *ℤ r1)) (sym m) s.first)))
+        (slope_meets n p.low2 p.high2 l2 h2 (subst (λ (z : ℤ). (z *ℤ s2) <ℤ (coordinate (row t c b) t *ℤ r2)) (sym o) (subst (λ (z : ℤ). (c *ℤ s2) <ℤ (z *ℤ r2)) (sym m) s.second)))))
+        (λ k. k)
+
+    -- where a line holds the run, some slope has a small denominator
+    pub short : (n : Naive) → IsNaiveFor t run n → unsigned_abs s1 ≤ 8192 → unsigned_abs s2 ≤ 8192 → HasShort s1 r1 s2 r2
+    short n h z1 z2 = short_slope s1 r1 s2 r2 (coordinate n.a (other_axis t)) (coordinate n.a t) z1 z2 (pair_near n p.low1 p.high1 l1 h1 h) (pair_near n p.low2 p.high2 l2 h2 h)
+        (line_slope n h.proper (holds_meets n p.low1 p.high1 l1 h1 h) (holds_meets n p.low2 p.high2 l2 h2 h))
+
+    -- pairs that show it make the line least
+    pub shows_least : (n : Naive) → IsNaiveFor t run n → ShowsLeast t run (coordinate n.a t) p → IsLeastLine t run n
+    shows_least n h k = record {
+      line = h;
+      least = λ m o. by_lt_z (coordinate m.a t) (coordinate n.a t) (λ x. absurd (k.none m o.proper x (holds_meets m p.low1 p.high1 l1 h1 o) (holds_meets m p.low2 p.high2 l2 h2 o))) (λ x. x);
+    }
+
+same_slope : (a1 q1 a2 q2 x1 y1 x2 y2 c b : ℤ) → a1 ≡ x1 → q1 ≡ y1 → a2 ≡ x2 → q2 ≡ y2 → IsSlope a1 q1 a2 q2 c b → IsSlope x1 y1 x2 y2 c b
+same_slope a1 q1 a2 q2 x1 y1 x2 y2 c b f1 f2 f3 f4 s = subst (λ (z : ℤ). IsSlope z y1 x2 y2 c b) f1 (subst (λ (z : ℤ). IsSlope a1 z x2 y2 c b) f2 (subst (λ (z : ℤ). IsSlope a1 q1 z y2 c b) f3 (subst (λ (z : ℤ). IsSlope a1 q1 a2 z c b) f4 s)))
+
+-- ---- of the program's points
+pub flat_all : (points : List P2) (i : ℕ) → i < length (map flat_point points) → length (point_at (map flat_point points) i) ≡ 2
+flat_all points i l =
+    let n = length-map points flat_point in
+    ap length (get_or-map flat_point points i (record { y = pos 0; x = pos 0 }) [] (omega arith))
+
+module _ (t : ℕ) (points : List P2) (l : t < 2) (p : Pairs) (l1 : p.low1 < length points) (h1 : p.high1 < length points) (l2 : p.low2 < length points) (h2 : p.high2 < length points) where
+  abbrev run : List Point
+  run = map flat_point points
+
+  same_length : length points ≡ length (map flat_point points)
+  same_length = sym (length-map points flat_point)
+
+  in_run : (i : ℕ) → i < length points → i < length (map flat_point points)
+  in_run i m = let n = same_length in omega arith
+
+  pub is_least_short : (n : Naive) → IsNaiveFor t (map flat_point points) n → (s1 r1 s2 r2 : ℤ) → s1 ≡ side_of t (point_at run p.low1) (point_at run p.high1) → r1 ≡ room_of t (point_at run p.low1) (point_at run p.high1) → s2 ≡ side_of t (point_at run p.low2) (point_at run p.high2) → r2 ≡ room_of t (point_at run p.low2) (point_at run p.high2)
+      → unsigned_abs s1 ≤ 8192 → unsigned_abs s2 ≤ 8192 → (b : ℤ) × (c : ℤ) × IsSlope s1 r1 s2 r2 c b × (b ≤ℤ pos 16384)
+  is_least_short n h s1 r1 s2 r2 e1 e2 e3 e4 z1 z2 =
+      let k = short t run l (flat_all points) p (in_run p.low1 l1) (in_run p.high1 h1) (in_run p.low2 l2) (in_run p.high2 h2) n h (subst (λ (z : ℤ). unsigned_abs z ≤ 8192) e1 z1) (subst (λ (z : ℤ). unsigned_abs z ≤ 8192) e3 z2) in
+      let s = same_slope (side_of t (point_at run p.low1) (point_at run p.high1)) (room_of t (point_at run p.low1) (point_at run p.high1)) (side_of t (point_at run p.low2) (point_at run p.high2)) (room_of t (point_at run p.low2) (point_at run p.high2)) s1 r1 s2 r2 k.c k.b (sym e1) (sym e2) (sym e3) (sym e4) k.slope in
+      (k.b, k.c, s, k.short)
+
+  pub is_least_is : (s1 r1 s2 r2 : ℤ) → s1 ≡ side_of t (point_at run p.low1) (point_at run p.high1) → r1 ≡ room_of t (point_at run p.low1) (point_at run p.high1) → s2 ≡ side_of t (point_at run p.low2) (point_at run p.high2) → r2 ≡ room_of t (point_at run p.low2) (point_at run p.high2)
+      → (m q : ℤ) → m ≡ q → (((b c : ℤ) → IsSlope s1 r1 s2 r2 c b → m ≤ℤ b) → ShowsLeast t (map flat_point points) q p) × (ShowsLeast t (map flat_point points) q p → (b c : ℤ) → IsSlope s1 r1 s2 r2 c b → m ≤ℤ b)
+  is_least_is s1 r1 s2 r2 e1 e2 e3 e4 m q em = (
+    (λ h. lowest_shows t run l (flat_all points) p (in_run p.low1 l1) (in_run p.high1 h1) (in_run p.low2 l2) (in_run p.high2 h2) q (λ b c s. subst (λ (z : ℤ). z ≤ℤ b) em (h b c
+        (same_slope (side_of t (point_at run p.low1) (point_at run p.high1)) (room_of t (point_at run p.low1) (point_at run p.high1)) (side_of t (point_at run p.low2) (point_at run p.high2)) (room_of t (point_at run p.low2) (point_at run p.high2)) s1 r1 s2 r2 c b (sym e1) (sym e2) (sym e3) (sym e4) s)))),
+    λ h b c s. subst (λ (z : ℤ). z ≤ℤ b) (sym em) (shows_lowest t run l (flat_all points) p (in_run p.low1 l1) (in_run p.high1 h1) (in_run p.low2 l2) (in_run p.high2 h2) q h b c
+        (same_slope s1 r1 s2 r2 (side_of t (point_at run p.low1) (point_at run p.high1)) (room_of t (point_at run p.low1) (point_at run p.high1)) (side_of t (point_at run p.low2) (point_at run p.high2)) (room_of t (point_at run p.low2) (point_at run p.high2)) c b e1 e2 e3 e4 s)),
+  )

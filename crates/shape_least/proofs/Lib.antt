@@ -1,0 +1,5 @@
+pub mod Farey
+pub mod Ranges
+pub mod ShortSlopes
+pub mod LeastLines
+pub mod Walk

@@ -1,0 +1,146 @@
+-- A point that is refused: the turn or the weights that the program names.
+-- The arithmetic stands in `Clashes`.
+use Rattle.std.proofs.Common.{◌≡◌, ℕ, ◌+◌, ◌-◌, ◌<◌, ◌≤◌, List, [], ◌∷◌, ◌++◌, length, refl, ap, sym, subst, ◌∙◌, arith, ◌⊎◌, inl, inr}
+use Rattle.std.specs.Prelude.{ℤ, pos, negsuc, ◌+ℤ◌, ◌-ℤ◌, ◌*ℤ◌, ◌≤ℤ◌, ◌<ℤ◌}
+use Rattle.std.proofs.lemmas.Int.{ints}
+use Rattle.std.proofs.lemmas.List.{length-append}
+use Rattle.std.proofs.Math.ListN.{get_or-append}
+use Rattle.std.proofs.Math.Seq.{get_or-append_seam}
+use Rattle.shape_space.specs.declared.point.P2.{P2}
+use Rattle.shape_terms.specs.Points.{Point, coordinate}
+use Rattle.shape_terms.specs.Refutations.{point_at, Refutes}
+use Rattle.shape_terms.specs.Turns.{IsTurn, change_at, other_axis}
+use Rattle.shape_refute.specs.declared.naive.Naive.{Naive}
+use Rattle.shape_refute.specs.Terms.{flat_point}
+use Rattle.shape_line.specs.Slopes.{Span, IsSpan, span_refutation}
+use Rattle.shape_terms.proofs.Products.{rings}
+use Rattle.shape_line.specs.Segments.{Seg, IsSegment}
+use Rattle.shape_line.specs.Frames.{IsSense, along, height, IsRunOf, line_points, place_from, end_point}
+use Rattle.shape_line.specs.Grown.{segment_of, IsGrown}
+use Rattle.shape_line.specs.declared.clash.Crossing.{Crossing}
+use Rattle.shape_line.specs.Clashes.{span, IsCrossing}
+use Rattle.shape_line.proofs.Frames.{which, same_point, taken_one}
+use Rattle.shape_line.proofs.Steps.{run_is}
+use Rattle.shape_line.proofs.SegmentClashes.{low_spans, low_refutes, high_spans, high_refutes}
+
+-- ---- turns
+
+-- a point that is not one further along makes a turn with the first change
+turn_by : (s : ℤ) (a b c d : ℤ) → (s ≡ pos 1) ⊎ (s ≡ negsuc 0) → s *ℤ b -ℤ s *ℤ a ≡ pos 1 → (s *ℤ d -ℤ s *ℤ c ≡ pos 1 → ⊥) → ((b -ℤ a ≡ pos 1) × (d -ℤ c ≡ pos 1) → ⊥) × ((b -ℤ a ≡ negsuc 0) × (d -ℤ c ≡ negsuc 0) → ⊥)
+turn_by s a b c d (inl e) h k = ((λ u. k (forward s c d e u.1)), λ u. backward s a b e h u.0)
+  where
+    forward : (s c d : ℤ) → s ≡ pos 1 → d -ℤ c ≡ pos 1 → s *ℤ d -ℤ s *ℤ c ≡ pos 1
+    forward s c d e h = let x = ap (λ (z : ℤ). z *ℤ d) e in let y = ap (λ (z : ℤ). z *ℤ c) e in omega (arith, ints, rings, h, x, y)
+
+    backward : (s a b : ℤ) → s ≡ pos 1 → s *ℤ b -ℤ s *ℤ a ≡ pos 1 → b -ℤ a ≡ negsuc 0 → ⊥
+    backward s a b e h g = let x = ap (λ (z : ℤ). z *ℤ a) e in let y = ap (λ (z : ℤ). z *ℤ b) e in omega (arith, ints, rings, h, g, x, y)
+turn_by s a b c d (inr e) h k = ((λ u. forward s a b e h u.0), λ u. k (backward s c d e u.1))
+  where
+    backward : (s c d : ℤ) → s ≡ negsuc 0 → d -ℤ c ≡ negsuc 0 → s *ℤ d -ℤ s *ℤ c ≡ pos 1
+    backward s c d e h = let x = ap (λ (z : ℤ). z *ℤ d) e in let y = ap (λ (z : ℤ). z *ℤ c) e in omega (arith, ints, rings, h, x, y)
+
+    forward : (s a b : ℤ) → s ≡ negsuc 0 → s *ℤ b -ℤ s *ℤ a ≡ pos 1 → b -ℤ a ≡ pos 1 → ⊥
+    forward s a b e h g = let x = ap (λ (z : ℤ). z *ℤ a) e in let y = ap (λ (z : ℤ). z *ℤ b) e in omega (arith, ints, rings, h, g, x, y)
+
+one_apart : (x y z : ℤ) → y ≡ x +ℤ pos 0 → z ≡ x +ℤ pos 1 → z -ℤ y ≡ pos 1
+one_apart x y z e f = omega (arith, ints)
+
+at_last : (n : ℕ) (x0 x1 x : ℤ) → pos n ≡ x1 -ℤ x0 +ℤ pos 1 → 1 ≤ n → x ≡ x0 +ℤ pos (n - 1) → x ≡ x1
+at_last n x0 x1 x e l f = omega (arith, ints)
+
+pub turns_last : (t : ℕ) (s : ℤ) (seg : Seg) (run : List Point) (p : Point) → IsSense s → IsRunOf t s seg run → 2 ≤ length run → (along t s p ≡ seg.x1 +ℤ pos 1 → ⊥) → IsTurn t (run ++ p ∷ []) 0 (length run - 1)
+turns_last t s seg run p sense h two off =
+    let n = length-append run (p ∷ []) in
+    let a : point_at (run ++ p ∷ []) 0 ≡ point_at run 0 = get_or-append run (p ∷ []) [] 0 (omega arith) in
+    let b : point_at (run ++ p ∷ []) 1 ≡ point_at run 1 = get_or-append run (p ∷ []) [] 1 (omega arith) in
+    let c : point_at (run ++ p ∷ []) (length run - 1) ≡ point_at run (length run - 1) = get_or-append run (p ∷ []) [] (length run - 1) (omega arith) in
+    let d : point_at (run ++ p ∷ []) (length run - 1 + 1) ≡ p = ap (point_at (run ++ p ∷ [])) (let q : length run - 1 + 1 ≡ length run = omega arith in q) ∙ get_or-append_seam run p [] [] in
+    let u = other_axis t in
+    let x = one_apart seg.x0 _ _ (h.place 0 (omega arith)) (h.place 1 (omega arith)) in
+    let y = at_last (length run) seg.x0 seg.x1 _ h.count (omega arith) (h.place (length run - 1) (omega arith)) in
+    let w = turn_by s (coordinate (point_at run 0) u) (coordinate (point_at run 1) u) (coordinate (point_at run (length run - 1)) u) (coordinate p u) (which s sense) x (λ g. off (next _ _ _ g y)) in
+    let e : change_at (run ++ p ∷ []) t 0 ≡ coordinate (point_at run 1) u -ℤ coordinate (point_at run 0) u = (λ i. coordinate (b i) u -ℤ coordinate (a i) u) in
+    let f : change_at (run ++ p ∷ []) t (length run - 1) ≡ coordinate p u -ℤ coordinate (point_at run (length run - 1)) u = (λ i. coordinate (d i) u -ℤ coordinate (c i) u) in
+    record {
+      first = omega (arith, n);
+      second = omega (arith, n);
+      not_forward = λ v. w.0 (sym e ∙ v.0, sym f ∙ v.1);
+      not_backward = λ v. w.1 (sym e ∙ v.0, sym f ∙ v.1);
+    }
+  where
+    next : (x y z : ℤ) → x -ℤ y ≡ pos 1 → y ≡ z → x ≡ z +ℤ pos 1
+    next x y z e f = omega (arith, ints)
+
+-- two points that are not next to each other along
+pub turns_once : (t : ℕ) (run : List Point) (p q : Point) → run ≡ p ∷ [] → (coordinate q (other_axis t) -ℤ coordinate p (other_axis t) ≡ pos 1 → ⊥) → (coordinate q (other_axis t) -ℤ coordinate p (other_axis t) ≡ negsuc 0 → ⊥) → IsTurn t (run ++ q ∷ []) 0 0
+turns_once t run p q e f b = subst (λ (r : List Point). IsTurn t (r ++ q ∷ []) 0 0) (sym e) (record { first = omega arith; second = omega arith; not_forward = λ v. f v.0; not_backward = λ v. b v.0 })
+
+-- ---- the fields of a segment
+
+module _ (t : ℕ) (s : ℤ) (line : Naive) (first last : P2) (upper lower : List P2) (g : IsGrown t s line first last upper lower) where
+  abbrev seg : Seg
+  seg = segment_of t s line first last upper lower
+
+  abbrev run : List Point
+  run = line_points t s (segment_of t s line first last upper lower)
+
+  pub run_some : 1 ≤ length run
+  run_some = let h = run_is t s line first last upper lower g in some _ _ _ h.count g.order
+    where
+      some : (n : ℕ) (x0 x1 : ℤ) → pos n ≡ x1 -ℤ x0 +ℤ pos 1 → x0 ≤ℤ x1 → 1 ≤ n
+      some n x0 x1 e h = omega (arith, ints)
+
+  pub run_two : seg.x0 <ℤ seg.x1 → 2 ≤ length run
+  run_two l = let h = run_is t s line first last upper lower g in two _ _ _ h.count l
+    where
+      two : (n : ℕ) (x0 x1 : ℤ) → pos n ≡ x1 -ℤ x0 +ℤ pos 1 → x0 <ℤ x1 → 2 ≤ n
+      two n x0 x1 e h = omega (arith, ints)
+
+  -- the run ends with the last point
+  pub ends_with : end_point run ≡ flat_point last
+  ends_with =
+      let h = run_is t s line first last upper lower g in
+      let n = run_some in
+      let l : length run - 1 < length run = omega (arith, n) in
+      let e = at_last (length run) _ _ _ h.count n (h.place (length run - 1) l) in
+      same_point t s (end_point run) (flat_point last) g.axis g.sense (h.flat (length run - 1) l) refl e (taken_one seg _ _ _ _ g.some e (h.taken (length run - 1) l) g.ends)
+
+  module _ (p : P2) (next : along t s (flat_point p) ≡ along t s (flat_point last) +ℤ pos 1) (is : IsSegment (segment_of t s line first last upper lower)) (few : length (line_points t s (segment_of t s line first last upper lower)) ≤ 8193) where
+    short : length (run ++ flat_point p ∷ []) ≤ 8194
+    short = omega (arith, few, length-append run (flat_point p ∷ []))
+
+    -- the remainder is too small
+    pub low_crossing : (c : Crossing) → c.lower.first ≡ place_from seg.x0 seg.ux → c.lower.last ≡ place_from seg.x0 seg.kx → c.upper.first ≡ place_from seg.x0 seg.kx → c.upper.last ≡ length run
+        → pos c.up ≡ ((height t (flat_point p) -ℤ seg.ky) -ℤ pos 1) *ℤ (seg.kx -ℤ seg.ux) -ℤ ((seg.ky -ℤ seg.uy) +ℤ pos 1) *ℤ (along t s (flat_point p) -ℤ seg.kx) → c.up ≤ 268435456
+        → IsCrossing t (line_points t s (segment_of t s line first last upper lower) ++ flat_point p ∷ []) c
+    low_crossing c e1 e2 e3 e4 up small =
+        let h = run_is t s line first last upper lower g in
+        let spans = low_spans t s g.axis g.sense seg is run h (flat_point p) refl next in
+        let r = low_refutes t s g.axis g.sense seg is run h (flat_point p) refl next c.up up in
+        let lo : record { first = place_from seg.x0 seg.ux; last = place_from seg.x0 seg.kx } ≡ span c.lower = (λ i. record { first = sym e1 i; last = sym e2 i }) in
+        let hi : record { first = place_from seg.x0 seg.kx; last = length run } ≡ span c.upper = (λ i. record { first = sym e3 i; last = sym e4 i }) in
+        record {
+          short = short;
+          lower = subst (λ (q : Span). IsSpan (length (run ++ flat_point p ∷ [])) q) lo spans.0;
+          upper = subst (λ (q : Span). IsSpan (length (run ++ flat_point p ∷ [])) q) hi spans.1;
+          small = small;
+          refutes = subst (λ (q : Span). Refutes 2 t (run ++ flat_point p ∷ []) (span_refutation q (span c.upper) c.up)) lo (subst (λ (q : Span). Refutes 2 t (run ++ flat_point p ∷ []) (span_refutation (record { first = place_from seg.x0 seg.ux; last = place_from seg.x0 seg.kx }) q c.up)) hi r);
+        }
+
+    -- it is too great
+    pub high_crossing : (c : Crossing) → c.lower.first ≡ place_from seg.x0 seg.vx → c.lower.last ≡ length run → c.upper.first ≡ place_from seg.x0 seg.lx → c.upper.last ≡ place_from seg.x0 seg.vx
+        → pos c.up ≡ ((seg.vy -ℤ seg.ly) -ℤ pos 1) *ℤ (along t s (flat_point p) -ℤ seg.vx) -ℤ ((height t (flat_point p) -ℤ seg.vy) +ℤ pos 1) *ℤ (seg.vx -ℤ seg.lx) → c.up ≤ 268435456
+        → IsCrossing t (line_points t s (segment_of t s line first last upper lower) ++ flat_point p ∷ []) c
+    high_crossing c e1 e2 e3 e4 up small =
+        let h = run_is t s line first last upper lower g in
+        let spans = high_spans t s g.axis g.sense seg is run h (flat_point p) refl next in
+        let r = high_refutes t s g.axis g.sense seg is run h (flat_point p) refl next c.up up in
+        let lo : record { first = place_from seg.x0 seg.vx; last = length run } ≡ span c.lower = (λ i. record { first = sym e1 i; last = sym e2 i }) in
+        let hi : record { first = place_from seg.x0 seg.lx; last = place_from seg.x0 seg.vx } ≡ span c.upper = (λ i. record { first = sym e3 i; last = sym e4 i }) in
+        record {
+          short = short;
+          lower = subst (λ (q : Span). IsSpan (length (run ++ flat_point p ∷ [])) q) lo spans.1;
+          upper = subst (λ (q : Span). IsSpan (length (run ++ flat_point p ∷ [])) q) hi spans.0;
+          small = small;
+          refutes = subst (λ (q : Span). Refutes 2 t (run ++ flat_point p ∷ []) (span_refutation q (span c.upper) c.up)) lo (subst (λ (q : Span). Refutes 2 t (run ++ flat_point p ∷ []) (span_refutation (record { first = place_from seg.x0 seg.vx; last = length run }) q c.up)) hi r);
+        }

@@ -1,0 +1,160 @@
+-- Weights to which a row is added: their number, their size, and what they leave on each axis.
+-- Which rows are added belongs elsewhere.
+use Rattle.std.proofs.Common.{◌≡◌, ℕ, zero, suc, ◌+◌, ◌-◌, ◌<◌, ◌≤◌, ◌^◌, ◌⊎◌, inl, inr, Bool, List, [], ◌∷◌, ◌++◌, length, refl, ap, sym, subst, ◌∙◌, arith}
+use Rattle.std.specs.Prelude.{ℤ, pos, neg_ℤ, ◌+ℤ◌, ◌-ℤ◌, ◌*ℤ◌, if◌then◌else◌}
+use Rattle.std.proofs.lemmas.Int.{ints}
+use Rattle.std.proofs.lemmas.Bool.{lt-ltb, le-ltb}
+use Rattle.std.proofs.lemmas.List.{length-append}
+use Rattle.std.proofs.lemmas.List.Sums.{sum_by-append, sum_by-cons}
+use Rattle.std.proofs.lemmas.List.Elements.{All-push}
+use Rattle.std.proofs.lemmas.Option.{slice_get-get_or}
+use Rattle.shape_terms.specs.Points.{Point, coordinate}
+use Rattle.shape_terms.specs.Vectors.{unit}
+use Rattle.shape_terms.specs.Refutations.{Share, Step, StepShare, Refutation, IsStepOf, step_of, point_at, total_weight}
+use Rattle.shape_refute.specs.Sums.{shares_sum, steps_sum, axis_value}
+use Rattle.shape_slope.specs.declared.pair.Pair.{Pair}
+use Rattle.shape_slope.specs.Pairs.{ArePairs, gap}
+use Rattle.shape_slope.specs.Systems.{bounding_step, pair_at, no_weights, with_step, with_pair, with_row, with_up, balance, coefficient}
+use Rattle.shape_slope.specs.Weighing.{IsEntry, IsStepEntry, IsWeighed}
+use Rattle.shape_terms.proofs.Products.{rings}
+
+pub small_or : (i : ℕ) → (i < 4) ⊎ (4 ≤ i)
+small_or i = grind arith
+
+-- ---- which row is added
+
+pub row_step : (t : ℕ) (pairs : List Pair) (r : Refutation) (w i : ℕ) → i < 4 → with_row t pairs r (suc w) i ≡ with_step r (suc w) (bounding_step t i)
+row_step t pairs r w i h = ap (λ (b : Bool). if b then with_step r (suc w) (bounding_step t i) else with_pair r (suc w) (pair_at pairs (i - 4))) (lt-ltb i 4 h)
+
+pub row_pair : (t : ℕ) (pairs : List Pair) (r : Refutation) (w i : ℕ) → 4 ≤ i → with_row t pairs r (suc w) i ≡ with_pair r (suc w) (pair_at pairs (i - 4))
+row_pair t pairs r w i h = ap (λ (b : Bool). if b then with_step r (suc w) (bounding_step t i) else with_pair r (suc w) (pair_at pairs (i - 4))) (le-ltb i 4 h)
+
+pub coefficient_step : (t : ℕ) (points : List Point) (pairs : List Pair) (i k : ℕ) → i < 4 → coefficient t points pairs i k ≡ neg_ℤ (coordinate (step_of t (bounding_step t i)) k)
+coefficient_step t points pairs i k h = ap (λ (b : Bool). if b then neg_ℤ (coordinate (step_of t (bounding_step t i)) k) else gap points (pair_at pairs (i - 4)) k -ℤ coordinate (unit t) k) (lt-ltb i 4 h)
+
+pub coefficient_pair : (t : ℕ) (points : List Point) (pairs : List Pair) (i k : ℕ) → 4 ≤ i → coefficient t points pairs i k ≡ gap points (pair_at pairs (i - 4)) k -ℤ coordinate (unit t) k
+coefficient_pair t points pairs i k h = ap (λ (b : Bool). if b then neg_ℤ (coordinate (step_of t (bounding_step t i)) k) else gap points (pair_at pairs (i - 4)) k -ℤ coordinate (unit t) k) (le-ltb i 4 h)
+
+-- ---- sums of one entry more
+
+shares_more : (f : ℕ → ℤ) (xs : List Share) (s : Share) → shares_sum f (xs ++ s ∷ []) ≡ shares_sum f xs +ℤ pos s.weight *ℤ f s.place
+shares_more f [] s = omega (arith, ints)
+shares_more f (x ∷ xs) s = let h = shares_more f xs s in omega (arith, ints, h)
+
+steps_more : (t k : ℕ) (xs : List StepShare) (s : StepShare) → steps_sum t k (xs ++ s ∷ []) ≡ steps_sum t k xs +ℤ pos s.weight *ℤ coordinate (step_of t s.step) k
+steps_more t k [] s = omega (arith, ints)
+steps_more t k (x ∷ xs) s = let h = steps_more t k xs s in omega (arith, ints, h)
+
+pub balance_step : (t : ℕ) (points : List Point) (r : Refutation) (w : ℕ) (s : Step) (k : ℕ) → balance t points (with_step r w s) k ≡ balance t points r k +ℤ pos w *ℤ neg_ℤ (coordinate (step_of t s) k)
+balance_step t points r w s k =
+    less (shares_sum (axis_value points k (coordinate (unit t) k)) r.high -ℤ shares_sum (axis_value points k (pos 0)) r.low) (steps_sum t k r.steps) (steps_sum t k (with_step r w s).steps) (pos w) (coordinate (step_of t s) k) (steps_more t k r.steps (record { weight = w; step = s }))
+  where
+    less : (a b c w v : ℤ) → c ≡ b +ℤ w *ℤ v → a -ℤ c ≡ (a -ℤ b) +ℤ w *ℤ neg_ℤ v
+    less a b c w v e = omega (arith, ints, rings, e)
+
+pub balance_pair : (t : ℕ) (points : List Point) (r : Refutation) (w : ℕ) (pair : Pair) (k : ℕ) → balance t points (with_pair r w pair) k ≡ balance t points r k +ℤ pos w *ℤ (gap points pair k -ℤ coordinate (unit t) k)
+balance_pair t points r w pair k =
+    more (shares_sum (axis_value points k (coordinate (unit t) k)) r.high) (shares_sum (axis_value points k (pos 0)) r.low) (steps_sum t k r.steps) (shares_sum (axis_value points k (coordinate (unit t) k)) (with_pair r w pair).high) (shares_sum (axis_value points k (pos 0)) (with_pair r w pair).low)
+    (pos w) (coordinate (point_at points pair.high) k) (coordinate (point_at points pair.low) k) (coordinate (unit t) k)
+    (shares_more (axis_value points k (coordinate (unit t) k)) r.high (record { weight = w; place = pair.high })) (shares_more (axis_value points k (pos 0)) r.low (record { weight = w; place = pair.low }))
+  where
+    more : (a b s c d w x y u : ℤ) → c ≡ a +ℤ w *ℤ (x -ℤ u) → d ≡ b +ℤ w *ℤ (y -ℤ pos 0) → (c -ℤ d) -ℤ s ≡ ((a -ℤ b) -ℤ s) +ℤ w *ℤ ((x -ℤ y) -ℤ u)
+    more a b s c d w x y u e f = omega (arith, ints, rings, e, f)
+
+pub balance_row : (t : ℕ) (points : List Point) (pairs : List Pair) (r : Refutation) (w i k : ℕ) → balance t points (with_row t pairs r w i) k ≡ balance t points r k +ℤ pos w *ℤ coefficient t points pairs i k
+balance_row t points pairs r zero i k = omega (arith, ints)
+balance_row t points pairs r (suc w) i k = elim (small_or i) [
+  | inl h ↦ ap (λ (s : Refutation). balance t points s k) (row_step t pairs r w i h) ∙ balance_step t points r (suc w) (bounding_step t i) k ∙ ap (λ (z : ℤ). balance t points r k +ℤ pos (suc w) *ℤ z) (sym (coefficient_step t points pairs i k h))
+  | inr h ↦ ap (λ (s : Refutation). balance t points s k) (row_pair t pairs r w i h) ∙ balance_pair t points r (suc w) (pair_at pairs (i - 4)) k ∙ ap (λ (z : ℤ). balance t points r k +ℤ pos (suc w) *ℤ z) (sym (coefficient_pair t points pairs i k h))
+]
+
+pub balance_up : (t : ℕ) (points : List Point) (r : Refutation) (w k : ℕ) → balance t points (with_up r w) k ≡ balance t points r k +ℤ pos w *ℤ neg_ℤ (coordinate (unit t) k)
+balance_up t points r zero k = omega (arith, ints)
+balance_up t points r (suc w) k = balance_step t points r (suc w) Step.Up k
+
+pub balance_none : (t : ℕ) (points : List Point) (k : ℕ) → balance t points no_weights k ≡ pos 0
+balance_none t points k = refl
+
+-- ---- entries
+
+length_more : {X : Type 0} (xs : List X) (x : X) → length (xs ++ x ∷ []) ≡ length xs + 1
+length_more xs x = length-append xs (x ∷ [])
+
+total_more : (xs : List Share) (s : Share) → total_weight (xs ++ s ∷ []) ≡ total_weight xs + s.weight
+total_more xs s = let h = sum_by-append (λ (x : Share). x.weight) xs (s ∷ []) in let c = sum_by-cons (λ (x : Share). x.weight) s [] in omega (arith, h, c)
+
+pub weighed_none : (d t : ℕ) (points : List Point) (pairs : List Pair) → IsWeighed d t points pairs 0 0 no_weights
+weighed_none d t points pairs = record {
+  low = λ k e l. absurd (omega arith);
+  high = λ k e l. absurd (omega arith);
+  steps = λ k e l. absurd (omega arith);
+  low_few = omega arith;
+  high_few = omega arith;
+  steps_few = omega arith;
+  same = refl;
+}
+
+pub weaker : (d t : ℕ) (points : List Point) (pairs : List Pair) (n m n' m' : ℕ) (r : Refutation) → n ≤ n' → m ≤ m' → IsWeighed d t points pairs n m r → IsWeighed d t points pairs n' m' r
+weaker d t points pairs n m n' m' r a b w = record {
+  low = w.low;
+  high = w.high;
+  steps = w.steps;
+  low_few = (let h = w.low_few in omega (arith, h));
+  high_few = (let h = w.high_few in omega (arith, h));
+  steps_few = (let h = w.steps_few in omega (arith, h));
+  same = w.same;
+}
+
+pub weighed_step : (d t : ℕ) (points : List Point) (pairs : List Pair) (n m : ℕ) (r : Refutation) (w : ℕ) (s : Step) → IsWeighed d t points pairs n m r → w < 2 ^ 40 → IsStepOf d t s → IsWeighed d t points pairs n (m + 1) (with_step r w s)
+weighed_step d t points pairs n m r w s h small step = record {
+  low = h.low;
+  high = h.high;
+  steps = All-push (IsStepEntry d t) r.steps (record { weight = w; step = s }) h.steps (record { step = step; small = small });
+  low_few = h.low_few;
+  high_few = h.high_few;
+  steps_few = (let a = h.steps_few in let e = length_more r.steps (record { weight = w; step = s }) in omega (arith, a, e));
+  same = h.same;
+}
+
+pub weighed_pair : (d t : ℕ) (points : List Point) (pairs : List Pair) (n m : ℕ) (r : Refutation) (w j : ℕ) → IsWeighed d t points pairs n m r → w < 2 ^ 40 → ArePairs (length points) pairs → j < length pairs → IsWeighed d t points pairs (n + 1) m (with_pair r w (pair_at pairs j))
+weighed_pair d t points pairs n m r w j h small are l =
+    let p = are j (record { low = 0; high = 0 }) l in
+    let g = slice_get-get_or pairs j (record { low = 0; high = 0 }) l in
+    record {
+      low = All-push (IsEntry (length points) pairs) r.low (record { weight = w; place = (pair_at pairs j).low }) h.low (record { place = p.0; from = (j, pair_at pairs j, g, inl refl); small = small });
+      high = All-push (IsEntry (length points) pairs) r.high (record { weight = w; place = (pair_at pairs j).high }) h.high (record { place = p.1; from = (j, pair_at pairs j, g, inr refl); small = small });
+      steps = h.steps;
+      low_few = (let a = h.low_few in let e = length_more r.low (record { weight = w; place = (pair_at pairs j).low }) in omega (arith, a, e));
+      high_few = (let a = h.high_few in let e = length_more r.high (record { weight = w; place = (pair_at pairs j).high }) in omega (arith, a, e));
+      steps_few = h.steps_few;
+      same = total_more r.low (record { weight = w; place = (pair_at pairs j).low }) ∙ ap (λ (x : ℕ). x + w) h.same ∙ sym (total_more r.high (record { weight = w; place = (pair_at pairs j).high }));
+    }
+
+-- a row that stands for a lawful step or for a pair
+pub record IsLawful (d t : ℕ) (pairs : List Pair) (w i : ℕ) : Type 0 where
+  pub step : i < 4 → 1 ≤ w → IsStepOf d t (bounding_step t i)
+  pub pair : 4 ≤ i → i - 4 < length pairs
+
+pub weighed_row : (d t : ℕ) (points : List Point) (pairs : List Pair) (n m : ℕ) (r : Refutation) (w i : ℕ) → IsWeighed d t points pairs n m r → w < 2 ^ 40 → ArePairs (length points) pairs → IsLawful d t pairs w i → IsWeighed d t points pairs (n + 1) (m + 1) (with_row t pairs r w i)
+weighed_row d t points pairs n m r zero i h small are law = weaker d t points pairs n m (n + 1) (m + 1) r (omega arith) (omega arith) h
+weighed_row d t points pairs n m r (suc w) i h small are law = elim (small_or i) [
+  | inl l ↦ subst (IsWeighed d t points pairs (n + 1) (m + 1)) (sym (row_step t pairs r w i l)) (weaker d t points pairs n (m + 1) (n + 1) (m + 1) _ (omega arith) (omega arith) (weighed_step d t points pairs n m r (suc w) (bounding_step t i) h small (law.step l (omega arith))))
+  | inr l ↦ subst (IsWeighed d t points pairs (n + 1) (m + 1)) (sym (row_pair t pairs r w i l)) (weaker d t points pairs (n + 1) m (n + 1) (m + 1) _ (omega arith) (omega arith) (weighed_pair d t points pairs n m r (suc w) (i - 4) h small are (law.pair l)))
+]
+
+-- a row of a pair brings no step
+pub weighed_row_pair : (d t : ℕ) (points : List Point) (pairs : List Pair) (n m : ℕ) (r : Refutation) (w i : ℕ) → IsWeighed d t points pairs n m r → w < 2 ^ 40 → ArePairs (length points) pairs → 4 ≤ i → i - 4 < length pairs → IsWeighed d t points pairs (n + 1) m (with_row t pairs r w i)
+weighed_row_pair d t points pairs n m r zero i h small are l j = weaker d t points pairs n m (n + 1) m r (omega arith) (omega arith) h
+weighed_row_pair d t points pairs n m r (suc w) i h small are l j = subst (IsWeighed d t points pairs (n + 1) m) (sym (row_pair t pairs r w i l)) (weighed_pair d t points pairs n m r (suc w) (i - 4) h small are j)
+
+-- how many low points there are in all
+pub total_row : (t : ℕ) (pairs : List Pair) (r : Refutation) (w i : ℕ) → total_weight r.low ≤ total_weight (with_row t pairs r w i).low
+total_row t pairs r zero i = omega arith
+total_row t pairs r (suc w) i = elim (small_or i) [
+  | inl l ↦ subst (λ (s : Refutation). total_weight r.low ≤ total_weight s.low) (sym (row_step t pairs r w i l)) (omega arith)
+  | inr l ↦ subst (λ (s : Refutation). total_weight r.low ≤ total_weight s.low) (sym (row_pair t pairs r w i l)) (omega (arith, total_more r.low (record { weight = suc w; place = (pair_at pairs (i - 4)).low })))
+]
+
+pub total_row_pair : (t : ℕ) (pairs : List Pair) (r : Refutation) (w i : ℕ) → 4 ≤ i → w ≤ total_weight (with_row t pairs r w i).low
+total_row_pair t pairs r zero i l = omega arith
+total_row_pair t pairs r (suc w) i l = subst (λ (s : Refutation). suc w ≤ total_weight s.low) (sym (row_pair t pairs r w i l)) (omega (arith, total_more r.low (record { weight = suc w; place = (pair_at pairs (i - 4)).low })))

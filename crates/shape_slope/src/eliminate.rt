@@ -1,0 +1,167 @@
+//! Slopes that meet all rows, or two combinations that exclude all slopes.
+//! The second slope is eliminated first; then bounds of the first are left.
+ghost use Rattle.std.specs.Prelude.{◌≡◌, ◌≤◌, ◌↔◌, IsTrue, unsigned_abs, ◌<ℤ◌, ◌≤ℤ◌, ◌*ℤ◌, pos, length};
+ghost use Rattle.shape_slope.specs.Rows.{row_at, level as level_of, IsSystem};
+ghost use Rattle.shape_slope.specs.Ranges.{IsInside, IsRange, IsClashing, IsWhole};
+ghost use Rattle.shape_slope.specs.Combinations.{IsBounded};
+ghost use Rattle.shape_slope.specs.Spans.{IsSpan, IsAmid, IsSmallSlope};
+ghost use Rattle.shape_slope.specs.Solutions.{IsSolution, IsExcluded, IsElimination};
+
+use crate::combination::Combination;
+use crate::exact::{combine_across, scale};
+use shape_space::Frac;
+use crate::range::{Narrowed, Range, first_slopes};
+use crate::row::Row;
+use crate::slope::{leaves_room, slope_inside};
+use crate::span::{Span, second_slopes, tilt_of};
+
+/// The slopes a/c and b/c.
+#[derive(Clone, Copy)]
+pub struct Solution {
+    pub a: i64,
+    pub b: i64,
+    pub c: i64,
+}
+
+/// Combinations that no slope meets, each so often that the first slope is gone, and what is left.
+#[derive(Clone, Copy)]
+pub struct Excluded {
+    pub first: Combination,
+    pub first_weight: i64,
+    pub second: Combination,
+    pub second_weight: i64,
+    pub rest: i64,
+}
+
+/// Slopes that meet all rows, or why there are none.
+#[derive(Clone, Copy)]
+pub enum Elimination {
+    Slopes(Solution),
+    Clash(Excluded),
+}
+
+// Whether some slope lies between the bounds.
+fn has_room(r: Range) -> bool
+    requires lower { IsBounded r.lower }
+    requires upper { IsBounded r.upper }
+    ensures { IsTrue result ↔ (r.lower.z *ℤ r.upper.x) <ℤ (r.upper.z *ℤ r.lower.x) }
+{
+    leaves_room(r.lower.x, r.lower.z, r.upper.x, r.upper.z)
+}
+
+// A slope between the bounds.
+fn first_slope(r: Range) -> Frac
+    requires lower { IsBounded r.lower }
+    requires upper { IsBounded r.upper }
+    requires falls { r.lower.x <ℤ pos 0 }
+    requires rises { pos 0 <ℤ r.upper.x }
+    requires room { (r.lower.z *ℤ r.upper.x) <ℤ (r.upper.z *ℤ r.lower.x) }
+    ensures inside { IsInside result.num result.den r }
+    ensures small { IsSmallSlope result }
+{
+    slope_inside(r.lower.x, r.lower.z, r.upper.x, r.upper.z)
+}
+
+// A second slope, at a first slope that leaves room.
+fn second_slope(rows: &[Row], f: Frac, s: Span) -> Frac
+    requires system { IsSystem rows.now }
+    requires slope { IsSmallSlope f }
+    requires span { IsSpan rows.now s }
+    requires room { (level_of f.num f.den (row_at rows.now s.lower) *ℤ (row_at rows.now s.upper).y) <ℤ (level_of f.num f.den (row_at rows.now s.upper) *ℤ (row_at rows.now s.lower).y) }
+    ensures amid { IsAmid rows.now f result.num result.den s }
+    ensures den { pos 1 ≤ℤ result.den }
+    ensures num_small { unsigned_abs result.num ≤ 112656384 }
+    ensures den_small { unsigned_abs result.den ≤ 382 }
+{
+    let lower = tilt_of(rows, f, s.lower);
+    let upper = tilt_of(rows, f, s.upper);
+    slope_inside(lower.y, lower.w, upper.y, upper.w)
+}
+
+// The slopes p/q and n/m over one denominator.
+fn together(f: Frac, g: Frac) -> Solution
+    requires slope { IsSmallSlope f }
+    requires num_small { unsigned_abs g.num ≤ 112656384 }
+    requires den_small { unsigned_abs g.den ≤ 382 }
+    ensures a { result.a ≡ f.num *ℤ g.den }
+    ensures b { result.b ≡ g.num }
+    ensures c { result.c ≡ f.den *ℤ g.den }
+    ensures a_small { unsigned_abs result.a ≤ 56034816 }
+    ensures c_small { unsigned_abs result.c ≤ 56034816 }
+{
+    Solution {
+        a: scale(f.num, g.den),
+        b: g.num,
+        c: scale(f.den, g.den),
+    }
+}
+
+// The slopes that meet all rows, where the bounds of the first leave room.
+fn slopes_within(rows: &[Row], r: Range) -> Solution
+    requires system { IsSystem rows.now }
+    requires whole { IsWhole rows.now (length rows.now) r }
+    requires room { (r.lower.z *ℤ r.upper.x) <ℤ (r.upper.z *ℤ r.lower.x) }
+    ensures { IsSolution rows.now result }
+{
+    let f = first_slope(r);
+    let s = second_slopes(rows, f);
+    together(f, second_slope(rows, f, s))
+}
+
+// A single combination that nothing meets.
+fn excluded_by_one(rows: &[Row], c: Combination) -> Excluded
+    requires { IsClashing rows.now c }
+    ensures { IsExcluded rows.now result }
+{
+    let _ = rows;
+    Excluded {
+        first: c,
+        first_weight: 1,
+        second: c,
+        second_weight: 0,
+        rest: c.z,
+    }
+}
+
+// Two bounds that leave no room.
+fn excluded_by_two(rows: &[Row], r: Range) -> Excluded
+    requires system { IsSystem rows.now }
+    requires range { IsRange rows.now r }
+    requires full { (r.upper.z *ℤ r.lower.x) ≤ℤ (r.lower.z *ℤ r.upper.x) }
+    ensures { IsExcluded rows.now result }
+{
+    let _ = rows;
+    let v = r.upper.x;
+    let w = -r.lower.x;
+    Excluded {
+        first: r.lower,
+        first_weight: v,
+        second: r.upper,
+        second_weight: w,
+        rest: combine_across(v, r.lower.z, w, r.upper.z),
+    }
+}
+
+// The same where the bounds of the first slope are found.
+fn decided(rows: &[Row], r: Range) -> Elimination
+    requires system { IsSystem rows.now }
+    requires whole { IsWhole rows.now (length rows.now) r }
+    ensures { IsElimination rows.now result }
+{
+    if has_room(r) {
+        Elimination::Slopes(slopes_within(rows, r))
+    } else {
+        Elimination::Clash(excluded_by_two(rows, r))
+    }
+}
+
+/// Slopes that meet all rows, or combinations that exclude all slopes.
+pub fn eliminate(rows: &[Row]) -> Elimination
+    requires { IsSystem rows.now }
+    ensures { IsElimination rows.now result }
+{
+    match first_slopes(rows) {
+        Narrowed::Clash(c) => Elimination::Clash(excluded_by_one(rows, c)),
+        Narrowed::Room(r) => decided(rows, r),
+    }
+}
