@@ -1,6 +1,5 @@
 pub mod OneWay
 pub mod SpanRefutes
-pub mod Points
 pub mod Ways
 pub mod Exactly
 pub mod GivenRuns

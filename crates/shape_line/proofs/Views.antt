@@ -7,10 +7,9 @@ use Rattle.std.proofs.lemmas.List.FromFn.{length-map-range_with_len, get_or-map-
 use Rattle.shape_terms.specs.Points.{Point, coordinate}
 use Rattle.shape_terms.specs.Refutations.{point_at}
 use Rattle.shape_terms.specs.Turns.{other_axis}
-use Rattle.shape_line.specs.Values.{row}
 use Rattle.shape_terms.proofs.Products.{rings}
 use Rattle.shape_line.specs.Segments.{Seg, IsTaken}
-use Rattle.shape_line.specs.Frames.{IsSense, along, height, IsRunOf, floor_div, line_point, line_points}
+use Rattle.shape_line.specs.Frames.{row, IsSense, along, height, IsRunOf, floor_div, line_point, line_points}
 use Rattle.shape_line.proofs.Frames.{which}
 
 floor_div_is : (z b : ℤ) → pos 0 <ℤ b → (pos 0 ≤ℤ (z -ℤ b *ℤ floor_div z b)) × ((z -ℤ b *ℤ floor_div z b) <ℤ b)

@@ -9,11 +9,11 @@ ghost use Rattle.shape_slope.specs.Solutions.{IsSolution, IsExcluded, IsEliminat
 
 use crate::combination::Combination;
 use crate::exact::{combine_across, scale};
-use shape_space::Frac;
 use crate::range::{Narrowed, Range, first_slopes};
 use crate::row::Row;
 use crate::slope::{leaves_room, slope_inside};
 use crate::span::{Span, second_slopes, tilt_of};
+use shape_space::Frac;
 
 /// The slopes a/c and b/c.
 #[derive(Clone, Copy)]

@@ -16,3 +16,6 @@ mod weights;
 
 pub use answer::{Slopes, Solved, solve};
 pub use pair::Pair;
+
+#[cfg(test)]
+mod tests;

@@ -5,9 +5,9 @@ ghost use Rattle.shape_slope.specs.Rows.{row_at, level as level_of, AreSmall, Is
 ghost use Rattle.shape_slope.specs.Spans.{IsSpan, IsSmallSlope, IsTightened, IsTight};
 
 use crate::exact::level;
-use shape_space::Frac;
 use crate::range::is_tighter;
 use crate::row::{Row, read};
+use shape_space::Frac;
 
 /// The places of the rows that give a lower and an upper bound of the second slope.
 #[derive(Clone, Copy)]
