@@ -1,9 +1,9 @@
 -- Slopes a/b strictly between two bounds Q/E and P/D: the least b where bounds are neighbours of a slope, and a slope with b at most E + D.
 -- Plain variables alone stand here.
-use Rattle.std.proofs.Common.{◌≡◌, ap, arith}
-use Rattle.std.proofs.Math.IntN.{ℤ, pos, ◌+ℤ◌, ◌-ℤ◌, ◌*ℤ◌, neg_ℤ}
+use Rattle.std.proofs.Common.{◌≡◌, arith}
+use Rattle.std.proofs.Math.IntN.{ℤ, pos, ◌+ℤ◌, ◌-ℤ◌, ◌*ℤ◌}
 use lib.Signed.{◌<ℤ◌, ◌≤ℤ◌}
-use Rattle.std.proofs.lemmas.Int.{ints, by_lt_z}
+use Rattle.std.proofs.lemmas.Int.{ints}
 use Rattle.shape_terms.proofs.Products.{rings}
 use Rattle.shape_terms.proofs.Order.{mul-le_ℤ, cancel-le_ℤ, cancel-lt_ℤ}
 use Rattle.shape_terms.proofs.Triples.{rings3}

@@ -1,14 +1,14 @@
 -- The slopes that pairs of places ask of a line, and the lines that hold a run: each is told of the other.
 -- How least lines are found belongs elsewhere.
-use Rattle.std.proofs.Common.{◌≡◌, ℕ, zero, suc, ◌+◌, ◌-◌, ◌<◌, ◌≤◌, List, [], ◌∷◌, length, map, refl, ap, sym, subst, ◌∙◌, arith}
-use Rattle.std.specs.Prelude.{◌≢◌, ℤ, pos, negsuc, ◌+ℤ◌, ◌-ℤ◌, ◌*ℤ◌, neg_ℤ, ◌≤ℤ◌, ◌<ℤ◌, nat_abs, unsigned_abs, All}
+use Rattle.std.proofs.Common.{◌≡◌, ℕ, zero, suc, ◌<◌, ◌≤◌, List, [], ◌∷◌, length, map, refl, ap, sym, subst, arith}
+use Rattle.std.specs.Prelude.{◌≢◌, ℤ, pos, ◌+ℤ◌, ◌-ℤ◌, ◌*ℤ◌, neg_ℤ, ◌≤ℤ◌, ◌<ℤ◌, nat_abs, unsigned_abs}
 use Rattle.std.proofs.lemmas.Int.{ints, by_lt_z}
 use Rattle.std.proofs.lemmas.List.{get_or-map, length-map}
 use Rattle.shape_space.specs.declared.point.P2.{P2}
 use Rattle.shape_refute.specs.Terms.{flat_point}
 use Rattle.shape_terms.specs.Points.{Point, coordinate}
 use Rattle.shape_terms.specs.Vectors.{dot, difference}
-use Rattle.shape_terms.specs.Naive.{Naive, IsProper, HoldsPoint, IsNaiveFor}
+use Rattle.shape_terms.specs.Naive.{Naive, IsProper, IsNaiveFor}
 use Rattle.shape_terms.specs.Refutations.{point_at}
 use Rattle.shape_terms.specs.Turns.{other_axis}
 use Rattle.shape_terms.proofs.Linear.{dot_none, dot-difference}

@@ -1,6 +1,6 @@
 -- Where a line holds a run, each two pairs of its places have a slope with a small denominator between the bounds that they give.
 -- Plain variables alone stand here.
-use Rattle.std.proofs.Common.{◌≡◌, ap, arith}
+use Rattle.std.proofs.Common.{arith}
 use Rattle.std.proofs.Math.IntN.{ℤ, pos, negsuc, ◌+ℤ◌, ◌-ℤ◌, ◌*ℤ◌, neg_ℤ}
 use Rattle.std.specs.Prelude.{◌≤◌, nat_abs, unsigned_abs}
 use lib.Signed.{◌<ℤ◌, ◌≤ℤ◌}
