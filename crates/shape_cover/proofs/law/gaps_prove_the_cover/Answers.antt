@@ -1,0 +1,5 @@
+use Rattle.shape_terms.proofs.CoverOf.{covers}
+use Rattle.shape_cover.proofs.law.gaps_prove_the_cover.Goals as goal
+
+pub returns : goal.returns
+returns c = covers
