@@ -19,12 +19,16 @@ fn spread<N: Net>(
 ) -> Result<(), AllocError>
     requires same { length labels.old ≡ N.size net.now }
     requires here { slice_index labels.old p ≡ label }
-    requires spreading { Spreading (N.Holds net.now) (N.Adjacent net.now) label (λ x. (x ≡ p) ⊎ Contains work.old.items x) labels.old }
+    requires spreading { Spreading (N.Holds net.now) (N.Adjacent net.now) label (λ x. (x ≡ p)
+        ⊎ Contains work.old.items x) labels.old }
     requires labelled { (x : ℕ) → Contains work.old.items x → slice_index labels.old x ≡ label }
-    ensures labelled { IfOk result (λ _. (x : ℕ) → Contains work.new.items x → slice_index labels.new x ≡ label) }
+    ensures labelled { IfOk result (λ _. (x : ℕ) → Contains work.new.items x
+        → slice_index labels.new x ≡ label) }
     ensures kept { IfOk result (λ _. Kept labels.old labels.new) }
-    ensures spreading { IfOk result (λ _. Spreading (N.Holds net.now) (N.Adjacent net.now) label (Contains work.new.items) labels.new) }
-    ensures less { IfOk result (λ _. zeros labels.new + vec_len work.new ≡ zeros labels.old + vec_len work.old) }
+    ensures spreading { IfOk result (λ _. Spreading (N.Holds net.now) (N.Adjacent net.now) label
+        (Contains work.new.items) labels.new) }
+    ensures less { IfOk result
+        (λ _. zeros labels.new + vec_len work.new ≡ zeros labels.old + vec_len work.old) }
 {
     for k in 0..net.links() {
         if let Some(q) = net.follow(p, k) {
@@ -49,11 +53,13 @@ fn fill<N: Net>(
     requires empty { work.old.items ≡ [] }
     requires member { N.Holds net.now s }
     requires new { slice_index labels.old s ≡ 0 }
-    requires flooded { (n : ℕ) × (label ≡ suc n) × Flooded (N.Holds net.now) (N.Adjacent net.now) n (slice_index labels.old) }
+    requires flooded { (n : ℕ) × (label ≡ suc n)
+        × Flooded (N.Holds net.now) (N.Adjacent net.now) n (slice_index labels.old) }
     ensures kept { IfOk result (λ _. Kept labels.old labels.new) }
     ensures seed { IfOk result (λ _. slice_index labels.new s ≡ label) }
     ensures same { IfOk result (λ _. length labels.new ≡ length labels.old) }
-    ensures flooded { IfOk result (λ _. Flooded (N.Holds net.now) (N.Adjacent net.now) label (slice_index labels.new)) }
+    ensures flooded { IfOk result (λ _. Flooded (N.Holds net.now) (N.Adjacent net.now) label
+        (slice_index labels.new)) }
     ensures empty { IfOk result (λ _. work.new.items ≡ []) }
 {
     labels[s as usize] = label;
@@ -76,9 +82,11 @@ pub struct Components {
 /// Labels the components in the order of their first places.
 pub fn label_components<N: Net>(alloc: Global, net: &N) -> Result<Components, AllocError>
     ensures filled { IfOk result (λ c. length c.labels.items ≡ N.size net.now) }
-    ensures members { IfOk result (λ c. (i : ℕ) → 1 ≤ slice_index c.labels.items i → N.Holds net.now i) }
+    ensures members { IfOk result (λ c. (i : ℕ) → 1 ≤ slice_index c.labels.items i
+        → N.Holds net.now i) }
     ensures ordered { IfOk result (λ c. InOrder c.labels.items) }
-    ensures parts { IfOk result (λ c. NamesParts (N.Adjacent net.now) (N.Holds net.now) c.count (slice_index c.labels.items)) }
+    ensures parts { IfOk result (λ c. NamesParts (N.Adjacent net.now) (N.Holds net.now) c.count
+        (slice_index c.labels.items)) }
 {
     let mut labels = vec![in alloc; 0u32; net.places() as usize]?;
     let mut work = Vec::new(alloc);

@@ -27,7 +27,8 @@ fn component_count<N: Net>(alloc: Global, net: &N) -> Result<u32, NoMemory>
 ///
 /// It takes memory for a few bytes a point, and no more stack for a larger picture.
 pub fn parts<P: Pairing>(alloc: Global, grid: &Grid<P>) -> Result<Parts, NoMemory>
-    ensures { IfOk result (λ p. Counts grid.now (length (object_points grid.now)) p.object p.background) }
+    ensures { IfOk result (λ p. Counts grid.now
+        (length (object_points grid.now)) p.object p.background) }
 {
     let object = component_count(alloc, &Object { grid })?;
     let background = component_count(alloc, &Background { grid })?;

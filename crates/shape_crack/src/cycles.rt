@@ -41,7 +41,8 @@ fn numbered_crack(grid: &Grid<P2>, i: u32) -> Crack
 fn mark_cycle(grid: &Grid<P2>, start: Crack, marks: &mut CrackMarks)
     requires crack { IsCrack grid.now (crack_of start) }
     requires room { vec_len marks.old.bytes ≡ box_count grid.now.sides }
-    ensures marked { IsCycleMarked grid.now (crack_of start) (is_marked marks.old.bytes.items) (is_marked marks.new.bytes.items) }
+    ensures marked { IsCycleMarked grid.now (crack_of start) (is_marked marks.old.bytes.items)
+        (is_marked marks.new.bytes.items) }
     ensures len { vec_len marks.new.bytes ≡ vec_len marks.old.bytes }
 {
     let _sides = grid.sides();

@@ -36,7 +36,8 @@ impl CrackMarks {
     /// Marks the crack with this number.
     pub fn mark(&mut self, n: u32)
         requires { n < vec_len self.old.bytes * 4 }
-        ensures marks { IsMarkedBesides n (is_marked self.old.bytes.items) (is_marked self.new.bytes.items) }
+        ensures marks { IsMarkedBesides n (is_marked self.old.bytes.items)
+            (is_marked self.new.bytes.items) }
         ensures len { vec_len self.new.bytes ≡ vec_len self.old.bytes }
     {
         let pixel = n as usize / 4;

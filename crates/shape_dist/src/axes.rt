@@ -49,7 +49,8 @@ fn spread_all<P: Point, L: Ledger>(
 ) -> Result<(), NoMemory>
     requires long { length cells.old ≡ box_count (framed_sides grid.now.sides) }
     requires near { AreNearestOn grid.now 1 cells.old }
-    ensures { IfOk result (λ _. AreNearestOn grid.now (box_count (framed_sides grid.now.sides)) cells.new) }
+    ensures { IfOk result (λ _. AreNearestOn grid.now
+        (box_count (framed_sides grid.now.sides)) cells.new) }
 {
     let sides = grid.sides();
     let mut before: u32 = 1;
@@ -72,7 +73,8 @@ pub fn all_found<P: Point, L: Ledger>(
     steps: &mut Steps<L>,
 ) -> Result<Vec<Option<Found>>, NoMemory>
     ensures long { IfOk result (λ v. length v.items ≡ box_count (framed_sides grid.now.sides)) }
-    ensures near { IfOk result (λ v. AreNearestOn grid.now (box_count (framed_sides grid.now.sides)) v.items) }
+    ensures near { IfOk result (λ v. AreNearestOn grid.now
+        (box_count (framed_sides grid.now.sides)) v.items) }
 {
     match opening(alloc, grid) {
         Ok(mut cells) => match spread_all(alloc, grid, &mut cells, steps) {

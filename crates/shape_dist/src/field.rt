@@ -127,7 +127,8 @@ impl<P: Point> Field<P> {
     /// The entry of the object point that is number `i` in raster order, from 0 on.
     pub fn near(&self, i: u32) -> Near<P>
         requires { i < length self.now }
-        ensures { slice_get self.now i ≡ Some (record { p = P.coords result.p; q = P.coords result.q; s = result.s }) }
+        ensures { slice_get self.now i ≡ Some
+            (record { p = P.coords result.p; q = P.coords result.q; s = result.s }) }
     {
         self.entries[i as usize]
     }

@@ -39,7 +39,8 @@ fn settle<L: Ledger>(
     requires filled { IsSome (cell row.now j) }
     requires many_places { length places.now ≡ length row.now }
     requires many_starts { length starts.now ≡ length row.now }
-    ensures settled { IsSettled row.now places.now starts.now result.kept result.start j (length row.now) }
+    ensures settled { IsSettled row.now places.now starts.now result.kept result.start j
+        (length row.now) }
     ensures fewer { result.kept ≤ m }
     ensures count { steps.new + result.kept ≤ steps.old + m + 1 }
 {
@@ -93,7 +94,8 @@ fn add_place<L: Ledger>(
 fn build<L: Ledger>(row: &Row, places: &mut [u32], starts: &mut [u32], steps: &mut Steps<L>) -> u32
     requires many_places { length places.old ≡ length row.now }
     requires many_starts { length starts.old ≡ length row.now }
-    ensures built { AreBuilt row.now places.new starts.new result (length row.now) (length row.now) }
+    ensures built { AreBuilt row.now places.new starts.new result (length row.now)
+        (length row.now) }
     ensures count { steps.new ≤ steps.old + 3 * length row.now }
 {
     let mut m: u32 = 0;
@@ -134,7 +136,8 @@ pub fn envelope<L: Ledger>(
     requires { length out.old ≡ length row.now }
     ensures none { IfOk result (λ some. (some ≡ false) ↔ ((i : ℕ) → cell row.now i ≡ None)) }
     ensures unchanged { IfOk result (λ some. some ≡ false → out.new ≡ out.old) }
-    ensures lowest { IfOk result (λ some. some ≡ true → EachIndex out.new (λ x. IsLowest row.now (pos x) (slice_index out.new x))) }
+    ensures lowest { IfOk result (λ some. some ≡ true
+        → EachIndex out.new (λ x. IsLowest row.now (pos x) (slice_index out.new x))) }
     ensures count { steps.new ≤ steps.old + 4 * length row.now }
 {
     let n = row.len() as usize;

@@ -21,7 +21,8 @@ fn line_of(
     requires inside { (y : ℕ) → y < n → base + y * step < length cells.now }
     requires few { length cells.now < 2 ^ 32 }
     ensures long { IfOk result (λ v. length v.items ≡ n) }
-    ensures same { IfOk result (λ v. (y : ℕ) → y < n → found v.items y ≡ found cells.now (base + y * step)) }
+    ensures same { IfOk result (λ v. (y : ℕ) → y < n
+        → found v.items y ≡ found cells.now (base + y * step)) }
 {
     let Ok(mut line) = Vec::with_capacity(alloc, n as usize) else {
         return Err(NoMemory);
@@ -50,7 +51,8 @@ fn row_of(alloc: Global, line: &[Option<Found>]) -> Result<Row, NoMemory>
     requires some { 1 ≤ length line.now }
     requires few { length line.now ≤ 4096 }
     ensures long { IfOk result (λ r. length r ≡ length line.now) }
-    ensures same { IfOk result (λ r. (y : ℕ) → y < length line.now → cell r y ≡ square_in (found line.now y)) }
+    ensures same { IfOk result (λ r. (y : ℕ) → y < length line.now
+        → cell r y ≡ square_in (found line.now y)) }
 {
     let n = line.len() as u32;
     match Row::new(alloc, n) {
@@ -90,8 +92,11 @@ fn store(cells: &mut [Option<Found>], base: usize, step: usize, line: &[Option<F
     requires many { length out.now ≡ length line.now }
     requires there { (x : ℕ) → x < length line.now → slice_index out.now x < length line.now }
     requires small { AreSmall line.now }
-    ensures on_line { (x : ℕ) → x < length line.now → found cells.new (base + x * step) ≡ moved (found line.now (slice_index out.now x)) x (slice_index out.now x) }
-    ensures others { (i : ℕ) → ((x : ℕ) → x < length line.now → i ≡ base + x * step → ⊥) → found cells.new i ≡ found cells.old i }
+    ensures on_line { (x : ℕ) → x < length line.now
+        → found cells.new (base + x * step) ≡ moved (found line.now (slice_index out.now x)) x
+        (slice_index out.now x) }
+    ensures others { (i : ℕ) → ((x : ℕ) → x < length line.now → i ≡ base + x * step → ⊥)
+        → found cells.new i ≡ found cells.old i }
 {
     for x in 0..line.len() {
         let y = out[x];
@@ -114,9 +119,13 @@ fn spread_copy<L: Ledger>(
     requires inside { (y : ℕ) → y < length line.now → base + y * step < length cells.old }
     requires few { length cells.old < 2 ^ 32 }
     requires small { AreSmall line.now }
-    requires same { (y : ℕ) → y < length line.now → found line.now y ≡ found cells.old (base + y * step) }
-    ensures on_line { IfOk result (λ _. (x : ℕ) → x < length line.now → IsSpreadAt (found line.now) (length line.now) x (found cells.new (base + x * step))) }
-    ensures others { IfOk result (λ _. (i : ℕ) → ((x : ℕ) → x < length line.now → i ≡ base + x * step → ⊥) → found cells.new i ≡ found cells.old i) }
+    requires same { (y : ℕ) → y < length line.now
+        → found line.now y ≡ found cells.old (base + y * step) }
+    ensures on_line { IfOk result (λ _. (x : ℕ) → x < length line.now
+        → IsSpreadAt (found line.now) (length line.now) x (found cells.new (base + x * step))) }
+    ensures others { IfOk result (λ _. (i : ℕ)
+        → ((x : ℕ) → x < length line.now → i ≡ base + x * step → ⊥)
+        → found cells.new i ≡ found cells.old i) }
 {
     let Ok(row) = row_of(alloc, line) else {
         return Err(NoMemory);
@@ -148,9 +157,13 @@ fn spread_line<L: Ledger>(
     requires near { n ≤ 4096 }
     requires inside { (y : ℕ) → y < n → base + y * step < length cells.old }
     requires few { length cells.old < 2 ^ 32 }
-    requires small { (y : ℕ) (f : Found) → y < n → found cells.old (base + y * step) ≡ Some f → f.s ≤ 2 ^ 30 }
-    ensures on_line { IfOk result (λ _. (x : ℕ) → x < n → IsSpreadAt (λ y. found cells.old (base + y * step)) n x (found cells.new (base + x * step))) }
-    ensures others { IfOk result (λ _. (i : ℕ) → ((x : ℕ) → x < n → i ≡ base + x * step → ⊥) → found cells.new i ≡ found cells.old i) }
+    requires small { (y : ℕ) (f : Found) → y < n → found cells.old (base + y * step) ≡ Some f
+        → f.s ≤ 2 ^ 30 }
+    ensures on_line { IfOk result (λ _. (x : ℕ) → x < n
+        → IsSpreadAt (λ y. found cells.old (base + y * step)) n x
+        (found cells.new (base + x * step))) }
+    ensures others { IfOk result (λ _. (i : ℕ) → ((x : ℕ) → x < n → i ≡ base + x * step → ⊥)
+        → found cells.new i ≡ found cells.old i) }
 {
     match line_of(alloc, cells, base, step, n) {
         Ok(line) => spread_copy(alloc, cells, base, step, &line, steps),

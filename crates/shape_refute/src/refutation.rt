@@ -4,9 +4,9 @@ ghost use Rattle.std.specs.Prelude.{◌≡◌, ◌<◌, ◌≤◌, ◌^◌, ◌�
 ghost use Rattle.shape_terms.specs.Points.{coordinate};
 ghost use Rattle.shape_terms.specs.Vectors.{unit};
 ghost use Rattle.shape_terms.specs.Refutations.{IsStepOf, step_of, total_weight, Refutes, RefutationsExclude};
-ghost use Rattle.shape_refute.specs.Sums.{shares_sum, steps_sum, ArePlaces, AreSteps, axis_value, low_side, high_side};
+ghost use Rattle.shape_refute.specs.Sums.{shares_sum, steps_sum, ArePlaces, AreSteps, axis_value};
 ghost use Rattle.shape_refute.specs.Shown.{shift_of};
-ghost use Rattle.shape_refute.specs.Weights.{refutation_of};
+ghost use Rattle.shape_refute.specs.Weights.{refutation_of, MeetOn};
 
 use crate::exact::{are_equal, minus, plus, sum, weighed};
 use crate::share::{Shares, Step, StepShares};
@@ -131,7 +131,7 @@ fn meets_on<P: Point>(points: &[P], axis: usize, r: &Refutation, k: usize) -> bo
     requires axis { k < P.DIM }
     requires low { ArePlaces (length points.now) r.now.low }
     requires high { ArePlaces (length points.now) r.now.high }
-    ensures { IsTrue result ↔ coordinate (low_side axis (map P.coords points.now) (refutation_of r.now)) k ≡ coordinate (high_side axis (map P.coords points.now) (refutation_of r.now)) k }
+    ensures { IsTrue result ↔ MeetOn axis (map P.coords points.now) r.now k }
 {
     let low = points_sum(points, &r.low, k, 0);
     let high = points_sum(points, &r.high, k, unit_coordinate(axis, k));
@@ -142,7 +142,8 @@ fn meets_on<P: Point>(points: &[P], axis: usize, r: &Refutation, k: usize) -> bo
 fn meets<P: Point>(points: &[P], axis: usize, r: &Refutation) -> bool
     requires low { ArePlaces (length points.now) r.now.low }
     requires high { ArePlaces (length points.now) r.now.high }
-    ensures { IsTrue result ↔ ((k : ℕ) → k < P.DIM → coordinate (low_side axis (map P.coords points.now) (refutation_of r.now)) k ≡ coordinate (high_side axis (map P.coords points.now) (refutation_of r.now)) k) }
+    ensures { IsTrue result
+        ↔ ((k : ℕ) → k < P.DIM → MeetOn axis (map P.coords points.now) r.now k) }
 {
     for k in 0..P::DIM {
         if !meets_on(points, axis, r, k) {

@@ -34,7 +34,8 @@ fn change(points: &[P2], axis: usize, i: usize) -> i64
 
 // Whether two changes are both 1, or both -1.
 fn are_one_step(first: i64, second: i64) -> bool
-    ensures { IsTrue result ↔ ((first ≡ pos 1) × (second ≡ pos 1)) ⊎ ((first ≡ negsuc 0) × (second ≡ negsuc 0)) }
+    ensures { IsTrue result ↔ ((first ≡ pos 1) × (second ≡ pos 1))
+        ⊎ ((first ≡ negsuc 0) × (second ≡ negsuc 0)) }
 {
     first == second && (first == 1 || first == -1)
 }

@@ -67,7 +67,9 @@ fn second_slope(rows: &[Row], f: Frac, s: Span) -> Frac
     requires system { IsSystem rows.now }
     requires slope { IsSmallSlope f }
     requires span { IsSpan rows.now s }
-    requires room { (level_of f.num f.den (row_at rows.now s.lower) *ℤ (row_at rows.now s.upper).y) <ℤ (level_of f.num f.den (row_at rows.now s.upper) *ℤ (row_at rows.now s.lower).y) }
+    requires room { (level_of f.num f.den (row_at rows.now s.lower) *ℤ
+        (row_at rows.now s.upper).y) <ℤ (level_of f.num f.den (row_at rows.now s.upper) *ℤ
+        (row_at rows.now s.lower).y) }
     ensures amid { IsAmid rows.now f result.num result.den s }
     ensures den { pos 1 ≤ℤ result.den }
     ensures num_small { unsigned_abs result.num ≤ 112656384 }

@@ -47,7 +47,9 @@ fn is_tighter_row(rows: &[Row], f: Frac, j: usize, i: usize) -> bool
     requires first_steep { IsSteep (row_at rows.now i) }
     requires second_steep { IsSteep (row_at rows.now j) }
     requires slope { IsSmallSlope f }
-    ensures { IsTrue result ↔ (level_of f.num f.den (row_at rows.now i) *ℤ pos (unsigned_abs (row_at rows.now j).y)) <ℤ (level_of f.num f.den (row_at rows.now j) *ℤ pos (unsigned_abs (row_at rows.now i).y)) }
+    ensures { IsTrue result
+        ↔ (level_of f.num f.den (row_at rows.now i) *ℤ pos (unsigned_abs (row_at rows.now j).y)) <ℤ
+        (level_of f.num f.den (row_at rows.now j) *ℤ pos (unsigned_abs (row_at rows.now i).y)) }
 {
     let old = tilt_of(rows, f, i);
     let new = tilt_of(rows, f, j);

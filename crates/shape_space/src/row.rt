@@ -90,7 +90,8 @@ impl Row {
         requires in_row { j < length self.now }
         requires i_filled { IsSome (cell self.now i) }
         requires j_filled { IsSome (cell self.now j) }
-        ensures first { (f g : ℕ) → cell self.now i ≡ Some f → cell self.now j ≡ Some g → IsFirstBetter f i g j result }
+        ensures first { (f g : ℕ) → cell self.now i ≡ Some f → cell self.now j ≡ Some g
+            → IsFirstBetter f i g j result }
         ensures count { steps.new ≡ steps.old + 1 }
     {
         steps.tick();

@@ -112,7 +112,8 @@ impl<P: Point> Sides<P> {
 pub fn raster_order<P: Point>(sides: &Sides<P>, p: P, q: P) -> Ordering
     requires p_in { IsTrue (in_box (sides_of (P.coords sides.now.lengths)) (P.coords p)) }
     requires q_in { IsTrue (in_box (sides_of (P.coords sides.now.lengths)) (P.coords q)) }
-    ensures { result ≡ nat_cmp (raster_number (sides_of (P.coords sides.now.lengths)) (P.coords p)) (raster_number (sides_of (P.coords sides.now.lengths)) (P.coords q)) }
+    ensures { result ≡ nat_cmp (raster_number (sides_of (P.coords sides.now.lengths)) (P.coords p))
+        (raster_number (sides_of (P.coords sides.now.lengths)) (P.coords q)) }
 {
     let _ = sides.lengths;
     p.cmp(&q)
