@@ -5,7 +5,8 @@ ghost use Rattle.std.specs.Bool.{OnTrue};
 ghost use Rattle.shape_terms.specs.Pictures.{Picture};
 ghost use Rattle.shape_terms.specs.Covers.{IsEvidence, arc, next_first, gap_run};
 ghost use Rattle.report_terms.specs.Lines as Terms;
-ghost use Rattle.report_terms.specs.ContourLines.{open_contour, HasAllLines, IsFull, IsContourHead, IsNextPoint, IsNextSegment, IsNextGap, ContourClaim, ContoursComplete};
+ghost use Rattle.report_terms.specs.ContourLines.{open_contour, HasAllLines, IsFull, IsContourHead, IsNextPoint, IsNextSegment, IsNextGap};
+ghost use Rattle.report_terms.specs.Sections.{Section, SectionClaim, SectionComplete};
 ghost use Rattle.shape_report.specs.LineOf.{line_of};
 ghost use Rattle.shape_refute.specs.Terms.{naive_of};
 ghost use Rattle.shape_crack.specs.Terms.{point_of, crack_of};
@@ -240,7 +241,7 @@ impl CoverJudge {
     /// its lines; an `at` line gives the next point, a `seg` line the next segment with a line that holds it, and a `turn` or a `cut` line
     /// why the run of the next gap is not straight for the next axis. A line of another kind is not good here.
     pub fn take(&mut self, line: &Line<P2>) -> bool
-        ensures answer { (X : Picture) (lines : List Terms.Line) → StandsFor X self.old lines → (IsTrue result ↔ ContourClaim X lines (line_of point_of line.now)) }
+        ensures answer { (X : Picture) (lines : List Terms.Line) → StandsFor X self.old lines → (IsTrue result ↔ SectionClaim X Section.Contours lines (line_of point_of line.now)) }
         ensures stands { (X : Picture) (lines : List Terms.Line) → StandsFor X self.old lines → OnTrue result (StandsFor X self.new (lines ++ line_of point_of line.now ∷ [])) }
         ensures room { OnTrue result (room_of self.new < room_of self.old) }
     {
@@ -255,16 +256,13 @@ impl CoverJudge {
             Line::Seg { first, last, line } => self.take_segment(Places { first, last }, &line),
             Line::Turn { axis, i, j } => self.take_gap(axis, &Refusal::Turned(Turn { i, j })),
             Line::Cut { axis, why } => self.take_gap(axis, &Refusal::Cut(why)),
-            Line::Shape { .. } => false,
-            Line::Parts { .. } => false,
-            Line::Near { .. } => false,
-            Line::End => false,
+            _ => false,
         }
     }
 
     /// Whether each contour of the picture has its lines.
-    pub fn done(&self) -> bool
-        ensures { (X : Picture) (lines : List Terms.Line) → StandsFor X self.now lines → (IsTrue result ↔ ContoursComplete X lines) }
+    pub fn is_done(&self) -> bool
+        ensures { (X : Picture) (lines : List Terms.Line) → StandsFor X self.now lines → (IsTrue result ↔ SectionComplete X Section.Contours lines) }
     {
         self.begun == self.contours.len() && self.is_full()
     }
