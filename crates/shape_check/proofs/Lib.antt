@@ -1,3 +1,5 @@
 pub mod NextAnswers
+pub mod RowLaws
+pub mod Moves
 pub mod Going
-pub mod Stages
+pub mod OneLine

@@ -4,10 +4,15 @@
 
 mod answer;
 mod check;
+mod counts;
+mod end;
+mod flat;
+mod heading;
+mod judges;
 mod law;
 mod next;
-mod outline;
-mod progress;
+mod sections;
+mod then;
 
 pub use answer::{CheckFault, Judgement};
 pub use check::check_flat;
