@@ -87,3 +87,12 @@ module _ (X : Picture) (text : List ℕ) (left : Option (List ℕ)) (F : List Li
     few = t.few;
     told = refl;
   }
+
+-- nothing was taken
+pub takes_none : (X : Picture) (text : Option (List ℕ)) → IfTold text (λ t. TakesFew X t text)
+takes_none X None = tt
+takes_none X (Some t) = record { lines = []; more = []; rest = t; good = begins_none X t; few = omega arith; told = refl }
+
+-- where the text may not be told
+pub told_few : (X : Picture) (text left at_place : Option (List ℕ)) (F : List Line → Type 0) (n : ℕ) → IfTold text (λ t. GoingOn X t left F n) → TakenAhead left at_place → IfTold text (λ t. TakesFew X t at_place)
+told_few X text left at_place F n g t = if_told text (λ b h. takes_few X b left F n h at_place t) g

@@ -1,0 +1,86 @@
+use Rattle.std.proofs.Common.{◌≡◌, ◌≤◌, false, refl, ◌∙◌, arith, []}
+use Rattle.std.specs.Prelude.{IsTrue}
+use Rattle.shape_desk.specs.declared.desk.Place.TheVariants.{Report}
+use Rattle.shape_desk.specs.Line.{IfTold, ahead_of}
+use Rattle.report_terms.specs.Sections.{rank, section_of}
+use Rattle.shape_report.specs.LineOf.{line_of}
+use Rattle.shape_check.specs.Next.{TakesClaim, IsBad}
+use Rattle.shape_check.proofs.Going.{if_told, bad_at_end, bad_line, not_good, one_more, told_few}
+use Rattle.shape_check.proofs.check.check_lines.Goals as goal
+
+pub returns-then-not-take-clause-answer : goal.returns-then-not-take-clause-answer
+returns-then-not-take-clause-answer g c = λ X axes w.
+    let inv = c.lines.invariant in
+    let text = ahead_of c.args.reader.now.ahead (g.D.Desk.left c.args.desk.now Report) in
+    let left = ahead_of c.lines.reader.ahead (g.D.Desk.left c.lines.desk Report) in
+    let new = ahead_of c.next_claim.new.reader.ahead (g.D.Desk.left c.next_claim.new.desk Report) in
+    let l = line_of g.P.Point.coords c.in-Ok-Claim.claim in
+    let taken : IfTold left (λ bytes. TakesClaim g.P.Point.DIM bytes new l) = rw c.in-Ok-Claim.field-0-is at c.in-Ok-Claim.ensures.answer in (
+      record { some = inv.some; few = omega (arith, inv.few) },
+      if_told text (λ t h. not_good X t left (g.R.Judges.follows X c.lines.row) c.lines.line h g.P.Point.DIM l new axes taken (λ f good.
+          let t : IsTrue false = (c.if-not-take.ensures.answer X h.lines f (λ good. omega (arith, g.met.R.Row.first))).1 good in
+          cc)) (inv.text X axes w),
+    )
+
+pub returns-then-not-take-clause-taken : goal.returns-then-not-take-clause-taken
+returns-then-not-take-clause-taken g c = λ X axes w. told_few X _ _ _ _ _ (c.lines.invariant.text X axes w) c.next_claim.ensures.taken
+
+pub lines-preserved : goal.lines-preserved
+lines-preserved g c =
+    let inv = c.lines.invariant in
+    let next = c.next_claim.ensures in
+    let took = c.if-not-take.ensures in
+    let text = ahead_of c.args.reader.now.ahead (g.D.Desk.left c.args.desk.now Report) in
+    let left = ahead_of c.lines.reader.ahead (g.D.Desk.left c.lines.desk Report) in
+    let new = ahead_of c.next_claim.new.reader.ahead (g.D.Desk.left c.next_claim.new.desk Report) in
+    let l = line_of g.P.Point.coords c.in-Ok-Claim.claim in
+    let taken : IfTold left (λ bytes. TakesClaim g.P.Point.DIM bytes new l) = rw c.in-Ok-Claim.field-0-is at c.in-Ok-Claim.ensures.answer in
+    record {
+      begun = next.begun;
+      text = λ X axes w. if_told text (λ t h. one_more X t left (g.R.Judges.follows X c.lines.row) c.lines.line h g.P.Point.DIM l new (g.R.Judges.follows X c.take.new.self) axes taken (λ f.
+          ((took.answer X h.lines f (λ good. omega (arith, g.met.R.Row.first))).0 refl, took.follows X h.lines f (λ good. omega (arith, g.met.R.Row.first))))) (inv.text X axes w);
+      some = omega arith;
+      few = omega (arith, inv.few, took.room);
+      later = omega (arith, inv.later, next.later);
+      picture = record {
+        same_left = next.picture.same_left ∙ inv.picture.same_left;
+        same_begun = next.picture.same_begun ∙ inv.picture.same_begun;
+      };
+      output = record {
+        same_files = next.output.same_files ∙ inv.output.same_files;
+        same_written = next.output.same_written ∙ inv.output.same_written;
+        same_faults = next.output.same_faults ∙ inv.output.same_faults;
+      };
+    }
+
+pub returns-in-Ok-Bad-clause-answer : goal.returns-in-Ok-Bad-clause-answer
+returns-in-Ok-Bad-clause-answer g c = λ X axes w.
+    let inv = c.lines.invariant in
+    let text = ahead_of c.args.reader.now.ahead (g.D.Desk.left c.args.desk.now Report) in
+    let left = ahead_of c.lines.reader.ahead (g.D.Desk.left c.lines.desk Report) in
+    let bad : IfTold left (IsBad g.P.Point.DIM) = rw c.in-Ok-Bad.field-0-is at c.in-Ok-Bad.ensures.answer in (
+      record { some = inv.some; few = omega (arith, inv.few) },
+      if_told text (λ t h. bad_line X t left (g.R.Judges.follows X c.lines.row) c.lines.line h g.P.Point.DIM axes bad) (inv.text X axes w),
+    )
+
+pub returns-in-Ok-Bad-clause-taken : goal.returns-in-Ok-Bad-clause-taken
+returns-in-Ok-Bad-clause-taken g c = λ X axes w. told_few X _ _ _ _ _ (c.lines.invariant.text X axes w) c.next_claim.ensures.taken
+
+pub returns-then-has_ended-clause-taken : goal.returns-then-has_ended-clause-taken
+returns-then-has_ended-clause-taken g c = λ X axes w. told_few X _ _ _ _ _ (c.lines.invariant.text X axes w) c.next_claim.ensures.taken
+
+pub returns-in-Ok-End-clause-answer : goal.returns-in-Ok-End-clause-answer
+returns-in-Ok-End-clause-answer g c = λ X axes w.
+    let inv = c.lines.invariant in
+    let text = ahead_of c.args.reader.now.ahead (g.D.Desk.left c.args.desk.now Report) in
+    let left = ahead_of c.lines.reader.ahead (g.D.Desk.left c.lines.desk Report) in
+    let end : IfTold left (λ bytes. bytes ≡ []) = rw c.in-Ok-End.field-0-is at c.in-Ok-End.ensures.answer in (
+      record { some = inv.some; few = omega (arith, inv.few) },
+      if_told text (λ t h. bad_at_end X t left (g.R.Judges.follows X c.lines.row) c.lines.line h (λ f e. let t : IsTrue false = (c.if-has_ended.ensures X h.lines f).1 e in cc) end) (inv.text X axes w),
+    )
+
+pub returns-in-Ok-End-clause-taken : goal.returns-in-Ok-End-clause-taken
+returns-in-Ok-End-clause-taken g c = λ X axes w. told_few X _ _ _ _ _ (c.lines.invariant.text X axes w) c.next_claim.ensures.taken
+
+pub returns-in-Err-clause-taken : goal.returns-in-Err-clause-taken
+returns-in-Err-clause-taken g c = λ X axes w. told_few X _ _ _ _ _ (c.lines.invariant.text X axes w) c.next_claim.ensures.taken
