@@ -1,7 +1,9 @@
 -- Where a check has come to in a text, and what it knows when it stops.
 -- Laws over pictures, texts and lines; the program stands in none.
 use Rattle.std.proofs.Common.{◌≡◌, ℕ, ◌+◌, refl, sym, ap, ◌∙◌, subst, arith, List, [], ◌∷◌, ◌++◌, length, Option, None, Some}
+use Rattle.std.specs.Prelude.{◌≢◌, Ok, Err}
 use Rattle.std.proofs.lemmas.List.{length-append}
+use Rattle.shape_desk.specs.Desk.{Rose}
 use Rattle.shape_desk.specs.Line.{IfTold, TakenAhead}
 use Rattle.shape_terms.specs.Pictures.{Picture}
 use Rattle.report_terms.specs.Lines.{Line}
@@ -10,7 +12,9 @@ use Rattle.report_terms.specs.Holds.{BeginsWith, Holds, FirstBad}
 use Rattle.report_terms.proofs.Checking.{begins_none, begins_next, first_bad, no_line_at_end, one_line}
 use Rattle.shape_check.specs.Rows.{HasEnded}
 use Rattle.shape_check.specs.Next.{TakesClaim, IsBad}
-use Rattle.shape_check.specs.Checks.{TakesFew}
+use Rattle.shape_check.specs.Checks.{Answer, Checks, TakesFew}
+use Rattle.shape_check.specs.declared.answer.CheckFault.TheVariants.{ReadFault, NoMemory}
+use Rattle.shape_check.specs.declared.answer.Judgement.TheVariants.{Yes, No}
 
 -- the text begins with good lines that the row of judges stands for (`F`), the bytes behind them are left, and the next line has the number n
 pub record GoingOn (X : Picture) (text : List ℕ) (left : Option (List ℕ)) (F : List Line → Type 0) (n : ℕ) : Type 0 where
@@ -96,3 +100,10 @@ takes_none X (Some t) = record { lines = []; more = []; rest = t; good = begins_
 -- where the text may not be told
 pub told_few : (X : Picture) (text left at_place : Option (List ℕ)) (F : List Line → Type 0) (n : ℕ) → IfTold text (λ t. GoingOn X t left F n) → TakenAhead left at_place → IfTold text (λ t. TakesFew X t at_place)
 told_few X text left at_place F n g t = if_told text (λ b h. takes_few X b left F n h at_place t) g
+
+-- a report that holds is answered so, where nothing failed
+pub answered : (X : Picture) (text : List ℕ) (before now : ℕ) (answer : Answer) → Holds X text → Checks X (Some text) before now answer → (Rose before now → ⊥) → answer ≢ Err NoMemory → answer ≡ Ok Yes
+answered X text before now (Ok Yes) h c r m = refl
+answered X text before now (Ok (No k)) h c r m = absurd (c.1.fails h)
+answered X text before now (Err ReadFault) h c r m = absurd (r c)
+answered X text before now (Err NoMemory) h c r m = absurd (m refl)

@@ -15,9 +15,13 @@ pub record IsLineNumber (k : ℕ) : Type 0 where
   pub some : 1 ≤ k
   pub few : k ≤ 2 ^ 62
 
+-- what is answered
+abbrev pub Answer : Type 0
+Answer = Result Judgement CheckFault
+
 -- `text` is the bytes of the report, where they are told; then the count of faults of reading before and now.
 -- Yes: the text holds of the picture. No: the line is the first bad one. A fault of reading: the count rose.
-abbrev pub Checks : Picture → Option (List ℕ) → (before now : ℕ) → Result Judgement CheckFault → Type 0
+abbrev pub Checks : Picture → Option (List ℕ) → (before now : ℕ) → Answer → Type 0
 Checks X text before now (Ok Yes) = IfTold text (Holds X)
 Checks X text before now (Ok (No k)) = IsLineNumber k × IfTold text (λ bytes. FirstBad X bytes k)
 Checks X text before now (Err ReadFault) = Rose before now

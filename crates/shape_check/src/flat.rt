@@ -13,7 +13,6 @@ use shape_adj::parts;
 use shape_grid::Grid;
 use shape_space::{NoMemory, P2};
 use std::alloc::Global;
-use std::marker::PhantomData;
 
 /// The judges of a flat picture.
 pub type Flat = Then<
@@ -27,38 +26,20 @@ impl Row<P2> for Flat {
         let parts = parts(alloc, grid)?;
         let field = FieldJudge::new(alloc, grid)?;
         let cover = CoverJudge::new(alloc, grid)?;
-        let cover = Then {
-            first: cover,
-            rest: EndJudge { ended: false },
-            is_past: false,
-            points: PhantomData,
+        let heading = HeadingJudge {
+            sides: grid.sides(),
+            taken: false,
         };
-        let field = Then {
-            first: field,
-            rest: cover,
-            is_past: false,
-            points: PhantomData,
+        let counts = CountsJudge {
+            points: grid.count(),
+            object: parts.object,
+            background: parts.background,
+            taken: false,
         };
-        let counts = Then {
-            first: CountsJudge {
-                points: grid.count(),
-                object: parts.object,
-                background: parts.background,
-                taken: false,
-            },
-            rest: field,
-            is_past: false,
-            points: PhantomData,
-        };
-        Ok(Then {
-            first: HeadingJudge {
-                sides: grid.sides(),
-                taken: false,
-            },
-            rest: counts,
-            is_past: false,
-            points: PhantomData,
-        })
+        let row = Then::new(cover, EndJudge { ended: false });
+        let row = Then::new(field, row);
+        let row = Then::new(counts, row);
+        Ok(Then::new(heading, row))
     }
 
     ghost first = { refl };

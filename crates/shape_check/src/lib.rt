@@ -16,7 +16,7 @@ mod then;
 
 pub use answer::{CheckFault, Judgement};
 pub use check::check_flat;
-pub use law::holding_shows;
+pub use law::{holding_is_answered, holding_shows, one_first_bad};
 
 #[cfg(test)]
 mod tests;

@@ -12,12 +12,29 @@ use std::marker::PhantomData;
 /// The judge of a section, and of those behind it.
 #[derive(Drop)]
 pub struct Then<P: Point, J: SectionJudge<P>, R: Judges<P>> {
-    pub first: J,
-    pub rest: R,
+    first: J,
+    rest: R,
     // Whether a line of a later section was taken.
-    pub is_past: bool,
-    pub points: PhantomData<P>,
+    is_past: bool,
+    points: PhantomData<P>,
     pub ghost next: { rank R.section ≡ suc (rank J.section) },
+}
+
+impl<P: Point, J: SectionJudge<P>, R: Judges<P>> Then<P, J, R> {
+    /// A row that has taken no line, where the rest begins with the next section.
+    pub fn new(first: J, rest: R) -> Then<P, J, R>
+        requires { rank R.section ≡ suc (rank J.section) }
+        ensures first { result.first ≡ first }
+        ensures rest { result.rest ≡ rest }
+        ensures is_past { result.is_past ≡ false }
+    {
+        Then {
+            first,
+            rest,
+            is_past: false,
+            points: PhantomData,
+        }
+    }
 }
 
 impl<P: Point, J: SectionJudge<P>, R: Judges<P>> Judges<P> for Then<P, J, R> {
