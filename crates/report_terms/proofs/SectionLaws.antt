@@ -82,27 +82,25 @@ good_at X s lines l h e c = record { come = subst (λ t. HasCome X t lines) (sym
 pub claim_at : (X : Picture) (s : Section) (lines : List Line) (l : Line) → section_of l ≡ s → GoodAfter X lines l → SectionClaim X s (lines_of s lines) l
 claim_at X s lines l e g = subst (λ t. SectionClaim X t (lines_of t lines) l) e g.claim
 
--- ---- the first line and the last
+-- ---- the last line
 
--- only a line of the heading is good first
-pub first_is_shape : (X : Picture) (l : Line) → GoodAfter X [] l → section_of l ≡ Section.Heading
-first_is_shape X l g = elim (cases_lt 0 (rank (section_of l))) [ inl h ↦ absurd (let c : 0 ≡ 1 = g.come.complete Section.Heading h in omega arith) | inr h ↦ rank_same _ _ (omega (arith, h)) ]
+-- the last of some lines is of no later section than the lines have come to
+pub order_last : (s : Section) (lines : List Line) (l : Line) → All (λ e. rank (section_of e) ≤ rank s) (lines ++ l ∷ []) → rank (section_of l) ≤ rank s
+order_last s [] l a = All-head (λ e. rank (section_of e) ≤ rank s) l [] a
+order_last s (m ∷ lines) l a = order_last s lines l (All-tail (λ e. rank (section_of e) ≤ rank s) m (lines ++ l ∷ []) a)
+
+-- lines that have come to an earlier section than the last do not end with `end`
+pub not_ended : (X : Picture) (s : Section) (lines : List Line) → rank s < 4 → HasCome X s (lines ++ Line.End ∷ []) → ⊥
+not_ended X s lines h c = let o : 4 ≤ rank s = order_last s lines Line.End c.order in omega (arith, o, h)
 
 -- no line is good after `end`
 pub none_after_end : (X : Picture) (lines : List Line) (l : Line) → GoodAfter X (lines ++ Line.End ∷ []) l → ⊥
 none_after_end X lines l g =
-    let o : 4 ≤ rank (section_of l) = subst (λ m. rank (section_of m) ≤ rank (section_of l)) (is_end lines) (g.come.order (length lines) Line.End (at_end lines)) in
+    let o : 4 ≤ rank (section_of l) = order_last (section_of l) lines Line.End g.come.order in
     let e : section_of l ≡ Section.End = rank_same (section_of l) Section.End (omega (arith, o, rank_most (section_of l))) in
     let c : lines_of Section.End (lines ++ Line.End ∷ []) ≡ [] = claim_at X Section.End (lines ++ Line.End ∷ []) l e g in
     let n = ap length (sym (lines_push Section.End lines Line.End refl) ∙ c) in
     omega (arith, n, length-append (lines_of Section.End lines) (Line.End ∷ []))
-  where
-    at_end : (xs : List Line) → length xs < length (xs ++ Line.End ∷ [])
-    at_end xs = omega (arith, length-append xs (Line.End ∷ []))
-
-    is_end : (xs : List Line) → get_or (xs ++ Line.End ∷ []) (length xs) Line.End ≡ Line.End
-    is_end [] = refl
-    is_end (x ∷ xs) = is_end xs
 
 -- ---- facts
 

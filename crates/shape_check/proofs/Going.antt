@@ -1,6 +1,6 @@
 -- Where a check has come to in a text, and what it knows when it stops.
 -- Laws over pictures, texts and lines; the program stands in none.
-use Rattle.std.proofs.Common.{◌≡◌, ℕ, ◌+◌, refl, sym, ap, ◌∙◌, subst, arith, List, [], ◌∷◌, ◌++◌, length, Option, None, Some}
+use Rattle.std.proofs.Common.{◌≡◌, ℕ, ◌+◌, refl, sym, ◌∙◌, subst, arith, List, [], ◌∷◌, ◌++◌, length, Option, None, Some}
 use Rattle.std.specs.Prelude.{◌≢◌, Ok, Err}
 use Rattle.std.proofs.lemmas.List.{length-append}
 use Rattle.shape_desk.specs.Desk.{Rose}

@@ -1,5 +1,4 @@
 pub mod NextAnswers
 pub mod RowLaws
-pub mod Moves
 pub mod Going
 pub mod OneLine

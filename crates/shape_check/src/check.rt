@@ -26,10 +26,10 @@ fn check_lines<P: Point, R: Row<P>, D: Desk>(
     requires few { R.room row < 2 ^ 62 }
     ensures answer { (X : Terms.Picture) → length X.sides ≡ P.DIM → R.waits X row
         → Checks X (ahead_of reader.old.ahead (D.left desk.old Report))
-            (D.read_faults desk.old) (D.read_faults desk.new) result }
+        (D.read_faults desk.old) (D.read_faults desk.new) result }
     ensures taken { (X : Terms.Picture) → length X.sides ≡ P.DIM → R.waits X row
         → IfTold (ahead_of reader.old.ahead (D.left desk.old Report))
-            (λ text. TakesFew X text (D.left desk.new Report)) }
+        (λ text. TakesFew X text (D.left desk.new Report)) }
     ensures begun { D.begun desk.new Report ≡ true }
     ensures later { D.read_faults desk.old ≤ D.read_faults desk.new }
     ensures picture { KeepsPlace D.left D.begun Picture desk.old desk.new }
@@ -57,14 +57,17 @@ fn check_lines<P: Point, R: Row<P>, D: Desk>(
 }
 
 // Checks a report of any dimension.
+#[tactic(auto, using(crate::proofs::Going::takes_none))]
 fn check<P: Point, R: Row<P>, D: Desk>(
     alloc: Global,
     grid: &Grid<P>,
     desk: &mut D,
 ) -> Result<Judgement, CheckFault>
     requires { D.begun desk.old Report ≡ true }
-    ensures answer { Checks grid.now (D.left desk.old Report) (D.read_faults desk.old) (D.read_faults desk.new) result }
-    ensures taken { IfTold (D.left desk.old Report) (λ text. TakesFew grid.now text (D.left desk.new Report)) }
+    ensures answer { Checks grid.now (D.left desk.old Report)
+        (D.read_faults desk.old) (D.read_faults desk.new) result }
+    ensures taken { IfTold (D.left desk.old Report)
+        (λ text. TakesFew grid.now text (D.left desk.new Report)) }
     ensures begun { D.begun desk.new Report ≡ true }
     ensures later { D.read_faults desk.old ≤ D.read_faults desk.new }
     ensures picture { KeepsPlace D.left D.begun Picture desk.old desk.new }
@@ -80,19 +83,22 @@ fn check<P: Point, R: Row<P>, D: Desk>(
     check_lines(row, &mut reader, desk)
 }
 
-/// Checks the report of a plane picture: whether the file that was begun at `Place::Report` holds of it.
+/// Checks the report of a plane picture: whether the file that was begun at `Place::Report` holds
+/// of it.
 ///
-/// The file is read line by line and never whole: of its bytes, those of its good lines and at most 2048 more are taken.
-/// `Yes` exactly where the report holds, and `No` exactly where its line is the first bad one, where the desk tells the
-/// file. `ReadFault` comes only where `read_faults` rose in this call.
+/// The file is read line by line and never whole: the bytes of its good lines are taken, and at most
+/// 2048 more. `Yes` exactly where the report holds, and `No` exactly where its line is the first bad
+/// one, where the desk tells the file. `ReadFault` comes only where `read_faults` rose in this call.
 pub fn check_flat<D: Desk>(
     alloc: Global,
     grid: &Grid<P2>,
     desk: &mut D,
 ) -> Result<Judgement, CheckFault>
     requires { D.begun desk.old Report ≡ true }
-    ensures answer { Checks grid.now (D.left desk.old Report) (D.read_faults desk.old) (D.read_faults desk.new) result }
-    ensures taken { IfTold (D.left desk.old Report) (λ text. TakesFew grid.now text (D.left desk.new Report)) }
+    ensures answer { Checks grid.now (D.left desk.old Report)
+        (D.read_faults desk.old) (D.read_faults desk.new) result }
+    ensures taken { IfTold (D.left desk.old Report)
+        (λ text. TakesFew grid.now text (D.left desk.new Report)) }
     ensures begun { D.begun desk.new Report ≡ true }
     ensures later { D.read_faults desk.old ≤ D.read_faults desk.new }
     ensures picture { KeepsPlace D.left D.begun Picture desk.old desk.new }

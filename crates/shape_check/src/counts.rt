@@ -9,7 +9,7 @@ use shape_space::Point;
 /// The judge of the `parts` line.
 #[derive(Drop)]
 pub struct CountsJudge {
-    // The counts of the picture: object points, components of the object, components of the background.
+    // The counts of the picture: object points, components of the object and of the background.
     pub points: u32,
     pub object: u32,
     pub background: u32,
@@ -35,7 +35,8 @@ impl<P: Point> SectionJudge<P> for CountsJudge {
 
     ghost section = { Section.Counted };
 
-    ghost stands = { λ X j lines. Counts X j.points j.object j.background × HasTaken j.taken lines };
+    ghost stands = { λ X j lines. Counts X j.points j.object j.background
+        × HasTaken j.taken lines };
 
     ghost room = { λ j. if j.taken then 0 else 1 };
 

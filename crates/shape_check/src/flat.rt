@@ -1,5 +1,5 @@
 //! The row of judges of flat pictures.
-//! A further section of flat pictures is one more word in the type; another dimension is another row.
+//! A further section is one more word in the type; another dimension is another row.
 ghost use Rattle.std.specs.Prelude.{◌≡◌, ◌<◌, ◌^◌, IfOk, refl};
 
 use crate::counts::CountsJudge;

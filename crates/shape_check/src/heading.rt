@@ -31,7 +31,8 @@ impl<P: Point> SectionJudge<P> for HeadingJudge<P> {
 
     ghost section = { Section.Heading };
 
-    ghost stands = { λ X j lines. (sides_of (P.coords j.sides.lengths) ≡ X.sides) × HasTaken j.taken lines };
+    ghost stands = { λ X j lines. (sides_of (P.coords j.sides.lengths) ≡ X.sides)
+        × HasTaken j.taken lines };
 
     ghost room = { λ j. if j.taken then 0 else 1 };
 

@@ -13,7 +13,8 @@ use shape_report::Line;
 use shape_space::{NoMemory, Point};
 use std::alloc::Global;
 
-/// A judge of the lines of one section, as they come. After it has answered false it is only dropped.
+/// A judge of the lines of one section, as they come. After it has answered false it is only
+/// dropped.
 pub trait SectionJudge<P: Point>: Drop {
     /// Its section.
     ghost section: { Section };
@@ -42,7 +43,8 @@ pub trait SectionJudge<P: Point>: Drop {
             → (IsTrue result ↔ SectionComplete X section lines) };
 }
 
-/// The judges of a section and of all behind it. After they have answered false they are only dropped.
+/// The judges of a section and of all behind it. After they have answered false they are only
+/// dropped.
 pub trait Judges<P: Point>: Drop {
     /// The first section of the row.
     ghost section: { Section };

@@ -28,8 +28,12 @@ pub(crate) fn next_claim<P: Point, D: Desk>(
     desk: &mut D,
 ) -> Result<Next<P>, CheckFault>
     requires { D.begun desk.old Report ≡ true }
-    ensures answer { NextAnswer P.DIM P.coords (ahead_of reader.old.ahead (D.left desk.old Report)) (ahead_of reader.new.ahead (D.left desk.new Report)) (D.read_faults desk.old) (D.read_faults desk.new) result }
-    ensures taken { TakenAhead (ahead_of reader.old.ahead (D.left desk.old Report)) (D.left desk.new Report) }
+    ensures answer { NextAnswer P.DIM P.coords
+        (ahead_of reader.old.ahead (D.left desk.old Report))
+        (ahead_of reader.new.ahead (D.left desk.new Report))
+        (D.read_faults desk.old) (D.read_faults desk.new) result }
+    ensures taken { TakenAhead (ahead_of reader.old.ahead (D.left desk.old Report))
+        (D.left desk.new Report) }
     ensures begun { D.begun desk.new Report ≡ true }
     ensures later { D.read_faults desk.old ≤ D.read_faults desk.new }
     ensures picture { KeepsPlace D.left D.begun Picture desk.old desk.new }

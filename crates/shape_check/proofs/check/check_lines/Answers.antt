@@ -1,8 +1,7 @@
-use Rattle.std.proofs.Common.{◌≡◌, ◌≤◌, false, refl, ◌∙◌, arith, []}
+use Rattle.std.proofs.Common.{◌≡◌, false, refl, ◌∙◌, arith, []}
 use Rattle.std.specs.Prelude.{IsTrue}
 use Rattle.shape_desk.specs.declared.desk.Place.TheVariants.{Report}
 use Rattle.shape_desk.specs.Line.{IfTold, ahead_of}
-use Rattle.report_terms.specs.Sections.{rank, section_of}
 use Rattle.shape_report.specs.LineOf.{line_of}
 use Rattle.shape_check.specs.Next.{TakesClaim, IsBad}
 use Rattle.shape_check.proofs.Going.{if_told, bad_at_end, bad_line, not_good, one_more, told_few}
@@ -21,9 +20,6 @@ returns-then-not-take-clause-answer g c = λ X axes w.
           let t : IsTrue false = (c.if-not-take.ensures.answer X h.lines f (λ good. omega (arith, g.met.R.Row.first))).1 good in
           cc)) (inv.text X axes w),
     )
-
-pub returns-then-not-take-clause-taken : goal.returns-then-not-take-clause-taken
-returns-then-not-take-clause-taken g c = λ X axes w. told_few X _ _ _ _ _ (c.lines.invariant.text X axes w) c.next_claim.ensures.taken
 
 pub lines-preserved : goal.lines-preserved
 lines-preserved g c =
@@ -63,12 +59,6 @@ returns-in-Ok-Bad-clause-answer g c = λ X axes w.
       if_told text (λ t h. bad_line X t left (g.R.Judges.follows X c.lines.row) c.lines.line h g.P.Point.DIM axes bad) (inv.text X axes w),
     )
 
-pub returns-in-Ok-Bad-clause-taken : goal.returns-in-Ok-Bad-clause-taken
-returns-in-Ok-Bad-clause-taken g c = λ X axes w. told_few X _ _ _ _ _ (c.lines.invariant.text X axes w) c.next_claim.ensures.taken
-
-pub returns-then-has_ended-clause-taken : goal.returns-then-has_ended-clause-taken
-returns-then-has_ended-clause-taken g c = λ X axes w. told_few X _ _ _ _ _ (c.lines.invariant.text X axes w) c.next_claim.ensures.taken
-
 pub returns-in-Ok-End-clause-answer : goal.returns-in-Ok-End-clause-answer
 returns-in-Ok-End-clause-answer g c = λ X axes w.
     let inv = c.lines.invariant in
@@ -78,6 +68,15 @@ returns-in-Ok-End-clause-answer g c = λ X axes w.
       record { some = inv.some; few = omega (arith, inv.few) },
       if_told text (λ t h. bad_at_end X t left (g.R.Judges.follows X c.lines.row) c.lines.line h (λ f e. let t : IsTrue false = (c.if-has_ended.ensures X h.lines f).1 e in cc) end) (inv.text X axes w),
     )
+
+pub returns-then-not-take-clause-taken : goal.returns-then-not-take-clause-taken
+returns-then-not-take-clause-taken g c = λ X axes w. told_few X _ _ _ _ _ (c.lines.invariant.text X axes w) c.next_claim.ensures.taken
+
+pub returns-in-Ok-Bad-clause-taken : goal.returns-in-Ok-Bad-clause-taken
+returns-in-Ok-Bad-clause-taken g c = λ X axes w. told_few X _ _ _ _ _ (c.lines.invariant.text X axes w) c.next_claim.ensures.taken
+
+pub returns-then-has_ended-clause-taken : goal.returns-then-has_ended-clause-taken
+returns-then-has_ended-clause-taken g c = λ X axes w. told_few X _ _ _ _ _ (c.lines.invariant.text X axes w) c.next_claim.ensures.taken
 
 pub returns-in-Ok-End-clause-taken : goal.returns-in-Ok-End-clause-taken
 returns-in-Ok-End-clause-taken g c = λ X axes w. told_few X _ _ _ _ _ (c.lines.invariant.text X axes w) c.next_claim.ensures.taken

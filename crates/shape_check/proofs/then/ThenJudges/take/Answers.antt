@@ -2,7 +2,7 @@ use Rattle.std.proofs.Common.{ap, sym, ◌∙◌, subst}
 use Rattle.shape_report.specs.LineOf.{line_of}
 use Rattle.report_terms.specs.Sections.{rank, lines_of}
 use Rattle.shape_check.specs.Rows.{RowFollows}
-use Rattle.shape_check.proofs.Moves.{moved_answer, moved_follows}
+use Rattle.shape_check.proofs.RowLaws.{moved_answer, moved_follows}
 use Rattle.shape_check.proofs.then.ThenJudges.take.Goals as goal
 
 pub returns-clause-answer : goal.returns-clause-answer
