@@ -18,12 +18,8 @@ abbrev section : Line → ℕ
 section (Line.Shape _ _) = 0
 section (Line.Parts _ _ _) = 1
 section (Line.Near _ _ _) = 2
-section (Line.Contour _ _ _ _) = 3
-section (Line.At _) = 3
-section (Line.Seg _ _ _ _ _) = 3
-section (Line.Turn _ _ _) = 3
-section (Line.Cut _ _) = 3
 section Line.End = 4
+section _ = 3
 
 abbrev section_lines : ℕ → List Line → List Line
 section_lines k lines = filter (λ l. section l == k) lines
@@ -33,12 +29,8 @@ abbrev OldClaim : Picture → List Line → Line → Type 0
 OldClaim X earlier (Line.Shape sides rule) = (earlier ≡ []) × (sides ≡ map pos X.sides) × (rule ≡ codes "none")
 OldClaim X earlier (Line.Parts n o b) = (section_lines 1 earlier ≡ []) × Counts X n o b
 OldClaim X earlier (Line.Near p q s) = NearClaim X (section_lines 2 earlier) (Line.Near p q s)
-OldClaim X earlier (Line.Contour p side n m) = ContourClaim X (section_lines 3 earlier) (Line.Contour p side n m)
-OldClaim X earlier (Line.At p) = ContourClaim X (section_lines 3 earlier) (Line.At p)
-OldClaim X earlier (Line.Seg b e t a mu) = ContourClaim X (section_lines 3 earlier) (Line.Seg b e t a mu)
-OldClaim X earlier (Line.Turn t i j) = ContourClaim X (section_lines 3 earlier) (Line.Turn t i j)
-OldClaim X earlier (Line.Cut t why) = ContourClaim X (section_lines 3 earlier) (Line.Cut t why)
 OldClaim X earlier Line.End = section_lines 4 earlier ≡ []
+OldClaim X earlier l = ContourClaim X (section_lines 3 earlier) l
 
 -- the section of this number is complete; contours are wanted of flat pictures alone
 abbrev OldIsComplete : Picture → ℕ → List Line → Type 0
@@ -59,14 +51,7 @@ pub record OldGoodAfter (X : Picture) (earlier : List Line) (l : Line) : Type 0 
 -- the number of a section is its rank
 section_rank : (l : Line) → section l ≡ rank (section_of l)
 section_rank (Line.Shape _ _) = refl
-section_rank (Line.Parts _ _ _) = refl
-section_rank (Line.Near _ _ _) = refl
-section_rank (Line.Contour _ _ _ _) = refl
-section_rank (Line.At _) = refl
-section_rank (Line.Seg _ _ _ _ _) = refl
-section_rank (Line.Turn _ _ _) = refl
-section_rank (Line.Cut _ _) = refl
-section_rank Line.End = refl
+section_rank _ = refl
 
 same_lines : (s : Section) (lines : List Line) → section_lines (rank s) lines ≡ lines_of s lines
 same_lines s lines = ap (λ t. filter t lines) (λ i. λ l. section_rank l i == rank s)
@@ -121,23 +106,15 @@ claim_to : (X : Picture) (earlier : List Line) (l : Line) → IsLineOf (length X
 claim_to X earlier (Line.Shape sides rule) f c = (ap (lines_of Section.Heading) c.0, (c.1, c.2))
 claim_to X earlier (Line.Parts n o b) f c = (sym (same_lines Section.Counted earlier) ∙ c.0, c.1)
 claim_to X earlier (Line.Near p q s) f c = subst (λ ls. SectionClaim X Section.Nearest ls (Line.Near p q s)) (same_lines Section.Nearest earlier) c
-claim_to X earlier (Line.Contour p s n m) f c = (f.0, subst (λ ls. ContourClaim X ls (Line.Contour p s n m)) (same_lines Section.Contours earlier) c)
-claim_to X earlier (Line.At p) f c = (f.0, subst (λ ls. ContourClaim X ls (Line.At p)) (same_lines Section.Contours earlier) c)
-claim_to X earlier (Line.Seg b e t a mu) f c = (f.0, subst (λ ls. ContourClaim X ls (Line.Seg b e t a mu)) (same_lines Section.Contours earlier) c)
-claim_to X earlier (Line.Turn t i j) f c = (f.0, subst (λ ls. ContourClaim X ls (Line.Turn t i j)) (same_lines Section.Contours earlier) c)
-claim_to X earlier (Line.Cut t w) f c = (f.0, subst (λ ls. ContourClaim X ls (Line.Cut t w)) (same_lines Section.Contours earlier) c)
 claim_to X earlier Line.End f c = sym (same_lines Section.End earlier) ∙ c
+claim_to X earlier l f c = (flat_line (length X.sides) l refl f, subst (λ ls. ContourClaim X ls l) (same_lines Section.Contours earlier) c)
 
 claim_from : (X : Picture) (earlier : List Line) (l : Line) → All (λ e. rank (section_of e) ≤ rank (section_of l)) earlier → Claim X earlier l → OldClaim X earlier l
 claim_from X earlier (Line.Shape sides rule) o c = (none_earlier earlier o c.0, c.1.0, c.1.1)
 claim_from X earlier (Line.Parts n m b) o c = (same_lines Section.Counted earlier ∙ c.0, c.1)
 claim_from X earlier (Line.Near p q s) o c = subst (λ ls. SectionClaim X Section.Nearest ls (Line.Near p q s)) (sym (same_lines Section.Nearest earlier)) c
-claim_from X earlier (Line.Contour p s n m) o c = subst (λ ls. ContourClaim X ls (Line.Contour p s n m)) (sym (same_lines Section.Contours earlier)) c.1
-claim_from X earlier (Line.At p) o c = subst (λ ls. ContourClaim X ls (Line.At p)) (sym (same_lines Section.Contours earlier)) c.1
-claim_from X earlier (Line.Seg b e t a mu) o c = subst (λ ls. ContourClaim X ls (Line.Seg b e t a mu)) (sym (same_lines Section.Contours earlier)) c.1
-claim_from X earlier (Line.Turn t i j) o c = subst (λ ls. ContourClaim X ls (Line.Turn t i j)) (sym (same_lines Section.Contours earlier)) c.1
-claim_from X earlier (Line.Cut t w) o c = subst (λ ls. ContourClaim X ls (Line.Cut t w)) (sym (same_lines Section.Contours earlier)) c.1
 claim_from X earlier Line.End o c = same_lines Section.End earlier ∙ c
+claim_from X earlier l o c = subst (λ ls. ContourClaim X ls l) (sym (same_lines Section.Contours earlier)) c.1
 
 -- ---- good lines
 

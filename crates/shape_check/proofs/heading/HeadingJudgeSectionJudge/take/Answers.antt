@@ -9,7 +9,7 @@ returns-then-eq-clause-answer g c =
     let s = c.args.self.now in
     let box = s.sides.lengths in
     let l = c.in-Shape in
-    let equal : g.P.PartialEq.eq l.sides box ≡ true = sym c.if-eq.ensures in
+    let equal : g.P.PartialEq.eq l.sides box ≡ true = sym {b = g.P.PartialEq.eq l.sides box} c.if-eq.ensures in
     let same = ap g.P.Point.coords (g.met.P.Point.equal l.sides box equal) in
     rw l.is (λ X lines h. same_sides X g.P.Point.MAX_SIDE (g.P.Point.coords box) (g.P.Point.coords l.sides) (word_of l.rule) lines c.is_none.result s.sides.in_range h.0 same (subst (λ b. HasTaken b lines) c.if-self.false h.1) c.is_none.ensures)
 
