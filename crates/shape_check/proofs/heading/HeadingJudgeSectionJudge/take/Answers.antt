@@ -23,6 +23,6 @@ returns-else-eq-clause-answer g c =
       λ claim. absurd (other_sides X g.P.Point.MAX_SIDE (g.P.Point.coords box) (g.P.Point.coords l.sides) (word_of l.rule) lines s.sides.in_range h.0 (λ e.
           let same = g.met.P.Point.same l.sides box e in
           let equal : g.P.PartialEq.eq l.sides box ≡ true = ap (g.P.PartialEq.eq l.sides) (sym same) ∙ g.met.P.Eq.laws.refl l.sides in
-          let t : c.eq.result ≡ true = c.eq.ensures ∙ equal in
+          let t : c.eq.result ≡ true = ◌∙◌ {b = g.P.PartialEq.eq l.sides box} c.eq.ensures equal in
           cc) claim),
     ))
