@@ -16,31 +16,38 @@ use Rattle.shape_terms.specs.Covers.{Evidence}
 use Rattle.std.proofs.lemmas.List.{length-append}
 use Rattle.shape_terms.specs.Traces.{Contour, AreContours}
 use Rattle.report_terms.specs.Lines.{Line}
-use Rattle.report_terms.specs.ContourLines.{Standing, standing, no_contour, open_contour, IsFull, IsContourHead, IsNextPoint, IsNextSegment, IsNextGap, OutlineClaim, ContourClaim, ContoursComplete}
+use Rattle.report_terms.specs.ContourLines.{Standing, standing, no_contour, open_contour, IsFull, IsContourHead, IsNextPoint, IsNextSegment, IsNextGap, OutlineClaim}
+use Rattle.report_terms.specs.Sections.{Section, SectionClaim, SectionComplete}
 use Rattle.report_terms.proofs.ContourGroups.{declared_begun, standing_begun, standing_point, standing_segment, standing_turn, standing_cut}
 use Rattle.report_terms.proofs.ContoursShown.{contours_same}
 use Rattle.judge_cover.specs.CoverState.{CoverState, StandsFor, points_in, room_of}
 
 -- a line is good where its claim is true of the judge's contours
-pub claim_test : (X : Picture) (s : CoverState) (lines : List Line) (l : Line) (b : Bool) → StandsFor X s lines → (IsTrue b ↔ OutlineClaim s.contours s.standing l) → (IsTrue b ↔ ContourClaim X lines l)
+pub claim_test : (X : Picture) (s : CoverState) (lines : List Line) (l : Line) (b : Bool) → StandsFor X s lines → (IsTrue b ↔ OutlineClaim s.contours s.standing l) → (IsTrue b ↔ SectionClaim X Section.Contours lines l)
 claim_test X s lines l b f r = (
-  λ t. (s.contours, f.are, subst (λ w. OutlineClaim s.contours w l) (sym f.stands) (r.0 t)),
-  λ (contours, are, claim).
+  λ t. (f.flat, (s.contours, f.are, subst (λ w. OutlineClaim s.contours w l) (sym f.stands) (r.0 t))),
+  λ (flat, (contours, are, claim)).
       let mine = subst (λ cs. OutlineClaim cs (standing lines) l) (contours_same X contours s.contours are f.are) claim in
       r.1 (subst (λ w. OutlineClaim s.contours w l) f.stands mine),
 )
 
 -- and all lines stand there where the judge went through its contours
-pub done_test : (X : Picture) (s : CoverState) (lines : List Line) (b : Bool) → StandsFor X s lines → (IsTrue b ↔ (IsFull s.contours s.standing × (s.standing.begun ≡ length s.contours))) → (IsTrue b ↔ ContoursComplete X lines)
+pub done_test : (X : Picture) (s : CoverState) (lines : List Line) (b : Bool) → StandsFor X s lines → (IsTrue b ↔ (IsFull s.contours s.standing × (s.standing.begun ≡ length s.contours))) → (IsTrue b ↔ SectionComplete X Section.Contours lines)
 done_test X s lines b f r = (
   λ t.
       let h = r.0 t in
-      (s.contours, f.are, subst (IsFull s.contours) (sym f.stands) h.0, ap (λ (w : Standing). w.begun) f.stands ∙ h.1),
-  λ (contours, are, full, all).
-      let same = contours_same X contours s.contours are f.are in
-      let mine = subst (λ cs. IsFull cs (standing lines)) same full in
-      r.1 (subst (IsFull s.contours) f.stands mine, ap (λ (w : Standing). w.begun) (sym f.stands) ∙ all ∙ ap length same),
+      record {
+        flat = λ flat. (s.contours, f.are, subst (IsFull s.contours) (sym f.stands) h.0, ap (λ (w : Standing). w.begun) f.stands ∙ h.1);
+        other = λ other. absurd (other f.flat);
+      },
+  λ c. let all = c.flat f.flat in back all.0 all.1 all.2 all.3,
 )
+  where
+    back : (contours : List Contour) → AreContours X contours → IsFull contours (standing lines) → (standing lines).begun ≡ length contours → IsTrue b
+    back contours are full all =
+        let same = contours_same X contours s.contours are f.are in
+        let mine = subst (λ cs. IsFull cs (standing lines)) same full in
+        r.1 (subst (IsFull s.contours) f.stands mine, ap (λ (w : Standing). w.begun) (sym f.stands) ∙ all ∙ ap length same)
 
 -- one contour more
 pub begun_stands : (X : Picture) (s s2 : CoverState) (lines : List Line) (p : Point) (side n m : ℕ) (b : Bool) → StandsFor X s lines → s2.contours ≡ s.contours → OnTrue b (s2.standing ≡ record { begun = s.standing.begun + 1; points = 0; declared = m; stretches = []; gaps = 0 }) → OnTrue b (StandsFor X s2 (lines ++ Line.Contour p side n m ∷ []))
@@ -98,11 +105,11 @@ cut_stands X s s2 lines t why true f e r k = record {
 }
 
 -- all contours were begun, and b says whether the last has all its lines
-pub done_all : (X : Picture) (s : CoverState) (lines : List Line) (begun n : ℕ) (b : Bool) → StandsFor X s lines → begun ≡ s.standing.begun → n ≡ length s.contours → begun ≡ n → (IsTrue b ↔ IsFull s.contours s.standing) → (IsTrue b ↔ ContoursComplete X lines)
+pub done_all : (X : Picture) (s : CoverState) (lines : List Line) (begun n : ℕ) (b : Bool) → StandsFor X s lines → begun ≡ s.standing.begun → n ≡ length s.contours → begun ≡ n → (IsTrue b ↔ IsFull s.contours s.standing) → (IsTrue b ↔ SectionComplete X Section.Contours lines)
 done_all X s lines begun n b f here len e r = done_test X s lines b f (λ t. (r.0 t, sym here ∙ e ∙ len), λ h. r.1 h.0)
 
 -- some contour is to come
-pub done_short : (X : Picture) (s : CoverState) (lines : List Line) (begun n : ℕ) → StandsFor X s lines → begun ≡ s.standing.begun → n ≡ length s.contours → (begun ≡ n → ⊥) → (IsTrue (nat_eq begun n) ↔ ContoursComplete X lines)
+pub done_short : (X : Picture) (s : CoverState) (lines : List Line) (begun n : ℕ) → StandsFor X s lines → begun ≡ s.standing.begun → n ≡ length s.contours → (begun ≡ n → ⊥) → (IsTrue (nat_eq begun n) ↔ SectionComplete X Section.Contours lines)
 done_short X s lines begun n f here len other =
     done_test X s lines (nat_eq begun n) f (
       λ t. absurd (other (eqb-true begun n t)),

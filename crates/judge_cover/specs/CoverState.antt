@@ -1,17 +1,41 @@
 -- What a judge of the lines of contours is seen as, and which lines it stands for.
 -- It holds no line: it stands for each list of lines that stands where it does.
-use Rattle.std.specs.Prelude.{◌≡◌, ℕ, ◌+◌, ◌-◌, ◌*◌, ◌<◌, ◌≤◌, ◌^◌, List, length, drop, sum_by, All}
+use Rattle.std.specs.Prelude.{◌≡◌, ℕ, ◌+◌, ◌-◌, ◌*◌, ◌<◌, ◌≤◌, ◌^◌, List, [], ◌∷◌, ◌++◌, length, map, drop, sum_by, All}
 use Rattle.shape_terms.specs.Points.{Point}
 use Rattle.shape_terms.specs.Pictures.{Picture}
 use Rattle.shape_terms.specs.Traces.{Contour, AreContours}
 use Rattle.shape_terms.specs.Covers.{Stretch, arc}
 use Rattle.report_terms.specs.Lines.{Line}
+use Rattle.judge_cover.specs.declared.places.Places.{Places}
+use Rattle.judge_cover.specs.Places.{stretch_of}
 use Rattle.report_terms.specs.ContourLines.{Standing, standing, open_contour}
 
 -- the contours of the picture, and where the lines stand
 pub record CoverState : Type 0 where
   pub contours : List Contour
   pub standing : Standing
+
+-- the same from the judge's own numbers and the places of its segments
+abbrev pub state_of : List Contour → (begun points declared : ℕ) → List Places → (gaps : ℕ) → CoverState
+state_of contours begun points declared segments gaps =
+    record { contours = contours; standing = record { begun = begun; points = points; declared = declared; stretches = map stretch_of segments; gaps = gaps } }
+
+-- the points of the contour that was begun last
+abbrev pub open_points : CoverState → List Point
+open_points s = (open_contour s.contours s.standing).points
+
+-- where the lines stand after one more `contour` line, which gives m segments, `at` line, `seg` line and gap line
+abbrev pub with_contour : Standing → (m : ℕ) → Standing
+with_contour s m = record { begun = s.begun + 1; points = 0; declared = m; stretches = []; gaps = 0 }
+
+abbrev pub with_point : Standing → Standing
+with_point s = record s { points = s.points + 1 }
+
+abbrev pub with_segment : Standing → Stretch → Standing
+with_segment s k = record s { stretches = s.stretches ++ k ∷ [] }
+
+abbrev pub with_gap : Standing → Standing
+with_gap s = record s { gaps = s.gaps + 1 }
 
 -- how many points these contours have in all
 abbrev pub points_in : List Contour → ℕ

@@ -5,11 +5,12 @@ ghost use Rattle.std.specs.Bool.{OnTrue};
 ghost use Rattle.shape_terms.specs.Pictures.{Picture};
 ghost use Rattle.shape_terms.specs.Covers.{IsEvidence, arc, next_first, gap_run};
 ghost use Rattle.report_terms.specs.Lines as Terms;
-ghost use Rattle.report_terms.specs.ContourLines.{open_contour, HasAllLines, IsFull, IsContourHead, IsNextPoint, IsNextSegment, IsNextGap, ContourClaim, ContoursComplete};
+ghost use Rattle.report_terms.specs.ContourLines.{open_contour, HasAllLines, IsFull, IsContourHead, IsNextPoint, IsNextSegment, IsNextGap};
+ghost use Rattle.report_terms.specs.Sections.{Section, SectionClaim, SectionComplete};
 ghost use Rattle.shape_report.specs.LineOf.{line_of};
 ghost use Rattle.shape_refute.specs.Terms.{naive_of};
 ghost use Rattle.shape_crack.specs.Terms.{point_of, crack_of};
-ghost use Rattle.judge_cover.specs.CoverState.{StandsFor, room_of};
+ghost use Rattle.judge_cover.specs.CoverState.{StandsFor, room_of, open_points, with_contour, with_point, with_segment, with_gap};
 ghost use Rattle.judge_cover.specs.Places.{stretch_of};
 ghost use Rattle.shape_refute.specs.Evidences.{evidence_of};
 
@@ -26,8 +27,9 @@ use std::marker::Model;
 
 /// A judge of the lines of the contours of one flat picture, as they come.
 ///
-/// It keeps the contours of the picture, and of the one that was begun last the places of its segments and its points; it keeps no line.
-/// After `take` has answered false it says nothing more, and is only dropped.
+/// It keeps the contours of the picture, and of the one that was begun last the places of its
+/// segments and its points; it keeps no line. After `take` has answered false it says nothing more,
+/// and is only dropped.
 #[derive(Drop)]
 pub struct CoverJudge {
     contours: Contours,
@@ -47,17 +49,18 @@ pub struct CoverJudge {
 
 impl Model for CoverJudge {
     ghost use Rattle.std.specs.Prelude.{map, vec_capacity};
-    ghost use Rattle.report_terms.specs.ContourLines.{Standing};
     ghost use Rattle.shape_crack.specs.Terms.{point_of};
-    ghost use Rattle.judge_cover.specs.CoverState.{CoverState, IsInStep, HasRound};
-    ghost use Rattle.judge_cover.specs.Places.{stretch_of};
+    ghost use Rattle.judge_cover.specs.CoverState.{CoverState, IsInStep, HasRound, state_of};
 
     ghost Value = { CoverState };
 
-    ghost view = { λ j. record { contours = j.contours; standing = record { begun = j.begun; points = j.points; declared = j.declared; stretches = map stretch_of j.segments.items; gaps = j.gaps } } };
+    ghost view = { λ j. state_of j.contours j.begun j.points j.declared j.segments.items j.gaps };
 
-    ghost invariant = { λ j. IsInStep j.contours (record { begun = j.begun; points = j.points; declared = j.declared; stretches = map stretch_of j.segments.items; gaps = j.gaps })
-        × HasRound j.contours (record { begun = j.begun; points = j.points; declared = j.declared; stretches = map stretch_of j.segments.items; gaps = j.gaps }) (map point_of j.round.items) (vec_capacity j.round) (vec_capacity j.segments) };
+    ghost invariant = { λ j. IsInStep j.contours
+            (state_of j.contours j.begun j.points j.declared j.segments.items j.gaps).standing
+        × HasRound j.contours
+            (state_of j.contours j.begun j.points j.declared j.segments.items j.gaps).standing
+            (map point_of j.round.items) (vec_capacity j.round) (vec_capacity j.segments) };
 }
 
 impl CoverJudge {
@@ -97,7 +100,8 @@ impl CoverJudge {
     // Whether the contour that was begun last has all its points and segments.
     fn is_covered(&self) -> bool
         requires { 0 < self.now.standing.begun }
-        ensures { IsTrue result ↔ ((self.now.standing.points ≡ length (open_contour self.now.contours self.now.standing).points) × (length self.now.standing.stretches ≡ self.now.standing.declared)) }
+        ensures { IsTrue result ↔ ((self.now.standing.points ≡ length (open_points self.now))
+            × (length self.now.standing.stretches ≡ self.now.standing.declared)) }
     {
         self.points == self.open().len() && self.segments.len() as u32 == self.declared
     }
@@ -111,9 +115,10 @@ impl CoverJudge {
 
     // Takes a `contour` line.
     fn begin(&mut self, start: Crack, points: u32, segments: u32) -> bool
-        ensures answer { IsTrue result ↔ IsContourHead self.old.contours self.old.standing (crack_of start) points segments }
+        ensures answer { IsTrue result
+            ↔ IsContourHead self.old.contours self.old.standing (crack_of start) points segments }
         ensures contours { self.new.contours ≡ self.old.contours }
-        ensures next { OnTrue result (self.new.standing ≡ record { begun = self.old.standing.begun + 1; points = 0; declared = segments; stretches = []; gaps = 0 }) }
+        ensures next { OnTrue result (self.new.standing ≡ with_contour self.old.standing segments) }
     {
         if !self.is_full() || self.begun == self.contours.len() {
             return false;
@@ -133,9 +138,10 @@ impl CoverJudge {
 
     // Takes an `at` line.
     fn go_on(&mut self, p: P2) -> bool
-        ensures answer { IsTrue result ↔ IsNextPoint self.old.contours self.old.standing (point_of p) }
+        ensures answer { IsTrue result
+            ↔ IsNextPoint self.old.contours self.old.standing (point_of p) }
         ensures contours { self.new.contours ≡ self.old.contours }
-        ensures next { OnTrue result (self.new.standing ≡ record self.old.standing { points = self.old.standing.points + 1 }) }
+        ensures next { OnTrue result (self.new.standing ≡ with_point self.old.standing) }
     {
         if self.begun == 0 || !self.segments.is_empty() {
             return false;
@@ -152,8 +158,8 @@ impl CoverJudge {
     fn arc(&self, first: u32, last: u32) -> &[P2]
         requires begun { 0 < self.now.standing.begun }
         requires order { first ≤ last }
-        requires within { last < 2 * length (open_contour self.now.contours self.now.standing).points }
-        ensures value { map point_of result.now ≡ arc (open_contour self.now.contours self.now.standing).points first last }
+        requires within { last < 2 * length (open_points self.now) }
+        ensures value { map point_of result.now ≡ arc (open_points self.now) first last }
         ensures few { length result.now < 2 ^ 31 }
     {
         let _n = self.open().len();
@@ -162,9 +168,12 @@ impl CoverJudge {
 
     // Takes a `seg` line.
     fn take_segment(&mut self, next: Places, line: &Naive) -> bool
-        ensures answer { IsTrue result ↔ IsNextSegment self.old.contours self.old.standing next.first next.last line.now.axis (naive_of 2 line.now) }
+        ensures answer { IsTrue result
+            ↔ IsNextSegment self.old.contours self.old.standing next.first next.last
+                line.now.axis (naive_of 2 line.now) }
         ensures contours { self.new.contours ≡ self.old.contours }
-        ensures next { OnTrue result (self.new.standing ≡ record self.old.standing { stretches = self.old.standing.stretches ++ stretch_of next ∷ [] }) }
+        ensures next { OnTrue result
+            (self.new.standing ≡ with_segment self.old.standing (stretch_of next)) }
     {
         if self.segments.len() as u32 >= self.declared || self.gaps != 0 {
             return false;
@@ -184,7 +193,7 @@ impl CoverJudge {
     fn next_first(&self, k: usize) -> u32
         requires begun { 0 < self.now.standing.begun }
         requires place { k < length self.now.standing.stretches }
-        ensures value { result ≡ next_first (open_contour self.now.contours self.now.standing).points self.now.standing.stretches k }
+        ensures value { result ≡ next_first (open_points self.now) self.now.standing.stretches k }
     {
         let count = self.segments.len();
         if k + 1 < count {
@@ -198,8 +207,9 @@ impl CoverJudge {
     fn end(&self, k: usize) -> u32
         requires begun { 0 < self.now.standing.begun }
         requires place { k < length self.now.standing.stretches }
-        ensures value { result ≡ (slice_index_or self.now.standing.stretches k (record { first = 0; last = 0 })).last + 1 }
-        ensures within { result < 2 * length (open_contour self.now.contours self.now.standing).points }
+        ensures value { result
+            ≡ (slice_index_or self.now.standing.stretches k (record { first = 0; last = 0 })).last + 1 }
+        ensures within { result < 2 * length (open_points self.now) }
     {
         let _n = self.open().len();
         self.segments[k].last + 1
@@ -210,7 +220,9 @@ impl CoverJudge {
         requires begun { 0 < self.now.standing.begun }
         requires place { k < length self.now.standing.stretches }
         requires axis { axis < 2 }
-        ensures { IsTrue result ↔ IsEvidence axis (gap_run (open_contour self.now.contours self.now.standing).points self.now.standing.stretches k) (evidence_of refusal.now) }
+        ensures { IsTrue result
+            ↔ IsEvidence axis (gap_run (open_points self.now) self.now.standing.stretches k)
+                (evidence_of refusal.now) }
     {
         let first = self.next_first(k).saturating_sub(1);
         let last = self.end(k);
@@ -219,9 +231,10 @@ impl CoverJudge {
 
     // Takes a gap line.
     fn take_gap(&mut self, axis: u8, refusal: &Refusal) -> bool
-        ensures answer { IsTrue result ↔ IsNextGap self.old.contours self.old.standing axis (evidence_of refusal.now) }
+        ensures answer { IsTrue result
+            ↔ IsNextGap self.old.contours self.old.standing axis (evidence_of refusal.now) }
         ensures contours { self.new.contours ≡ self.old.contours }
-        ensures next { OnTrue result (self.new.standing ≡ record self.old.standing { gaps = self.old.standing.gaps + 1 }) }
+        ensures next { OnTrue result (self.new.standing ≡ with_gap self.old.standing) }
     {
         if self.gaps >= 2 * self.declared || !self.is_covered() {
             return false;
@@ -236,12 +249,15 @@ impl CoverJudge {
 
     /// Takes the next line: whether it is a line of a contour that is good after those that were taken.
     ///
-    /// A `contour` line gives the first crack, the number of points and that of segments of the next contour, once the one before has all
-    /// its lines; an `at` line gives the next point, a `seg` line the next segment with a line that holds it, and a `turn` or a `cut` line
-    /// why the run of the next gap is not straight for the next axis. A line of another kind is not good here.
+    /// A `contour` line gives the first crack, the number of points and that of segments of the next
+    /// contour, once the one before has all its lines; an `at` line gives the next point, a `seg` line
+    /// the next segment with a line that holds it, and a `turn` or a `cut` line why the run of the next
+    /// gap is not straight for the next axis. A line of another kind is not good here.
     pub fn take(&mut self, line: &Line<P2>) -> bool
-        ensures answer { (X : Picture) (lines : List Terms.Line) → StandsFor X self.old lines → (IsTrue result ↔ ContourClaim X lines (line_of point_of line.now)) }
-        ensures stands { (X : Picture) (lines : List Terms.Line) → StandsFor X self.old lines → OnTrue result (StandsFor X self.new (lines ++ line_of point_of line.now ∷ [])) }
+        ensures answer { (X : Picture) (lines : List Terms.Line) → StandsFor X self.old lines
+            → (IsTrue result ↔ SectionClaim X Section.Contours lines (line_of point_of line.now)) }
+        ensures stands { (X : Picture) (lines : List Terms.Line) → StandsFor X self.old lines
+            → OnTrue result (StandsFor X self.new (lines ++ line_of point_of line.now ∷ [])) }
         ensures room { OnTrue result (room_of self.new < room_of self.old) }
     {
         match *line {
@@ -255,16 +271,14 @@ impl CoverJudge {
             Line::Seg { first, last, line } => self.take_segment(Places { first, last }, &line),
             Line::Turn { axis, i, j } => self.take_gap(axis, &Refusal::Turned(Turn { i, j })),
             Line::Cut { axis, why } => self.take_gap(axis, &Refusal::Cut(why)),
-            Line::Shape { .. } => false,
-            Line::Parts { .. } => false,
-            Line::Near { .. } => false,
-            Line::End => false,
+            _ => false,
         }
     }
 
     /// Whether each contour of the picture has its lines.
-    pub fn done(&self) -> bool
-        ensures { (X : Picture) (lines : List Terms.Line) → StandsFor X self.now lines → (IsTrue result ↔ ContoursComplete X lines) }
+    pub fn is_done(&self) -> bool
+        ensures { (X : Picture) (lines : List Terms.Line) → StandsFor X self.now lines
+            → (IsTrue result ↔ SectionComplete X Section.Contours lines) }
     {
         self.begun == self.contours.len() && self.is_full()
     }

@@ -130,10 +130,10 @@ fn a_ring(rt: HostRuntime) -> Result<(), Fail> {
     let grid = ring(rt.alloc())?;
     let mut judge = CoverJudge::new(rt.alloc(), &grid)?;
     for line in lines() {
-        assert!(rt; !judge.done());
+        assert!(rt; !judge.is_done());
         assert!(rt; judge.take(&line));
     }
-    assert!(rt; judge.done());
+    assert!(rt; judge.is_done());
     assert!(rt; !judge.take(&at(1, 0)));
     Ok(())
 }

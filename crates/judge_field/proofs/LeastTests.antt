@@ -1,13 +1,10 @@
 -- What the tests of a distance show.
 -- Laws over points and pictures alone.
-use Rattle.std.proofs.Common.{◌≡◌, ◌+◌, ◌*◌, ◌<◌, ◌≤◌, ℕ, Bool, true, false, ◌-ℤ◌, length, drop, inl, inr, refl, arith}
-use Rattle.std.specs.Prelude.{nat_abs, IsTrue, not}
-use Rattle.std.proofs.lemmas.Bool.{cases_lt}
-use Rattle.shape_terms.specs.Points.{Point, coordinate, in_box, box_count, squared_distance}
-use Rattle.shape_terms.specs.Pictures.{Picture, at, IsBackground, Least}
-use Rattle.shape_terms.specs.FramedBox.{framed_sides, framed_point}
+use Rattle.std.proofs.Common.{◌≡◌, ◌+◌, ◌*◌, ◌<◌, ℕ, ◌-ℤ◌, length, drop, arith}
+use Rattle.std.specs.Prelude.{nat_abs}
+use Rattle.shape_terms.specs.Points.{Point, coordinate, squared_distance}
+use Rattle.shape_terms.specs.Pictures.{Picture, IsBackground, Least}
 use Rattle.shape_terms.proofs.SquaredDistances.{squared_distance-more, squared_distance-drop}
-use Rattle.shape_terms.proofs.NearestFound.{none_nearer}
 use Rattle.judge_field.specs.Scanned.{IsLeastSquare}
 
 -- the axes from the last one on use up more than s

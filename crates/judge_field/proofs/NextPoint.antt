@@ -9,7 +9,7 @@ use Rattle.std.proofs.lemmas.Option.{slice_get_within}
 use Rattle.shape_terms.specs.Points.{Point, raster_point, box_points}
 use Rattle.shape_terms.specs.Pictures.{Picture, at, object_points, objects_from}
 use Rattle.report_terms.specs.Lines.{Line}
-use Rattle.report_terms.specs.Good.{NearClaim}
+use Rattle.report_terms.specs.Sections.{NearClaim}
 use Rattle.report_terms.proofs.Checking.{get_push}
 use Rattle.judge_field.specs.FieldState.{FieldState, StandsFor, IsInStep}
 

@@ -1,12 +1,12 @@
 -- Squares on one axis more, before the first axis and behind the last.
 -- Laws over pictures, squares and numbers alone.
-use Rattle.std.proofs.Common.{◌≡◌, ◌⊎◌, inl, inr, ℕ, ◌+◌, ◌*◌, ◌-◌, ◌/◌, ◌%◌, ◌<◌, ◌≤◌, ◌^◌, true, false, List, [], ◌∷◌, ◌++◌, length, get_or, refl, sym, ap, ◌∙◌, subst, arith, mul_comm}
-use Rattle.std.specs.Prelude.{ℤ, pos, ◌≤ℤ◌, IsTrue}
+use Rattle.std.proofs.Common.{◌≡◌, inl, inr, ℕ, ◌+◌, ◌*◌, ◌-◌, ◌/◌, ◌<◌, ◌≤◌, ◌^◌, false, List, [], ◌∷◌, ◌++◌, length, get_or, refl, sym, ap, ◌∙◌, subst, arith, mul_comm}
+use Rattle.std.specs.Prelude.{IsTrue}
 use Rattle.std.proofs.lemmas.Bool.{cases_Bool, cases_lt, cases_eq}
 use Rattle.std.proofs.lemmas.List.{get_or_push, get_or_append_left, get_or_past, length_push}
-use Rattle.std.proofs.lemmas.Nat.{mod-mul-add, mul-le}
-use Rattle.shape_terms.specs.Points.{Point, AreSides, sides_of, box_count, in_box, squared_distance}
-use Rattle.shape_terms.specs.Pictures.{Picture, at, Least}
+use Rattle.std.proofs.lemmas.Nat.{mod-mul-add}
+use Rattle.shape_terms.specs.Points.{Point, box_count, in_box, squared_distance}
+use Rattle.shape_terms.specs.Pictures.{Picture, at}
 use Rattle.shape_terms.specs.FramedBox.{framed_sides, framed_point}
 use Rattle.shape_terms.specs.Places.{framed_number}
 use Rattle.shape_terms.proofs.FramedBoxes.{length-framed_point}
@@ -14,7 +14,7 @@ use Rattle.shape_terms.proofs.FramedNumbers.{framed_number_below, framed_point-f
 use Rattle.shape_terms.proofs.NearestFound.{least_found, corner_background}
 use Rattle.shape_terms.specs.AxisLines.{place, gap, apart, IsBare}
 use Rattle.shape_terms.proofs.FramedLines.{distance_same}
-use Rattle.shape_terms.proofs.AxisPlaces.{HasPlace, place_of, place_line, place_high, place_below, same_digits}
+use Rattle.shape_terms.proofs.AxisPlaces.{place_of, place_line, place_high, place_below, same_digits}
 use Rattle.shape_terms.proofs.FramedEnds.{level_all, in_box_in_frame}
 use Rattle.judge_field.specs.Scanned.{IsLeastSquare, IsLeastAlong, HasScanned, HasBare, AreSquaresOn, digit, line_start, IsScannedAt, IsFirstSquare}
 

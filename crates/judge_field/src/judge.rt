@@ -3,7 +3,7 @@
 ghost use Rattle.std.specs.Prelude.{◌≡◌, ◌<◌, ◌^◌, ◌↔◌, [], ◌∷◌, ◌++◌, List, IsTrue, IfOk};
 ghost use Rattle.std.specs.Bool.{OnTrue};
 ghost use Rattle.report_terms.specs.Lines as Terms;
-ghost use Rattle.report_terms.specs.Good.{NearClaim, NearsComplete};
+ghost use Rattle.report_terms.specs.Sections.{Section, NearClaim, SectionComplete};
 ghost use Rattle.shape_report.specs.LineOf.{line_of};
 ghost use Rattle.judge_field.specs.FieldState.{StandsFor, room_of};
 
@@ -17,7 +17,8 @@ use std::marker::Model;
 
 /// A judge of the `near` lines of a report of one picture, as they come.
 ///
-/// It keeps the scans of the picture and no line. After `near` has answered false it says nothing more, and is only dropped.
+/// It keeps the scans of the picture and no line. After `take` has answered false it says nothing
+/// more, and is only dropped.
 #[derive(Drop)]
 pub struct FieldJudge<P: Point> {
     scans: Scans<P>,
@@ -59,8 +60,12 @@ impl<P: Point> FieldJudge<P> {
     // Takes a `near` line of these points and this squared distance.
     fn take_near(&mut self, p: P, q: P, s: u64) -> bool
         ensures picture { self.new.picture ≡ self.old.picture }
-        ensures answer { (lines : List Terms.Line) → StandsFor self.old lines → (IsTrue result ↔ NearClaim self.old.picture lines (Terms.Line.Near (P.coords p) (P.coords q) s)) }
-        ensures stands { (lines : List Terms.Line) → StandsFor self.old lines → OnTrue result (StandsFor self.new (lines ++ Terms.Line.Near (P.coords p) (P.coords q) s ∷ [])) }
+        ensures answer { (lines : List Terms.Line) → StandsFor self.old lines
+            → (IsTrue result ↔ NearClaim self.old.picture lines
+                (Terms.Line.Near (P.coords p) (P.coords q) s)) }
+        ensures stands { (lines : List Terms.Line) → StandsFor self.old lines
+            → OnTrue result (StandsFor self.new
+                (lines ++ Terms.Line.Near (P.coords p) (P.coords q) s ∷ [])) }
         ensures room { OnTrue result (room_of self.new < room_of self.old) }
     {
         let grid = self.scans.grid();
@@ -83,28 +88,24 @@ impl<P: Point> FieldJudge<P> {
     ///
     /// It names the next object point in raster order, and a nearest background point of the whole space with the
     /// square of their distance. A line of another kind is not good here.
-    pub fn near(&mut self, line: &Line<P>) -> bool
+    pub fn take(&mut self, line: &Line<P>) -> bool
         ensures picture { self.new.picture ≡ self.old.picture }
-        ensures answer { (lines : List Terms.Line) → StandsFor self.old lines → (IsTrue result ↔ NearClaim self.old.picture lines (line_of P.coords line.now)) }
-        ensures stands { (lines : List Terms.Line) → StandsFor self.old lines → OnTrue result (StandsFor self.new (lines ++ line_of P.coords line.now ∷ [])) }
+        ensures answer { (lines : List Terms.Line) → StandsFor self.old lines
+            → (IsTrue result ↔ NearClaim self.old.picture lines (line_of P.coords line.now)) }
+        ensures stands { (lines : List Terms.Line) → StandsFor self.old lines
+            → OnTrue result (StandsFor self.new (lines ++ line_of P.coords line.now ∷ [])) }
         ensures room { OnTrue result (room_of self.new < room_of self.old) }
     {
         match *line {
             Line::Near { p, q, s } => self.take_near(p, q, s),
-            Line::Shape { .. } => false,
-            Line::Parts { .. } => false,
-            Line::Contour { .. } => false,
-            Line::At { .. } => false,
-            Line::Seg { .. } => false,
-            Line::Turn { .. } => false,
-            Line::Cut { .. } => false,
-            Line::End => false,
+            _ => false,
         }
     }
 
     /// Whether each object point has its line.
-    pub fn near_done(&self) -> bool
-        ensures { (lines : List Terms.Line) → StandsFor self.now lines → (IsTrue result ↔ NearsComplete self.now.picture lines) }
+    pub fn is_done(&self) -> bool
+        ensures { (lines : List Terms.Line) → StandsFor self.now lines
+            → (IsTrue result ↔ SectionComplete self.now.picture Section.Nearest lines) }
     {
         self.taken == self.objects
     }

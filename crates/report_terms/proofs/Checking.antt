@@ -1,5 +1,5 @@
 -- Going through a text line by line: what is known of it after each good line, and where the first bad line is found.
--- Laws of texts and lines in general; when a line is good stands in `GoodSteps`.
+-- Laws of texts and lines in general; when a line is good stands in `SectionLaws`.
 use Rattle.std.proofs.Common.{◌≡◌, inl, inr, ℕ, zero, suc, ◌+◌, ◌≤◌, ◌<◌, refl, ap, sym, ◌∙◌, subst, arith, List, [], ◌∷◌, ◌++◌, length, get_or, Some, take, drop}
 use Rattle.std.specs.Prelude.{slice_get}
 use Rattle.std.specs.List.{AllByRecursion}
@@ -8,7 +8,7 @@ use Rattle.std.proofs.lemmas.List.{append_assoc, append-nil, length-append, leng
 use Rattle.std.proofs.lemmas.List.Elements.{All-nil, All-push, All-take, All-from_get_or, recursion_from_All}
 use Rattle.shape_terms.specs.Pictures.{Picture}
 use Rattle.report_terms.specs.Lines.{Line, spelling, text_of, IsLineOf}
-use Rattle.report_terms.specs.Good.{GoodAfter, GoodSoFar}
+use Rattle.report_terms.specs.Sections.{GoodAfter, GoodSoFar}
 use Rattle.report_terms.specs.Holds.{BeginsWith, LineIsGood, FirstBad}
 use Rattle.report_terms.specs.Progress.{StartsWithLine, StartsWithNoLine}
 pub use Rattle.report_terms.proofs.ListPushes.{get_push}

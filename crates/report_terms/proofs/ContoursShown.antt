@@ -83,10 +83,6 @@ gap_claim contours lines front g w t evidence c =
 
 -- one more good line
 pub says_more : (d : ℕ) (contours : List Contour) (lines : List Line) (l : Line) → Says contours lines → IsLineOf d l → OutlineClaim contours (standing lines) l → Says contours (lines ++ l ∷ [])
-says_more d contours lines (Line.Shape sides rule) s a c = absurd c
-says_more d contours lines (Line.Parts n o b) s a c = absurd c
-says_more d contours lines (Line.Near p q r) s a c = absurd c
-says_more d contours lines Line.End s a c = absurd c
 says_more d contours lines (Line.Contour p side n m) (SaysNone e) a c =
     let l = Line.Contour p side n m in
     let next : slice_get contours 0 ≡ Some _ = ap (λ k. slice_get contours k) (sym (ap length e)) ∙ c.next in
@@ -141,6 +137,7 @@ says_more d contours lines (Line.Cut t why) (SaysSome front g w) a c =
     let h = gap_claim contours lines front g w t (Evidence.Cut why) c in
     same_contour contours lines (Line.Cut t why) front g w refl (said_refusal w.contour g (Line.Cut t why) (record { axis = t; kind = GapKind.ByCut }) w.said refl refl refl refl
     (refused_by_cut w.contour.points (stretches_of (filter_map segment_of g)) (length (filter_map gap_of g)) t why h.0 h.1))
+says_more d contours lines l s a c = absurd c
 
 -- good lines of contours, each good after those before it
 pub says : (d : ℕ) (contours : List Contour) (lines : List Line) → ((k : ℕ) (l : Line) → slice_get lines k ≡ Some l → IsLineOf d l × OutlineClaim contours (standing (take k lines)) l) → Says contours lines

@@ -6,7 +6,7 @@ use Rattle.std.proofs.lemmas.List.Elements.{All-take}
 use Rattle.std.proofs.lemmas.List.{length-take}
 use Rattle.shape_terms.specs.Pictures.{Picture}
 use Rattle.report_terms.specs.Lines.{Line, spelling, text_of, IsLineOf}
-use Rattle.report_terms.specs.Good.{GoodAfter}
+use Rattle.report_terms.specs.Sections.{GoodAfter}
 use Rattle.report_terms.specs.Holds.{BeginsWith, LineIsGood, FirstBad}
 
 get_take : (xs : List Line) (k j : ℕ) (x : Line) → slice_get (take k xs) j ≡ Some x → (slice_get xs j ≡ Some x) × (take j (take k xs) ≡ take j xs)

@@ -3,7 +3,8 @@ pub mod ContourGroups
 pub mod ContourSaid
 pub mod ContoursShown
 pub mod FirstBadOnce
-pub mod GoodSteps
+pub mod SectionLaws
+pub mod LandedGood
 pub mod HoldsShows
 pub mod LineWords
 pub mod RefutationWords

@@ -1,5 +1,5 @@
 -- The lines of contours in a report: how they stand in groups, and when one is good after those before it.
--- Only the lines of this section stand here; how sections follow each other stands in `Good`.
+-- Only the lines of this section stand here; how sections follow each other stands in `Sections`.
 use Rattle.std.specs.Prelude.{◌≡◌, ℕ, ◌-◌, ◌*◌, ◌/◌, ◌%◌, ◌<◌, ◌≤◌, Bool, true, false, not, if◌then◌else◌, List, [], ◌∷◌, length, filter_map, take_while, slice_get, slice_index_or, Option, Some, None}
 use Rattle.shape_terms.specs.Points.{Point}
 use Rattle.shape_terms.specs.Pictures.{Picture}

@@ -3,7 +3,7 @@
 use Rattle.std.specs.Prelude.{◌≡◌, ℕ, ◌+◌, ◌≤◌, List, [], ◌∷◌, ◌++◌, length, All}
 use Rattle.shape_terms.specs.Pictures.{Picture}
 use Rattle.report_terms.specs.Lines.{Line, spelling, text_of, IsLineOf}
-use Rattle.report_terms.specs.Good.{GoodSoFar}
+use Rattle.report_terms.specs.Sections.{GoodSoFar}
 
 -- the text begins with these lines, each spelled in at most 1024 bytes and good after those before it, and `rest` is what follows them
 pub record BeginsWith (X : Picture) (text : List ℕ) (lines : List Line) (rest : List ℕ) : Type 0 where

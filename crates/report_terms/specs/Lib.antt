@@ -1,5 +1,5 @@
 pub mod Lines
-pub mod Good
+pub mod Sections
 pub mod Holds
 pub mod Shows
 pub mod Progress

@@ -1,5 +1,5 @@
 -- The lines of a report, and their spelling.
--- Each kind of line has its words here; what a line claims stands in `Good`.
+-- Each kind of line has its words here; what a line claims stands in `Sections`.
 use Rattle.std.specs.Prelude.{ℕ, zero, suc, ◌≡◌, ◌+◌, ◌≤◌, ◌<◌, ◌^◌, List, [], ◌∷◌, ◌++◌, length, codes, map, ℤ, flat_map, All, FitsSigned}
 use Rattle.std.specs.List.{join_with_byte}
 use Rattle.std.specs.Int.{w32, w64}

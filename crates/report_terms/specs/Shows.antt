@@ -9,7 +9,7 @@ use Rattle.shape_terms.specs.Traces.{Contour}
 use Rattle.report_terms.specs.ContourFacts.{ContourFact, in_pairs, ContoursShow}
 use Rattle.report_terms.specs.Lines.{Line, text_of, IsLineOf}
 use Rattle.report_terms.specs.ContourLines.{contour_groups, point_of, segment_of, gap_of}
-use Rattle.report_terms.specs.Good.{section_lines}
+use Rattle.report_terms.specs.Sections.{Section, lines_of}
 
 -- what a `parts` line says of the picture: how many object points it has, and how many components its object and its background
 pub record PartsFact : Type 0 where
@@ -49,7 +49,7 @@ abbrev pub content_of : List Line → Content
 content_of lines = record {
   parts = filter_map parts_fact lines;
   nears = filter_map near_fact lines;
-  contours = map contour_fact (contour_groups (section_lines 3 lines));
+  contours = map contour_fact (contour_groups (lines_of Section.Contours lines));
 }
 
 -- the counts of the picture, said once

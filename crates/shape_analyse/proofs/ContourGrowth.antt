@@ -13,9 +13,9 @@ use Rattle.shape_terms.specs.Naive.{Naive}
 use Rattle.shape_terms.specs.Covers.{Stretch, Evidence, IsEvidence, IsSegment, gap_run}
 use Rattle.report_terms.specs.Lines.{Line, text_of, IsLineOf}
 use Rattle.report_terms.specs.ContourLines.{Standing, standing, no_contour, open_contour, IsFull, OutlineClaim, ContourClaim}
-use Rattle.report_terms.specs.Good.{section, section_lines, Claim, GoodAfter}
+use Rattle.report_terms.specs.Sections.{Section, section_of, lines_of, GoodAfter}
 use Rattle.report_terms.specs.Holds.{Holds}
-use Rattle.report_terms.proofs.GoodSteps.{none_past, come_more, come_past, good_at, section_push}
+use Rattle.report_terms.proofs.SectionLaws.{none_past, come_more, come_past, good_at, lines_push}
 use Rattle.report_terms.proofs.ContourGroups.{standing_begun, standing_point, standing_segment, standing_turn, standing_cut}
 use Rattle.shape_analyse.specs.Growing.{IsGrowing, IsOutlined, HasOutlined, gap_line}
 use Rattle.shape_analyse.proofs.Growth.{good_more}
@@ -30,41 +30,23 @@ outlined_none X n lines contours h all flat are = record {
     flat = flat;
     are = are;
     lines_good = h.lines_good;
-    come = come_past X 2 lines h.come (h.nears ∙ all);
-    stands = ap standing (none_past 2 lines 3 (omega arith) h.come.order);
+    come = come_past X Section.Nearest Section.Contours lines refl h.come (h.nears ∙ all);
+    stands = ap standing (none_past Section.Nearest Section.Contours lines (omega arith) h.come.order);
   };
 }
 
 -- ---- one more line of a contour
 
-claim_is : (X : Picture) (lines : List Line) (l : Line) → section l ≡ 3 → ContourClaim X (section_lines 3 lines) l → Claim X lines l
-claim_is X lines (Line.Shape sides rule) k c = absurd (omega arith)
-claim_is X lines (Line.Parts n o b) k c = absurd (omega arith)
-claim_is X lines (Line.Near p q s) k c = absurd (omega arith)
-claim_is X lines (Line.Contour p side n m) k c = c
-claim_is X lines (Line.At p) k c = c
-claim_is X lines (Line.Seg b e t a mu) k c = c
-claim_is X lines (Line.Turn t i j) k c = c
-claim_is X lines (Line.Cut t why) k c = c
-claim_is X lines Line.End k c = absurd (omega arith)
-
-outlined_more : (X : Picture) (contours : List Contour) (s s2 : Standing) (lines : List Line) (l : Line) → IsOutlined X contours s lines → section l ≡ 3 → OutlineClaim contours s l → IsLineOf 2 l → standing (section_lines 3 lines ++ l ∷ []) ≡ s2 → IsOutlined X contours s2 (lines ++ l ∷ [])
+outlined_more : (X : Picture) (contours : List Contour) (s s2 : Standing) (lines : List Line) (l : Line) → IsOutlined X contours s lines → section_of l ≡ Section.Contours → OutlineClaim contours s l → IsLineOf 2 l → standing (lines_of Section.Contours lines ++ l ∷ []) ≡ s2 → IsOutlined X contours s2 (lines ++ l ∷ [])
 outlined_more X contours s s2 lines l o k claim fields next =
-    let good : GoodAfter X lines l = record {
-      order = λ i d m. let h = o.come.order i d m in omega (arith, k);
-      complete = λ j m. o.come.complete j (omega (arith, k));
-      claim = claim_is X lines l k (contours, o.are, subst (λ w. OutlineClaim contours w l) (sym o.stands) claim);
-    } in
+    let good = good_at X Section.Contours lines l o.come k (o.flat, (contours, o.are, subst (λ w. OutlineClaim contours w l) (sym o.stands) claim)) in
     record {
       flat = o.flat;
       are = o.are;
       lines_good = good_more X lines l o.lines_good (omega (arith, o.flat)) (subst (λ d. IsLineOf d l) (sym o.flat) fields) good;
-      come = come_more X 3 lines l o.come k;
-      stands = ap standing (section_push 3 lines l (three (section l) k)) ∙ next;
+      come = come_more X Section.Contours lines l o.come k;
+      stands = ap standing (lines_push Section.Contours lines l k) ∙ next;
     }
-  where
-    three : (n : ℕ) → n ≡ 3 → (n == 3) ≡ true
-    three n e = rw e refl
 
 -- the next contour is begun
 pub outlined_begun : (X : Picture) (contours : List Contour) (k : ℕ) (lines : List Line) (c : Contour) (p : Point) (side n m : ℕ) → HasOutlined X contours k lines → slice_get contours k ≡ Some c → record { pixel = p; side = side } ≡ c.start → n ≡ length c.points → 1 ≤ m → m ≤ n
@@ -77,7 +59,7 @@ outlined_begun X contours k lines c p side n m h next start count some few field
       next = ap (slice_get contours) h.begun ∙ next ∙ ap Some same;
       count = count;
       segments = (some, few);
-    }) fields (standing_begun (section_lines 3 lines) p side n m ∙ ap (λ b. record { begun = b + 1; points = 0; declared = m; stretches = []; gaps = 0 }) (ap (λ (s : Standing). s.begun) h.outlined.stands ∙ h.begun))
+    }) fields (standing_begun (lines_of Section.Contours lines) p side n m ∙ ap (λ b. record { begun = b + 1; points = 0; declared = m; stretches = []; gaps = 0 }) (ap (λ (s : Standing). s.begun) h.outlined.stands ∙ h.begun))
 
 -- the contour that was begun last
 last_begun : (contours : List Contour) (s : Standing) (k : ℕ) (c : Contour) → s.begun ≡ k + 1 → slice_get contours k ≡ Some c → open_contour contours s ≡ c
@@ -86,7 +68,7 @@ last_begun contours s k c b there =
     ap (λ j. slice_index_or contours j no_contour) e ∙ get_or_from_slice_get contours k c no_contour there
 
 -- where some contour was begun, the lines have a `contour` line
-some_begun : (X : Picture) (contours : List Contour) (s : Standing) (lines : List Line) (k : ℕ) → IsOutlined X contours s lines → s.begun ≡ k + 1 → 0 < (standing (section_lines 3 lines)).begun
+some_begun : (X : Picture) (contours : List Contour) (s : Standing) (lines : List Line) (k : ℕ) → IsOutlined X contours s lines → s.begun ≡ k + 1 → 0 < (standing (lines_of Section.Contours lines)).begun
 some_begun X contours s lines k o b = let e = ap (λ (w : Standing). w.begun) o.stands in omega (arith, e, b)
 
 -- it is given its next point
@@ -99,7 +81,7 @@ outlined_point X contours k i m lines c p o there next fields =
       some = omega arith;
       early = refl;
       next = ap (λ (d : Contour). slice_get d.points i) last ∙ next;
-    }) fields (standing_point (section_lines 3 lines) p (some_begun X contours s lines k o refl) ∙ ap (λ (w : Standing). record w { points = w.points + 1 }) o.stands)
+    }) fields (standing_point (lines_of Section.Contours lines) p (some_begun X contours s lines k o refl) ∙ ap (λ (w : Standing). record w { points = w.points + 1 }) o.stands)
 
 -- its next segment
 pub outlined_segment : (X : Picture) (contours : List Contour) (k m : ℕ) (before : List Stretch) (lines : List Line) (c : Contour) (b e t : ℕ) (line : Naive) → IsOutlined X contours (record { begun = k + 1; points = length c.points; declared = m; stretches = before; gaps = 0 }) lines → slice_get contours k ≡ Some c
@@ -113,7 +95,7 @@ outlined_segment X contours k m before lines c b e t line o there more segment f
       more = more;
       early = refl;
       segment = subst (λ (d : Contour). IsSegment d.points m before b e t line) (sym last) segment;
-    }) fields (standing_segment (section_lines 3 lines) b e t line.a line.mu (some_begun X contours s lines k o refl) ∙ ap (λ (w : Standing). record w { stretches = w.stretches ++ record { first = b; last = e } ∷ [] }) o.stands)
+    }) fields (standing_segment (lines_of Section.Contours lines) b e t line.a line.mu (some_begun X contours s lines k o refl) ∙ ap (λ (w : Standing). record w { stretches = w.stretches ++ record { first = b; last = e } ∷ [] }) o.stands)
 
 -- and its next gap line
 pub outlined_gap : (X : Picture) (contours : List Contour) (k : ℕ) (stretches : List Stretch) (g j t : ℕ) (lines : List Line) (c : Contour) (v : Evidence) → IsOutlined X contours (record { begun = k + 1; points = length c.points; declared = length stretches; stretches = stretches; gaps = g }) lines → slice_get contours k ≡ Some c
@@ -129,7 +111,7 @@ outlined_gap X contours k stretches g j t lines c (Evidence.Turned x y) o there 
       more = omega (arith, count, two, place);
       axis = omega (arith, count, two);
       good = subst (λ (d : Contour). IsEvidence t (gap_run d.points stretches (g / 2)) (Evidence.Turned x y)) (sym last) (subst (λ q. IsEvidence t (gap_run c.points stretches q) (Evidence.Turned x y)) half good);
-    }) fields (standing_turn (section_lines 3 lines) t x y (some_begun X contours s lines k o refl) ∙ ap (λ (w : Standing). record w { gaps = w.gaps + 1 }) o.stands)
+    }) fields (standing_turn (lines_of Section.Contours lines) t x y (some_begun X contours s lines k o refl) ∙ ap (λ (w : Standing). record w { gaps = w.gaps + 1 }) o.stands)
 outlined_gap X contours k stretches g j t lines c (Evidence.Cut why) o there count place two good fields =
     let s : Standing = record { begun = k + 1; points = length c.points; declared = length stretches; stretches = stretches; gaps = g } in
     let last = last_begun contours s k c refl there in
@@ -140,7 +122,7 @@ outlined_gap X contours k stretches g j t lines c (Evidence.Cut why) o there cou
       more = omega (arith, count, two, place);
       axis = omega (arith, count, two);
       good = subst (λ (d : Contour). IsEvidence t (gap_run d.points stretches (g / 2)) (Evidence.Cut why)) (sym last) (subst (λ q. IsEvidence t (gap_run c.points stretches q) (Evidence.Cut why)) half good);
-    }) fields (standing_cut (section_lines 3 lines) t why (some_begun X contours s lines k o refl) ∙ ap (λ (w : Standing). record w { gaps = w.gaps + 1 }) o.stands)
+    }) fields (standing_cut (lines_of Section.Contours lines) t why (some_begun X contours s lines k o refl) ∙ ap (λ (w : Standing). record w { gaps = w.gaps + 1 }) o.stands)
 
 -- it has all its lines
 pub outlined_full : (X : Picture) (contours : List Contour) (k m : ℕ) (stretches : List Stretch) (lines : List Line) (c : Contour) → slice_get contours k ≡ Some c → length stretches ≡ m → IsOutlined X contours (record { begun = k + 1; points = length c.points; declared = m; stretches = stretches; gaps = 2 * m }) lines → HasOutlined X contours (k + 1) lines
@@ -160,8 +142,11 @@ outlined_full X contours k m stretches lines c there all o = record {
 pub outlined_done : (X : Picture) (contours : List Contour) (lines : List Line) → HasOutlined X contours (length contours) lines → Holds X (text_of (lines ++ Line.End ∷ []))
 outlined_done X contours lines h =
     let o = h.outlined in
-    let come = come_past X 3 lines o.come (λ flat. (contours, o.are, subst (IsFull contours) (sym o.stands) h.full, ap (λ (s : Standing). s.begun) o.stands ∙ h.begun)) in
-    let good : GoodAfter X lines Line.End = good_at X lines Line.End come (none_past 3 lines 4 (omega arith) o.come.order) in
+    let come = come_past X Section.Contours Section.End lines refl o.come (record {
+      flat = λ flat. (contours, o.are, subst (IsFull contours) (sym o.stands) h.full, ap (λ (s : Standing). s.begun) o.stands ∙ h.begun);
+      other = λ other. absurd (other o.flat);
+    }) in
+    let good : GoodAfter X lines Line.End = good_at X Section.End lines Line.End come refl (none_past Section.Contours Section.End lines (omega arith) o.come.order) in
     let all = good_more X lines Line.End o.lines_good (omega (arith, o.flat)) tt good in
     (lines, record { split = sym (append-nil (text_of (lines ++ Line.End ∷ []))); fields = all.fields; short = all.short; good = all.good })
 

@@ -11,9 +11,9 @@ use Rattle.shape_terms.specs.Pictures.{Picture, object_points, Least}
 use Rattle.shape_terms.specs.Parts.{Counts}
 use Rattle.shape_terms.specs.Distances.{NearFact, IsField, IsFramed}
 use Rattle.report_terms.specs.Lines.{Line, spelling, IsLineOf, IsWeight, IsName}
-use Rattle.report_terms.specs.Good.{section_lines, GoodAfter}
+use Rattle.report_terms.specs.Sections.{Section, lines_of, GoodAfter}
 use Rattle.report_terms.proofs.Checking.{good_push}
-use Rattle.report_terms.proofs.GoodSteps.{come_none, come_more, come_past, good_at, section_push}
+use Rattle.report_terms.proofs.SectionLaws.{come_none, come_more, come_past, good_at, lines_push}
 use Rattle.report_terms.proofs.ShortLines.{short_line, within_short, distance_fits}
 use Rattle.shape_terms.proofs.Boxes.{abs_is}
 use Rattle.shape_analyse.specs.Growing.{AreGood, IsGrowing}
@@ -58,12 +58,12 @@ growing_none g X sides rule n o b h e three first r second counts =
     let l = Line.Shape sides rule in
     let m = Line.Parts n o b in
     let claim : sides ≡ map pos X.sides = sides_are g sides h ∙ ap (map pos) e in
-    let come = come_past X 0 (l ∷ []) (come_more X 0 [] l (come_none X) refl) refl in
-    let good : GoodAfter X [] l = good_at X [] l (come_none X) (refl, claim, r) in
-    let next : GoodAfter X (l ∷ []) m = good_at X (l ∷ []) m come (refl, counts) in
+    let come = come_past X Section.Heading Section.Counted (l ∷ []) refl (come_more X Section.Heading [] l (come_none X) refl) refl in
+    let good : GoodAfter X [] l = good_at X Section.Heading [] l (come_none X) refl (refl, (claim, r)) in
+    let next : GoodAfter X (l ∷ []) m = good_at X Section.Counted (l ∷ []) m come refl (refl, counts) in
     record {
       lines_good = good_more X (l ∷ []) m (good_more X [] l (good_none X) three first good) three second next;
-      come = come_past X 1 (l ∷ m ∷ []) (come_more X 1 (l ∷ []) m come refl) refl;
+      come = come_past X Section.Counted Section.Nearest (l ∷ m ∷ []) refl (come_more X Section.Counted (l ∷ []) m come refl) refl;
       nears = refl;
     }
 
@@ -72,11 +72,11 @@ growing_none g X sides rule n o b h e three first r second counts =
 pub growing_more : (X : Picture) (n : ℕ) (lines : List Line) (p q : Point) (s : ℕ) → IsGrowing X n lines → length X.sides ≤ 3 → IsLineOf (length X.sides) (Line.Near p q s) → slice_get (object_points X) n ≡ Some p → Least X p q s → IsGrowing X (n + 1) (lines ++ Line.Near p q s ∷ [])
 growing_more X n lines p q s h three fields there least =
     let l = Line.Near p q s in
-    let good : GoodAfter X lines l = good_at X lines l h.come (ap (slice_get (object_points X)) h.nears ∙ there, least) in
+    let good : GoodAfter X lines l = good_at X Section.Nearest lines l h.come refl (ap (slice_get (object_points X)) h.nears ∙ there, least) in
     record {
       lines_good = good_more X lines l h.lines_good three fields good;
-      come = come_more X 2 lines l h.come refl;
-      nears = ap length (section_push 2 lines l refl) ∙ length-append (section_lines 2 lines) (l ∷ []) ∙ ap (λ k. k + 1) h.nears;
+      come = come_more X Section.Nearest lines l h.come refl;
+      nears = ap length (lines_push Section.Nearest lines l refl) ∙ length-append (lines_of Section.Nearest lines) (l ∷ []) ∙ ap (λ k. k + 1) h.nears;
     }
 
 -- ---- what is read off the field

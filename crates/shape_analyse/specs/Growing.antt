@@ -7,8 +7,7 @@ use Rattle.shape_terms.specs.Traces.{Contour, AreContours}
 use Rattle.shape_terms.specs.Covers.{Evidence}
 use Rattle.report_terms.specs.Lines.{Line, spelling, IsLineOf}
 use Rattle.report_terms.specs.ContourLines.{Standing, standing, IsFull}
-use Rattle.report_terms.specs.Good.{GoodSoFar, section_lines}
-use Rattle.report_terms.specs.Progress.{HasCome}
+use Rattle.report_terms.specs.Sections.{Section, lines_of, HasCome, GoodSoFar}
 use Rattle.shape_cover.specs.Found.{Found, IsCoverOf}
 
 -- short lines of the reports of pictures like X, each good after those before it
@@ -20,16 +19,16 @@ pub record AreGood (X : Picture) (lines : List Line) : Type 0 where
 -- the `shape` line, the `parts` line and n `near` lines, all of them good
 pub record IsGrowing (X : Picture) (n : ℕ) (lines : List Line) : Type 0 where
   pub lines_good : AreGood X lines
-  pub come : HasCome X 2 lines
-  pub nears : length (section_lines 2 lines) ≡ n
+  pub come : HasCome X Section.Nearest lines
+  pub nears : length (lines_of Section.Nearest lines) ≡ n
 
 -- all lines before those of contours, and good lines of contours that stand at s, where `contours` are those of the flat picture
 pub record IsOutlined (X : Picture) (contours : List Contour) (s : Standing) (lines : List Line) : Type 0 where
   pub flat : length X.sides ≡ 2
   pub are : AreContours X contours
   pub lines_good : AreGood X lines
-  pub come : HasCome X 3 lines
-  pub stands : standing (section_lines 3 lines) ≡ s
+  pub come : HasCome X Section.Contours lines
+  pub stands : standing (lines_of Section.Contours lines) ≡ s
 
 -- the first k contours have all their lines
 pub record HasOutlined (X : Picture) (contours : List Contour) (k : ℕ) (lines : List Line) : Type 0 where

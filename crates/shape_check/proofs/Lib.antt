@@ -1,3 +1,4 @@
 pub mod NextAnswers
+pub mod RowLaws
 pub mod Going
-pub mod Stages
+pub mod OneLine

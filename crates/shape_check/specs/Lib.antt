@@ -1,3 +1,4 @@
 pub mod Next
-pub mod Follows
+pub mod Rows
+pub mod Entered
 pub mod Checks

@@ -1,34 +1,35 @@
 //! Checking a report: each of its lines in turn, up to the first bad one.
-//! Which line is good next is known to `progress`; this file knows of texts alone.
-ghost use Rattle.std.specs.Prelude.{◌≡◌, ◌≤◌, ◌<◌, ◌^◌, [], true, length};
+//! Which line is good next is known to the row of judges; this file knows of texts alone.
+ghost use Rattle.std.specs.Prelude.{◌≡◌, ◌≤◌, ◌<◌, ◌^◌, true, length};
 ghost use Rattle.shape_desk.specs.Desk.{KeepsPlace, KeepsOutput};
-ghost use Rattle.shape_desk.specs.Line.{ahead_of};
+ghost use Rattle.shape_desk.specs.Line.{IfTold, ahead_of};
 ghost use Rattle.shape_desk.specs.declared.desk.Place.TheVariants.{Picture, Report};
-ghost use Rattle.shape_check.specs.Follows.{Follows, lines_left};
-ghost use Rattle.shape_check.specs.Checks.{Checks};
+ghost use Rattle.shape_terms.specs.Pictures as Terms;
+ghost use Rattle.shape_check.specs.Checks.{Checks, TakesFew};
 
 use crate::answer::{CheckFault, Judgement};
+use crate::flat::Flat;
+use crate::judges::{Judges, Row};
 use crate::next::{Next, next_claim};
-use crate::outline::OutlineJudge;
-use crate::progress::Progress;
-use judge_cover::CoverJudge;
-use shape_adj::Pairing;
 use shape_desk::{Desk, LineReader};
 use shape_grid::Grid;
 use shape_space::{NoMemory, P2, Point};
 use std::alloc::Global;
 
 // Goes through the lines that are left, from the first one on.
-fn check_lines<P: Point, J: OutlineJudge<P>, D: Desk>(
-    mut progress: Progress<P, J>,
+fn check_lines<P: Point, R: Row<P>, D: Desk>(
+    mut row: R,
     reader: &mut LineReader,
     desk: &mut D,
 ) -> Result<Judgement, CheckFault>
     requires begun { D.begun desk.old Report ≡ true }
-    requires axes { length progress.field.picture.sides ≡ P.DIM }
-    requires first { Follows progress.stage progress.field (J.stands progress.field.picture progress.outline) [] }
-    requires few { lines_left progress.stage progress.field (J.room progress.outline) < 2 ^ 62 }
-    ensures answer { Checks progress.field.picture (ahead_of reader.old.ahead (D.left desk.old Report)) (D.read_faults desk.old) (D.read_faults desk.new) result }
+    requires few { R.room row < 2 ^ 62 }
+    ensures answer { (X : Terms.Picture) → length X.sides ≡ P.DIM → R.waits X row
+        → Checks X (ahead_of reader.old.ahead (D.left desk.old Report))
+        (D.read_faults desk.old) (D.read_faults desk.new) result }
+    ensures taken { (X : Terms.Picture) → length X.sides ≡ P.DIM → R.waits X row
+        → IfTold (ahead_of reader.old.ahead (D.left desk.old Report))
+        (λ text. TakesFew X text (D.left desk.new Report)) }
     ensures begun { D.begun desk.new Report ≡ true }
     ensures later { D.read_faults desk.old ≤ D.read_faults desk.new }
     ensures picture { KeepsPlace D.left D.begun Picture desk.old desk.new }
@@ -38,14 +39,14 @@ fn check_lines<P: Point, J: OutlineJudge<P>, D: Desk>(
     'lines: loop {
         match next_claim(reader, desk) {
             Ok(Next::Claim(claim)) => {
-                if !progress.take(&claim) {
+                if !row.take(&claim) {
                     return Ok(Judgement::No { line });
                 }
                 line += 1;
             }
             Ok(Next::Bad) => return Ok(Judgement::No { line }),
             Ok(Next::End) => {
-                if progress.has_ended() {
+                if row.has_ended() {
                     return Ok(Judgement::Yes);
                 }
                 return Ok(Judgement::No { line });
@@ -56,44 +57,52 @@ fn check_lines<P: Point, J: OutlineJudge<P>, D: Desk>(
 }
 
 // Checks a report of any dimension.
-fn check<P: Pairing, J: OutlineJudge<P>, D: Desk>(
+#[tactic(auto, using(crate::proofs::Going::takes_none))]
+fn check<P: Point, R: Row<P>, D: Desk>(
     alloc: Global,
     grid: &Grid<P>,
     desk: &mut D,
 ) -> Result<Judgement, CheckFault>
     requires { D.begun desk.old Report ≡ true }
-    ensures answer { Checks grid.now (D.left desk.old Report) (D.read_faults desk.old) (D.read_faults desk.new) result }
+    ensures answer { Checks grid.now (D.left desk.old Report)
+        (D.read_faults desk.old) (D.read_faults desk.new) result }
+    ensures taken { IfTold (D.left desk.old Report)
+        (λ text. TakesFew grid.now text (D.left desk.new Report)) }
     ensures begun { D.begun desk.new Report ≡ true }
     ensures later { D.read_faults desk.old ≤ D.read_faults desk.new }
     ensures picture { KeepsPlace D.left D.begun Picture desk.old desk.new }
     ensures output { KeepsOutput D.files D.written D.write_faults desk.old desk.new }
 {
     let _ = grid.sides();
-    let Ok(progress) = Progress::<P, J>::new(alloc, grid) else {
+    let Ok(row) = R::begin(alloc, grid) else {
         return Err(CheckFault::NoMemory);
     };
     let Ok(mut reader) = LineReader::new(alloc) else {
         return Err(CheckFault::NoMemory);
     };
-    check_lines(progress, &mut reader, desk)
+    check_lines(row, &mut reader, desk)
 }
 
-/// Checks the report of a plane picture: whether the file that was begun at `Place::Report` holds of it.
+/// Checks the report of a plane picture: whether the file that was begun at `Place::Report` holds
+/// of it.
 ///
-/// The file is read line by line and never whole, and no further than past its first bad line. `Yes` exactly where
-/// the report holds, and `No` exactly where its line is the first bad one, where the desk tells the file.
-/// `ReadFault` comes only where `read_faults` rose in this call.
+/// The file is read line by line and never whole: the bytes of its good lines are taken, and at most
+/// 2048 more. `Yes` exactly where the report holds, and `No` exactly where its line is the first bad
+/// one, where the desk tells the file. `ReadFault` comes only where `read_faults` rose in this call.
 pub fn check_flat<D: Desk>(
     alloc: Global,
     grid: &Grid<P2>,
     desk: &mut D,
 ) -> Result<Judgement, CheckFault>
     requires { D.begun desk.old Report ≡ true }
-    ensures answer { Checks grid.now (D.left desk.old Report) (D.read_faults desk.old) (D.read_faults desk.new) result }
+    ensures answer { Checks grid.now (D.left desk.old Report)
+        (D.read_faults desk.old) (D.read_faults desk.new) result }
+    ensures taken { IfTold (D.left desk.old Report)
+        (λ text. TakesFew grid.now text (D.left desk.new Report)) }
     ensures begun { D.begun desk.new Report ≡ true }
     ensures later { D.read_faults desk.old ≤ D.read_faults desk.new }
     ensures picture { KeepsPlace D.left D.begun Picture desk.old desk.new }
     ensures output { KeepsOutput D.files D.written D.write_faults desk.old desk.new }
 {
-    check::<P2, CoverJudge, D>(alloc, grid, desk)
+    check::<P2, Flat, D>(alloc, grid, desk)
 }

@@ -4,14 +4,19 @@
 
 mod answer;
 mod check;
+mod counts;
+mod end;
+mod flat;
+mod heading;
+mod judges;
 mod law;
 mod next;
-mod outline;
-mod progress;
+mod sections;
+mod then;
 
 pub use answer::{CheckFault, Judgement};
 pub use check::check_flat;
-pub use law::holding_shows;
+pub use law::{holding_is_answered, holding_shows, one_first_bad};
 
 #[cfg(test)]
 mod tests;

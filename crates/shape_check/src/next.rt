@@ -2,7 +2,7 @@
 //! A line that is too long, has no LF or is no line's spelling is bad whatever stands before it.
 ghost use Rattle.std.specs.Prelude.{◌≡◌, ◌≤◌, true};
 ghost use Rattle.shape_desk.specs.Desk.{KeepsPlace, KeepsOutput};
-ghost use Rattle.shape_desk.specs.Line.{ahead_of};
+ghost use Rattle.shape_desk.specs.Line.{ahead_of, TakenAhead};
 ghost use Rattle.shape_desk.specs.declared.desk.Place.TheVariants.{Picture, Report};
 ghost use Rattle.shape_check.specs.Next.{NextAnswer};
 
@@ -28,7 +28,12 @@ pub(crate) fn next_claim<P: Point, D: Desk>(
     desk: &mut D,
 ) -> Result<Next<P>, CheckFault>
     requires { D.begun desk.old Report ≡ true }
-    ensures answer { NextAnswer P.DIM P.coords (ahead_of reader.old.ahead (D.left desk.old Report)) (ahead_of reader.new.ahead (D.left desk.new Report)) (D.read_faults desk.old) (D.read_faults desk.new) result }
+    ensures answer { NextAnswer P.DIM P.coords
+        (ahead_of reader.old.ahead (D.left desk.old Report))
+        (ahead_of reader.new.ahead (D.left desk.new Report))
+        (D.read_faults desk.old) (D.read_faults desk.new) result }
+    ensures taken { TakenAhead (ahead_of reader.old.ahead (D.left desk.old Report))
+        (D.left desk.new Report) }
     ensures begun { D.begun desk.new Report ≡ true }
     ensures later { D.read_faults desk.old ≤ D.read_faults desk.new }
     ensures picture { KeepsPlace D.left D.begun Picture desk.old desk.new }

@@ -65,6 +65,8 @@ fn one_pixel(rt: HostRuntime) -> Result<(), Fail> {
     let got = answer(alloc, &grid, ONE_PIXEL, &[3])?;
     assert!(rt; matches!(got, Err(CheckFault::ReadFault)));
     holding_shows();
+    one_first_bad();
+    holding_is_answered();
     Ok(())
 }
 

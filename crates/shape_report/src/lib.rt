@@ -7,6 +7,7 @@ mod line;
 mod put;
 mod read;
 mod report;
+mod section;
 mod shelf;
 mod spell;
 mod why;

@@ -1,5 +1,5 @@
 use Rattle.std.proofs.Common.{◌≡◌, false, ap, subst, sym, ◌∙◌}
-use Rattle.shape_terms.specs.Pictures.{at, IsBackground}
+use Rattle.shape_terms.specs.Pictures.{at}
 use Rattle.shape_terms.proofs.Boxes.{in_box_length}
 use Rattle.std.proofs.lemmas.Bool.{and_parts}
 use Rattle.judge_field.specs.Scanned.{IsLeastSquare}

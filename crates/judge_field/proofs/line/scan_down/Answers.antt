@@ -1,5 +1,4 @@
-use Rattle.std.proofs.Common.{◌≡◌, ◌+◌, ◌-◌, ◌*◌, arith, get_or, subst, sym}
-use Rattle.judge_field.specs.Scanned.{IsLeastFrom}
+use Rattle.std.proofs.Common.{◌≡◌, ◌+◌, ◌-◌, arith}
 use Rattle.judge_field.proofs.ScanSteps.{more_down, stop_down}
 use Rattle.judge_field.proofs.line.scan_down.Goals as goal
 

@@ -1,9 +1,8 @@
-use Rattle.std.proofs.Common.{◌≡◌, ◌<◌, ◌≤◌, ◌+◌, ◌*◌, ◌^◌, ◌/◌, ◌∙◌, take, drop, length, refl, ap, subst, sym, arith}
-use Rattle.shape_terms.specs.Points.{box_count, sides_of, coordinate}
+use Rattle.std.proofs.Common.{◌≡◌, ◌<◌, ◌+◌, ◌*◌, ◌∙◌, take, drop, length, refl, ap, sym, arith}
+use Rattle.shape_terms.specs.Points.{box_count, sides_of}
 use Rattle.shape_terms.specs.FramedBox.{framed_sides}
 use Rattle.shape_terms.proofs.FramedBoxes.{few_framed}
 use Rattle.shape_terms.proofs.AxisCounts.{whole_count, before_step, before_few, some_framed, apart_on_axis}
-use Rattle.judge_field.specs.Scanned.{IsScannedAt}
 use Rattle.judge_field.proofs.ScanAxes.{scanned, scan_more}
 use Rattle.judge_field.proofs.scans.all_squares.Goals as goal
 

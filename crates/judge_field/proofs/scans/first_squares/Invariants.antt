@@ -1,4 +1,4 @@
-use Rattle.std.proofs.Common.{◌≡◌, ℕ, ◌<◌, ◌≤◌, ◌^◌, length, get_or}
+use Rattle.std.proofs.Common.{◌≡◌, ℕ, ◌<◌, length, get_or}
 use Rattle.judge_field.specs.Scanned.{IsFirstSquare}
 use Rattle.judge_field.proofs.scans.first_squares.Given as goal
 

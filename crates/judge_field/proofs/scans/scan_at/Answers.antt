@@ -1,4 +1,4 @@
-use Rattle.std.proofs.Common.{◌<◌, length, subst, sym, arith}
+use Rattle.std.proofs.Common.{arith}
 use Rattle.judge_field.proofs.ScanAxes.{line_facts}
 use Rattle.judge_field.proofs.scans.scan_at.Goals as goal
 

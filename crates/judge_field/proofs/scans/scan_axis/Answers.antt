@@ -1,4 +1,4 @@
-use Rattle.std.proofs.Common.{◌≡◌, ◌++◌, ◌∷◌, [], ◌^◌, arith, rules}
+use Rattle.std.proofs.Common.{◌≡◌, ◌++◌, ◌∷◌, [], ◌^◌, rules}
 use Rattle.judge_field.specs.Scanned.{IsScannedAt}
 use Rattle.judge_field.proofs.ScanAxes.{pushed_each, pushed_small}
 use Rattle.judge_field.proofs.scans.scan_axis.Goals as goal

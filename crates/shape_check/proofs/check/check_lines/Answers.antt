@@ -4,11 +4,11 @@ use Rattle.shape_desk.specs.declared.desk.Place.TheVariants.{Report}
 use Rattle.shape_desk.specs.Line.{IfTold, ahead_of}
 use Rattle.shape_report.specs.LineOf.{line_of}
 use Rattle.shape_check.specs.Next.{TakesClaim, IsBad}
-use Rattle.shape_check.proofs.Going.{told_holds, told_end, told_bad, told_not_good, told_more}
+use Rattle.shape_check.proofs.Going.{if_told, bad_at_end, bad_line, not_good, one_more, told_few}
 use Rattle.shape_check.proofs.check.check_lines.Goals as goal
 
 pub returns-then-not-take-clause-answer : goal.returns-then-not-take-clause-answer
-returns-then-not-take-clause-answer g c =
+returns-then-not-take-clause-answer g c = λ X axes w.
     let inv = c.lines.invariant in
     let text = ahead_of c.args.reader.now.ahead (g.D.Desk.left c.args.desk.now Report) in
     let left = ahead_of c.lines.reader.ahead (g.D.Desk.left c.lines.desk Report) in
@@ -16,7 +16,9 @@ returns-then-not-take-clause-answer g c =
     let l = line_of g.P.Point.coords c.in-Ok-Claim.claim in
     let taken : IfTold left (λ bytes. TakesClaim g.P.Point.DIM bytes new l) = rw c.in-Ok-Claim.field-0-is at c.in-Ok-Claim.ensures.answer in (
       record { some = inv.some; few = omega (arith, inv.few) },
-      told_not_good text left new c.lines.progress.stage c.lines.progress.field (g.J.OutlineJudge.stands c.lines.progress.field.picture c.lines.progress.outline) c.lines.line g.P.Point.DIM l c.args.progress.field.picture inv.same c.requires.axes inv.text taken (λ lines f good. let t : IsTrue false = (c.if-not-take.ensures.answer lines f).1 good in cc),
+      if_told text (λ t h. not_good X t left (g.R.Judges.follows X c.lines.row) c.lines.line h g.P.Point.DIM l new axes taken (λ f good.
+          let t : IsTrue false = (c.if-not-take.ensures.answer X h.lines f (λ good. omega (arith, g.met.R.Row.first))).1 good in
+          cc)) (inv.text X axes w),
     )
 
 pub lines-preserved : goal.lines-preserved
@@ -31,10 +33,10 @@ lines-preserved g c =
     let taken : IfTold left (λ bytes. TakesClaim g.P.Point.DIM bytes new l) = rw c.in-Ok-Claim.field-0-is at c.in-Ok-Claim.ensures.answer in
     record {
       begun = next.begun;
-      same = took.picture ∙ inv.same;
-      text = told_more text left new c.lines.progress.stage c.take.new.self.stage c.lines.progress.field c.take.new.self.field (g.J.OutlineJudge.stands c.lines.progress.field.picture c.lines.progress.outline) (g.J.OutlineJudge.stands c.take.new.self.field.picture c.take.new.self.outline) c.lines.line g.P.Point.DIM l c.args.progress.field.picture inv.same c.requires.axes took.picture inv.text taken (λ lines f. ((took.answer lines f).0 refl, took.follows lines f));
+      text = λ X axes w. if_told text (λ t h. one_more X t left (g.R.Judges.follows X c.lines.row) c.lines.line h g.P.Point.DIM l new (g.R.Judges.follows X c.take.new.self) axes taken (λ f.
+          ((took.answer X h.lines f (λ good. omega (arith, g.met.R.Row.first))).0 refl, took.follows X h.lines f (λ good. omega (arith, g.met.R.Row.first))))) (inv.text X axes w);
       some = omega arith;
-      few = omega (arith, inv.few, took.fewer);
+      few = omega (arith, inv.few, took.room);
       later = omega (arith, inv.later, next.later);
       picture = record {
         same_left = next.picture.same_left ∙ inv.picture.same_left;
@@ -48,29 +50,36 @@ lines-preserved g c =
     }
 
 pub returns-in-Ok-Bad-clause-answer : goal.returns-in-Ok-Bad-clause-answer
-returns-in-Ok-Bad-clause-answer g c =
+returns-in-Ok-Bad-clause-answer g c = λ X axes w.
     let inv = c.lines.invariant in
     let text = ahead_of c.args.reader.now.ahead (g.D.Desk.left c.args.desk.now Report) in
     let left = ahead_of c.lines.reader.ahead (g.D.Desk.left c.lines.desk Report) in
     let bad : IfTold left (IsBad g.P.Point.DIM) = rw c.in-Ok-Bad.field-0-is at c.in-Ok-Bad.ensures.answer in (
       record { some = inv.some; few = omega (arith, inv.few) },
-      told_bad text left c.lines.progress.stage c.lines.progress.field (g.J.OutlineJudge.stands c.lines.progress.field.picture c.lines.progress.outline) c.lines.line g.P.Point.DIM c.args.progress.field.picture inv.same c.requires.axes inv.text bad,
+      if_told text (λ t h. bad_line X t left (g.R.Judges.follows X c.lines.row) c.lines.line h g.P.Point.DIM axes bad) (inv.text X axes w),
     )
 
-pub returns-then-has_ended-clause-answer : goal.returns-then-has_ended-clause-answer
-returns-then-has_ended-clause-answer g c =
-    let inv = c.lines.invariant in
-    let text = ahead_of c.args.reader.now.ahead (g.D.Desk.left c.args.desk.now Report) in
-    let left = ahead_of c.lines.reader.ahead (g.D.Desk.left c.lines.desk Report) in
-    let end : IfTold left (λ bytes. bytes ≡ []) = rw c.in-Ok-End.field-0-is at c.in-Ok-End.ensures.answer in
-    told_holds text left c.lines.progress.stage c.lines.progress.field (g.J.OutlineJudge.stands c.lines.progress.field.picture c.lines.progress.outline) c.lines.line c.args.progress.field.picture inv.same (c.has_ended.ensures.0 c.if-has_ended.true) inv.text end
-
 pub returns-in-Ok-End-clause-answer : goal.returns-in-Ok-End-clause-answer
-returns-in-Ok-End-clause-answer g c =
+returns-in-Ok-End-clause-answer g c = λ X axes w.
     let inv = c.lines.invariant in
     let text = ahead_of c.args.reader.now.ahead (g.D.Desk.left c.args.desk.now Report) in
     let left = ahead_of c.lines.reader.ahead (g.D.Desk.left c.lines.desk Report) in
     let end : IfTold left (λ bytes. bytes ≡ []) = rw c.in-Ok-End.field-0-is at c.in-Ok-End.ensures.answer in (
       record { some = inv.some; few = omega (arith, inv.few) },
-      told_end text left c.lines.progress.stage c.lines.progress.field (g.J.OutlineJudge.stands c.lines.progress.field.picture c.lines.progress.outline) c.lines.line c.args.progress.field.picture inv.same (λ e. let t : IsTrue false = c.if-has_ended.ensures.1 e in cc) inv.text end,
+      if_told text (λ t h. bad_at_end X t left (g.R.Judges.follows X c.lines.row) c.lines.line h (λ f e. let t : IsTrue false = (c.if-has_ended.ensures X h.lines f).1 e in cc) end) (inv.text X axes w),
     )
+
+pub returns-then-not-take-clause-taken : goal.returns-then-not-take-clause-taken
+returns-then-not-take-clause-taken g c = λ X axes w. told_few X _ _ _ _ _ (c.lines.invariant.text X axes w) c.next_claim.ensures.taken
+
+pub returns-in-Ok-Bad-clause-taken : goal.returns-in-Ok-Bad-clause-taken
+returns-in-Ok-Bad-clause-taken g c = λ X axes w. told_few X _ _ _ _ _ (c.lines.invariant.text X axes w) c.next_claim.ensures.taken
+
+pub returns-then-has_ended-clause-taken : goal.returns-then-has_ended-clause-taken
+returns-then-has_ended-clause-taken g c = λ X axes w. told_few X _ _ _ _ _ (c.lines.invariant.text X axes w) c.next_claim.ensures.taken
+
+pub returns-in-Ok-End-clause-taken : goal.returns-in-Ok-End-clause-taken
+returns-in-Ok-End-clause-taken g c = λ X axes w. told_few X _ _ _ _ _ (c.lines.invariant.text X axes w) c.next_claim.ensures.taken
+
+pub returns-in-Err-clause-taken : goal.returns-in-Err-clause-taken
+returns-in-Err-clause-taken g c = λ X axes w. told_few X _ _ _ _ _ (c.lines.invariant.text X axes w) c.next_claim.ensures.taken

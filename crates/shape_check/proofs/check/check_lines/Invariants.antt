@@ -1,22 +1,22 @@
-use Rattle.std.proofs.Common.{◌≡◌, ◌+◌, ◌≤◌, ◌^◌, true}
+use Rattle.std.proofs.Common.{◌≡◌, ◌+◌, ◌≤◌, ◌^◌, true, length}
 use Rattle.shape_desk.specs.declared.desk.Place.TheVariants.{Picture, Report}
 use Rattle.shape_desk.specs.Desk.{KeepsPlace, KeepsOutput}
 use Rattle.shape_desk.specs.Line.{IfTold, ahead_of}
-use Rattle.shape_check.specs.Follows.{lines_left}
+use Rattle.shape_terms.specs.Pictures as Terms
 use Rattle.shape_check.proofs.Going.{GoingOn}
 use Rattle.shape_check.proofs.check.check_lines.Given as goal
 
 abbrev pub invariant-lines : goal.invariant-lines
 invariant-lines g l = record {
   begun : g.D.Desk.begun l.desk Report ≡ true;
-  same : l.progress.field.picture ≡ l.fn.progress.field.picture;
-  text : IfTold (ahead_of l.fn.reader.ahead (g.D.Desk.left l.fn.desk Report)) (λ text. GoingOn text (ahead_of l.reader.ahead (g.D.Desk.left l.desk Report)) l.progress.stage l.progress.field (g.J.OutlineJudge.stands l.progress.field.picture l.progress.outline) l.line);
+  text : (X : Terms.Picture) → length X.sides ≡ g.P.Point.DIM → g.R.Judges.waits X l.fn.row
+      → IfTold (ahead_of l.fn.reader.ahead (g.D.Desk.left l.fn.desk Report)) (λ text. GoingOn X text (ahead_of l.reader.ahead (g.D.Desk.left l.desk Report)) (g.R.Judges.follows X l.row) l.line);
   some : 1 ≤ l.line;
-  few : l.line + lines_left l.progress.stage l.progress.field (g.J.OutlineJudge.room l.progress.outline) ≤ 2 ^ 62;
+  few : l.line + g.R.Judges.room l.row ≤ 2 ^ 62;
   later : g.D.Desk.read_faults l.fn.desk ≤ g.D.Desk.read_faults l.desk;
   picture : KeepsPlace g.D.Desk.left g.D.Desk.begun Picture l.fn.desk l.desk;
   output : KeepsOutput g.D.Desk.files g.D.Desk.written g.D.Desk.write_faults l.fn.desk l.desk;
 }
 
 abbrev pub decreases-lines : goal.decreases-lines
-decreases-lines g l = lines_left l.progress.stage l.progress.field (g.J.OutlineJudge.room l.progress.outline)
+decreases-lines g l = g.R.Judges.room l.row

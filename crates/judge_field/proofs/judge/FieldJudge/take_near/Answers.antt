@@ -3,7 +3,7 @@ use Rattle.std.specs.Prelude.{not, slice_get}
 use Rattle.shape_terms.specs.Points.{Point, raster_point}
 use Rattle.shape_terms.specs.Pictures.{Picture, object_points, Least}
 use Rattle.report_terms.specs.Lines as Terms
-use Rattle.report_terms.specs.Good.{NearClaim}
+use Rattle.report_terms.specs.Sections.{NearClaim}
 use Rattle.judge_field.specs.FieldState.{FieldState}
 use Rattle.judge_field.proofs.NextPoint.{next_is, none_is, next_left, next_is_object, stands_push}
 use Rattle.judge_field.proofs.judge.FieldJudge.take_near.Goals as goal

@@ -1,0 +1,43 @@
+//! The judge of the line `end`, the last of a row.
+//! No line is good behind it.
+ghost use Rattle.std.specs.Prelude.{◌≡◌, ◌↔◌, [], ◌∷◌, ◌++◌, List, IsTrue};
+
+use crate::judges::Judges;
+use shape_report::Line;
+use shape_space::Point;
+
+/// The judge of the line `end`.
+#[derive(Drop)]
+pub struct EndJudge {
+    // Whether the line was taken.
+    pub ended: bool,
+}
+
+impl<P: Point> Judges<P> for EndJudge {
+    ghost use Rattle.std.specs.Prelude.{false, if◌then◌else◌};
+    ghost use Rattle.report_terms.specs.Sections.{Section};
+    ghost use Rattle.shape_check.specs.Rows.{EndFollows};
+    ghost use Rattle.shape_check.specs.Entered.{end_entered};
+
+    ghost section = { Section.End };
+
+    ghost waits = { λ X j. j.ended ≡ false };
+
+    ghost follows = { λ X j lines. EndFollows X j.ended lines };
+
+    ghost room = { λ j. if j.ended then 0 else 1 };
+
+    fn take(&mut self, line: &Line<P>) -> bool {
+        if self.ended {
+            return false;
+        }
+        self.ended = true;
+        matches!(line, Line::End)
+    }
+
+    fn has_ended(&self) -> bool {
+        self.ended
+    }
+
+    ghost entered = { λ X j lines w h e. end_entered X j.ended lines w h e };
+}

@@ -1,0 +1,54 @@
+//! The judges of nearest points and of contours, as judges of their sections.
+//! Another section with a crate of its own is one more `impl`.
+ghost use Rattle.std.specs.Prelude.{◌≡◌};
+ghost use Rattle.report_terms.specs.Sections.{Section};
+
+use crate::judges::SectionJudge;
+use judge_cover::CoverJudge;
+use judge_field::FieldJudge;
+use shape_report::Line;
+use shape_space::{P2, Point};
+
+impl<P: Point> SectionJudge<P> for FieldJudge<P> {
+    ghost use Rattle.judge_field.specs.FieldState.{StandsFor, room_of};
+
+    ghost section = { Section.Nearest };
+
+    ghost stands = { λ X j lines. (j.picture ≡ X) × StandsFor j lines };
+
+    ghost room = { room_of };
+
+    fn rank() -> u8 {
+        2
+    }
+
+    fn take(&mut self, line: &Line<P>) -> bool {
+        FieldJudge::take(self, line)
+    }
+
+    fn is_done(&self) -> bool {
+        FieldJudge::is_done(self)
+    }
+}
+
+impl SectionJudge<P2> for CoverJudge {
+    ghost use Rattle.judge_cover.specs.CoverState.{StandsFor, room_of};
+
+    ghost section = { Section.Contours };
+
+    ghost stands = { StandsFor };
+
+    ghost room = { room_of };
+
+    fn rank() -> u8 {
+        3
+    }
+
+    fn take(&mut self, line: &Line<P2>) -> bool {
+        CoverJudge::take(self, line)
+    }
+
+    fn is_done(&self) -> bool {
+        CoverJudge::is_done(self)
+    }
+}

@@ -1,0 +1,74 @@
+//! A judge of one section, and the row of those behind it.
+//! How sections follow each other is decided here alone.
+ghost use Rattle.std.specs.Prelude.{◌≡◌, ◌↔◌, suc, false, [], ◌∷◌, ◌++◌, List, IsTrue};
+ghost use Rattle.report_terms.specs.Lines as Terms;
+ghost use Rattle.report_terms.specs.Sections.{rank};
+
+use crate::judges::{Judges, SectionJudge};
+use shape_report::Line;
+use shape_space::Point;
+use std::marker::PhantomData;
+
+/// The judge of a section, and of those behind it.
+#[derive(Drop)]
+pub struct Then<P: Point, J: SectionJudge<P>, R: Judges<P>> {
+    first: J,
+    rest: R,
+    // Whether a line of a later section was taken.
+    is_past: bool,
+    points: PhantomData<P>,
+    pub ghost next: { rank R.section ≡ suc (rank J.section) },
+}
+
+impl<P: Point, J: SectionJudge<P>, R: Judges<P>> Then<P, J, R> {
+    /// A row that has taken no line, where the rest begins with the next section.
+    pub fn new(first: J, rest: R) -> Then<P, J, R>
+        requires { rank R.section ≡ suc (rank J.section) }
+        ensures first { result.first ≡ first }
+        ensures rest { result.rest ≡ rest }
+        ensures is_past { result.is_past ≡ false }
+    {
+        Then {
+            first,
+            rest,
+            is_past: false,
+            points: PhantomData,
+        }
+    }
+}
+
+impl<P: Point, J: SectionJudge<P>, R: Judges<P>> Judges<P> for Then<P, J, R> {
+    ghost use Rattle.std.specs.Prelude.{◌+◌};
+    ghost use Rattle.shape_check.specs.Rows.{RowFollows};
+    ghost use Rattle.shape_check.specs.Entered.{row_entered};
+
+    ghost section = { J.section };
+
+    ghost waits = { λ X t. (t.is_past ≡ false) × J.stands X t.first [] × R.waits X t.rest };
+
+    ghost follows = { λ X t lines. RowFollows X J.section R.section t.is_past
+        (J.stands X t.first) (R.waits X t.rest) (R.follows X t.rest) lines };
+
+    ghost room = { λ t. J.room t.first + R.room t.rest };
+
+    fn take(&mut self, line: &Line<P>) -> bool {
+        if self.is_past {
+            return self.rest.take(line);
+        }
+        if line.rank() == J::rank() {
+            return self.first.take(line);
+        }
+        if !self.first.is_done() {
+            return false;
+        }
+        self.is_past = true;
+        self.rest.take(line)
+    }
+
+    fn has_ended(&self) -> bool {
+        self.is_past && self.rest.has_ended()
+    }
+
+    ghost entered = { λ X t lines w h e. row_entered X J.section R.section t.is_past
+        (J.stands X t.first) (R.waits X t.rest) (R.follows X t.rest) lines w.0 w.1 w.2 h e };
+}
