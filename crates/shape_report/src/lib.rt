@@ -7,17 +7,14 @@ mod line;
 mod put;
 mod read;
 mod report;
-mod shelf;
 mod spell;
 mod why;
 mod words;
-mod write;
 
 pub use line::Line;
 pub use read::read_claim;
-pub use report::Report;
+pub use report::{Report, WriteFault, write_report};
 pub use spell::put_claim;
-pub use write::{WriteFault, report_bytes, write_report};
 
 #[cfg(test)]
 mod tests;
