@@ -12,7 +12,7 @@ use Rattle.shape_terms.specs.Refutations.{Share, Step, StepShare, IsStepOf}
 use Rattle.shape_terms.specs.Covers.{Evidence, IsEvidence, gap_run}
 use Rattle.report_terms.specs.Lines.{Line, IsLineOf, IsStepIn, IsCount, IsWeight}
 use Rattle.shape_cover.specs.Found.{Found, stretches_of, found_at, IsCoverOf, IsShortLine, AreShortShares, IsShortEvidence}
-use Rattle.shape_analyse.specs.Growing.{IsOutlined, gap_line}
+use Rattle.shape_analyse.specs.Growing.{IsOutlined, gap_line, at_contour}
 use Rattle.shape_analyse.proofs.ContourGrowth.{outlined_segment, outlined_gap}
 
 fits : (z : ℤ) → nat_abs z < 2 ^ 63 → FitsSigned w64 z
@@ -59,21 +59,21 @@ stretches_more found j l = more found j l ∙ ap (λ k. take k (stretches_of fou
 -- ---- lines that are added
 
 -- the line of the next segment
-pub found_segment : (X : Picture) (contours : List Contour) (k : ℕ) (c : Contour) (found : List Found) (j : ℕ) (lines : List Line) → IsOutlined X contours (record { begun = k + 1; points = length c.points; declared = length found; stretches = take j (stretches_of found); gaps = 0 }) lines → slice_get contours k ≡ Some c → IsCoverOf c.points found → j < length found
+pub found_segment : (X : Picture) (contours : List Contour) (k : ℕ) (c : Contour) (found : List Found) (j : ℕ) (lines : List Line) → IsOutlined X contours (at_contour k (length c.points) (length found) (take j (stretches_of found)) 0) lines → slice_get contours k ≡ Some c → IsCoverOf c.points found → j < length found
     → IsLineOf 2 (Line.Seg (found_at found j).stretch.first (found_at found j).stretch.last (found_at found j).axis (found_at found j).line.a (found_at found j).line.mu)
-    → IsOutlined X contours (record { begun = k + 1; points = length c.points; declared = length found; stretches = take (j + 1) (stretches_of found); gaps = 0 }) (lines ++ Line.Seg (found_at found j).stretch.first (found_at found j).stretch.last (found_at found j).axis (found_at found j).line.a (found_at found j).line.mu ∷ [])
+    → IsOutlined X contours (at_contour k (length c.points) (length found) (take (j + 1) (stretches_of found)) 0) (lines ++ Line.Seg (found_at found j).stretch.first (found_at found j).stretch.last (found_at found j).axis (found_at found j).line.a (found_at found j).line.mu ∷ [])
 found_segment X contours k c found j lines o there cover l fields =
     let f = found_at found j in
     let before = take j (stretches_of found) in
     let more : length before < length found = omega (arith, length-take-le j (stretches_of found) (omega (arith, length-map found (λ (f : Found). f.stretch))), l) in
     let next = outlined_segment X contours k (length found) before lines c f.stretch.first f.stretch.last f.axis f.line o there more (cover.segment j l) fields in
-    subst (λ ss. IsOutlined X contours (record { begun = k + 1; points = length c.points; declared = length found; stretches = ss; gaps = 0 }) (lines ++ Line.Seg f.stretch.first f.stretch.last f.axis f.line.a f.line.mu ∷ [])) (stretches_more found j l) next
+    subst (λ ss. IsOutlined X contours (at_contour k (length c.points) (length found) ss 0) (lines ++ Line.Seg f.stretch.first f.stretch.last f.axis f.line.a f.line.mu ∷ [])) (stretches_more found j l) next
 
 -- the two lines of the next gap
-pub found_gap : (X : Picture) (contours : List Contour) (k : ℕ) (c : Contour) (found : List Found) (j t : ℕ) (v : Evidence) (lines : List Line) → IsOutlined X contours (record { begun = k + 1; points = length c.points; declared = length found; stretches = stretches_of found; gaps = 2 * j + t }) lines → slice_get contours k ≡ Some c → j < length found → t < 2
-    → IsEvidence t (gap_run c.points (stretches_of found) j) v → IsLineOf 2 (gap_line t v) → IsOutlined X contours (record { begun = k + 1; points = length c.points; declared = length found; stretches = stretches_of found; gaps = 2 * j + t + 1 }) (lines ++ gap_line t v ∷ [])
+pub found_gap : (X : Picture) (contours : List Contour) (k : ℕ) (c : Contour) (found : List Found) (j t : ℕ) (v : Evidence) (lines : List Line) → IsOutlined X contours (at_contour k (length c.points) (length found) (stretches_of found) (2 * j + t)) lines → slice_get contours k ≡ Some c → j < length found → t < 2
+    → IsEvidence t (gap_run c.points (stretches_of found) j) v → IsLineOf 2 (gap_line t v) → IsOutlined X contours (at_contour k (length c.points) (length found) (stretches_of found) (2 * j + t + 1)) (lines ++ gap_line t v ∷ [])
 found_gap X contours k c found j t v lines o there l two good fields =
     let n : length found ≡ length (stretches_of found) = sym (length-map found (λ (f : Found). f.stretch)) in
-    let here = subst (λ m. IsOutlined X contours (record { begun = k + 1; points = length c.points; declared = m; stretches = stretches_of found; gaps = 2 * j + t }) lines) n o in
+    let here = subst (λ m. IsOutlined X contours (at_contour k (length c.points) m (stretches_of found) (2 * j + t)) lines) n o in
     let next = outlined_gap X contours k (stretches_of found) (2 * j + t) j t lines c v here there refl (omega (arith, l, n)) two good fields in
-    subst (λ m. IsOutlined X contours (record { begun = k + 1; points = length c.points; declared = m; stretches = stretches_of found; gaps = 2 * j + t + 1 }) (lines ++ gap_line t v ∷ [])) (sym n) next
+    subst (λ m. IsOutlined X contours (at_contour k (length c.points) m (stretches_of found) (2 * j + t + 1)) (lines ++ gap_line t v ∷ [])) (sym n) next

@@ -1,11 +1,11 @@
 -- A report while it grows: good lines that have come to a section.
 -- The sections of the `near` lines and of the contours are those with many lines so far.
-use Rattle.std.specs.Prelude.{◌≡◌, ◌≤◌, ℕ, List, length, All}
+use Rattle.std.specs.Prelude.{◌≡◌, ◌+◌, ◌≤◌, ℕ, List, length, All}
 use Rattle.shape_terms.specs.Points.{Point}
 use Rattle.shape_terms.specs.Pictures.{Picture}
 use Rattle.shape_terms.specs.Traces.{Contour, AreContours}
-use Rattle.shape_terms.specs.Covers.{Evidence}
-use Rattle.report_terms.specs.Lines.{Line, spelling, IsLineOf}
+use Rattle.shape_terms.specs.Covers.{Evidence, Stretch}
+use Rattle.report_terms.specs.Lines.{Line, spelling, text_of, IsLineOf}
 use Rattle.report_terms.specs.ContourLines.{Standing, standing, IsFull}
 use Rattle.report_terms.specs.Good.{GoodSoFar, section_lines}
 use Rattle.report_terms.specs.Progress.{HasCome}
@@ -31,12 +31,22 @@ pub record IsOutlined (X : Picture) (contours : List Contour) (s : Standing) (li
   pub come : HasCome X 3 lines
   pub stands : standing (section_lines 3 lines) ≡ s
 
+-- where k contours have all their lines and one more was begun: how many points it was given, how many segments it is to have, and the stretches and how many gap lines it was given
+abbrev pub at_contour : (k points declared : ℕ) → List Stretch → (gaps : ℕ) → Standing
+at_contour k n m stretches g = record { begun = k + 1; points = n; declared = m; stretches = stretches; gaps = g }
+
 -- the first k contours have all their lines
 pub record HasOutlined (X : Picture) (contours : List Contour) (k : ℕ) (lines : List Line) : Type 0 where
   pub stand : Standing
   pub begun : stand.begun ≡ k
   pub full : IsFull contours stand
   pub outlined : IsOutlined X contours stand lines
+
+-- the text is that of lines of which this is so
+pub record IsTextOf (IsSo : List Line → Type 0) (text : List ℕ) : Type 0 where
+  pub lines : List Line
+  pub is : text ≡ text_of lines
+  pub so : IsSo lines
 
 -- what was found is the cover of some contour
 abbrev pub IsSomeCover : List Found → Type 0
