@@ -5,9 +5,10 @@ pub mod ContoursShown
 pub mod FirstBadOnce
 pub mod GoodSteps
 pub mod HoldsShows
-pub mod LineWords
-pub mod RefutationWords
-pub mod ShortLines
+pub mod FormLaws
+pub mod FramedFields
+pub mod LandedLines
+pub mod LineLaws
 pub mod Spelled
 pub mod TextLines
 pub mod WordLists
@@ -15,3 +16,4 @@ pub mod SectionLines
 pub mod CoverTaken
 pub mod CoverShown
 pub mod ListPushes
+pub mod Words
