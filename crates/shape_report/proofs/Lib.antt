@@ -1,5 +1,5 @@
-pub mod LineTexts
+pub mod FormReads
+pub mod Numbers
+pub mod Fronts
+pub mod Claims
 pub mod SplitWords
-pub mod Fields
-pub mod LineKinds
-pub mod EntryLists

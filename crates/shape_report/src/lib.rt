@@ -3,11 +3,13 @@
 #![tactic(auto)]
 
 mod field;
+mod kind;
 mod line;
-mod put;
+mod put_why;
 mod read;
 mod report;
 mod spell;
+mod text;
 mod why;
 mod words;
 

@@ -6,7 +6,7 @@ ghost use Rattle.shape_desk.specs.Desk.{PutsText, HasCause, KeepsPlaces};
 ghost use Rattle.shape_report.specs.LineOf.{line_of};
 
 use crate::line::Line;
-use crate::spell::put_claim;
+use crate::spell::spelled;
 use shape_desk::{Desk, put_all};
 use shape_space::{NoMemory, Point};
 use std::alloc::Global;
@@ -42,10 +42,8 @@ impl Report {
         ensures ok { OnOk result (self.new ≡ self.old ++ (spelling (line_of P.coords line.now) ++ 10 ∷ [])) }
         ensures err { OnErr result (self.new ≡ self.old) }
     {
-        let mut claim = [0; 1024];
-        let len = put_claim(line, &mut claim);
         let before = self.text.len();
-        if self.text.extend_from_slice(&claim[..len]).is_err() {
+        if self.text.extend_from_slice(spelled(line).bytes()).is_err() {
             return Err(NoMemory);
         }
         if self.text.push(b'\n').is_err() {
