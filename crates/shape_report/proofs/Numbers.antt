@@ -1,6 +1,6 @@
 -- The words of numbers: what a word that spells one is read as, and that other words are read as none.
 -- Laws of one word; the numbers themselves are those of `shape_desk`.
-use Rattle.std.proofs.Common.{◌≡◌, ◌≢◌, ℕ, suc, ◌+◌, ◌<◌, ◌≤◌, ℤ, pos, negsuc, Result, Ok, Err, Option, None, Some, List, [], ◌∷◌, ◌++◌, length, drop, refl, sym, ap, subst, ◌∙◌, arith, FitsSigned, append-nil}
+use Rattle.std.proofs.Common.{◌≡◌, ◌≢◌, ℕ, suc, ℤ, pos, negsuc, Result, Ok, Err, Option, None, Some, List, [], ◌∷◌, length, drop, refl, sym, ap, subst, ◌∙◌, arith, FitsSigned, append-nil}
 use Rattle.std.specs.Prelude.{nat_abs}
 use Rattle.std.specs.Int.{w32, w64, FitsUnsignedBits}
 use Rattle.std.specs.Fmt.{decimal, signed_decimal}

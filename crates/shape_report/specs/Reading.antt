@@ -6,7 +6,7 @@ use Rattle.std.specs.Borrow.{Bor}
 use Rattle.std.specs.Int.{w64}
 use Rattle.std.specs.Fmt.{signed_decimal}
 use Rattle.report_terms.specs.Forms.{Form}
-use Rattle.report_terms.specs.Kinds.{Kind, Split, read_kind, read_fields, read_line}
+use Rattle.report_terms.specs.Kinds.{Kind, read_kind, read_fields, read_line}
 use Rattle.report_terms.specs.Lines.{split}
 use Rattle.shape_report.specs.declared.line.Line.{Line}
 use Rattle.shape_report.specs.declared.line.Line.TheVariants.{Seg}

@@ -4,6 +4,7 @@
 
 mod field;
 mod kind;
+mod law;
 mod line;
 mod put_why;
 mod read;
@@ -13,6 +14,7 @@ mod text;
 mod why;
 mod words;
 
+pub use law::one_spelling;
 pub use line::Line;
 pub use read::read_claim;
 pub use report::{Report, WriteFault, write_report};

@@ -18,7 +18,7 @@ fn a_small_report(rt: HostRuntime) -> Result<(), Fail> {
         sides: P2 { x: 2, y: 1 },
         rule,
     };
-    let parts = Line::Parts {
+    let parts: Line<P2> = Line::Parts {
         points: 1,
         object: 1,
         background: 1,
