@@ -11,11 +11,14 @@ use Rattle.shape_terms.specs.Points.{Point, coordinate, AreSides, sides_of}
 use Rattle.shape_terms.specs.Pictures.{Picture, object_points, Least}
 use Rattle.shape_terms.specs.Parts.{Counts}
 use Rattle.shape_terms.specs.Distances.{NearFact, IsField, IsFramed}
-use Rattle.report_terms.specs.Lines.{Line, spelling, text_of, IsLineOf, IsWeight, IsName}
+use Rattle.report_terms.specs.Forms.{IsName}
+use Rattle.report_terms.specs.Kinds.{weight}
+use Rattle.report_terms.specs.Lines.{Line, spelling, text_of, IsLineOf}
 use Rattle.report_terms.specs.Good.{section_lines, GoodAfter}
 use Rattle.report_terms.proofs.Checking.{good_push}
 use Rattle.report_terms.proofs.GoodSteps.{come_none, come_more, come_past, good_at, section_push}
-use Rattle.report_terms.proofs.ShortLines.{short_line, within_short, distance_fits}
+use Rattle.report_terms.proofs.FramedFields.{within_short, distance_fits}
+use Rattle.report_terms.proofs.Spelled.{short_line}
 use Rattle.shape_terms.proofs.Boxes.{abs_is}
 use Rattle.shape_analyse.specs.Growing.{AreGood, IsGrowing, IsTextOf}
 
@@ -120,5 +123,5 @@ fact_at X facts i f d field framed e axes three lp lq =
     record {
       there = ap (λ ps. slice_get ps i) (sym field.points) ∙ get_map (λ (g : NearFact). g.p) facts i f e;
       least = least;
-      fields = (within_short (length X.sides) f.p (lp ∙ sym axes) near.p, within_short (length X.sides) f.q (lq ∙ sym axes) near.q, subst IsWeight (sym least.distance) (distance_fits f.p f.q (omega arith) near.p near.q));
+      fields = (within_short (length X.sides) f.p (lp ∙ sym axes) near.p, (within_short (length X.sides) f.q (lq ∙ sym axes) near.q, subst weight.InRange (sym least.distance) (distance_fits f.p f.q (omega arith) near.p near.q)));
     }
