@@ -46,6 +46,10 @@ line_words l = split_words (axes_of l) (split l)
 abbrev pub spelling : Line → List ℕ
 spelling l = join_with_byte 32 (line_words l)
 
--- the text of a list of lines, each with its LF
+-- a line with its LF
+abbrev pub line_text : Line → List ℕ
+line_text l = spelling l ++ 10 ∷ []
+
+-- the text of a list of lines
 abbrev pub text_of : List Line → List ℕ
-text_of lines = flat_map (λ l. spelling l ++ 10 ∷ []) lines
+text_of lines = flat_map line_text lines

@@ -11,7 +11,7 @@ use Rattle.shape_terms.specs.Contours.{Crack, IsCrack, IsCycle}
 use Rattle.shape_terms.specs.Traces.{Contour, AreContours, contour_of}
 use Rattle.shape_terms.specs.Naive.{Naive}
 use Rattle.shape_terms.specs.Covers.{Stretch, Evidence, IsEvidence, IsSegment, gap_run}
-use Rattle.report_terms.specs.Lines.{Line, spelling, text_of, IsLineOf}
+use Rattle.report_terms.specs.Lines.{Line, line_text, text_of, IsLineOf}
 use Rattle.report_terms.specs.ContourLines.{Standing, standing, no_contour, open_contour, IsFull, OutlineClaim, ContourClaim}
 use Rattle.report_terms.specs.Good.{section, section_lines, Claim, GoodAfter}
 use Rattle.report_terms.specs.Holds.{Holds}
@@ -157,7 +157,7 @@ outlined_full X contours k m stretches lines c there all o = record {
 
 -- ---- the last line
 
-pub outlined_done : (X : Picture) (contours : List Contour) (lines : List Line) (old new : List ℕ) → old ≡ text_of lines → new ≡ old ++ (spelling Line.End ++ 10 ∷ []) → HasOutlined X contours (length contours) lines → Holds X new
+pub outlined_done : (X : Picture) (contours : List Contour) (lines : List Line) (old new : List ℕ) → old ≡ text_of lines → new ≡ old ++ line_text Line.End → HasOutlined X contours (length contours) lines → Holds X new
 outlined_done X contours lines old new e f h =
     let o = h.outlined in
     let come = come_past X 3 lines o.come (λ flat. (contours, o.are, subst (IsFull contours) (sym o.stands) h.full, ap (λ (s : Standing). s.begun) o.stands ∙ h.begun)) in

@@ -13,7 +13,7 @@ use Rattle.shape_terms.specs.Parts.{Counts}
 use Rattle.shape_terms.specs.Distances.{NearFact, IsField, IsFramed}
 use Rattle.report_terms.specs.Forms.{IsName}
 use Rattle.report_terms.specs.Kinds.{weight}
-use Rattle.report_terms.specs.Lines.{Line, spelling, text_of, IsLineOf}
+use Rattle.report_terms.specs.Lines.{Line, spelling, line_text, text_of, IsLineOf}
 use Rattle.report_terms.specs.Good.{section_lines, GoodAfter}
 use Rattle.report_terms.proofs.Checking.{good_push}
 use Rattle.report_terms.proofs.GoodSteps.{come_none, come_more, come_past, good_at, section_push}
@@ -25,12 +25,12 @@ use Rattle.shape_analyse.specs.Growing.{AreGood, IsGrowing, IsTextOf}
 -- ---- texts
 
 -- a line is added to a text
-pub text_push : (old new : List ℕ) (lines : List Line) (l : Line) → old ≡ text_of lines → new ≡ old ++ (spelling l ++ 10 ∷ []) → new ≡ text_of (lines ++ l ∷ [])
+pub text_push : (old new : List ℕ) (lines : List Line) (l : Line) → old ≡ text_of lines → new ≡ old ++ line_text l → new ≡ text_of (lines ++ l ∷ [])
 text_push old new lines l e f =
-    f ∙ ap (λ t. t ++ (spelling l ++ 10 ∷ [])) e
-    ∙ sym (flat_map-append (λ m. spelling m ++ 10 ∷ []) lines (l ∷ []) ∙ ap (λ t. text_of lines ++ t) (append-nil (spelling l ++ 10 ∷ [])))
+    f ∙ ap (λ t. t ++ line_text l) e
+    ∙ sym (flat_map-append line_text lines (l ∷ []) ∙ ap (λ t. text_of lines ++ t) (append-nil (line_text l)))
 
-pub text_more : (IsSo : List Line → Type 0) (old new : List ℕ) (lines : List Line) (l : Line) → old ≡ text_of lines → new ≡ old ++ (spelling l ++ 10 ∷ []) → IsSo (lines ++ l ∷ []) → IsTextOf IsSo new
+pub text_more : (IsSo : List Line → Type 0) (old new : List ℕ) (lines : List Line) (l : Line) → old ≡ text_of lines → new ≡ old ++ line_text l → IsSo (lines ++ l ∷ []) → IsTextOf IsSo new
 text_more IsSo old new lines l e f h = record { lines = lines ++ l ∷ []; is = text_push old new lines l e f; so = h }
 
 -- what is so of the lines of a text, where it follows from what was

@@ -3,12 +3,12 @@
 ghost use Rattle.std.specs.Prelude.{◌≡◌, ◌≤◌, ◌<◌, ◌+◌, ◌*◌, ℕ, List, [], ◌∷◌, ◌++◌, Some, slice_get, OnOk, length, All};
 ghost use Rattle.shape_terms.specs.Pictures.{Picture};
 ghost use Rattle.shape_terms.specs.Traces.{Contour as Trace};
-ghost use Rattle.report_terms.specs.Lines.{spelling, IsLineOf};
+ghost use Rattle.report_terms.specs.Lines.{line_text, IsLineOf};
 ghost use Rattle.shape_report.specs.LineOf.{line_of};
 ghost use Rattle.shape_crack.specs.Terms.{point_of};
 ghost use Rattle.shape_refute.specs.Evidences.{evidence_of};
-ghost use Rattle.shape_cover.specs.Found.{stretches_of, IsCoverOf};
-ghost use Rattle.shape_analyse.specs.Growing.{IsOutlined, HasOutlined, IsTextOf, IsSomeCover, gap_line, at_contour};
+ghost use Rattle.shape_cover.specs.Found.{IsCoverOf};
+ghost use Rattle.shape_analyse.specs.Growing.{HasOutlined, IsTextOf, Stands, IsSomeCover, gap_line, outlined, covered};
 
 use shape_cover::{Cover, cover};
 use shape_crack::{Contour, Contours};
@@ -22,8 +22,9 @@ fn add_outline(contour: &Contour, segments: u32, report: &mut Report) -> Result<
     requires side { contour.now.start.side < 4 }
     requires some { 1 ≤ segments }
     requires few { segments ≤ length contour.now.points }
-    ensures { (X : Picture) (contours : List Trace) (k : ℕ) → slice_get contours k ≡ Some contour.now → IsTextOf (HasOutlined X contours k) report.old
-        → OnOk result (IsTextOf (IsOutlined X contours (at_contour k (length contour.now.points) segments [] 0)) report.new) }
+    ensures { (X : Picture) (contours : List Trace) (k : ℕ) → slice_get contours k ≡ Some contour.now
+        → IsTextOf (HasOutlined X contours k) report.old
+        → OnOk result (Stands X contours (outlined k contour.now segments) report.new) }
 {
     let start = contour.start();
     let head = Line::Contour {
@@ -50,9 +51,10 @@ fn add_outline(contour: &Contour, segments: u32, report: &mut Report) -> Result<
 // Adds the segments of a contour.
 fn add_segments(cover: &Cover, report: &mut Report) -> Result<(), NoMemory>
     requires { IsSomeCover cover.now }
-    ensures { (X : Picture) (contours : List Trace) (k : ℕ) (contour : Trace) → slice_get contours k ≡ Some contour → IsCoverOf contour.points cover.now
-        → IsTextOf (IsOutlined X contours (at_contour k (length contour.points) (length cover.now) [] 0)) report.old
-        → OnOk result (IsTextOf (IsOutlined X contours (at_contour k (length contour.points) (length cover.now) (stretches_of cover.now) 0)) report.new) }
+    ensures { (X : Picture) (contours : List Trace) (k : ℕ) (contour : Trace)
+        → slice_get contours k ≡ Some contour → IsCoverOf contour.points cover.now
+        → Stands X contours (outlined k contour (length cover.now)) report.old
+        → OnOk result (Stands X contours (covered k contour cover.now 0) report.new) }
 {
     for j in 0..cover.len() {
         let segment = cover.segment(j);
@@ -72,7 +74,7 @@ fn add_segments(cover: &Cover, report: &mut Report) -> Result<(), NoMemory>
 // Adds the line of a gap for one axis.
 fn add_gap(axis: u8, refusal: Refusal, report: &mut Report) -> Result<(), NoMemory>
     requires { IsLineOf 2 (gap_line axis (evidence_of refusal)) }
-    ensures { OnOk result (report.new ≡ report.old ++ (spelling (gap_line axis (evidence_of refusal)) ++ 10 ∷ [])) }
+    ensures { OnOk result (report.new ≡ report.old ++ line_text (gap_line axis (evidence_of refusal))) }
 {
     let line: Line<P2> = match refusal {
         Refusal::Turned(turn) => Line::Turn {
@@ -91,9 +93,10 @@ fn add_gap(axis: u8, refusal: Refusal, report: &mut Report) -> Result<(), NoMemo
 // Adds the lines of the gaps of a contour, for each the one of the axis x and then the one of the axis y.
 fn add_gaps(cover: &Cover, report: &mut Report) -> Result<(), NoMemory>
     requires { IsSomeCover cover.now }
-    ensures { (X : Picture) (contours : List Trace) (k : ℕ) (contour : Trace) → slice_get contours k ≡ Some contour → IsCoverOf contour.points cover.now
-        → IsTextOf (IsOutlined X contours (at_contour k (length contour.points) (length cover.now) (stretches_of cover.now) 0)) report.old
-        → OnOk result (IsTextOf (IsOutlined X contours (at_contour k (length contour.points) (length cover.now) (stretches_of cover.now) (2 * length cover.now))) report.new) }
+    ensures { (X : Picture) (contours : List Trace) (k : ℕ) (contour : Trace)
+        → slice_get contours k ≡ Some contour → IsCoverOf contour.points cover.now
+        → Stands X contours (covered k contour cover.now 0) report.old
+        → OnOk result (Stands X contours (covered k contour cover.now (2 * length cover.now)) report.new) }
 {
     for j in 0..cover.len() {
         let gap = cover.gap(j);
@@ -113,7 +116,8 @@ fn add_gaps(cover: &Cover, report: &mut Report) -> Result<(), NoMemory>
 fn add_contour(alloc: Global, contour: &Contour, report: &mut Report) -> Result<(), NoMemory>
     requires side { contour.now.start.side < 4 }
     ensures { (X : Picture) (contours : List Trace) (k : ℕ) → slice_get contours k ≡ Some contour.now
-        → IsTextOf (HasOutlined X contours k) report.old → OnOk result (IsTextOf (HasOutlined X contours (k + 1)) report.new) }
+        → IsTextOf (HasOutlined X contours k) report.old
+        → OnOk result (IsTextOf (HasOutlined X contours (k + 1)) report.new) }
 {
     let cover = match cover(alloc, contour) {
         Ok(cover) => cover,
@@ -140,7 +144,8 @@ pub(crate) fn add_contours(
     report: &mut Report,
 ) -> Result<(), NoMemory>
     requires sides { All (λ c. c.start.side < 4) contours.now }
-    ensures { (X : Picture) → IsTextOf (HasOutlined X contours.now 0) report.old → OnOk result (IsTextOf (HasOutlined X contours.now (length contours.now)) report.new) }
+    ensures { (X : Picture) → IsTextOf (HasOutlined X contours.now 0) report.old
+        → OnOk result (IsTextOf (HasOutlined X contours.now (length contours.now)) report.new) }
 {
     for k in 0..contours.len() {
         match add_contour(alloc, contours.contour(k), report) {

@@ -1,11 +1,10 @@
 //! The report of a picture, section by section.
 //! The parts that serve every dimension are generic; `analyse_flat` puts them together for flat pictures.
 ghost use Rattle.std.specs.Prelude.{◌≡◌, ◌≤◌, IfOk, OnOk, length, codes, All};
-ghost use Rattle.shape_terms.specs.Pictures.{object_points};
 ghost use Rattle.shape_terms.specs.Distances.{IsField, IsFramed};
 ghost use Rattle.report_terms.specs.Holds.{Holds};
 ghost use Rattle.shape_rules.specs.Names.{word_of};
-ghost use Rattle.shape_analyse.specs.Growing.{IsGrowing, IsTextOf};
+ghost use Rattle.shape_analyse.specs.Growing.{IsGrowing, IsTextOf, HasNears};
 
 use crate::contour::add_contours;
 use shape_adj::{Pairing, parts};
@@ -61,7 +60,7 @@ fn add_nears<P: Point>(
     requires field { IsField grid.now field.now }
     requires framed { All IsFramed field.now }
     requires open { IsTextOf (IsGrowing grid.now 0) report.old }
-    ensures { OnOk result (IsTextOf (IsGrowing grid.now (length (object_points grid.now))) report.new) }
+    ensures { OnOk result (HasNears grid.now report.new) }
 {
     for i in 0..field.len() {
         let near = field.near(i);
@@ -80,7 +79,7 @@ fn add_nears<P: Point>(
 
 // The report that has all lines before those of outlines.
 fn begin<P: Pairing>(alloc: Global, grid: &Grid<P>) -> Result<Report, NoMemory>
-    ensures grown { IfOk result (IsTextOf (IsGrowing grid.now (length (object_points grid.now)))) }
+    ensures grown { IfOk result (HasNears grid.now) }
     ensures axes { length grid.now.sides ≡ P.DIM }
 {
     let mut report = open(alloc, grid)?;

@@ -10,7 +10,7 @@ use Rattle.report_terms.proofs.LineLaws.{read_only, read_none}
 use Rattle.report_terms.proofs.Spelled.{same_words, words_of_line}
 use Rattle.shape_report.specs.declared.line.Line.{Line}
 use Rattle.shape_report.specs.LineOf.{line_of}
-use Rattle.shape_report.specs.Reading.{split_words, ReadsLine}
+use Rattle.shape_report.specs.Reading.{split_words, HasNoThird, ReadsLine}
 use Rattle.shape_report.specs.Spelling.{behind_blanks, split_text}
 use Rattle.shape_report.proofs.SplitWords.{join-split_words, split_words-join}
 
@@ -27,9 +27,9 @@ split_spelling d l a = split_words-join (first_word (split l).kind) ((form_of (a
 
 -- a line has the words of a text exactly where it has its bytes
 pub from_words : {P : Type 0} (d : ℕ) (coords : P → List ℤ) (bytes : List ℕ) (r : Option (Line P)) → ReadsLine d coords (split_words bytes) r
-    → MatchOption r ((l : Terms.Line) → IsLineOf d l → spelling l ≢ bytes) (λ line. IsLineOf d (line_of coords line) × (spelling (line_of coords line) ≡ bytes))
+    → MatchOption r ((l : Terms.Line) → IsLineOf d l → spelling l ≢ bytes) (λ line. IsLineOf d (line_of coords line) × (spelling (line_of coords line) ≡ bytes) × HasNoThird line)
 from_words d coords bytes None h = λ l a e. read_none d (split_words bytes) h (split l) a (same_words d l a ∙ sym (split_spelling d l a) ∙ ap split_words e)
 from_words d coords bytes (Some line) h =
     let l = line_of coords line in
     let r = read_only d (split_words bytes) (split l) h.0 in
-    (r.0, ap (join_with_byte 32) (sym (same_words d l r.0) ∙ r.1) ∙ join-split_words bytes)
+    (r.0, ap (join_with_byte 32) (sym (same_words d l r.0) ∙ r.1) ∙ join-split_words bytes, h.1)

@@ -1,6 +1,6 @@
 //! Reading one line of a report: the inverse of its spelling.
 //! A further kind of line is one more case of `fields` and a function that reads its fields one after another.
-ghost use Rattle.std.specs.Prelude.{◌≡◌, ◌≢◌, MatchOption, IfSome};
+ghost use Rattle.std.specs.Prelude.{◌≡◌, ◌≢◌, MatchOption};
 ghost use Rattle.report_terms.specs.Kinds.{Kind};
 ghost use Rattle.report_terms.specs.Lines as Terms;
 ghost use Rattle.report_terms.specs.Lines.{IsLineOf, spelling};
@@ -168,9 +168,8 @@ fn line<P: Point>(words: &mut Words) -> Option<Line<P>>
 /// another kind of picture, or no lawful name of a rule. A line of the plane that is read has 0 for its third coefficient.
 /// It takes no memory.
 pub fn read_claim<P: Point>(bytes: &[u8]) -> Option<Line<P>>
-    ensures claim { MatchOption result ((l : Terms.Line) → IsLineOf P.DIM l → spelling l ≢ bytes.now)
-        (λ line. IsLineOf P.DIM (line_of P.coords line) × (spelling (line_of P.coords line) ≡ bytes.now)) }
-    ensures third { IfSome result HasNoThird }
+    ensures { MatchOption result ((l : Terms.Line) → IsLineOf P.DIM l → spelling l ≢ bytes.now)
+        (λ l. IsLineOf P.DIM (line_of P.coords l) × (spelling (line_of P.coords l) ≡ bytes.now) × HasNoThird l) }
 {
     line(&mut Words::new(bytes))
 }

@@ -1,7 +1,7 @@
 //! A report as it is built: its text, a line after another.
 //! How a line is spelled is told in `spell`; a further way to give a report away is one more function here.
-ghost use Rattle.std.specs.Prelude.{◌≡◌, ◌++◌, [], ◌∷◌, OnOk, OnErr};
-ghost use Rattle.report_terms.specs.Lines.{spelling, IsLineOf};
+ghost use Rattle.std.specs.Prelude.{◌≡◌, ◌++◌, [], OnOk, OnErr};
+ghost use Rattle.report_terms.specs.Lines.{line_text, IsLineOf};
 ghost use Rattle.shape_desk.specs.Desk.{PutsText, HasCause, KeepsPlaces};
 ghost use Rattle.shape_report.specs.LineOf.{line_of};
 
@@ -39,7 +39,7 @@ impl Report {
     /// Puts a line last.
     pub fn add<P: Point>(&mut self, line: &Line<P>) -> Result<(), NoMemory>
         requires { IsLineOf P.DIM (line_of P.coords line.now) }
-        ensures ok { OnOk result (self.new ≡ self.old ++ (spelling (line_of P.coords line.now) ++ 10 ∷ [])) }
+        ensures ok { OnOk result (self.new ≡ self.old ++ line_text (line_of P.coords line.now)) }
         ensures err { OnErr result (self.new ≡ self.old) }
     {
         let before = self.text.len();

@@ -1,7 +1,7 @@
 use Rattle.std.proofs.Common.{◌≡◌, ◌≤◌, [], length, rules, arith, subst}
 use Rattle.report_terms.specs.Lines.{Line, IsLineOf}
 use Rattle.shape_crack.specs.Terms.{point_of}
-use Rattle.shape_analyse.specs.Growing.{IsOutlined, IsTextOf, at_contour}
+use Rattle.shape_analyse.specs.Growing.{Stands, at_contour}
 use Rattle.shape_analyse.proofs.Growth.{text_more}
 use Rattle.shape_analyse.proofs.ContourGrowth.{outlined_begun, outlined_point}
 use Rattle.shape_analyse.proofs.contour.add_outline.Goals as goal
@@ -27,4 +27,4 @@ loop-i-preserved c =
 pub returns : goal.returns
 returns c =
     let all : c.loop-i.i ≡ length c.args.contour.now.points = omega (arith, c.loop-i-test.false, c.loop-i.auto.i-end, c.len-i-end.ensures.value) in
-    λ X contours k there h. subst (λ i. IsTextOf (IsOutlined X contours (at_contour k i c.args.segments [] 0)) c.loop-i.report) all (c.loop-i.invariant X contours k there h)
+    λ X contours k there h. subst (λ i. Stands X contours (at_contour k i c.args.segments [] 0) c.loop-i.report) all (c.loop-i.invariant X contours k there h)

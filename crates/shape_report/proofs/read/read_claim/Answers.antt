@@ -1,5 +1,5 @@
 use Rattle.shape_report.proofs.Claims.{from_words}
 use Rattle.shape_report.proofs.read.read_claim.Goals as goal
 
-pub returns-clause-claim : goal.returns-clause-claim
-returns-clause-claim g c = from_words g.P.Point.DIM g.P.Point.coords c.args.bytes.now c.line.result (rw (← c.new.ensures) c.line.ensures)
+pub returns : goal.returns
+returns g c = from_words g.P.Point.DIM g.P.Point.coords c.args.bytes.now c.line.result (rw (← c.new.ensures) c.line.ensures)
