@@ -122,7 +122,7 @@ says_more d contours lines (Line.Seg b e t row mu) (SaysSome front g w) a c =
     let good : IsSegment w.contour.points (declared_of g) (stretches_of (filter_map segment_of g)) b e t (record { a = row; mu = mu }) =
     subst (λ l. IsSegment w.contour.points (declared_of l) (stretches_of (filter_map segment_of l)) b e t (record { a = row; mu = mu })) s.1
     (subst (λ (k : Contour). IsSegment k.points (standing lines).declared (standing lines).stretches b e t (record { a = row; mu = mu })) s.2 c.segment) in
-    same_contour contours lines (Line.Seg b e t row mu) front g w refl (said_segment w.contour g b e t row mu w.said none (record { axis = omega (arith, a.0, a.3); good = good }))
+    same_contour contours lines (Line.Seg b e t row mu) front g w refl (said_segment w.contour g b e t row mu w.said none (record { axis = a.1.1.1.0; good = good }))
   where
     empty : (xs : List GapFact) → length xs ≡ 0 → xs ≡ []
     empty [] h = refl

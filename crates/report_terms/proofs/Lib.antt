@@ -6,9 +6,10 @@ pub mod FirstBadOnce
 pub mod SectionLaws
 pub mod LandedGood
 pub mod HoldsShows
-pub mod LineWords
-pub mod RefutationWords
-pub mod ShortLines
+pub mod FormLaws
+pub mod FramedFields
+pub mod LandedLines
+pub mod LineLaws
 pub mod Spelled
 pub mod TextLines
 pub mod WordLists
@@ -16,3 +17,4 @@ pub mod SectionLines
 pub mod CoverTaken
 pub mod CoverShown
 pub mod ListPushes
+pub mod Words

@@ -1,5 +1,5 @@
 -- A list of words is known from its text, in which a blank stands between each two.
--- Laws of bytes alone; what the words of a line are stands in `LineWords`.
+-- Laws of bytes alone; what the words of a line are stands in `Kinds`.
 use Rattle.std.proofs.Common.{◌≡◌, ℕ, ◌<◌, refl, ap, sym, arith, List, [], ◌∷◌, ◌++◌, length, length-append}
 use Rattle.std.specs.List.{AllByRecursion, join_with_byte}
 

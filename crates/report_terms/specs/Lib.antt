@@ -1,3 +1,5 @@
+pub mod Forms
+pub mod Kinds
 pub mod Lines
 pub mod Sections
 pub mod Holds

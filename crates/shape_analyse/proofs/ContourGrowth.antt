@@ -11,14 +11,14 @@ use Rattle.shape_terms.specs.Contours.{Crack, IsCrack, IsCycle}
 use Rattle.shape_terms.specs.Traces.{Contour, AreContours, contour_of}
 use Rattle.shape_terms.specs.Naive.{Naive}
 use Rattle.shape_terms.specs.Covers.{Stretch, Evidence, IsEvidence, IsSegment, gap_run}
-use Rattle.report_terms.specs.Lines.{Line, text_of, IsLineOf}
+use Rattle.report_terms.specs.Lines.{Line, line_text, text_of, IsLineOf}
 use Rattle.report_terms.specs.ContourLines.{Standing, standing, no_contour, open_contour, IsFull, OutlineClaim, ContourClaim}
 use Rattle.report_terms.specs.Sections.{Section, section_of, lines_of, GoodAfter}
 use Rattle.report_terms.specs.Holds.{Holds}
 use Rattle.report_terms.proofs.SectionLaws.{none_past, come_more, come_past, good_at, lines_push}
 use Rattle.report_terms.proofs.ContourGroups.{standing_begun, standing_point, standing_segment, standing_turn, standing_cut}
-use Rattle.shape_analyse.specs.Growing.{IsGrowing, IsOutlined, HasOutlined, gap_line}
-use Rattle.shape_analyse.proofs.Growth.{good_more}
+use Rattle.shape_analyse.specs.Growing.{IsGrowing, IsOutlined, HasOutlined, gap_line, at_contour}
+use Rattle.shape_analyse.proofs.Growth.{text_push, good_more}
 
 -- no contour was begun yet
 pub outlined_none : (X : Picture) (n : ℕ) (lines : List Line) (contours : List Contour) → IsGrowing X n lines → n ≡ length (object_points X) → length X.sides ≡ 2 → AreContours X contours → HasOutlined X contours 0 lines
@@ -50,7 +50,7 @@ outlined_more X contours s s2 lines l o k claim fields next =
 
 -- the next contour is begun
 pub outlined_begun : (X : Picture) (contours : List Contour) (k : ℕ) (lines : List Line) (c : Contour) (p : Point) (side n m : ℕ) → HasOutlined X contours k lines → slice_get contours k ≡ Some c → record { pixel = p; side = side } ≡ c.start → n ≡ length c.points → 1 ≤ m → m ≤ n
-    → IsLineOf 2 (Line.Contour p side n m) → IsOutlined X contours (record { begun = k + 1; points = 0; declared = m; stretches = []; gaps = 0 }) (lines ++ Line.Contour p side n m ∷ [])
+    → IsLineOf 2 (Line.Contour p side n m) → IsOutlined X contours (at_contour k 0 m [] 0) (lines ++ Line.Contour p side n m ∷ [])
 outlined_begun X contours k lines c p side n m h next start count some few fields =
     let same : c ≡ record { start = record { pixel = p; side = side }; points = c.points } = λ i. record { start = sym start i; points = c.points } in
     outlined_more X contours h.stand _ lines (Line.Contour p side n m) h.outlined refl (record {
@@ -72,10 +72,10 @@ some_begun : (X : Picture) (contours : List Contour) (s : Standing) (lines : Lis
 some_begun X contours s lines k o b = let e = ap (λ (w : Standing). w.begun) o.stands in omega (arith, e, b)
 
 -- it is given its next point
-pub outlined_point : (X : Picture) (contours : List Contour) (k i m : ℕ) (lines : List Line) (c : Contour) (p : Point) → IsOutlined X contours (record { begun = k + 1; points = i; declared = m; stretches = []; gaps = 0 }) lines → slice_get contours k ≡ Some c → slice_get c.points i ≡ Some p → IsLineOf 2 (Line.At p)
-    → IsOutlined X contours (record { begun = k + 1; points = i + 1; declared = m; stretches = []; gaps = 0 }) (lines ++ Line.At p ∷ [])
+pub outlined_point : (X : Picture) (contours : List Contour) (k i m : ℕ) (lines : List Line) (c : Contour) (p : Point) → IsOutlined X contours (at_contour k i m [] 0) lines → slice_get contours k ≡ Some c → slice_get c.points i ≡ Some p → IsLineOf 2 (Line.At p)
+    → IsOutlined X contours (at_contour k (i + 1) m [] 0) (lines ++ Line.At p ∷ [])
 outlined_point X contours k i m lines c p o there next fields =
-    let s : Standing = record { begun = k + 1; points = i; declared = m; stretches = []; gaps = 0 } in
+    let s : Standing = at_contour k i m [] 0 in
     let last = last_begun contours s k c refl there in
     outlined_more X contours s _ lines (Line.At p) o refl (record {
       some = omega arith;
@@ -84,11 +84,11 @@ outlined_point X contours k i m lines c p o there next fields =
     }) fields (standing_point (lines_of Section.Contours lines) p (some_begun X contours s lines k o refl) ∙ ap (λ (w : Standing). record w { points = w.points + 1 }) o.stands)
 
 -- its next segment
-pub outlined_segment : (X : Picture) (contours : List Contour) (k m : ℕ) (before : List Stretch) (lines : List Line) (c : Contour) (b e t : ℕ) (line : Naive) → IsOutlined X contours (record { begun = k + 1; points = length c.points; declared = m; stretches = before; gaps = 0 }) lines → slice_get contours k ≡ Some c
+pub outlined_segment : (X : Picture) (contours : List Contour) (k m : ℕ) (before : List Stretch) (lines : List Line) (c : Contour) (b e t : ℕ) (line : Naive) → IsOutlined X contours (at_contour k (length c.points) m before 0) lines → slice_get contours k ≡ Some c
     → length before < m → IsSegment c.points m before b e t line → IsLineOf 2 (Line.Seg b e t line.a line.mu)
     → IsOutlined X contours (record { begun = k + 1; points = length c.points; declared = m; stretches = before ++ record { first = b; last = e } ∷ []; gaps = 0 }) (lines ++ Line.Seg b e t line.a line.mu ∷ [])
 outlined_segment X contours k m before lines c b e t line o there more segment fields =
-    let s : Standing = record { begun = k + 1; points = length c.points; declared = m; stretches = before; gaps = 0 } in
+    let s : Standing = at_contour k (length c.points) m before 0 in
     let last = last_begun contours s k c refl there in
     outlined_more X contours s _ lines (Line.Seg b e t line.a line.mu) o refl (record {
       points = ap (λ (d : Contour). length d.points) (sym last);
@@ -98,11 +98,11 @@ outlined_segment X contours k m before lines c b e t line o there more segment f
     }) fields (standing_segment (lines_of Section.Contours lines) b e t line.a line.mu (some_begun X contours s lines k o refl) ∙ ap (λ (w : Standing). record w { stretches = w.stretches ++ record { first = b; last = e } ∷ [] }) o.stands)
 
 -- and its next gap line
-pub outlined_gap : (X : Picture) (contours : List Contour) (k : ℕ) (stretches : List Stretch) (g j t : ℕ) (lines : List Line) (c : Contour) (v : Evidence) → IsOutlined X contours (record { begun = k + 1; points = length c.points; declared = length stretches; stretches = stretches; gaps = g }) lines → slice_get contours k ≡ Some c
+pub outlined_gap : (X : Picture) (contours : List Contour) (k : ℕ) (stretches : List Stretch) (g j t : ℕ) (lines : List Line) (c : Contour) (v : Evidence) → IsOutlined X contours (at_contour k (length c.points) (length stretches) stretches g) lines → slice_get contours k ≡ Some c
     → g ≡ 2 * j + t → j < length stretches → t < 2 → IsEvidence t (gap_run c.points stretches j) v → IsLineOf 2 (gap_line t v)
-    → IsOutlined X contours (record { begun = k + 1; points = length c.points; declared = length stretches; stretches = stretches; gaps = g + 1 }) (lines ++ gap_line t v ∷ [])
+    → IsOutlined X contours (at_contour k (length c.points) (length stretches) stretches (g + 1)) (lines ++ gap_line t v ∷ [])
 outlined_gap X contours k stretches g j t lines c (Evidence.Turned x y) o there count place two good fields =
-    let s : Standing = record { begun = k + 1; points = length c.points; declared = length stretches; stretches = stretches; gaps = g } in
+    let s : Standing = at_contour k (length c.points) (length stretches) stretches g in
     let last = last_begun contours s k c refl there in
     let half : j ≡ g / 2 = omega (arith, count, two) in
     outlined_more X contours s _ lines (Line.Turn t x y) o refl (record {
@@ -113,7 +113,7 @@ outlined_gap X contours k stretches g j t lines c (Evidence.Turned x y) o there 
       good = subst (λ (d : Contour). IsEvidence t (gap_run d.points stretches (g / 2)) (Evidence.Turned x y)) (sym last) (subst (λ q. IsEvidence t (gap_run c.points stretches q) (Evidence.Turned x y)) half good);
     }) fields (standing_turn (lines_of Section.Contours lines) t x y (some_begun X contours s lines k o refl) ∙ ap (λ (w : Standing). record w { gaps = w.gaps + 1 }) o.stands)
 outlined_gap X contours k stretches g j t lines c (Evidence.Cut why) o there count place two good fields =
-    let s : Standing = record { begun = k + 1; points = length c.points; declared = length stretches; stretches = stretches; gaps = g } in
+    let s : Standing = at_contour k (length c.points) (length stretches) stretches g in
     let last = last_begun contours s k c refl there in
     let half : j ≡ g / 2 = omega (arith, count, two) in
     outlined_more X contours s _ lines (Line.Cut t why) o refl (record {
@@ -125,12 +125,12 @@ outlined_gap X contours k stretches g j t lines c (Evidence.Cut why) o there cou
     }) fields (standing_cut (lines_of Section.Contours lines) t why (some_begun X contours s lines k o refl) ∙ ap (λ (w : Standing). record w { gaps = w.gaps + 1 }) o.stands)
 
 -- it has all its lines
-pub outlined_full : (X : Picture) (contours : List Contour) (k m : ℕ) (stretches : List Stretch) (lines : List Line) (c : Contour) → slice_get contours k ≡ Some c → length stretches ≡ m → IsOutlined X contours (record { begun = k + 1; points = length c.points; declared = m; stretches = stretches; gaps = 2 * m }) lines → HasOutlined X contours (k + 1) lines
+pub outlined_full : (X : Picture) (contours : List Contour) (k m : ℕ) (stretches : List Stretch) (lines : List Line) (c : Contour) → slice_get contours k ≡ Some c → length stretches ≡ m → IsOutlined X contours (at_contour k (length c.points) m stretches (2 * m)) lines → HasOutlined X contours (k + 1) lines
 outlined_full X contours k m stretches lines c there all o = record {
-  stand = record { begun = k + 1; points = length c.points; declared = m; stretches = stretches; gaps = 2 * m };
+  stand = at_contour k (length c.points) m stretches (2 * m);
   begun = refl;
   full = λ l. record {
-    points = ap (λ (d : Contour). length d.points) (sym (last_begun contours (record { begun = k + 1; points = length c.points; declared = m; stretches = stretches; gaps = 2 * m }) k c refl there));
+    points = ap (λ (d : Contour). length d.points) (sym (last_begun contours (at_contour k (length c.points) m stretches (2 * m)) k c refl there));
     segments = all;
     gaps = refl;
   };
@@ -139,8 +139,8 @@ outlined_full X contours k m stretches lines c there all o = record {
 
 -- ---- the last line
 
-pub outlined_done : (X : Picture) (contours : List Contour) (lines : List Line) → HasOutlined X contours (length contours) lines → Holds X (text_of (lines ++ Line.End ∷ []))
-outlined_done X contours lines h =
+pub outlined_done : (X : Picture) (contours : List Contour) (lines : List Line) (old new : List ℕ) → old ≡ text_of lines → new ≡ old ++ line_text Line.End → HasOutlined X contours (length contours) lines → Holds X new
+outlined_done X contours lines old new e f h =
     let o = h.outlined in
     let come = come_past X Section.Contours Section.End lines refl o.come (record {
       flat = λ flat. (contours, o.are, subst (IsFull contours) (sym o.stands) h.full, ap (λ (s : Standing). s.begun) o.stands ∙ h.begun);
@@ -148,7 +148,7 @@ outlined_done X contours lines h =
     }) in
     let good : GoodAfter X lines Line.End = good_at X Section.End lines Line.End come refl (none_past Section.Contours Section.End lines (omega arith) o.come.order) in
     let all = good_more X lines Line.End o.lines_good (omega (arith, o.flat)) tt good in
-    (lines, record { split = sym (append-nil (text_of (lines ++ Line.End ∷ []))); fields = all.fields; short = all.short; good = all.good })
+    (lines, record { split = text_push old new lines Line.End e f ∙ sym (append-nil (text_of (lines ++ Line.End ∷ []))); fields = all.fields; short = all.short; good = all.good })
 
 -- ---- the first cracks of contours
 

@@ -1,7 +1,7 @@
 -- The lines that are made of what is found of a contour: their fields are in range, and each segment stands in its place.
 -- Laws over what was found; the program stands in none.
-use Rattle.std.proofs.Common.{◌≡◌, ◌+◌, ◌<◌, ◌≤◌, ◌^◌, ℕ, zero, suc, ℤ, pos, negsuc, List, [], ◌∷◌, ◌++◌, length, take, refl, sym, ap, ◌∙◌, subst, arith}
-use Rattle.std.specs.Prelude.{◌*◌, All, FitsSigned, Some, nat_abs, slice_get, slice_index_or}
+use Rattle.std.proofs.Common.{◌≡◌, ◌+◌, ◌<◌, ◌^◌, ℕ, zero, suc, ℤ, pos, negsuc, List, [], ◌∷◌, ◌++◌, length, take, refl, sym, ap, ◌∙◌, subst, arith}
+use Rattle.std.specs.Prelude.{◌*◌, FitsSigned, Some, nat_abs, slice_get, slice_index_or}
 use Rattle.std.specs.Int.{w64}
 use Rattle.std.proofs.lemmas.List.{length-map, length-take-le}
 use Rattle.shape_terms.specs.Points.{Point}
@@ -10,9 +10,11 @@ use Rattle.shape_terms.specs.Traces.{Contour}
 use Rattle.shape_terms.specs.Naive.{Naive}
 use Rattle.shape_terms.specs.Refutations.{Share, Step, StepShare, IsStepOf}
 use Rattle.shape_terms.specs.Covers.{Evidence, IsEvidence, gap_run}
-use Rattle.report_terms.specs.Lines.{Line, IsLineOf, IsStepIn, IsCount, IsWeight}
+use Rattle.report_terms.specs.Forms.{IsStepIn, counted}
+use Rattle.report_terms.specs.Kinds.{share, step_share}
+use Rattle.report_terms.specs.Lines.{Line, IsLineOf}
 use Rattle.shape_cover.specs.Found.{Found, stretches_of, found_at, IsCoverOf, IsShortLine, AreShortShares, IsShortEvidence}
-use Rattle.shape_analyse.specs.Growing.{IsOutlined, gap_line}
+use Rattle.shape_analyse.specs.Growing.{IsOutlined, gap_line, at_contour}
 use Rattle.shape_analyse.proofs.ContourGrowth.{outlined_segment, outlined_gap}
 
 fits : (z : ℤ) → nat_abs z < 2 ^ 63 → FitsSigned w64 z
@@ -21,7 +23,7 @@ fits (negsuc n) h = record { sfits = omega arith }
 
 -- a segment's line, with places of 32 bits
 pub segment_fits : (b e t : ℕ) (line : Naive) → b < 2 ^ 32 → e < 2 ^ 32 → t < 2 → IsShortLine line → IsLineOf 2 (Line.Seg b e t line.a line.mu)
-segment_fits b e t line hb he ht s = (refl, hb, he, ht, record { axes = s.two; fits = λ i d l. fits _ (s.coefficients i d l) }, fits line.mu s.mu)
+segment_fits b e t line hb he ht s = (refl, (hb, (he, (ht, (record { axes = s.two; fits = λ i d l. fits _ (s.coefficients i d l) }, fits line.mu s.mu)))))
 
 step_in : (t : ℕ) (s : StepShare) → IsStepOf 2 t s.step → IsStepIn 2 s.step
 step_in t s h = step_cases t s.step h
@@ -31,21 +33,15 @@ step_in t s h = step_cases t s.step h
     step_cases t (Step.Plus u) h = h.0
     step_cases t (Step.Minus u) h = h.0
 
-shares_fit : (shares : List Share) → AreShortShares shares → (length shares ≤ 4) × All (λ s. IsWeight s.weight × IsCount s.place) shares
+shares_fit : (shares : List Share) → AreShortShares shares → (counted 4 share).InRange shares
 shares_fit shares h = (h.few, λ i d l. (h.weights i d l, h.places i d l))
 
 -- a gap line of an axis of the plane
 pub gap_fits : (t : ℕ) (run : List Point) (v : Evidence) → t < 2 → IsEvidence t run v → IsShortEvidence v → IsLineOf 2 (gap_line t v)
-gap_fits t run (Evidence.Turned i j) ht h s = (refl, ht, s.0, s.1)
-gap_fits t run (Evidence.Cut why) ht h s = (
-  refl,
-  ht,
-  record {
-    low = shares_fit why.low s.low;
-    high = shares_fit why.high s.high;
-    steps = (s.few_steps, λ i d l. (s.steps i d l, step_in t (slice_index_or why.steps i d) (h.1.steps_of_axis i d l)));
-  },
-)
+gap_fits t run (Evidence.Turned i j) ht h s = (refl, (ht, (s.0, s.1)))
+gap_fits t run (Evidence.Cut why) ht h s =
+    let steps : (counted 4 (step_share 2)).InRange why.steps = (s.few_steps, λ i d l. (s.steps i d l, step_in t (slice_index_or why.steps i d) (h.1.steps_of_axis i d l))) in
+    (refl, (ht, (shares_fit why.low s.low, (shares_fit why.high s.high, steps))))
 
 -- the stretches up to one more
 pub stretches_more : (found : List Found) (j : ℕ) → j < length found → take j (stretches_of found) ++ (found_at found j).stretch ∷ [] ≡ take (j + 1) (stretches_of found)
@@ -59,21 +55,21 @@ stretches_more found j l = more found j l ∙ ap (λ k. take k (stretches_of fou
 -- ---- lines that are added
 
 -- the line of the next segment
-pub found_segment : (X : Picture) (contours : List Contour) (k : ℕ) (c : Contour) (found : List Found) (j : ℕ) (lines : List Line) → IsOutlined X contours (record { begun = k + 1; points = length c.points; declared = length found; stretches = take j (stretches_of found); gaps = 0 }) lines → slice_get contours k ≡ Some c → IsCoverOf c.points found → j < length found
+pub found_segment : (X : Picture) (contours : List Contour) (k : ℕ) (c : Contour) (found : List Found) (j : ℕ) (lines : List Line) → IsOutlined X contours (at_contour k (length c.points) (length found) (take j (stretches_of found)) 0) lines → slice_get contours k ≡ Some c → IsCoverOf c.points found → j < length found
     → IsLineOf 2 (Line.Seg (found_at found j).stretch.first (found_at found j).stretch.last (found_at found j).axis (found_at found j).line.a (found_at found j).line.mu)
-    → IsOutlined X contours (record { begun = k + 1; points = length c.points; declared = length found; stretches = take (j + 1) (stretches_of found); gaps = 0 }) (lines ++ Line.Seg (found_at found j).stretch.first (found_at found j).stretch.last (found_at found j).axis (found_at found j).line.a (found_at found j).line.mu ∷ [])
+    → IsOutlined X contours (at_contour k (length c.points) (length found) (take (j + 1) (stretches_of found)) 0) (lines ++ Line.Seg (found_at found j).stretch.first (found_at found j).stretch.last (found_at found j).axis (found_at found j).line.a (found_at found j).line.mu ∷ [])
 found_segment X contours k c found j lines o there cover l fields =
     let f = found_at found j in
     let before = take j (stretches_of found) in
     let more : length before < length found = omega (arith, length-take-le j (stretches_of found) (omega (arith, length-map found (λ (f : Found). f.stretch))), l) in
     let next = outlined_segment X contours k (length found) before lines c f.stretch.first f.stretch.last f.axis f.line o there more (cover.segment j l) fields in
-    subst (λ ss. IsOutlined X contours (record { begun = k + 1; points = length c.points; declared = length found; stretches = ss; gaps = 0 }) (lines ++ Line.Seg f.stretch.first f.stretch.last f.axis f.line.a f.line.mu ∷ [])) (stretches_more found j l) next
+    subst (λ ss. IsOutlined X contours (at_contour k (length c.points) (length found) ss 0) (lines ++ Line.Seg f.stretch.first f.stretch.last f.axis f.line.a f.line.mu ∷ [])) (stretches_more found j l) next
 
 -- the two lines of the next gap
-pub found_gap : (X : Picture) (contours : List Contour) (k : ℕ) (c : Contour) (found : List Found) (j t : ℕ) (v : Evidence) (lines : List Line) → IsOutlined X contours (record { begun = k + 1; points = length c.points; declared = length found; stretches = stretches_of found; gaps = 2 * j + t }) lines → slice_get contours k ≡ Some c → j < length found → t < 2
-    → IsEvidence t (gap_run c.points (stretches_of found) j) v → IsLineOf 2 (gap_line t v) → IsOutlined X contours (record { begun = k + 1; points = length c.points; declared = length found; stretches = stretches_of found; gaps = 2 * j + t + 1 }) (lines ++ gap_line t v ∷ [])
+pub found_gap : (X : Picture) (contours : List Contour) (k : ℕ) (c : Contour) (found : List Found) (j t : ℕ) (v : Evidence) (lines : List Line) → IsOutlined X contours (at_contour k (length c.points) (length found) (stretches_of found) (2 * j + t)) lines → slice_get contours k ≡ Some c → j < length found → t < 2
+    → IsEvidence t (gap_run c.points (stretches_of found) j) v → IsLineOf 2 (gap_line t v) → IsOutlined X contours (at_contour k (length c.points) (length found) (stretches_of found) (2 * j + t + 1)) (lines ++ gap_line t v ∷ [])
 found_gap X contours k c found j t v lines o there l two good fields =
     let n : length found ≡ length (stretches_of found) = sym (length-map found (λ (f : Found). f.stretch)) in
-    let here = subst (λ m. IsOutlined X contours (record { begun = k + 1; points = length c.points; declared = m; stretches = stretches_of found; gaps = 2 * j + t }) lines) n o in
+    let here = subst (λ m. IsOutlined X contours (at_contour k (length c.points) m (stretches_of found) (2 * j + t)) lines) n o in
     let next = outlined_gap X contours k (stretches_of found) (2 * j + t) j t lines c v here there refl (omega (arith, l, n)) two good fields in
-    subst (λ m. IsOutlined X contours (record { begun = k + 1; points = length c.points; declared = m; stretches = stretches_of found; gaps = 2 * j + t + 1 }) (lines ++ gap_line t v ∷ [])) (sym n) next
+    subst (λ m. IsOutlined X contours (at_contour k (length c.points) m (stretches_of found) (2 * j + t + 1)) (lines ++ gap_line t v ∷ [])) (sym n) next

@@ -4,19 +4,38 @@ use Rattle.std.proofs.Common.{◌≡◌, ◌+◌, ◌≤◌, ℕ, zero, suc, ℤ
 use Rattle.std.specs.Prelude.{All, FitsSigned, codes, slice_get, nat_abs}
 use Rattle.std.specs.Int.{w32}
 use Rattle.std.proofs.lemmas.Int.{ints}
-use Rattle.std.proofs.lemmas.List.{length-append}
+use Rattle.std.proofs.lemmas.List.{append-nil, length-append}
+use Rattle.std.proofs.lemmas.Grind.{flat_map-append}
 use Rattle.std.proofs.lemmas.List.Elements.{All-nil, All-push, All-head, All-tail, All-from_get_or}
 use Rattle.shape_terms.specs.Points.{Point, coordinate, AreSides, sides_of}
 use Rattle.shape_terms.specs.Pictures.{Picture, object_points, Least}
 use Rattle.shape_terms.specs.Parts.{Counts}
 use Rattle.shape_terms.specs.Distances.{NearFact, IsField, IsFramed}
-use Rattle.report_terms.specs.Lines.{Line, spelling, IsLineOf, IsWeight, IsName}
+use Rattle.report_terms.specs.Forms.{IsName}
+use Rattle.report_terms.specs.Kinds.{weight}
+use Rattle.report_terms.specs.Lines.{Line, spelling, line_text, text_of, IsLineOf}
 use Rattle.report_terms.specs.Sections.{Section, lines_of, GoodAfter}
 use Rattle.report_terms.proofs.Checking.{good_push}
 use Rattle.report_terms.proofs.SectionLaws.{come_none, come_more, come_past, good_at, lines_push}
-use Rattle.report_terms.proofs.ShortLines.{short_line, within_short, distance_fits}
+use Rattle.report_terms.proofs.FramedFields.{within_short, distance_fits}
+use Rattle.report_terms.proofs.Spelled.{short_line}
 use Rattle.shape_terms.proofs.Boxes.{abs_is}
-use Rattle.shape_analyse.specs.Growing.{AreGood, IsGrowing}
+use Rattle.shape_analyse.specs.Growing.{AreGood, IsGrowing, IsTextOf}
+
+-- ---- texts
+
+-- a line is added to a text
+pub text_push : (old new : List ℕ) (lines : List Line) (l : Line) → old ≡ text_of lines → new ≡ old ++ line_text l → new ≡ text_of (lines ++ l ∷ [])
+text_push old new lines l e f =
+    f ∙ ap (λ t. t ++ line_text l) e
+    ∙ sym (flat_map-append line_text lines (l ∷ []) ∙ ap (λ t. text_of lines ++ t) (append-nil (line_text l)))
+
+pub text_more : (IsSo : List Line → Type 0) (old new : List ℕ) (lines : List Line) (l : Line) → old ≡ text_of lines → new ≡ old ++ line_text l → IsSo (lines ++ l ∷ []) → IsTextOf IsSo new
+text_more IsSo old new lines l e f h = record { lines = lines ++ l ∷ []; is = text_push old new lines l e f; so = h }
+
+-- what is so of the lines of a text, where it follows from what was
+pub text_as : {Was IsSo : List Line → Type 0} {text : List ℕ} → ((lines : List Line) → Was lines → IsSo lines) → IsTextOf Was text → IsTextOf IsSo text
+text_as f h = record { lines = h.lines; is = h.is; so = f h.lines h.so }
 
 -- ---- the first two lines
 
@@ -104,5 +123,5 @@ fact_at X facts i f d field framed e axes three lp lq =
     record {
       there = ap (λ ps. slice_get ps i) (sym field.points) ∙ get_map (λ (g : NearFact). g.p) facts i f e;
       least = least;
-      fields = (within_short (length X.sides) f.p (lp ∙ sym axes) near.p, within_short (length X.sides) f.q (lq ∙ sym axes) near.q, subst IsWeight (sym least.distance) (distance_fits f.p f.q (omega arith) near.p near.q));
+      fields = (within_short (length X.sides) f.p (lp ∙ sym axes) near.p, (within_short (length X.sides) f.q (lq ∙ sym axes) near.q, subst weight.InRange (sym least.distance) (distance_fits f.p f.q (omega arith) near.p near.q)));
     }

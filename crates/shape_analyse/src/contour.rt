@@ -3,12 +3,12 @@
 ghost use Rattle.std.specs.Prelude.{◌≡◌, ◌≤◌, ◌<◌, ◌+◌, ◌*◌, ℕ, List, [], ◌∷◌, ◌++◌, Some, slice_get, OnOk, length, All};
 ghost use Rattle.shape_terms.specs.Pictures.{Picture};
 ghost use Rattle.shape_terms.specs.Traces.{Contour as Trace};
-ghost use Rattle.report_terms.specs.Lines.{IsLineOf};
+ghost use Rattle.report_terms.specs.Lines.{line_text, IsLineOf};
 ghost use Rattle.shape_report.specs.LineOf.{line_of};
 ghost use Rattle.shape_crack.specs.Terms.{point_of};
 ghost use Rattle.shape_refute.specs.Evidences.{evidence_of};
-ghost use Rattle.shape_cover.specs.Found.{stretches_of, IsCoverOf};
-ghost use Rattle.shape_analyse.specs.Growing.{IsOutlined, HasOutlined, IsSomeCover, gap_line};
+ghost use Rattle.shape_cover.specs.Found.{IsCoverOf};
+ghost use Rattle.shape_analyse.specs.Growing.{HasOutlined, IsTextOf, Stands, IsSomeCover, gap_line, outlined, covered};
 
 use shape_cover::{Cover, cover};
 use shape_crack::{Contour, Contours};
@@ -18,12 +18,13 @@ use shape_space::{NoMemory, P2};
 use std::alloc::Global;
 
 // Adds the `contour` line and the points of a contour, of which so many segments are to come.
-fn add_outline(contour: &Contour, segments: u32, report: &mut Report<P2>) -> Result<(), NoMemory>
+fn add_outline(contour: &Contour, segments: u32, report: &mut Report) -> Result<(), NoMemory>
     requires side { contour.now.start.side < 4 }
     requires some { 1 ≤ segments }
     requires few { segments ≤ length contour.now.points }
-    ensures { (X : Picture) (contours : List Trace) (k : ℕ) → slice_get contours k ≡ Some contour.now → HasOutlined X contours k report.old
-        → OnOk result (IsOutlined X contours (record { begun = k + 1; points = length contour.now.points; declared = segments; stretches = []; gaps = 0 }) report.new) }
+    ensures { (X : Picture) (contours : List Trace) (k : ℕ) → slice_get contours k ≡ Some contour.now
+        → IsTextOf (HasOutlined X contours k) report.old
+        → OnOk result (Stands X contours (outlined k contour.now segments) report.new) }
 {
     let start = contour.start();
     let head = Line::Contour {
@@ -32,12 +33,12 @@ fn add_outline(contour: &Contour, segments: u32, report: &mut Report<P2>) -> Res
         points: contour.len(),
         segments,
     };
-    match report.add(head) {
+    match report.add(&head) {
         Ok(()) => {}
         Err(e) => return Err(e),
     }
     for i in 0..contour.len() {
-        match report.add(Line::At {
+        match report.add(&Line::At {
             p: contour.point(i),
         }) {
             Ok(()) => {}
@@ -48,19 +49,21 @@ fn add_outline(contour: &Contour, segments: u32, report: &mut Report<P2>) -> Res
 }
 
 // Adds the segments of a contour.
-fn add_segments(cover: &Cover, report: &mut Report<P2>) -> Result<(), NoMemory>
+fn add_segments(cover: &Cover, report: &mut Report) -> Result<(), NoMemory>
     requires { IsSomeCover cover.now }
-    ensures { (X : Picture) (contours : List Trace) (k : ℕ) (contour : Trace) → slice_get contours k ≡ Some contour → IsCoverOf contour.points cover.now
-        → IsOutlined X contours (record { begun = k + 1; points = length contour.points; declared = length cover.now; stretches = []; gaps = 0 }) report.old
-        → OnOk result (IsOutlined X contours (record { begun = k + 1; points = length contour.points; declared = length cover.now; stretches = stretches_of cover.now; gaps = 0 }) report.new) }
+    ensures { (X : Picture) (contours : List Trace) (k : ℕ) (contour : Trace)
+        → slice_get contours k ≡ Some contour → IsCoverOf contour.points cover.now
+        → Stands X contours (outlined k contour (length cover.now)) report.old
+        → OnOk result (Stands X contours (covered k contour cover.now 0) report.new) }
 {
     for j in 0..cover.len() {
         let segment = cover.segment(j);
-        match report.add(Line::Seg {
+        let line: Line<P2> = Line::Seg {
             first: segment.first,
             last: segment.last,
             line: segment.line,
-        }) {
+        };
+        match report.add(&line) {
             Ok(()) => {}
             Err(e) => return Err(e),
         }
@@ -69,11 +72,11 @@ fn add_segments(cover: &Cover, report: &mut Report<P2>) -> Result<(), NoMemory>
 }
 
 // Adds the line of a gap for one axis.
-fn add_gap(axis: u8, refusal: Refusal, report: &mut Report<P2>) -> Result<(), NoMemory>
+fn add_gap(axis: u8, refusal: Refusal, report: &mut Report) -> Result<(), NoMemory>
     requires { IsLineOf 2 (gap_line axis (evidence_of refusal)) }
-    ensures { OnOk result (report.new ≡ report.old ++ gap_line axis (evidence_of refusal) ∷ []) }
+    ensures { OnOk result (report.new ≡ report.old ++ line_text (gap_line axis (evidence_of refusal))) }
 {
-    let line = match refusal {
+    let line: Line<P2> = match refusal {
         Refusal::Turned(turn) => Line::Turn {
             axis,
             i: turn.i,
@@ -81,18 +84,19 @@ fn add_gap(axis: u8, refusal: Refusal, report: &mut Report<P2>) -> Result<(), No
         },
         Refusal::Cut(why) => Line::Cut { axis, why },
     };
-    match report.add(line) {
+    match report.add(&line) {
         Ok(()) => Ok(()),
         Err(e) => Err(e),
     }
 }
 
 // Adds the lines of the gaps of a contour, for each the one of the axis x and then the one of the axis y.
-fn add_gaps(cover: &Cover, report: &mut Report<P2>) -> Result<(), NoMemory>
+fn add_gaps(cover: &Cover, report: &mut Report) -> Result<(), NoMemory>
     requires { IsSomeCover cover.now }
-    ensures { (X : Picture) (contours : List Trace) (k : ℕ) (contour : Trace) → slice_get contours k ≡ Some contour → IsCoverOf contour.points cover.now
-        → IsOutlined X contours (record { begun = k + 1; points = length contour.points; declared = length cover.now; stretches = stretches_of cover.now; gaps = 0 }) report.old
-        → OnOk result (IsOutlined X contours (record { begun = k + 1; points = length contour.points; declared = length cover.now; stretches = stretches_of cover.now; gaps = 2 * length cover.now }) report.new) }
+    ensures { (X : Picture) (contours : List Trace) (k : ℕ) (contour : Trace)
+        → slice_get contours k ≡ Some contour → IsCoverOf contour.points cover.now
+        → Stands X contours (covered k contour cover.now 0) report.old
+        → OnOk result (Stands X contours (covered k contour cover.now (2 * length cover.now)) report.new) }
 {
     for j in 0..cover.len() {
         let gap = cover.gap(j);
@@ -109,10 +113,11 @@ fn add_gaps(cover: &Cover, report: &mut Report<P2>) -> Result<(), NoMemory>
 }
 
 // Adds all lines of a contour.
-fn add_contour(alloc: Global, contour: &Contour, report: &mut Report<P2>) -> Result<(), NoMemory>
+fn add_contour(alloc: Global, contour: &Contour, report: &mut Report) -> Result<(), NoMemory>
     requires side { contour.now.start.side < 4 }
     ensures { (X : Picture) (contours : List Trace) (k : ℕ) → slice_get contours k ≡ Some contour.now
-        → HasOutlined X contours k report.old → OnOk result (HasOutlined X contours (k + 1) report.new) }
+        → IsTextOf (HasOutlined X contours k) report.old
+        → OnOk result (IsTextOf (HasOutlined X contours (k + 1)) report.new) }
 {
     let cover = match cover(alloc, contour) {
         Ok(cover) => cover,
@@ -136,10 +141,11 @@ fn add_contour(alloc: Global, contour: &Contour, report: &mut Report<P2>) -> Res
 pub(crate) fn add_contours(
     alloc: Global,
     contours: &Contours,
-    report: &mut Report<P2>,
+    report: &mut Report,
 ) -> Result<(), NoMemory>
     requires sides { All (λ c. c.start.side < 4) contours.now }
-    ensures { (X : Picture) → HasOutlined X contours.now 0 report.old → OnOk result (HasOutlined X contours.now (length contours.now) report.new) }
+    ensures { (X : Picture) → IsTextOf (HasOutlined X contours.now 0) report.old
+        → OnOk result (IsTextOf (HasOutlined X contours.now (length contours.now)) report.new) }
 {
     for k in 0..contours.len() {
         match add_contour(alloc, contours.contour(k), report) {

@@ -1,12 +1,10 @@
 //! The report of a picture, section by section.
 //! The parts that serve every dimension are generic; `analyse_flat` puts them together for flat pictures.
 ghost use Rattle.std.specs.Prelude.{◌≡◌, ◌≤◌, IfOk, OnOk, length, codes, All};
-ghost use Rattle.report_terms.specs.Lines.{text_of};
-ghost use Rattle.shape_terms.specs.Pictures.{object_points};
 ghost use Rattle.shape_terms.specs.Distances.{IsField, IsFramed};
 ghost use Rattle.report_terms.specs.Holds.{Holds};
 ghost use Rattle.shape_rules.specs.Names.{word_of};
-ghost use Rattle.shape_analyse.specs.Growing.{IsGrowing};
+ghost use Rattle.shape_analyse.specs.Growing.{IsGrowing, IsTextOf, HasNears};
 
 use crate::contour::add_contours;
 use shape_adj::{Pairing, parts};
@@ -29,8 +27,8 @@ fn no_rule() -> Name
 }
 
 // The report that has its `shape` line and its `parts` line alone.
-fn open<P: Pairing>(alloc: Global, grid: &Grid<P>) -> Result<Report<P>, NoMemory>
-    ensures open { IfOk result (IsGrowing grid.now 0) }
+fn open<P: Pairing>(alloc: Global, grid: &Grid<P>) -> Result<Report, NoMemory>
+    ensures open { IfOk result (IsTextOf (IsGrowing grid.now 0)) }
     ensures axes { length grid.now.sides ≡ P.DIM }
     ensures few { P.DIM ≤ 3 }
 {
@@ -40,26 +38,29 @@ fn open<P: Pairing>(alloc: Global, grid: &Grid<P>) -> Result<Report<P>, NoMemory
         rule: no_rule(),
     };
     let counted = parts(alloc, grid)?;
-    let counts = Line::Parts {
+    let counts: Line<P> = Line::Parts {
         points: grid.count(),
         object: counted.object,
         background: counted.background,
     };
-    Report::new(alloc, head, counts)
+    let mut report = Report::new(alloc);
+    report.add(&head)?;
+    report.add(&counts)?;
+    Ok(report)
 }
 
 // Adds the `near` line of each object point.
 fn add_nears<P: Point>(
     grid: &Grid<P>,
     field: &Field<P>,
-    report: &mut Report<P>,
+    report: &mut Report,
 ) -> Result<(), NoMemory>
     requires axes { length grid.now.sides ≡ P.DIM }
     requires few { P.DIM ≤ 3 }
     requires field { IsField grid.now field.now }
     requires framed { All IsFramed field.now }
-    requires open { IsGrowing grid.now 0 report.old }
-    ensures { OnOk result (IsGrowing grid.now (length (object_points grid.now)) report.new) }
+    requires open { IsTextOf (IsGrowing grid.now 0) report.old }
+    ensures { OnOk result (HasNears grid.now report.new) }
 {
     for i in 0..field.len() {
         let near = field.near(i);
@@ -68,7 +69,7 @@ fn add_nears<P: Point>(
             q: near.q,
             s: near.s,
         };
-        match report.add(line) {
+        match report.add(&line) {
             Ok(()) => {}
             Err(e) => return Err(e),
         }
@@ -77,8 +78,8 @@ fn add_nears<P: Point>(
 }
 
 // The report that has all lines before those of outlines.
-fn begin<P: Pairing>(alloc: Global, grid: &Grid<P>) -> Result<Report<P>, NoMemory>
-    ensures grown { IfOk result (IsGrowing grid.now (length (object_points grid.now))) }
+fn begin<P: Pairing>(alloc: Global, grid: &Grid<P>) -> Result<Report, NoMemory>
+    ensures grown { IfOk result (HasNears grid.now) }
     ensures axes { length grid.now.sides ≡ P.DIM }
 {
     let mut report = open(alloc, grid)?;
@@ -89,15 +90,15 @@ fn begin<P: Pairing>(alloc: Global, grid: &Grid<P>) -> Result<Report<P>, NoMemor
     }
 }
 
-/// The report of a flat picture. Its lines, spelled, hold of the picture.
+/// The report of a flat picture, which holds of it.
 ///
 /// The distances cost a search of the framed box for each object point, and each contour a search of its segments.
-pub fn analyse_flat(alloc: Global, grid: &Grid<P2>) -> Result<Report<P2>, NoMemory>
-    ensures { IfOk result (λ r. Holds grid.now (text_of r)) }
+pub fn analyse_flat(alloc: Global, grid: &Grid<P2>) -> Result<Report, NoMemory>
+    ensures { IfOk result (Holds grid.now) }
 {
     let mut report = begin(alloc, grid)?;
     let contours = contours(alloc, grid)?;
     add_contours(alloc, &contours, &mut report)?;
-    report.add(Line::End)?;
+    report.add(&Line::<P2>::End)?;
     Ok(report)
 }

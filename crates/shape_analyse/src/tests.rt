@@ -1,7 +1,6 @@
 //! The report of a full picture of 3 by 3 points.
 use super::*;
 use shape_grid::Grid;
-use shape_report::report_bytes;
 use shape_space::{P2, Sides};
 use std::alloc::AllocError;
 use std::test::Fail;
@@ -24,14 +23,12 @@ fn a_full_picture(rt: HostRuntime) -> Result<(), Fail> {
     let Ok(report) = analyse_flat(alloc, &grid) else {
         return Err(Fail::from(AllocError));
     };
-    let Ok(bytes) = report_bytes(alloc, &report) else {
-        return Err(Fail::from(AllocError));
-    };
-    assert_eq!(rt; report.len(), 33);
+    let bytes = report.text();
+    assert_eq!(rt; bytes.iter().filter(|&&c| c == b'\n').count(), 33);
     assert!(rt; bytes.starts_with(b"shape 1 pbm 3 3 none\nparts 9 1 1\nnear 0 0 ".as_slice()));
     // The kind of each line, and of a `near` line its distance.
     let mut kinds = Vec::new(alloc);
-    for line in bytes.as_slice().split(|&c| c == b'\n') {
+    for line in bytes.split(|&c| c == b'\n') {
         if let (Some(first), Some(last)) = (line.first(), line.last()) {
             kinds.push(if *first == b'n' { *last } else { *first })?;
         }

@@ -1,7 +1,5 @@
-pub mod LineTexts
-pub mod SlotLists
-pub mod Flowing
+pub mod FormReads
+pub mod Numbers
+pub mod Fronts
+pub mod Claims
 pub mod SplitWords
-pub mod Fields
-pub mod LineKinds
-pub mod EntryLists

@@ -3,22 +3,23 @@
 #![tactic(auto)]
 
 mod field;
+mod kind;
+mod law;
 mod line;
-mod put;
+mod put_why;
 mod read;
 mod report;
 mod section;
-mod shelf;
 mod spell;
+mod text;
 mod why;
 mod words;
-mod write;
 
+pub use law::one_spelling;
 pub use line::Line;
 pub use read::read_claim;
-pub use report::Report;
+pub use report::{Report, WriteFault, write_report};
 pub use spell::put_claim;
-pub use write::{WriteFault, report_bytes, write_report};
 
 #[cfg(test)]
 mod tests;

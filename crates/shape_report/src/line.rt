@@ -37,7 +37,7 @@ pub enum Line<P> {
     },
     /// The next segment of the contour of a flat picture: the places of its first and last points, counted from 0 at the contour's
     /// first point and on past its last (there the points come round again), and a naive line that holds its points. The line's
-    /// third coefficient does not count.
+    /// third coefficient does not count, and is 0 in a line that was read.
     Seg {
         first: u32,
         last: u32,

@@ -1,39 +1,38 @@
 //! Reading one line of a report: the inverse of its spelling.
-//! A further kind of line is one more case of `line` and a function that reads its fields one after another.
-ghost use Rattle.std.specs.Prelude.{◌≡◌, ◌≢◌, ◌∷◌, codes, MatchOption};
+//! A further kind of line is one more case of `fields` and a function that reads its fields one after another.
+ghost use Rattle.std.specs.Prelude.{◌≡◌, ◌≢◌, MatchOption};
+ghost use Rattle.report_terms.specs.Kinds.{Kind};
 ghost use Rattle.report_terms.specs.Lines as Terms;
-ghost use Rattle.report_terms.specs.Lines.{spelling, IsLineOf};
+ghost use Rattle.report_terms.specs.Lines.{IsLineOf, spelling};
 ghost use Rattle.shape_report.specs.LineOf.{line_of};
-ghost use Rattle.shape_report.specs.Reading.{ReadsWords};
+ghost use Rattle.shape_report.specs.Reading.{HasNoThird, ReadsKind, ReadsFields, ReadsLine};
 
 use crate::field::{axis, coefficients, count, name, point, side, signed, weight};
+use crate::kind::kind;
 use crate::line::Line;
-use crate::put::kind;
 use crate::why::read_why;
 use crate::words::Words;
 use shape_refute::Naive;
 use shape_space::Point;
 
-// Reads the words of a `shape` line behind the first. Reports of this kind have the number 1.
+// Reads the fields of a `shape` line. Reports of this kind have the number 1.
 fn shape<P: Point>(words: &mut Words) -> Option<Line<P>>
-    ensures { ReadsWords P.DIM P.coords (codes "shape" ∷ words.old) result }
+    ensures { ReadsKind P.DIM P.coords Kind.Shape words.old words.new result }
 {
     words.skip(b"1")?;
     words.skip(kind::<P>())?;
     let sides = point(words)?;
     let rule = name(words)?;
-    words.end()?;
     Some(Line::Shape { sides, rule })
 }
 
-// Reads the words of a `parts` line behind the first.
+// Reads the fields of a `parts` line.
 fn parts<P: Point>(words: &mut Words) -> Option<Line<P>>
-    ensures { ReadsWords P.DIM P.coords (codes "parts" ∷ words.old) result }
+    ensures { ReadsKind P.DIM P.coords Kind.Parts words.old words.new result }
 {
     let points = count(words)?;
     let object = count(words)?;
     let background = count(words)?;
-    words.end()?;
     Some(Line::Parts {
         points,
         object,
@@ -41,20 +40,19 @@ fn parts<P: Point>(words: &mut Words) -> Option<Line<P>>
     })
 }
 
-// Reads the words of a `near` line behind the first.
+// Reads the fields of a `near` line.
 fn near<P: Point>(words: &mut Words) -> Option<Line<P>>
-    ensures { ReadsWords P.DIM P.coords (codes "near" ∷ words.old) result }
+    ensures { ReadsKind P.DIM P.coords Kind.Near words.old words.new result }
 {
     let p = point(words)?;
     let q = point(words)?;
     let s = weight(words)?;
-    words.end()?;
     Some(Line::Near { p, q, s })
 }
 
-// Reads the words of a `contour` line behind the first. It is a line of flat pictures alone.
+// Reads the fields of a `contour` line. It is a line of flat pictures alone.
 fn contour<P: Point>(words: &mut Words) -> Option<Line<P>>
-    ensures { ReadsWords P.DIM P.coords (codes "contour" ∷ words.old) result }
+    ensures { ReadsKind P.DIM P.coords Kind.Contour words.old words.new result }
 {
     if P::DIM != 2 {
         return None;
@@ -63,7 +61,6 @@ fn contour<P: Point>(words: &mut Words) -> Option<Line<P>>
     let side = side(words)?;
     let points = count(words)?;
     let segments = count(words)?;
-    words.end()?;
     Some(Line::Contour {
         p,
         side,
@@ -72,21 +69,20 @@ fn contour<P: Point>(words: &mut Words) -> Option<Line<P>>
     })
 }
 
-// Reads the words of an `at` line behind the first. It is a line of flat pictures alone.
+// Reads the fields of an `at` line. It is a line of flat pictures alone.
 fn at<P: Point>(words: &mut Words) -> Option<Line<P>>
-    ensures { ReadsWords P.DIM P.coords (codes "at" ∷ words.old) result }
+    ensures { ReadsKind P.DIM P.coords Kind.At words.old words.new result }
 {
     if P::DIM != 2 {
         return None;
     }
     let p = point(words)?;
-    words.end()?;
     Some(Line::At { p })
 }
 
-// Reads the words of a `seg` line behind the first. It is a line of flat pictures alone.
+// Reads the fields of a `seg` line. It is a line of flat pictures alone.
 fn seg<P: Point>(words: &mut Words) -> Option<Line<P>>
-    ensures { ReadsWords P.DIM P.coords (codes "seg" ∷ words.old) result }
+    ensures { ReadsKind P.DIM P.coords Kind.Seg words.old words.new result }
 {
     if P::DIM != 2 {
         return None;
@@ -96,7 +92,6 @@ fn seg<P: Point>(words: &mut Words) -> Option<Line<P>>
     let axis = axis(words)?;
     let a = coefficients(words)?;
     let mu = signed(words)?;
-    words.end()?;
     Some(Line::Seg {
         first,
         last,
@@ -104,9 +99,9 @@ fn seg<P: Point>(words: &mut Words) -> Option<Line<P>>
     })
 }
 
-// Reads the words of a `turn` line behind the first. It is a line of flat pictures alone.
+// Reads the fields of a `turn` line. It is a line of flat pictures alone.
 fn turn<P: Point>(words: &mut Words) -> Option<Line<P>>
-    ensures { ReadsWords P.DIM P.coords (codes "turn" ∷ words.old) result }
+    ensures { ReadsKind P.DIM P.coords Kind.Turn words.old words.new result }
 {
     if P::DIM != 2 {
         return None;
@@ -114,36 +109,25 @@ fn turn<P: Point>(words: &mut Words) -> Option<Line<P>>
     let axis = axis(words)?;
     let i = count(words)?;
     let j = count(words)?;
-    words.end()?;
     Some(Line::Turn { axis, i, j })
 }
 
-// Reads the words of a `cut` line behind the first. It is a line of flat pictures alone.
+// Reads the fields of a `cut` line. It is a line of flat pictures alone.
 fn cut<P: Point>(words: &mut Words) -> Option<Line<P>>
-    ensures { ReadsWords P.DIM P.coords (codes "cut" ∷ words.old) result }
+    ensures { ReadsKind P.DIM P.coords Kind.Cut words.old words.new result }
 {
     if P::DIM != 2 {
         return None;
     }
     let axis = axis(words)?;
     let why = read_why(words)?;
-    words.end()?;
     Some(Line::Cut { axis, why })
 }
 
-// Reads what stands behind the word `end`: nothing.
-fn end<P: Point>(words: &Words) -> Option<Line<P>>
-    ensures { ReadsWords P.DIM P.coords (codes "end" ∷ words.now) result }
+// Reads the fields of a line whose first word is given.
+fn fields<P: Point>(word: &[u8], words: &mut Words) -> Option<Line<P>>
+    ensures { ReadsFields P.DIM P.coords word.now words.old words.new result }
 {
-    words.end()?;
-    Some(Line::End)
-}
-
-// Reads the words of a line.
-fn line<P: Point>(words: &mut Words) -> Option<Line<P>>
-    ensures { ReadsWords P.DIM P.coords words.old result }
-{
-    let word = words.next_word()?;
     if word == b"shape".as_slice() {
         shape(words)
     } else if word == b"parts".as_slice() {
@@ -161,20 +145,31 @@ fn line<P: Point>(words: &mut Words) -> Option<Line<P>>
     } else if word == b"cut".as_slice() {
         cut(words)
     } else if word == b"end".as_slice() {
-        end(words)
+        Some(Line::End)
     } else {
         None
     }
+}
+
+// Reads the words of a line.
+fn line<P: Point>(words: &mut Words) -> Option<Line<P>>
+    ensures { ReadsLine P.DIM P.coords words.old result }
+{
+    let word = words.next_word()?;
+    let line = fields(word, words)?;
+    words.end()?;
+    Some(line)
 }
 
 /// Reads a line of a report from its bytes without the LF, for pictures whose points are of type `P`.
 ///
 /// `None` exactly where no line has this spelling: an unknown first word, a word too few or too many, a blank too
 /// many, a number that is not spelled in the one lawful way or is out of its range, another report number than 1,
-/// another kind of picture, or no lawful name of a rule. It takes no memory.
+/// another kind of picture, or no lawful name of a rule. A line of the plane that is read has 0 for its third coefficient.
+/// It takes no memory.
 pub fn read_claim<P: Point>(bytes: &[u8]) -> Option<Line<P>>
     ensures { MatchOption result ((l : Terms.Line) → IsLineOf P.DIM l → spelling l ≢ bytes.now)
-        (λ line. IsLineOf P.DIM (line_of P.coords line) × (spelling (line_of P.coords line) ≡ bytes.now)) }
+        (λ l. IsLineOf P.DIM (line_of P.coords l) × (spelling (line_of P.coords l) ≡ bytes.now) × HasNoThird l) }
 {
     line(&mut Words::new(bytes))
 }

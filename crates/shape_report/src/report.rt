@@ -1,80 +1,80 @@
-//! A report: its lines in order, each kept on the shelf of its kind in as little room as it needs.
-//! Which kinds there are, and how each is kept, is told in `shelf`.
-ghost use Rattle.std.specs.Prelude.{◌≡◌, ◌<◌, ◌++◌, [], ◌∷◌, IfOk, OnOk, OnErr, length, slice_get, Some};
-ghost use Rattle.report_terms.specs.Lines.{IsLineOf};
+//! A report as it is built: its text, a line after another.
+//! How a line is spelled is told in `spell`; a further way to give a report away is one more function here.
+ghost use Rattle.std.specs.Prelude.{◌≡◌, ◌++◌, [], OnOk, OnErr};
+ghost use Rattle.report_terms.specs.Lines.{line_text, IsLineOf};
+ghost use Rattle.shape_desk.specs.Desk.{PutsText, HasCause, KeepsPlaces};
 ghost use Rattle.shape_report.specs.LineOf.{line_of};
 
 use crate::line::Line;
-use crate::shelf::{Shelves, Slot};
+use crate::spell::spelled;
+use shape_desk::{Desk, put_all};
 use shape_space::{NoMemory, Point};
 use std::alloc::Global;
 use std::marker::Model;
 
-/// A report: a list of lines.
+/// A report: its text, every line with its LF.
 #[derive(Drop)]
-pub struct Report<P: Point> {
-    slots: Vec<Slot>,
-    shelves: Shelves<P>,
+pub struct Report {
+    text: Vec<u8>,
 }
 
-impl<P: Point> Model for Report<P> {
-    ghost use Rattle.std.specs.Prelude.{List, map, All};
-    ghost use Rattle.report_terms.specs.Lines.{Line};
-    ghost use Rattle.shape_report.specs.Slots.{line_in, IsSlotIn};
-    ghost use Rattle.shape_report.specs.Shelves.{lists_of};
+impl Model for Report {
+    ghost use Rattle.std.specs.Prelude.{ℕ, List};
 
-    ghost Value = { List Line };
+    ghost Value = { List ℕ };
 
-    ghost view = { λ r. map (line_in P.coords (lists_of r.shelves)) r.slots.items };
-
-    ghost invariant = { λ r. All (IsSlotIn P.DIM P.coords (lists_of r.shelves)) r.slots.items };
+    ghost view = { λ r. r.text.items };
 }
 
-impl<P: Point> Report<P> {
-    /// The report that has its first two lines alone.
-    pub fn new(alloc: Global, head: Line<P>, parts: Line<P>) -> Result<Report<P>, NoMemory>
-        requires head { IsLineOf P.DIM (line_of P.coords head) }
-        requires parts { IsLineOf P.DIM (line_of P.coords parts) }
-        ensures { IfOk result (λ r. r ≡ line_of P.coords head ∷ line_of P.coords parts ∷ []) }
+impl Report {
+    /// The report without a line.
+    pub fn new(alloc: Global) -> Report
+        ensures { result ≡ [] }
     {
-        let mut report = Report {
-            slots: Vec::new(alloc),
-            shelves: Shelves::new(alloc),
-        };
-        report.add(head)?;
-        report.add(parts)?;
-        Ok(report)
+        Report {
+            text: Vec::new(alloc),
+        }
     }
 
     /// Puts a line last.
-    pub fn add(&mut self, line: Line<P>) -> Result<(), NoMemory>
-        requires { IsLineOf P.DIM (line_of P.coords line) }
-        ensures ok { OnOk result (self.new ≡ self.old ++ line_of P.coords line ∷ []) }
+    pub fn add<P: Point>(&mut self, line: &Line<P>) -> Result<(), NoMemory>
+        requires { IsLineOf P.DIM (line_of P.coords line.now) }
+        ensures ok { OnOk result (self.new ≡ self.old ++ line_text (line_of P.coords line.now)) }
         ensures err { OnErr result (self.new ≡ self.old) }
     {
-        let slot = match self.shelves.keep(line) {
-            Ok(slot) => slot,
-            Err(e) => return Err(e),
-        };
-        if self.slots.push(slot).is_err() {
+        let before = self.text.len();
+        if self.text.extend_from_slice(spelled(line).bytes()).is_err() {
+            return Err(NoMemory);
+        }
+        if self.text.push(b'\n').is_err() {
+            self.text.truncate(before);
             return Err(NoMemory);
         }
         Ok(())
     }
 
-    /// The number of lines.
-    pub fn len(&self) -> u64
-        ensures { result ≡ length self.now }
+    /// The text so far.
+    pub fn text(&self) -> &[u8]
+        ensures { result.now ≡ self.now }
     {
-        self.slots.len() as u64
+        self.text.as_slice()
     }
+}
 
-    /// The line at a place, counted from 0.
-    pub fn line(&self, i: u64) -> Line<P>
-        requires { i < length self.now }
-        ensures line { slice_get self.now i ≡ Some (line_of P.coords result) }
-        ensures fields { IsLineOf P.DIM (line_of P.coords result) }
-    {
-        self.shelves.line(self.slots[i as usize])
+/// A write failed: the output took a front of the text and no more.
+#[derive(Clone, Copy, Debug, PartialEq, Eq)]
+pub struct WriteFault;
+
+/// Writes a report. It takes no memory.
+///
+/// A fault comes only from a write that failed; a front of the text was written then.
+pub fn write_report<D: Desk>(report: &Report, desk: &mut D) -> Result<(), WriteFault>
+    ensures text { PutsText (D.written desk.old) (D.written desk.new) result report.now }
+    ensures cause { HasCause (D.write_faults desk.old) (D.write_faults desk.new) result }
+    ensures places { KeepsPlaces D.files D.left D.begun D.read_faults desk.old desk.new }
+{
+    match put_all(report.text(), desk) {
+        Ok(()) => Ok(()),
+        Err(_) => Err(WriteFault),
     }
 }

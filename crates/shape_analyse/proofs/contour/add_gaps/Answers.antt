@@ -1,9 +1,10 @@
-use Rattle.std.proofs.Common.{◌≡◌, ◌+◌, ◌*◌, ◌<◌, ◌++◌, ◌∷◌, [], length, arith, ap, subst, sym, ◌∙◌}
+use Rattle.std.proofs.Common.{◌≡◌, ◌+◌, ◌*◌, ◌<◌, ◌++◌, ◌∷◌, [], length, arith, subst, sym}
 use Rattle.shape_terms.specs.Covers.{IsEvidence, gap_run}
 use Rattle.report_terms.specs.Lines.{IsLineOf}
 use Rattle.shape_cover.specs.Found.{stretches_of, found_at}
 use Rattle.shape_refute.specs.Evidences.{evidence_of}
-use Rattle.shape_analyse.specs.Growing.{IsOutlined, gap_line}
+use Rattle.shape_analyse.specs.Growing.{IsOutlined, Stands, gap_line, at_contour}
+use Rattle.shape_analyse.proofs.Growth.{text_push, text_more}
 use Rattle.shape_analyse.proofs.FoundLines.{gap_fits, found_gap}
 use Rattle.shape_analyse.proofs.contour.add_gaps.Goals as goal
 
@@ -33,22 +34,24 @@ loop-j-preserved c =
     let is = c.gap-gap.ensures in
     let x_fits : IsLineOf 2 (gap_line 0 (evidence_of gap.x)) = subst (λ v. IsLineOf 2 (gap_line 0 v)) (sym is.x) (gap_fits 0 (gap_run c.requires.0 (stretches_of found) j) (found_at found j).x (omega arith) (some.gap_x j l) (some.short_x j l)) in
     let y_fits : IsLineOf 2 (gap_line 1 (evidence_of gap.y)) = subst (λ v. IsLineOf 2 (gap_line 1 v)) (sym is.y) (gap_fits 1 (gap_run c.requires.0 (stretches_of found) j) (found_at found j).y (omega arith) (some.gap_y j l) (some.short_y j l)) in
-    let new : c.add_gap-in-loop-j.new.report ≡ (c.loop-j.report ++ gap_line 0 (evidence_of gap.x) ∷ []) ++ gap_line 1 (evidence_of gap.y) ∷ [] = c.in-Ok-add_gap.ensures ∙ ap (λ lines. lines ++ gap_line 1 (evidence_of gap.y) ∷ []) c.in-Ok.ensures in
     λ X contours k contour there cover o.
     let x_good = subst (IsEvidence 0 (gap_run contour.points (stretches_of found) j)) (sym is.x) (cover.gap_x j l) in
     let y_good = subst (IsEvidence 1 (gap_run contour.points (stretches_of found) j)) (sym is.y) (cover.gap_y j l) in
     let at : 2 * j ≡ 2 * j + 0 = omega arith in
-    let here = subst (λ g. IsOutlined X contours (record { begun = k + 1; points = length contour.points; declared = length found; stretches = stretches_of found; gaps = g }) c.loop-j.report) at (c.loop-j.invariant X contours k contour there cover o) in
-    let first = found_gap X contours k contour found j 0 (evidence_of gap.x) c.loop-j.report here there l (omega arith) x_good x_fits in
+    let h = c.loop-j.invariant X contours k contour there cover o in
+    let here = subst (λ g. IsOutlined X contours (at_contour k (length contour.points) (length found) (stretches_of found) g) h.lines) at h.so in
+    let first = found_gap X contours k contour found j 0 (evidence_of gap.x) h.lines here there l (omega arith) x_good x_fits in
     let mid : 2 * j + 0 + 1 ≡ 2 * j + 1 = omega arith in
-    let half = subst (λ g. IsOutlined X contours (record { begun = k + 1; points = length contour.points; declared = length found; stretches = stretches_of found; gaps = g }) (c.loop-j.report ++ gap_line 0 (evidence_of gap.x) ∷ [])) mid first in
-    let second = found_gap X contours k contour found j 1 (evidence_of gap.y) (c.loop-j.report ++ gap_line 0 (evidence_of gap.x) ∷ []) half there l (omega arith) y_good y_fits in
+    let lines = h.lines ++ gap_line 0 (evidence_of gap.x) ∷ [] in
+    let half = subst (λ g. IsOutlined X contours (at_contour k (length contour.points) (length found) (stretches_of found) g) lines) mid first in
+    let one = text_push _ _ h.lines (gap_line 0 (evidence_of gap.x)) h.is c.in-Ok.ensures in
+    let second = found_gap X contours k contour found j 1 (evidence_of gap.y) lines half there l (omega arith) y_good y_fits in
     let last : 2 * j + 1 + 1 ≡ 2 * (j + 1) = omega arith in
-    subst (λ lines. IsOutlined X contours (record { begun = k + 1; points = length contour.points; declared = length found; stretches = stretches_of found; gaps = 2 * (j + 1) }) lines) (sym new)
-    (subst (λ g. IsOutlined X contours (record { begun = k + 1; points = length contour.points; declared = length found; stretches = stretches_of found; gaps = g }) ((c.loop-j.report ++ gap_line 0 (evidence_of gap.x) ∷ []) ++ gap_line 1 (evidence_of gap.y) ∷ [])) last second)
+    subst (λ g. Stands X contours (at_contour k (length contour.points) (length found) (stretches_of found) g) c.add_gap-in-loop-j.new.report) last
+    (text_more _ _ _ lines _ one c.in-Ok-add_gap.ensures second)
 
 pub returns : goal.returns
 returns c =
     let found = c.args.cover.now in
     let all : c.loop-j.j ≡ length found = omega (arith, c.loop-j.auto.j-end, c.len-j-end.ensures, c.loop-j-test.false) in
-    λ X contours k contour there cover o. subst (λ j. IsOutlined X contours (record { begun = k + 1; points = length contour.points; declared = length found; stretches = stretches_of found; gaps = 2 * j }) c.loop-j.report) all (c.loop-j.invariant X contours k contour there cover o)
+    λ X contours k contour there cover o. subst (λ j. Stands X contours (at_contour k (length contour.points) (length found) (stretches_of found) (2 * j)) c.loop-j.report) all (c.loop-j.invariant X contours k contour there cover o)

@@ -1,9 +1,10 @@
-use Rattle.std.proofs.Common.{◌≡◌, ◌+◌, ◌<◌, ◌^◌, ◌++◌, ◌∷◌, [], length, take, rules, arith, ap, subst, sym, ◌∙◌}
+use Rattle.std.proofs.Common.{◌≡◌, ◌<◌, ◌^◌, ◌++◌, length, take, rules, arith, ap, subst, sym, ◌∙◌}
 use Rattle.std.proofs.lemmas.List.{length-map, take_all}
-use Rattle.report_terms.specs.Lines.{Line, IsLineOf}
+use Rattle.report_terms.specs.Lines.{Line, line_text, IsLineOf}
 use Rattle.shape_refute.specs.Terms.{naive_of}
 use Rattle.shape_cover.specs.Found.{Found, stretches_of, found_at, IsShortLine}
-use Rattle.shape_analyse.specs.Growing.{IsOutlined}
+use Rattle.shape_analyse.specs.Growing.{Stands, at_contour}
+use Rattle.shape_analyse.proofs.Growth.{text_more}
 use Rattle.shape_analyse.proofs.FoundLines.{segment_fits, found_segment}
 use Rattle.shape_analyse.proofs.contour.add_segments.Goals as goal
 
@@ -30,12 +31,13 @@ loop-j-preserved c =
     let some = c.requires.1 in
     let same : Line.Seg s.first s.last s.line.axis (naive_of 2 s.line).a (naive_of 2 s.line).mu ≡ Line.Seg f.stretch.first f.stretch.last f.axis f.line.a f.line.mu = λ i. Line.Seg (is.places i).first (is.places i).last (is.axis i) (is.line i).a (is.line i).mu in
     let fields : IsLineOf 2 (Line.Seg f.stretch.first f.stretch.last f.axis f.line.a f.line.mu) = subst (IsLineOf 2) same (segment_fits s.first s.last s.line.axis (naive_of 2 s.line) b e (omega (arith, some.axis j l, is.axis)) (subst IsShortLine (sym is.line) (some.line j l))) in
-    let new = c.in-Ok.ensures.ok ∙ ap (λ m. c.loop-j.report ++ m ∷ []) same in
-    λ X contours k contour there cover o. subst (IsOutlined X contours (record { begun = k + 1; points = length contour.points; declared = length found; stretches = take (j + 1) (stretches_of found); gaps = 0 })) (sym new)
-    (found_segment X contours k contour found j c.loop-j.report (c.loop-j.invariant X contours k contour there cover o) there cover l fields)
+    let new = c.in-Ok.ensures.ok ∙ ap (λ m. c.loop-j.report ++ line_text m) same in
+    λ X contours k contour there cover o.
+    let h = c.loop-j.invariant X contours k contour there cover o in
+    text_more _ _ _ h.lines _ h.is new (found_segment X contours k contour found j h.lines h.so there cover l fields)
 
 pub returns : goal.returns
 returns c =
     let found = c.args.cover.now in
     let all : take c.loop-j.j (stretches_of found) ≡ stretches_of found = take_all c.loop-j.j (stretches_of found) (omega (arith, c.loop-j.auto.j-end, c.len-j-end.ensures, c.loop-j-test.false, length-map found (λ (f : Found). f.stretch))) in
-    λ X contours k contour there cover o. subst (λ ss. IsOutlined X contours (record { begun = k + 1; points = length contour.points; declared = length found; stretches = ss; gaps = 0 }) c.loop-j.report) all (c.loop-j.invariant X contours k contour there cover o)
+    λ X contours k contour there cover o. subst (λ ss. Stands X contours (at_contour k (length contour.points) (length found) ss 0) c.loop-j.report) all (c.loop-j.invariant X contours k contour there cover o)

@@ -1,10 +1,8 @@
-use Rattle.std.proofs.Common.{◌≡◌, ◌≤◌, length, inl, inr, arith, rules, subst, sym, ◌∙◌}
-use Rattle.std.proofs.lemmas.Result.{IfOk-weaker}
+use Rattle.std.proofs.Common.{◌≡◌, ◌≤◌, [], ◌∷◌, length, inl, inr, arith, rules, sym, ◌∙◌}
 use Rattle.report_terms.specs.Lines.{Line, IsLineOf}
 use Rattle.shape_terms.specs.Parts.{Counts}
 use Rattle.shape_rules.specs.Names.{word_of}
-use Rattle.shape_analyse.specs.Growing.{IsGrowing}
-use Rattle.shape_analyse.proofs.Growth.{heading_fits, growing_none}
+use Rattle.shape_analyse.proofs.Growth.{text_push, text_more, heading_fits, growing_none}
 use Rattle.shape_analyse.proofs.flat.open.Goals as goal
 
 pub returns-clause-open : goal.returns-clause-open
@@ -21,4 +19,5 @@ returns-clause-open g c =
     let first = heading_fits g.P.Point.MAX_SIDE (length X.sides) sides (word_of rule) s.in_range g.met.P.Point.flat_side axes rule.is_name in
     let second : IsLineOf (length X.sides) (Line.Parts n parts.object parts.background) = search rules in
     let counts : Counts X n parts.object parts.background = rw c.count.ensures c.in_ok-counted.ensures in
-    IfOk-weaker c.new.result _ (IsGrowing X 0) (λ r e. subst (IsGrowing X 0) (sym e) (growing_none g.P.Point.MAX_SIDE X sides (word_of rule) n parts.object parts.background s.in_range c.sides-sides.ensures.value three first c.no_rule.ensures second counts)) c.new.ensures
+    let one = text_push _ _ [] (Line.Shape sides (word_of rule)) c.new-report.ensures c.in_ok-add.ensures.ok in
+    text_more _ _ _ (Line.Shape sides (word_of rule) ∷ []) _ one c.in_ok-add-2.ensures.ok (growing_none g.P.Point.MAX_SIDE X sides (word_of rule) n parts.object parts.background s.in_range c.sides-sides.ensures.value three first c.no_rule.ensures second counts)

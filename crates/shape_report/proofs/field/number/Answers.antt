@@ -1,4 +1,4 @@
-use Rattle.shape_report.proofs.Fields.{no_number, longer_word}
+use Rattle.shape_report.proofs.Numbers.{no_number, longer_word}
 use Rattle.shape_report.proofs.field.number.Goals as goal
 
 pub returns-in_err-value : goal.returns-in_err-value

@@ -1,11 +1,8 @@
-use Rattle.std.proofs.Common.{◌≡◌, ◌++◌, take, FitsSigned}
-use Rattle.std.specs.Prelude.{All}
+use Rattle.std.proofs.Common.{take}
 use Rattle.std.specs.Int.{w32}
-use Rattle.report_terms.specs.Lines.{number_words}
+use Rattle.report_terms.specs.Forms.{signed}
+use Rattle.shape_report.proofs.FormReads.{HasRead}
 use Rattle.shape_report.proofs.field.point.Given as goal
 
 abbrev pub invariant-loop-axis : goal.invariant-loop-axis
-invariant-loop-axis g l = record {
-  split : l.initial.words ≡ number_words (take l.axis (g.P.Point.coords l.point)) ++ l.words;
-  fits : All (FitsSigned w32) (take l.axis (g.P.Point.coords l.point));
-}
+invariant-loop-axis g l = HasRead (signed w32 31) g.P.Point.DIM l.axis l.initial.words l.words (take l.axis (g.P.Point.coords l.point))

@@ -1,4 +1,4 @@
-use Rattle.shape_report.proofs.LineKinds.{from_words}
+use Rattle.shape_report.proofs.Claims.{from_words}
 use Rattle.shape_report.proofs.read.read_claim.Goals as goal
 
 pub returns : goal.returns

@@ -1,9 +1,13 @@
-use Rattle.std.proofs.Common.{refl, arith}
-use Rattle.shape_report.specs.Entries.{IsShare, share_entry}
-use Rattle.shape_report.proofs.EntryLists.{no_list}
+use Rattle.std.proofs.Common.{◌∷◌, [], ◌+◌, ◌∙◌, ap, length-append}
+use Rattle.shape_refute.specs.Shown.{share_of}
+use Rattle.report_terms.specs.Kinds.{share}
+use Rattle.shape_report.proofs.FormReads.{read_more}
 use Rattle.shape_report.proofs.why.shares.Goals as goal
 
-pub returns-in_err-share : goal.returns-in_err-share
-returns-in_err-share c =
+pub loop-preserved : goal.loop-preserved
+loop-preserved c =
     let l = c.loop in
-    rw c.from_residual-in_err-share.ensures (no_list IsShare share_entry (λ x y _ _. refl) c.args.words.now c.few.new.words l.words c.in_ok-len.len l.shares c.in_ok-len.ensures l.invariant.split l.invariant.range (omega (arith, l.invariant.count, c.loop-test.true)) c.in_err-share.ensures)
+    rw c.push.ensures (record {
+      read = read_more share c.in_ok-len.len l.counter c.few.new.words l.words c.share.new.words l.shares (share_of c.in_ok-share.field-0) c.loop-test.true l.invariant.read c.in_ok-share.ensures;
+      count = length-append l.shares (share_of c.in_ok-share.field-0 ∷ []) ∙ ap (λ n. n + 1) l.invariant.count;
+    })

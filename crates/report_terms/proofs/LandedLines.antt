@@ -1,0 +1,127 @@
+-- The lines as they were defined first, kind by kind, and that the lines by forms are the same.
+-- Whoever trusts no form reads this description; a further kind of line has its clauses here too.
+use Rattle.std.proofs.Common.{◌≡◌, ◌≤◌, ◌<◌, ◌^◌, ℕ, ℤ, List, [], ◌∷◌, ◌++◌, length, refl, ap, sym, ◌∙◌, subst, arith, FitsSigned}
+use Rattle.std.specs.Prelude.{All, codes, map, flat_map}
+use Rattle.std.specs.Int.{w32, w64}
+use Rattle.std.specs.Fmt.{decimal, signed_decimal}
+use Rattle.shape_terms.specs.Points.{Point}
+use Rattle.shape_terms.specs.Refutations.{Share, StepShare, Refutation}
+use Rattle.report_terms.specs.Forms.{axis_letter, step_word, IsStepIn, IsName, AreSoMany}
+use Rattle.report_terms.specs.Kinds.{kind_word}
+use Rattle.report_terms.specs.Lines.{Line, line_words, IsLineOf}
+use Rattle.report_terms.specs.Lines.Line.{Shape, Parts, Near, Contour, At, Seg, Turn, Cut, End}
+
+-- ---- the words of each kind
+
+abbrev pub number_words : List ℤ → List (List ℕ)
+number_words numbers = map signed_decimal numbers
+
+-- how many places there are, then each with its weight before it
+abbrev pub share_words : List Share → List (List ℕ)
+share_words shares = decimal (length shares) ∷ flat_map (λ (s : Share). decimal s.weight ∷ decimal s.place ∷ []) shares
+
+-- how many steps there are, then each with its weight before it
+abbrev pub step_share_words : List StepShare → List (List ℕ)
+step_share_words steps = decimal (length steps) ∷ flat_map (λ (s : StepShare). decimal s.weight ∷ step_word s.step ∷ []) steps
+
+abbrev pub why_words : Refutation → List (List ℕ)
+why_words r = share_words r.low ++ (share_words r.high ++ step_share_words r.steps)
+
+abbrev pub landed_words : Line → List (List ℕ)
+landed_words (Shape sides rule) = codes "shape" ∷ codes "1" ∷ kind_word (length sides) ∷ (number_words sides ++ rule ∷ [])
+landed_words (Parts n o b) = codes "parts" ∷ decimal n ∷ decimal o ∷ decimal b ∷ []
+landed_words (Near p q s) = codes "near" ∷ (number_words p ++ (number_words q ++ decimal s ∷ []))
+landed_words (Contour p side n m) = codes "contour" ∷ (number_words p ++ decimal side ∷ decimal n ∷ decimal m ∷ [])
+landed_words (At p) = codes "at" ∷ number_words p
+landed_words (Seg b e t a mu) = codes "seg" ∷ decimal b ∷ decimal e ∷ (axis_letter t ∷ []) ∷ (number_words a ++ signed_decimal mu ∷ [])
+landed_words (Turn t i j) = codes "turn" ∷ (axis_letter t ∷ []) ∷ decimal i ∷ decimal j ∷ []
+landed_words (Cut t why) = codes "cut" ∷ (axis_letter t ∷ []) ∷ why_words why
+landed_words End = codes "end" ∷ []
+
+-- ---- fields in range
+
+-- a number of 32 bits, as counts are
+abbrev pub IsCount : ℕ → Type 0
+IsCount n = n < 2 ^ 32
+
+-- a number of 63 bits, as weights and squared distances are
+abbrev pub IsWeight : ℕ → Type 0
+IsWeight n = n < 2 ^ 63
+
+-- a point of d axes, each coordinate of 32 bits
+pub record IsShortPoint (d : ℕ) (p : Point) : Type 0 where
+  pub axes : length p ≡ d
+  pub fits : All (FitsSigned w32) p
+
+-- one coefficient for each of d axes, each of 64 bits
+pub record IsRow (d : ℕ) (a : List ℤ) : Type 0 where
+  pub axes : length a ≡ d
+  pub fits : All (FitsSigned w64) a
+
+-- weights of at most four places on each side and four steps
+pub record IsWhy (d : ℕ) (r : Refutation) : Type 0 where
+  pub low : (length r.low ≤ 4) × All (λ s. IsWeight s.weight × IsCount s.place) r.low
+  pub high : (length r.high ≤ 4) × All (λ s. IsWeight s.weight × IsCount s.place) r.high
+  pub steps : (length r.steps ≤ 4) × All (λ s. IsWeight s.weight × IsStepIn d s.step) r.steps
+
+-- the line is one of the reports of pictures with d axes, and its fields are in range; the lines of contours are of flat pictures alone
+abbrev pub IsLanded : ℕ → Line → Type 0
+IsLanded d (Line.Shape sides rule) = IsShortPoint d sides × IsName rule
+IsLanded d (Line.Parts n o b) = IsCount n × IsCount o × IsCount b
+IsLanded d (Line.Near p q s) = IsShortPoint d p × IsShortPoint d q × IsWeight s
+IsLanded d (Line.Contour p side n m) = (d ≡ 2) × IsShortPoint d p × (side < 4) × IsCount n × IsCount m
+IsLanded d (Line.At p) = (d ≡ 2) × IsShortPoint d p
+IsLanded d (Line.Seg b e t a mu) = (d ≡ 2) × IsCount b × IsCount e × (t < d) × IsRow d a × FitsSigned w64 mu
+IsLanded d (Line.Turn t i j) = (d ≡ 2) × (t < d) × IsCount i × IsCount j
+IsLanded d (Line.Cut t why) = (d ≡ 2) × (t < d) × IsWhy d why
+IsLanded d Line.End = Unit {0}
+
+-- ---- the same words
+
+numbers_are : (p : List ℤ) → flat_map (λ z. signed_decimal z ∷ []) p ≡ number_words p
+numbers_are [] = refl
+numbers_are (x ∷ p) = ap (λ ws. signed_decimal x ∷ ws) (numbers_are p)
+
+pub same_words : (l : Line) → line_words l ≡ landed_words l
+same_words (Line.Shape s w) = rw (numbers_are s) refl
+same_words (Line.Near p q s) = rw (numbers_are p, numbers_are q) refl
+same_words (Line.Contour p s n m) = rw (numbers_are p) refl
+same_words (Line.At p) = ap (λ ws. codes "at" ∷ ws) (numbers_are p)
+same_words (Line.Seg b e t r mu) = rw (numbers_are r) refl
+same_words _ = refl
+
+-- ---- the same fields
+
+point_in : (d : ℕ) (p : Point) → IsShortPoint d p → AreSoMany d (FitsSigned w32) p
+point_in d p a = record { axes = a.axes; fits = a.fits }
+
+flat_in : (d : ℕ) (p : Point) → d ≡ 2 → IsShortPoint d p → AreSoMany 2 (FitsSigned w32) p
+flat_in d p e a = record { axes = a.axes ∙ e; fits = a.fits }
+
+pub in_range : (d : ℕ) (l : Line) → IsLanded d l → IsLineOf d l
+in_range d (Line.Shape s w) a = (point_in d s a.0, a.1)
+in_range d (Line.Parts n o b) a = (a.0, (a.1, a.2))
+in_range d (Line.Near p q s) a = (point_in d p a.0, (point_in d q a.1, a.2))
+in_range d (Line.Contour p s n m) a = (a.0, (flat_in d p a.0 a.1, (a.2, (a.3, a.4))))
+in_range d (Line.At p) a = (a.0, flat_in d p a.0 a.1)
+in_range d (Line.Seg b e t r mu) a = (a.0, (a.1, (a.2, (omega (arith, a.0, a.3), (record { axes = a.4.axes ∙ a.0; fits = a.4.fits }, a.5)))))
+in_range d (Line.Turn t i j) a = (a.0, (omega (arith, a.0, a.1), (a.2, a.3)))
+in_range d (Line.Cut t w) a = let r = subst (λ k. IsWhy k w) a.0 a.2 in (a.0, (omega (arith, a.0, a.1), (r.low, (r.high, r.steps))))
+in_range d Line.End a = tt
+
+point_out : (d : ℕ) (p : Point) → AreSoMany d (FitsSigned w32) p → IsShortPoint d p
+point_out d p a = record { axes = a.axes; fits = a.fits }
+
+flat_out : (d : ℕ) (p : Point) → d ≡ 2 → AreSoMany 2 (FitsSigned w32) p → IsShortPoint d p
+flat_out d p e a = record { axes = a.axes ∙ sym e; fits = a.fits }
+
+pub range_in : (d : ℕ) (l : Line) → IsLineOf d l → IsLanded d l
+range_in d (Line.Shape s w) a = (point_out d s a.0, a.1)
+range_in d (Line.Parts n o b) a = (a.0, a.1.0, a.1.1)
+range_in d (Line.Near p q s) a = (point_out d p a.0, point_out d q a.1.0, a.1.1)
+range_in d (Line.Contour p s n m) a = (a.0, flat_out d p a.0 a.1.0, a.1.1.0, a.1.1.1.0, a.1.1.1.1)
+range_in d (Line.At p) a = (a.0, flat_out d p a.0 a.1)
+range_in d (Line.Seg b e t r mu) a = (a.0, a.1.0, a.1.1.0, omega (arith, a.0, a.1.1.1.0), record { axes = a.1.1.1.1.0.axes ∙ sym a.0; fits = a.1.1.1.1.0.fits }, a.1.1.1.1.1)
+range_in d (Line.Turn t i j) a = (a.0, omega (arith, a.0, a.1.0), a.1.1.0, a.1.1.1)
+range_in d (Line.Cut t w) a = (a.0, omega (arith, a.0, a.1.0), subst (λ k. IsWhy k w) (sym a.0) (record { low = a.1.1.0; high = a.1.1.1.0; steps = a.1.1.1.1 }))
+range_in d Line.End a = tt

@@ -1,0 +1,16 @@
+use Rattle.std.proofs.Common.{◌∙◌, ◌++◌, ap, arith, length}
+use Rattle.std.specs.Fmt.{decimal}
+use Rattle.shape_refute.specs.Shown.{step_share_of}
+use Rattle.report_terms.specs.Kinds.{step_share}
+use Rattle.shape_report.specs.Spelling.{behind_blanks}
+use Rattle.shape_report.proofs.Fronts.{front_more}
+use Rattle.shape_report.proofs.put_why.put_step_shares.Goals as goal
+
+pub loop-i-preserved : goal.loop-i-preserved
+loop-i-preserved c =
+    let l = c.loop-i in
+    let x = step_share_of c.get.result in
+    record {
+      text = c.put_step_share.ensures.text ∙ ap (λ t. t ++ behind_blanks ((step_share 2).words x)) l.invariant.text ∙ front_more (step_share 2).words (decimal (length c.args.shares.now)) c.args.shares.now l.i x c.args.text.now c.get.ensures;
+      room = omega (arith, c.put_step_share.ensures.room, l.invariant.room);
+    }

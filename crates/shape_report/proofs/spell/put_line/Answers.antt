@@ -1,0 +1,43 @@
+use Rattle.std.proofs.Common.{subst, refl}
+use Rattle.report_terms.specs.Lines.{IsLineOf}
+use Rattle.shape_report.specs.LineOf.{line_of}
+use Rattle.shape_report.proofs.spell.put_line.Goals as goal
+
+pub put_near-requires-clause-weight : goal.put_near-requires-clause-weight
+put_near-requires-clause-weight g c = (subst (λ l. IsLineOf g.P.Point.DIM (line_of g.P.Point.coords l)) c.in-Near.is c.requires.range).1.1
+
+pub put_seg-requires-clause-axis : goal.put_seg-requires-clause-axis
+put_seg-requires-clause-axis g c = (subst (λ l. IsLineOf g.P.Point.DIM (line_of g.P.Point.coords l)) c.in-Seg.is c.requires.range).1.1.1.0
+
+pub put_turn-requires-clause-axis : goal.put_turn-requires-clause-axis
+put_turn-requires-clause-axis g c = (subst (λ l. IsLineOf g.P.Point.DIM (line_of g.P.Point.coords l)) c.in-Turn.is c.requires.range).1.0
+
+pub put_cut-requires-clause-range : goal.put_cut-requires-clause-range
+put_cut-requires-clause-range g c = let r = (subst (λ l. IsLineOf g.P.Point.DIM (line_of g.P.Point.coords l)) c.in-Cut.is c.requires.range).1 in (refl, r)
+
+pub returns-in-Shape : goal.returns-in-Shape
+returns-in-Shape g c = rw c.in-Shape.is c.put_shape.ensures
+
+pub returns-in-Parts : goal.returns-in-Parts
+returns-in-Parts g c = rw c.in-Parts.is c.put_parts.ensures
+
+pub returns-in-Near : goal.returns-in-Near
+returns-in-Near g c = rw c.in-Near.is c.put_near.ensures
+
+pub returns-in-Contour : goal.returns-in-Contour
+returns-in-Contour g c = rw c.in-Contour.is c.put_contour.ensures
+
+pub returns-in-At : goal.returns-in-At
+returns-in-At g c = rw c.in-At.is c.put_at.ensures
+
+pub returns-in-Seg : goal.returns-in-Seg
+returns-in-Seg g c = rw c.in-Seg.is c.put_seg.ensures
+
+pub returns-in-Turn : goal.returns-in-Turn
+returns-in-Turn g c = rw c.in-Turn.is c.put_turn.ensures
+
+pub returns-in-Cut : goal.returns-in-Cut
+returns-in-Cut g c = rw c.in-Cut.is c.put_cut.ensures
+
+pub returns-in-End : goal.returns-in-End
+returns-in-End g c = rw (c.in-End.is, c.put.ensures, c.requires.empty) refl
