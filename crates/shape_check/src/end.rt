@@ -10,7 +10,7 @@ use shape_space::Point;
 #[derive(Drop)]
 pub struct EndJudge {
     // Whether the line was taken.
-    pub ended: bool,
+    pub taken: bool,
 }
 
 impl<P: Point> Judges<P> for EndJudge {
@@ -21,23 +21,23 @@ impl<P: Point> Judges<P> for EndJudge {
 
     ghost section = { Section.End };
 
-    ghost waits = { λ X j. j.ended ≡ false };
+    ghost waits = { λ X j. j.taken ≡ false };
 
-    ghost follows = { λ X j lines. EndFollows X j.ended lines };
+    ghost follows = { λ X j lines. EndFollows X j.taken lines };
 
-    ghost room = { λ j. if j.ended then 0 else 1 };
+    ghost room = { λ j. if j.taken then 0 else 1 };
 
     fn take(&mut self, line: &Line<P>) -> bool {
-        if self.ended {
+        if self.taken {
             return false;
         }
-        self.ended = true;
+        self.taken = true;
         matches!(line, Line::End)
     }
 
     fn has_ended(&self) -> bool {
-        self.ended
+        self.taken
     }
 
-    ghost entered = { λ X j lines w h e. end_entered X j.ended lines w h e };
+    ghost entered = { λ X j lines w h e. end_entered X j.taken lines w h e };
 }

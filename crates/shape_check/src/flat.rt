@@ -36,7 +36,7 @@ impl Row<P2> for Flat {
             background: parts.background,
             taken: false,
         };
-        let row = Then::new(cover, EndJudge { ended: false });
+        let row = Then::new(cover, EndJudge { taken: false });
         let row = Then::new(field, row);
         let row = Then::new(counts, row);
         Ok(Then::new(heading, row))
