@@ -92,35 +92,29 @@ same_words _ = refl
 
 -- ---- the same fields
 
-point_in : (d : ℕ) (p : Point) → IsShortPoint d p → AreSoMany d (FitsSigned w32) p
-point_in d p a = record { axes = a.axes; fits = a.fits }
-
-flat_in : (d : ℕ) (p : Point) → d ≡ 2 → IsShortPoint d p → AreSoMany 2 (FitsSigned w32) p
-flat_in d p e a = record { axes = a.axes ∙ e; fits = a.fits }
+point_in : (d e : ℕ) (p : Point) → d ≡ e → IsShortPoint d p → AreSoMany e (FitsSigned w32) p
+point_in d e p same a = record { axes = a.axes ∙ same; fits = a.fits }
 
 pub in_range : (d : ℕ) (l : Line) → IsLanded d l → IsLineOf d l
-in_range d (Line.Shape s w) a = (point_in d s a.0, a.1)
+in_range d (Line.Shape s w) a = (point_in d d s refl a.0, a.1)
 in_range d (Line.Parts n o b) a = (a.0, (a.1, a.2))
-in_range d (Line.Near p q s) a = (point_in d p a.0, (point_in d q a.1, a.2))
-in_range d (Line.Contour p s n m) a = (a.0, (flat_in d p a.0 a.1, (a.2, (a.3, a.4))))
-in_range d (Line.At p) a = (a.0, flat_in d p a.0 a.1)
+in_range d (Line.Near p q s) a = (point_in d d p refl a.0, (point_in d d q refl a.1, a.2))
+in_range d (Line.Contour p s n m) a = (a.0, (point_in d 2 p a.0 a.1, (a.2, (a.3, a.4))))
+in_range d (Line.At p) a = (a.0, point_in d 2 p a.0 a.1)
 in_range d (Line.Seg b e t r mu) a = (a.0, (a.1, (a.2, (omega (arith, a.0, a.3), (record { axes = a.4.axes ∙ a.0; fits = a.4.fits }, a.5)))))
 in_range d (Line.Turn t i j) a = (a.0, (omega (arith, a.0, a.1), (a.2, a.3)))
 in_range d (Line.Cut t w) a = let r = subst (λ k. IsWhy k w) a.0 a.2 in (a.0, (omega (arith, a.0, a.1), (r.low, (r.high, r.steps))))
 in_range d Line.End a = tt
 
-point_out : (d : ℕ) (p : Point) → AreSoMany d (FitsSigned w32) p → IsShortPoint d p
-point_out d p a = record { axes = a.axes; fits = a.fits }
-
-flat_out : (d : ℕ) (p : Point) → d ≡ 2 → AreSoMany 2 (FitsSigned w32) p → IsShortPoint d p
-flat_out d p e a = record { axes = a.axes ∙ sym e; fits = a.fits }
+point_out : (d e : ℕ) (p : Point) → d ≡ e → AreSoMany e (FitsSigned w32) p → IsShortPoint d p
+point_out d e p same a = record { axes = a.axes ∙ sym same; fits = a.fits }
 
 pub range_in : (d : ℕ) (l : Line) → IsLineOf d l → IsLanded d l
-range_in d (Line.Shape s w) a = (point_out d s a.0, a.1)
+range_in d (Line.Shape s w) a = (point_out d d s refl a.0, a.1)
 range_in d (Line.Parts n o b) a = (a.0, a.1.0, a.1.1)
-range_in d (Line.Near p q s) a = (point_out d p a.0, point_out d q a.1.0, a.1.1)
-range_in d (Line.Contour p s n m) a = (a.0, flat_out d p a.0 a.1.0, a.1.1.0, a.1.1.1.0, a.1.1.1.1)
-range_in d (Line.At p) a = (a.0, flat_out d p a.0 a.1)
+range_in d (Line.Near p q s) a = (point_out d d p refl a.0, point_out d d q refl a.1.0, a.1.1)
+range_in d (Line.Contour p s n m) a = (a.0, point_out d 2 p a.0 a.1.0, a.1.1.0, a.1.1.1.0, a.1.1.1.1)
+range_in d (Line.At p) a = (a.0, point_out d 2 p a.0 a.1)
 range_in d (Line.Seg b e t r mu) a = (a.0, a.1.0, a.1.1.0, omega (arith, a.0, a.1.1.1.0), record { axes = a.1.1.1.1.0.axes ∙ sym a.0; fits = a.1.1.1.1.0.fits }, a.1.1.1.1.1)
 range_in d (Line.Turn t i j) a = (a.0, omega (arith, a.0, a.1.0), a.1.1.0, a.1.1.1)
 range_in d (Line.Cut t w) a = (a.0, omega (arith, a.0, a.1.0), subst (λ k. IsWhy k w) (sym a.0) (record { low = a.1.1.0; high = a.1.1.1.0; steps = a.1.1.1.1 }))

@@ -25,9 +25,11 @@ point d = times d (signed w32 31)
 abbrev pub row : ℕ → Form (List ℤ)
 row d = times d (signed w64 63)
 
+-- a place with its weight before it
 abbrev pub share : Form Share
 share = shaped (λ p. record { weight = p.0; place = p.1 }) (λ s. (s.weight, s.place)) (weight ⨾ count)
 
+-- a step along one of d axes with its weight before it
 abbrev pub step_share : ℕ → Form StepShare
 step_share d = shaped (λ p. record { weight = p.0; step = p.1 }) (λ s. (s.weight, s.step)) (weight ⨾ step d)
 
@@ -37,12 +39,15 @@ why d = shaped (λ p. record { low = p.0; high = p.1.0; steps = p.1.1 }) (λ r. 
 
 -- ---- kinds
 
+-- a kind of line
 pub data Kind : Type 0 where
   Shape Parts Near Contour At Seg Turn Cut End : Kind
 
+-- all kinds
 abbrev pub kinds : List Kind
 kinds = Kind.Shape ∷ Kind.Parts ∷ Kind.Near ∷ Kind.Contour ∷ Kind.At ∷ Kind.Seg ∷ Kind.Turn ∷ Kind.Cut ∷ Kind.End ∷ []
 
+-- the word that a line of this kind begins with
 abbrev pub first_word : Kind → List ℕ
 first_word Kind.Shape = codes "shape"
 first_word Kind.Parts = codes "parts"
@@ -54,6 +59,7 @@ first_word Kind.Turn = codes "turn"
 first_word Kind.Cut = codes "cut"
 first_word Kind.End = codes "end"
 
+-- what the fields of a line of this kind are
 abbrev pub Fields : Kind → Type 0
 Fields Kind.Shape = Point × List ℕ
 Fields Kind.Parts = ℕ × (ℕ × ℕ)
@@ -93,6 +99,7 @@ pub record Split : Type 0 where
 abbrev pub IsSplitOf : ℕ → Split → Type 0
 IsSplitOf d s = (form_of d s.kind).InRange s.fields
 
+-- the words of the line: its first word, and those of its fields
 abbrev pub split_words : ℕ → Split → List (List ℕ)
 split_words d s = first_word s.kind ∷ (form_of d s.kind).words s.fields
 

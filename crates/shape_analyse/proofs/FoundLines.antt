@@ -14,7 +14,7 @@ use Rattle.report_terms.specs.Forms.{IsStepIn, counted}
 use Rattle.report_terms.specs.Kinds.{share, step_share}
 use Rattle.report_terms.specs.Lines.{Line, IsLineOf}
 use Rattle.shape_cover.specs.Found.{Found, stretches_of, found_at, IsCoverOf, IsShortLine, AreShortShares, IsShortEvidence}
-use Rattle.shape_analyse.specs.Growing.{IsOutlined, gap_line, at_contour}
+use Rattle.shape_analyse.specs.Growing.{IsOutlined, gap_line, at_contour, covered}
 use Rattle.shape_analyse.proofs.ContourGrowth.{outlined_segment, outlined_gap}
 
 fits : (z : ℤ) → nat_abs z < 2 ^ 63 → FitsSigned w64 z
@@ -66,8 +66,8 @@ found_segment X contours k c found j lines o there cover l fields =
     subst (λ ss. IsOutlined X contours (at_contour k (length c.points) (length found) ss 0) (lines ++ Line.Seg f.stretch.first f.stretch.last f.axis f.line.a f.line.mu ∷ [])) (stretches_more found j l) next
 
 -- the two lines of the next gap
-pub found_gap : (X : Picture) (contours : List Contour) (k : ℕ) (c : Contour) (found : List Found) (j t : ℕ) (v : Evidence) (lines : List Line) → IsOutlined X contours (at_contour k (length c.points) (length found) (stretches_of found) (2 * j + t)) lines → slice_get contours k ≡ Some c → j < length found → t < 2
-    → IsEvidence t (gap_run c.points (stretches_of found) j) v → IsLineOf 2 (gap_line t v) → IsOutlined X contours (at_contour k (length c.points) (length found) (stretches_of found) (2 * j + t + 1)) (lines ++ gap_line t v ∷ [])
+pub found_gap : (X : Picture) (contours : List Contour) (k : ℕ) (c : Contour) (found : List Found) (j t : ℕ) (v : Evidence) (lines : List Line) → IsOutlined X contours (covered k c found (2 * j + t)) lines → slice_get contours k ≡ Some c → j < length found → t < 2
+    → IsEvidence t (gap_run c.points (stretches_of found) j) v → IsLineOf 2 (gap_line t v) → IsOutlined X contours (covered k c found (2 * j + t + 1)) (lines ++ gap_line t v ∷ [])
 found_gap X contours k c found j t v lines o there l two good fields =
     let n : length found ≡ length (stretches_of found) = sym (length-map found (λ (f : Found). f.stretch)) in
     let here = subst (λ m. IsOutlined X contours (at_contour k (length c.points) m (stretches_of found) (2 * j + t)) lines) n o in

@@ -1,7 +1,7 @@
-use Rattle.std.proofs.Common.{[], length, subst}
+use Rattle.std.proofs.Common.{length, subst}
 use Rattle.std.proofs.lemmas.List.{length-map}
 use Rattle.shape_cover.specs.Found.{Found, stretches_of}
-use Rattle.shape_analyse.specs.Growing.{Stands, at_contour}
+use Rattle.shape_analyse.specs.Growing.{Stands, outlined}
 use Rattle.shape_analyse.proofs.Growth.{text_as}
 use Rattle.shape_analyse.proofs.ContourGrowth.{outlined_full}
 use Rattle.shape_analyse.proofs.contour.add_contour.Goals as goal
@@ -13,7 +13,7 @@ returns-in-Ok-add_gaps c =
     let cover = c.in-Ok.ensures in
     λ X contours k there h.
     let outline = c.in-Ok-add_outline.ensures X contours k there h in
-    let declared = subst (λ m. Stands X contours (at_contour k (length contour.points) m [] 0) c.add_outline.new.report) c.len.ensures outline in
+    let declared = subst (λ m. Stands X contours (outlined k contour m) c.add_outline.new.report) c.len.ensures outline in
     let segments = c.in-Ok-add_segments.ensures X contours k contour there cover declared in
     let gaps = c.in-Ok-add_gaps.ensures X contours k contour there cover segments in
     text_as (λ lines o. outlined_full X contours k (length found) (stretches_of found) lines contour there (length-map found (λ (f : Found). f.stretch)) o) gaps

@@ -3,7 +3,7 @@ use Rattle.shape_terms.specs.Covers.{IsEvidence, gap_run}
 use Rattle.report_terms.specs.Lines.{IsLineOf}
 use Rattle.shape_cover.specs.Found.{stretches_of, found_at}
 use Rattle.shape_refute.specs.Evidences.{evidence_of}
-use Rattle.shape_analyse.specs.Growing.{IsOutlined, Stands, gap_line, at_contour}
+use Rattle.shape_analyse.specs.Growing.{IsOutlined, Stands, gap_line, covered}
 use Rattle.shape_analyse.proofs.Growth.{text_push, text_more}
 use Rattle.shape_analyse.proofs.FoundLines.{gap_fits, found_gap}
 use Rattle.shape_analyse.proofs.contour.add_gaps.Goals as goal
@@ -39,19 +39,19 @@ loop-j-preserved c =
     let y_good = subst (IsEvidence 1 (gap_run contour.points (stretches_of found) j)) (sym is.y) (cover.gap_y j l) in
     let at : 2 * j ≡ 2 * j + 0 = omega arith in
     let h = c.loop-j.invariant X contours k contour there cover o in
-    let here = subst (λ g. IsOutlined X contours (at_contour k (length contour.points) (length found) (stretches_of found) g) h.lines) at h.so in
+    let here = subst (λ g. IsOutlined X contours (covered k contour found g) h.lines) at h.so in
     let first = found_gap X contours k contour found j 0 (evidence_of gap.x) h.lines here there l (omega arith) x_good x_fits in
     let mid : 2 * j + 0 + 1 ≡ 2 * j + 1 = omega arith in
     let lines = h.lines ++ gap_line 0 (evidence_of gap.x) ∷ [] in
-    let half = subst (λ g. IsOutlined X contours (at_contour k (length contour.points) (length found) (stretches_of found) g) lines) mid first in
+    let half = subst (λ g. IsOutlined X contours (covered k contour found g) lines) mid first in
     let one = text_push _ _ h.lines (gap_line 0 (evidence_of gap.x)) h.is c.in-Ok.ensures in
     let second = found_gap X contours k contour found j 1 (evidence_of gap.y) lines half there l (omega arith) y_good y_fits in
     let last : 2 * j + 1 + 1 ≡ 2 * (j + 1) = omega arith in
-    subst (λ g. Stands X contours (at_contour k (length contour.points) (length found) (stretches_of found) g) c.add_gap-in-loop-j.new.report) last
+    subst (λ g. Stands X contours (covered k contour found g) c.add_gap-in-loop-j.new.report) last
     (text_more _ _ _ lines _ one c.in-Ok-add_gap.ensures second)
 
 pub returns : goal.returns
 returns c =
     let found = c.args.cover.now in
     let all : c.loop-j.j ≡ length found = omega (arith, c.loop-j.auto.j-end, c.len-j-end.ensures, c.loop-j-test.false) in
-    λ X contours k contour there cover o. subst (λ j. Stands X contours (at_contour k (length contour.points) (length found) (stretches_of found) (2 * j)) c.loop-j.report) all (c.loop-j.invariant X contours k contour there cover o)
+    λ X contours k contour there cover o. subst (λ j. Stands X contours (covered k contour found (2 * j)) c.loop-j.report) all (c.loop-j.invariant X contours k contour there cover o)
