@@ -1,11 +1,23 @@
 use Rattle.std.proofs.Common.{◌≡◌, false, refl, ◌∙◌, arith, []}
 use Rattle.std.specs.Prelude.{IsTrue}
+use Rattle.std.proofs.lemmas.List.Elements.{All-nil}
 use Rattle.shape_desk.specs.declared.desk.Place.TheVariants.{Report}
 use Rattle.shape_desk.specs.Line.{IfTold, ahead_of}
 use Rattle.shape_report.specs.LineOf.{line_of}
 use Rattle.shape_check.specs.Next.{TakesClaim, IsBad}
-use Rattle.shape_check.proofs.Going.{if_told, bad_at_end, bad_line, not_good, one_more, told_few}
+use Rattle.shape_check.proofs.Going.{told_start, if_told, bad_at_end, bad_line, not_good, one_more, told_few}
 use Rattle.shape_check.proofs.check.check_lines.Goals as goal
+
+pub lines-init : goal.lines-init
+lines-init g c = record {
+  begun = c.requires.begun;
+  text = λ X axes w. told_start X _ _ (g.met.R.Judges.entered X c.args.row [] w (record { order = All-nil _; complete = λ t l. absurd (let z = g.met.R.Row.first in omega arith) }) refl);
+  some = omega arith;
+  few = omega (arith, c.requires.few);
+  later = omega arith;
+  picture = record { same_left = refl; same_begun = refl };
+  output = record { same_files = refl; same_written = refl; same_faults = refl };
+}
 
 pub returns-then-not-take-clause-answer : goal.returns-then-not-take-clause-answer
 returns-then-not-take-clause-answer g c = λ X axes w.
