@@ -28,7 +28,8 @@ fn check_lines<P: Point, J: OutlineJudge<P>, D: Desk>(
     requires axes { length progress.field.picture.sides ≡ P.DIM }
     requires first { Follows progress.stage progress.field (J.stands progress.field.picture progress.outline) [] }
     requires few { lines_left progress.stage progress.field (J.room progress.outline) < 2 ^ 62 }
-    ensures answer { Checks progress.field.picture (ahead_of reader.old.ahead ((D.state desk.old).left Report)) (D.state desk.old).read_faults (D.state desk.new).read_faults result }
+    ensures answer { Checks progress.field.picture (ahead_of reader.old.ahead ((D.state desk.old).left Report))
+        (D.state desk.old).read_faults (D.state desk.new).read_faults result }
     ensures reads { OnlyReadsAt Report (D.state desk.old) (D.state desk.new) }
 {
     let mut line: u64 = 1;
@@ -59,7 +60,8 @@ fn check<P: Pairing, J: OutlineJudge<P>, D: Desk>(
     desk: &mut D,
 ) -> Result<Judgement, CheckFault>
     requires { (D.state desk.old).begun Report ≡ true }
-    ensures answer { Checks grid.now ((D.state desk.old).left Report) (D.state desk.old).read_faults (D.state desk.new).read_faults result }
+    ensures answer { Checks grid.now ((D.state desk.old).left Report)
+        (D.state desk.old).read_faults (D.state desk.new).read_faults result }
     ensures reads { OnlyReadsAt Report (D.state desk.old) (D.state desk.new) }
 {
     let _ = grid.sides();
@@ -83,7 +85,8 @@ pub fn check_flat<D: Desk>(
     desk: &mut D,
 ) -> Result<Judgement, CheckFault>
     requires { (D.state desk.old).begun Report ≡ true }
-    ensures answer { Checks grid.now ((D.state desk.old).left Report) (D.state desk.old).read_faults (D.state desk.new).read_faults result }
+    ensures answer { Checks grid.now ((D.state desk.old).left Report)
+        (D.state desk.old).read_faults (D.state desk.new).read_faults result }
     ensures reads { OnlyReadsAt Report (D.state desk.old) (D.state desk.new) }
 {
     check::<P2, CoverJudge, D>(alloc, grid, desk)

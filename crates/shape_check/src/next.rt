@@ -28,7 +28,8 @@ pub(crate) fn next_claim<P: Point, D: Desk>(
     desk: &mut D,
 ) -> Result<Next<P>, CheckFault>
     requires { (D.state desk.old).begun Report ≡ true }
-    ensures answer { NextAnswer P.DIM P.coords (ahead_of reader.old.ahead ((D.state desk.old).left Report)) (ahead_of reader.new.ahead ((D.state desk.new).left Report)) (D.state desk.old).read_faults (D.state desk.new).read_faults result }
+    ensures answer { NextAnswer P.DIM P.coords (ahead_of reader.old.ahead ((D.state desk.old).left Report)) (ahead_of reader.new.ahead ((D.state desk.new).left Report))
+        (D.state desk.old).read_faults (D.state desk.new).read_faults result }
     ensures reads { OnlyReadsAt Report (D.state desk.old) (D.state desk.new) }
 {
     match reader.next_line(desk) {
