@@ -1,9 +1,10 @@
 //! Reading a plain PBM byte by byte: the header, then the pixels into a grid.
 //! No function holds the file; each takes one byte at most, or loops over one that does.
-ghost use Rattle.std.specs.Prelude.{◌≡◌, ◌+◌, ◌≤◌, ◌<◌, ◌^◌, [], ◌∷◌, true, false, length, Option, List, ℕ};
+ghost use Rattle.std.specs.Prelude.{◌≡◌, ◌+◌, ◌≤◌, ◌<◌, ◌^◌, [], ◌∷◌, true, false, Option, List, ℕ};
 ghost use Rattle.shape_terms.specs.Points.{sides_of};
+ghost use Rattle.shape_desk.specs.Desk.{OnlyReadsAt};
 ghost use Rattle.shape_desk.specs.declared.desk.Place.TheVariants.{Picture};
-ghost use Rattle.shape_picture.specs.Answers.{most_side, most_bytes, OnlyReads, PictureAnswer};
+ghost use Rattle.shape_picture.specs.Answers.{most_side, most_bytes, PictureAnswer};
 ghost use Rattle.shape_picture.specs.Plain.{IsUnfinished};
 ghost use Rattle.shape_picture.specs.Header.{IsSmall, HeaderReached};
 ghost use Rattle.shape_picture.specs.Raster.{HasPixels};
@@ -26,14 +27,13 @@ fn next_byte<D: Desk>(
     desk: &mut D,
 ) -> Result<u8, PictureError>
     requires more { at < longest }
-    requires begun { D.begun desk.old Picture ≡ true }
+    requires begun { (D.state desk.old).begun Picture ≡ true }
     ensures answer { (limit : ℕ) (all : Option (List ℕ)) (front : List ℕ)
-        → BytesTaken longest at all (D.left desk.old Picture) bytes.old front
+        → BytesTaken longest at all ((D.state desk.old).left Picture) bytes.old front
         → IsUnfinished limit front
-        → NextByteAnswer limit longest at all (D.left desk.new Picture) bytes.new front
-        (D.read_faults desk.old) (D.read_faults desk.new) result }
-    ensures reads { OnlyReads D.files D.left D.written D.begun D.read_faults D.write_faults
-        desk.old desk.new }
+        → NextByteAnswer limit longest at all ((D.state desk.new).left Picture) bytes.new front
+        (D.state desk.old).read_faults (D.state desk.new).read_faults result }
+    ensures reads { OnlyReadsAt Picture (D.state desk.old) (D.state desk.new) }
 {
     match bytes.next(desk, longest - at) {
         Ok(Some(c)) => Ok(c),
@@ -54,14 +54,13 @@ fn next_header<D: Desk>(
     requires limit { limit ≤ 2 ^ 20 }
     requires small { IsSmall limit header }
     requires more { at < longest }
-    requires begun { D.begun desk.old Picture ≡ true }
+    requires begun { (D.state desk.old).begun Picture ≡ true }
     ensures answer { (all : Option (List ℕ)) (front : List ℕ)
-        → BytesTaken longest at all (D.left desk.old Picture) bytes.old front
+        → BytesTaken longest at all ((D.state desk.old).left Picture) bytes.old front
         → HeaderReached limit header front
-        → NextHeaderAnswer limit longest at all (D.left desk.new Picture) bytes.new
-        (D.read_faults desk.old) (D.read_faults desk.new) result }
-    ensures reads { OnlyReads D.files D.left D.written D.begun D.read_faults D.write_faults
-        desk.old desk.new }
+        → NextHeaderAnswer limit longest at all ((D.state desk.new).left Picture) bytes.new
+        (D.state desk.old).read_faults (D.state desk.new).read_faults result }
+    ensures reads { OnlyReadsAt Picture (D.state desk.old) (D.state desk.new) }
 {
     match next_byte(longest, at, bytes, desk) {
         Ok(c) => match step(limit, at, header, c) {
@@ -82,15 +81,14 @@ fn next_piece<D: Desk>(
     desk: &mut D,
 ) -> Result<Piece, PictureError>
     requires more { at < longest }
-    requires begun { D.begun desk.old Picture ≡ true }
+    requires begun { (D.state desk.old).begun Picture ≡ true }
     ensures answer { (limit : ℕ) (all : Option (List ℕ)) (front width height raster : List ℕ)
-        → BytesTaken longest at all (D.left desk.old Picture) bytes.old front
+        → BytesTaken longest at all ((D.state desk.old).left Picture) bytes.old front
         → HasPixels limit comment count front width height raster
-        → NextPieceAnswer limit longest at all (D.left desk.new Picture) bytes.new
+        → NextPieceAnswer limit longest at all ((D.state desk.new).left Picture) bytes.new
         front width height raster
-        (D.read_faults desk.old) (D.read_faults desk.new) result }
-    ensures reads { OnlyReads D.files D.left D.written D.begun D.read_faults D.write_faults
-        desk.old desk.new }
+        (D.state desk.old).read_faults (D.state desk.new).read_faults result }
+    ensures reads { OnlyReadsAt Picture (D.state desk.old) (D.state desk.new) }
 {
     match next_byte(longest, at, bytes, desk) {
         Ok(c) => match piece_at(comment, count, at, c) {
@@ -117,13 +115,12 @@ fn read_header<D: Desk>(
     desk: &mut D,
 ) -> Result<Heading, PictureError>
     requires limit { limit ≤ 2 ^ 20 }
-    requires begun { D.begun desk.old Picture ≡ true }
+    requires begun { (D.state desk.old).begun Picture ≡ true }
     requires none_ahead { bytes.old ≡ [] }
     ensures answer { HeaderAnswer limit longest
-        (D.left desk.old Picture) (D.left desk.new Picture) bytes.new
-        (D.read_faults desk.old) (D.read_faults desk.new) result }
-    ensures reads { OnlyReads D.files D.left D.written D.begun D.read_faults D.write_faults
-        desk.old desk.new }
+        ((D.state desk.old).left Picture) ((D.state desk.new).left Picture) bytes.new
+        (D.state desk.old).read_faults (D.state desk.new).read_faults result }
+    ensures reads { OnlyReadsAt Picture (D.state desk.old) (D.state desk.new) }
 {
     let mut header = Header::Start;
     let mut at: u64 = 0;
@@ -169,13 +166,12 @@ fn read_raster<D: Desk>(
     bytes: &mut ByteReader,
     desk: &mut D,
 ) -> Result<Grid<P2>, PictureError>
-    requires begun { D.begun desk.old Picture ≡ true }
+    requires begun { (D.state desk.old).begun Picture ≡ true }
     ensures answer { (limit : ℕ) (all : Option (List ℕ))
-        → RasterSoFar limit longest from grid false 0 all (D.left desk.old Picture) bytes.old
-        → PictureAnswer limit longest all (D.left desk.new Picture)
-        (D.read_faults desk.old) (D.read_faults desk.new) result }
-    ensures reads { OnlyReads D.files D.left D.written D.begun D.read_faults D.write_faults
-        desk.old desk.new }
+        → RasterSoFar limit longest from grid false 0 all ((D.state desk.old).left Picture) bytes.old
+        → PictureAnswer limit longest all ((D.state desk.new).left Picture)
+        (D.state desk.old).read_faults (D.state desk.new).read_faults result }
+    ensures reads { OnlyReadsAt Picture (D.state desk.old) (D.state desk.new) }
 {
     let total = grid.sides().count();
     let mut at = from;
@@ -214,11 +210,10 @@ fn read_within<D: Desk>(
     desk: &mut D,
 ) -> Result<Grid<P2>, PictureError>
     requires limit { limit ≤ most_side }
-    requires begun { D.begun desk.old Picture ≡ true }
-    ensures answer { PictureAnswer limit longest (D.left desk.old Picture) (D.left desk.new Picture)
-        (D.read_faults desk.old) (D.read_faults desk.new) result }
-    ensures reads { OnlyReads D.files D.left D.written D.begun D.read_faults D.write_faults
-        desk.old desk.new }
+    requires begun { (D.state desk.old).begun Picture ≡ true }
+    ensures answer { PictureAnswer limit longest ((D.state desk.old).left Picture) ((D.state desk.new).left Picture)
+        (D.state desk.old).read_faults (D.state desk.new).read_faults result }
+    ensures reads { OnlyReadsAt Picture (D.state desk.old) (D.state desk.new) }
 {
     let mut bytes = match ByteReader::new(alloc) {
         Ok(bytes) => bytes,
@@ -245,12 +240,11 @@ pub const MOST_BYTES: u64 = 1 << 25;
 /// What follows the last pixel is not looked at, but may have been taken from the desk. It takes memory for 512 bytes
 /// and the grid.
 pub fn read_plain<D: Desk>(alloc: Global, desk: &mut D) -> Result<Grid<P2>, PictureError>
-    requires { D.begun desk.old Picture ≡ true }
+    requires { (D.state desk.old).begun Picture ≡ true }
     ensures answer { PictureAnswer most_side most_bytes
-        (D.left desk.old Picture) (D.left desk.new Picture)
-        (D.read_faults desk.old) (D.read_faults desk.new) result }
-    ensures reads { OnlyReads D.files D.left D.written D.begun D.read_faults D.write_faults
-        desk.old desk.new }
+        ((D.state desk.old).left Picture) ((D.state desk.new).left Picture)
+        (D.state desk.old).read_faults (D.state desk.new).read_faults result }
+    ensures reads { OnlyReadsAt Picture (D.state desk.old) (D.state desk.new) }
 {
     read_within(alloc, MOST_SIDE, MOST_BYTES, desk)
 }

@@ -15,7 +15,7 @@ returns-in-Ok-step-clause-answer g c = λ all front t r. record {
 pub returns-in-Err-step-clause-answer : goal.returns-in-Err-step-clause-answer
 returns-in-Err-step-clause-answer g c = λ all front t r.
     let few : length front < c.args.longest = omega (arith, t.many, c.requires.more) in
-    stops_bad c.args.limit c.args.longest c.args.at all (g.D.Desk.left c.next_byte.new.desk Picture) c.next_byte.new.bytes front c.in-Ok.c (g.D.Desk.read_faults c.args.desk.now) (g.D.Desk.read_faults c.next_byte.new.desk) c.in-Err-step.fault
+    stops_bad c.args.limit c.args.longest c.args.at all ((g.D.Desk.state c.next_byte.new.desk).left Picture) c.next_byte.new.bytes front c.in-Ok.c (g.D.Desk.state c.args.desk.now).read_faults (g.D.Desk.state c.next_byte.new.desk).read_faults c.in-Err-step.fault
     (c.in-Ok.ensures.answer c.args.limit all front t (unfinished c.args.limit c.args.header front r)) few
     (subst (λ x. StepAnswer c.args.limit front c.in-Ok.c x) (sym c.in-Err-step.ensures) (step_answer c.args.limit c.args.at c.args.header front c.in-Ok.c (sym t.many) r))
 

@@ -15,7 +15,7 @@ returns-in-Ok-piece_at-clause-answer g c = λ limit all front width height raste
 pub returns-in-Err-piece_at-clause-answer : goal.returns-in-Err-piece_at-clause-answer
 returns-in-Err-piece_at-clause-answer g c = λ limit all front width height raster t r.
     let few : length front < c.args.longest = omega (arith, t.many, c.requires.more) in
-    stops_bad limit c.args.longest c.args.at all (g.D.Desk.left c.next_byte.new.desk Picture) c.next_byte.new.bytes front c.in-Ok.c (g.D.Desk.read_faults c.args.desk.now) (g.D.Desk.read_faults c.next_byte.new.desk) c.in-Err-piece_at.fault
+    stops_bad limit c.args.longest c.args.at all ((g.D.Desk.state c.next_byte.new.desk).left Picture) c.next_byte.new.bytes front c.in-Ok.c (g.D.Desk.state c.args.desk.now).read_faults (g.D.Desk.state c.next_byte.new.desk).read_faults c.in-Err-piece_at.fault
     (c.in-Ok.ensures.answer limit all front t (raster_unfinished limit c.args.count c.args.comment front width height raster r)) few
     (subst (λ x. PieceAnswer limit front c.in-Ok.c width height raster x) (sym c.in-Err-piece_at.ensures) (piece_answer limit c.args.at c.args.count c.args.comment front c.in-Ok.c width height raster (sym t.many) r))
 

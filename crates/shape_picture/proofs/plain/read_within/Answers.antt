@@ -6,11 +6,11 @@ use Rattle.shape_picture.proofs.plain.read_within.Goals as goal
 pub returns-in-Ok-new-clause-answer : goal.returns-in-Ok-new-clause-answer
 returns-in-Ok-new-clause-answer g c =
     let h = c.in-Ok-read_header.ensures.answer in
-    let all = g.D.Desk.left c.args.desk.now Picture in
-    answer_earlier c.args.limit c.args.longest all (g.D.Desk.left c.read_raster.new.desk Picture) (g.D.Desk.read_faults c.args.desk.now) (g.D.Desk.read_faults c.read_header.new.desk) (g.D.Desk.read_faults c.read_raster.new.desk) c.read_raster.result c.in-Ok-read_header.ensures.reads.later
+    let all = (g.D.Desk.state c.args.desk.now).left Picture in
+    answer_earlier c.args.limit c.args.longest all ((g.D.Desk.state c.read_raster.new.desk).left Picture) (g.D.Desk.state c.args.desk.now).read_faults (g.D.Desk.state c.read_header.new.desk).read_faults (g.D.Desk.state c.read_raster.new.desk).read_faults c.read_raster.result c.in-Ok-read_header.ensures.reads.only.later
     (c.read_raster.ensures.answer c.args.limit all (record { front = h.front; pixels = pixels_start c.args.limit c.in-Ok-read_header.heading.width c.in-Ok-read_header.heading.height c.in-Ok-new.grid _ h.front h.in_gap c.in-Ok-new.ensures c.box_of.ensures; taken = h.taken }))
 
 pub returns-clause-answer : goal.returns-clause-answer
 returns-clause-answer g c =
     let h = c.in-Ok-read_header.ensures.answer in
-    record { comes = tt; within = taken_within c.args.longest c.in-Ok-read_header.heading.at (g.D.Desk.left c.args.desk.now Picture) (g.D.Desk.left c.read_header.new.desk Picture) c.read_header.new.bytes h.front h.taken }
+    record { comes = tt; within = taken_within c.args.longest c.in-Ok-read_header.heading.at ((g.D.Desk.state c.args.desk.now).left Picture) ((g.D.Desk.state c.read_header.new.desk).left Picture) c.read_header.new.bytes h.front h.taken }
