@@ -45,7 +45,6 @@ pub fn put<P: Point>(grid: &mut Grid<P>, i: u32, object: bool)
     ensures values { grid.new.values ≡ (if object then slice_set grid.old.values i true else grid.old.values) }
 {
     if object {
-        let sides = grid.sides();
-        grid.set(sides.unraster(i));
+        grid.set_number(i);
     }
 }
