@@ -1,5 +1,6 @@
 use Rattle.shape_desk.specs.declared.desk.Place.TheVariants.{Picture}
 use Rattle.shape_desk.proofs.Writes.{OnlyReadsAt-more}
+use Rattle.shape_picture.specs.Answers.{most_side, most_bytes}
 use Rattle.shape_picture.proofs.HeaderSteps.{unfinished}
 use Rattle.shape_picture.proofs.ByteSteps.{stops_long}
 use Rattle.shape_picture.proofs.plain.read_header.Goals as goal
@@ -19,4 +20,4 @@ loop-at-preserved g c =
 pub returns-clause-answer : goal.returns-clause-answer
 returns-clause-answer g c =
     let i = c.loop-at.invariant.0 in
-    stops_long c.args.limit c.args.longest c.loop-at.at ((g.D.Desk.state c.args.desk.now).left Picture) ((g.D.Desk.state c.loop-at.desk).left Picture) c.loop-at.bytes i.front (g.D.Desk.state c.args.desk.now).read_faults (g.D.Desk.state c.loop-at.desk).read_faults i.taken c.loop-at-test.false (unfinished c.args.limit c.loop-at.header i.front i.reached)
+    stops_long most_side most_bytes c.loop-at.at ((g.D.Desk.state c.args.desk.now).left Picture) ((g.D.Desk.state c.loop-at.desk).left Picture) c.loop-at.bytes i.front (g.D.Desk.state c.args.desk.now).read_faults (g.D.Desk.state c.loop-at.desk).read_faults i.taken c.loop-at-test.false (unfinished most_side c.loop-at.header i.front i.reached)
