@@ -32,8 +32,8 @@ fn next_byte<D: Desk>(at: u64, bytes: &mut ByteReader, desk: &mut D) -> Result<u
     ensures answer { (all : Option (List ℕ)) (front : List ℕ)
         → BytesTaken most_bytes at all ((D.state desk.old).left Picture) bytes.old front
         → IsUnfinished most_side front
-        → NextByteAnswer most_side most_bytes at all ((D.state desk.new).left Picture) bytes.new front
-        (D.state desk.old).read_faults (D.state desk.new).read_faults result }
+        → NextByteAnswer most_side most_bytes at all ((D.state desk.new).left Picture) bytes.new
+        front (D.state desk.old).read_faults (D.state desk.new).read_faults result }
     ensures reads { OnlyReadsAt Picture (D.state desk.old) (D.state desk.new) }
 {
     match bytes.next(desk, MOST_BYTES - at) {
@@ -158,7 +158,8 @@ fn read_raster<D: Desk>(
 ) -> Result<Grid<P2>, PictureError>
     requires begun { (D.state desk.old).begun Picture ≡ true }
     ensures answer { (all : Option (List ℕ))
-        → RasterSoFar most_side most_bytes from grid false 0 all ((D.state desk.old).left Picture) bytes.old
+        → RasterSoFar most_side most_bytes from grid false 0 all
+        ((D.state desk.old).left Picture) bytes.old
         → PictureAnswer most_side most_bytes all ((D.state desk.new).left Picture)
         (D.state desk.old).read_faults (D.state desk.new).read_faults result }
     ensures reads { OnlyReadsAt Picture (D.state desk.old) (D.state desk.new) }
