@@ -2,7 +2,7 @@
 //! The text is the lines' spellings, each with its LF; how it is cut into pieces is free.
 ghost use Rattle.std.specs.Prelude.{◌≡◌, ◌≤◌, ◌+◌, ◌++◌, [], ◌∷◌, length, take, OnOk, OnErr, IfOk};
 ghost use Rattle.report_terms.specs.Lines.{spelling, text_of, IsLineOf};
-ghost use Rattle.shape_desk.specs.Desk.{Puts, PutsFront, PutsText, HasCause, KeepsPlaces};
+ghost use Rattle.shape_desk.specs.Desk.{Rose, PutsFront, OnlyWrites, WritesText};
 ghost use Rattle.shape_report.specs.LineOf.{line_of};
 ghost use Rattle.shape_report.specs.Flow.{Flows};
 
@@ -50,10 +50,8 @@ impl Pending {
 
     // Hands on all that is kept.
     fn flush<D: Desk>(&mut self, desk: &mut D) -> Result<(), Failed>
-        ensures text { PutsText (D.written desk.old) (D.written desk.new) result self.old }
+        ensures text { WritesText self.old (D.state desk.old) (D.state desk.new) result }
         ensures empty { OnOk result (self.new ≡ []) }
-        ensures cause { HasCause (D.write_faults desk.old) (D.write_faults desk.new) result }
-        ensures places { KeepsPlaces D.files D.left D.begun D.read_faults desk.old desk.new }
     {
         match put_all(&self.bytes[..self.used], desk) {
             Ok(()) => {
@@ -66,11 +64,11 @@ impl Pending {
 
     // Makes room for a line.
     fn make_room<D: Desk>(&mut self, desk: &mut D) -> Result<(), Failed>
-        ensures ok { OnOk result (Flows (D.written desk.old) (D.written desk.new) self.old self.new []) }
+        ensures ok { OnOk result (Flows (D.state desk.old).written (D.state desk.new).written self.old self.new []) }
         ensures room { OnOk result (length self.new + 1025 ≤ 4096) }
-        ensures err { OnErr result (PutsFront (D.written desk.old) (D.written desk.new) self.old) }
-        ensures cause { HasCause (D.write_faults desk.old) (D.write_faults desk.new) result }
-        ensures places { KeepsPlaces D.files D.left D.begun D.read_faults desk.old desk.new }
+        ensures err { OnErr result (PutsFront (D.state desk.old).written (D.state desk.new).written self.old) }
+        ensures failed { OnErr result (Rose (D.state desk.old).write_faults (D.state desk.new).write_faults) }
+        ensures only { OnlyWrites (D.state desk.old) (D.state desk.new) }
     {
         if self.used + 1025 > ROOM {
             self.flush(desk)
@@ -94,10 +92,10 @@ impl Pending {
     // Puts a line, and hands on what is kept where there is no room for it.
     fn put<P: Point, D: Desk>(&mut self, line: &Line<P>, desk: &mut D) -> Result<(), Failed>
         requires { IsLineOf P.DIM (line_of P.coords line.now) }
-        ensures ok { OnOk result (Flows (D.written desk.old) (D.written desk.new) self.old self.new (spelling (line_of P.coords line.now) ++ 10 ∷ [])) }
-        ensures err { OnErr result (PutsFront (D.written desk.old) (D.written desk.new) self.old) }
-        ensures cause { HasCause (D.write_faults desk.old) (D.write_faults desk.new) result }
-        ensures places { KeepsPlaces D.files D.left D.begun D.read_faults desk.old desk.new }
+        ensures ok { OnOk result (Flows (D.state desk.old).written (D.state desk.new).written self.old self.new (spelling (line_of P.coords line.now) ++ 10 ∷ [])) }
+        ensures err { OnErr result (PutsFront (D.state desk.old).written (D.state desk.new).written self.old) }
+        ensures failed { OnErr result (Rose (D.state desk.old).write_faults (D.state desk.new).write_faults) }
+        ensures only { OnlyWrites (D.state desk.old) (D.state desk.new) }
     {
         match self.make_room(desk) {
             Ok(()) => {
@@ -113,9 +111,7 @@ impl Pending {
 ///
 /// A fault comes only from a write that failed; a front of the text was written then.
 pub fn write_report<P: Point, D: Desk>(report: &Report<P>, desk: &mut D) -> Result<(), WriteFault>
-    ensures text { PutsText (D.written desk.old) (D.written desk.new) result (text_of report.now) }
-    ensures cause { HasCause (D.write_faults desk.old) (D.write_faults desk.new) result }
-    ensures places { KeepsPlaces D.files D.left D.begun D.read_faults desk.old desk.new }
+    ensures { WritesText (text_of report.now) (D.state desk.old) (D.state desk.new) result }
 {
     let mut pending = Pending::new();
     for i in 0..report.len() {

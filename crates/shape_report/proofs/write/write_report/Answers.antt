@@ -1,38 +1,48 @@
 use Rattle.std.proofs.Common.{◌++◌, ◌∷◌, [], take, sym, subst, arith}
 use Rattle.report_terms.specs.Lines.{spelling, text_of}
-use Rattle.shape_desk.proofs.Writes.{KeepsPlaces-more}
+use Rattle.shape_desk.proofs.Writes.{OnlyWrites-more}
 use Rattle.shape_report.specs.LineOf.{line_of}
 use Rattle.shape_report.specs.Flow.{Flows}
 use Rattle.shape_report.proofs.Flowing.{flows_more, flows_cut, text_next, text_front}
 use Rattle.shape_report.proofs.write.write_report.Goals as goal
 
-pub returns-in-Err-clause-text : goal.returns-in-Err-clause-text
-returns-in-Err-clause-text g c =
-    let w = g.D.Desk.written in
+pub returns-in-Err : goal.returns-in-Err
+returns-in-Err g c =
+    let s = g.D.Desk.state in
+    let h = c.loop-i.invariant in
+    let e = c.in-Err.ensures in
     record {
-      ok = tt;
-      err = text_front (w c.args.desk.now) (w c.put.new.desk) c.args.report.now c.loop-i.i
-          (flows_cut (w c.args.desk.now) (w c.loop-i.desk) (w c.put.new.desk) c.loop-i.pending (text_of (take c.loop-i.i c.args.report.now)) c.loop-i.invariant.text c.in-Err.ensures.err);
+      text = record {
+        ok = tt;
+        err = text_front (s c.args.desk.now).written (s c.put.new.desk).written c.args.report.now c.loop-i.i
+            (flows_cut (s c.args.desk.now).written (s c.loop-i.desk).written (s c.put.new.desk).written c.loop-i.pending (text_of (take c.loop-i.i c.args.report.now)) h.text e.err);
+      };
+      failed = omega (arith, e.failed, h.only.later);
+      only = OnlyWrites-more h.only e.only;
     }
 
 pub loop-i-preserved : goal.loop-i-preserved
 loop-i-preserved g c =
-    let w = g.D.Desk.written in
+    let s = g.D.Desk.state in
     let l = line_of g.P.Point.coords c.line.result in
     let h = c.loop-i.invariant in
-    let k = c.put.ensures.places in
     record {
-      text = subst (λ t. Flows (w c.args.desk.now) (w c.put.new.desk) [] c.put.new.self t) (sym (text_next c.args.report.now c.loop-i.i l c.line.ensures.line))
-          (flows_more (w c.args.desk.now) (w c.loop-i.desk) (w c.put.new.desk) [] c.loop-i.pending c.put.new.self (text_of (take c.loop-i.i c.args.report.now)) (spelling l ++ 10 ∷ []) h.text c.in-Ok.ensures.ok);
-      faults = omega (arith, h.faults, c.put.ensures.cause.later);
-      places = KeepsPlaces-more h.places k.same_files k.same_left k.same_begun k.same_faults;
+      text = subst (λ t. Flows (s c.args.desk.now).written (s c.put.new.desk).written [] c.put.new.self t) (sym (text_next c.args.report.now c.loop-i.i l c.line.ensures.line))
+          (flows_more (s c.args.desk.now).written (s c.loop-i.desk).written (s c.put.new.desk).written [] c.loop-i.pending c.put.new.self (text_of (take c.loop-i.i c.args.report.now)) (spelling l ++ 10 ∷ []) h.text c.in-Ok.ensures.ok);
+      only = OnlyWrites-more h.only c.put.ensures.only;
     }
 
-pub returns-in-Err-flush-clause-text : goal.returns-in-Err-flush-clause-text
-returns-in-Err-flush-clause-text g c =
-    let w = g.D.Desk.written in
+pub returns-in-Err-flush : goal.returns-in-Err-flush
+returns-in-Err-flush g c =
+    let s = g.D.Desk.state in
+    let h = c.loop-i.invariant in
+    let e = c.in-Err-flush.ensures.text in
     record {
-      ok = tt;
-      err = text_front (w c.args.desk.now) (w c.flush.new.desk) c.args.report.now c.loop-i.i
-          (flows_cut (w c.args.desk.now) (w c.loop-i.desk) (w c.flush.new.desk) c.loop-i.pending (text_of (take c.loop-i.i c.args.report.now)) c.loop-i.invariant.text c.in-Err-flush.ensures.text.err);
+      text = record {
+        ok = tt;
+        err = text_front (s c.args.desk.now).written (s c.flush.new.desk).written c.args.report.now c.loop-i.i
+            (flows_cut (s c.args.desk.now).written (s c.loop-i.desk).written (s c.flush.new.desk).written c.loop-i.pending (text_of (take c.loop-i.i c.args.report.now)) h.text e.text.err);
+      };
+      failed = omega (arith, e.failed, h.only.later);
+      only = OnlyWrites-more h.only e.only;
     }
