@@ -1,9 +1,9 @@
 //! Checking a report: each of its lines in turn, up to the first bad one.
 //! Which line is good next is known to the row of judges; this file knows of texts alone.
-ghost use Rattle.std.specs.Prelude.{◌≡◌, ◌≤◌, ◌<◌, ◌^◌, true, length};
-ghost use Rattle.shape_desk.specs.Desk.{KeepsPlace, KeepsOutput};
+ghost use Rattle.std.specs.Prelude.{◌≡◌, ◌<◌, ◌^◌, true, length};
+ghost use Rattle.shape_desk.specs.Desk.{OnlyReadsAt};
 ghost use Rattle.shape_desk.specs.Line.{IfTold, ahead_of};
-ghost use Rattle.shape_desk.specs.declared.desk.Place.TheVariants.{Picture, Report};
+ghost use Rattle.shape_desk.specs.declared.desk.Place.TheVariants.{Report};
 ghost use Rattle.shape_terms.specs.Pictures as Terms;
 ghost use Rattle.shape_check.specs.Checks.{Checks, TakesFew};
 
@@ -22,18 +22,15 @@ fn check_lines<P: Point, R: Row<P>, D: Desk>(
     reader: &mut LineReader,
     desk: &mut D,
 ) -> Result<Judgement, CheckFault>
-    requires begun { D.begun desk.old Report ≡ true }
+    requires begun { (D.state desk.old).begun Report ≡ true }
     requires few { R.room row < 2 ^ 62 }
     ensures answer { (X : Terms.Picture) → length X.sides ≡ P.DIM → R.waits X row
-        → Checks X (ahead_of reader.old.ahead (D.left desk.old Report))
-        (D.read_faults desk.old) (D.read_faults desk.new) result }
+        → Checks X (ahead_of reader.old.ahead ((D.state desk.old).left Report))
+        (D.state desk.old).read_faults (D.state desk.new).read_faults result }
     ensures taken { (X : Terms.Picture) → length X.sides ≡ P.DIM → R.waits X row
-        → IfTold (ahead_of reader.old.ahead (D.left desk.old Report))
-        (λ text. TakesFew X text (D.left desk.new Report)) }
-    ensures begun { D.begun desk.new Report ≡ true }
-    ensures later { D.read_faults desk.old ≤ D.read_faults desk.new }
-    ensures picture { KeepsPlace D.left D.begun Picture desk.old desk.new }
-    ensures output { KeepsOutput D.files D.written D.write_faults desk.old desk.new }
+        → IfTold (ahead_of reader.old.ahead ((D.state desk.old).left Report))
+        (λ text. TakesFew X text ((D.state desk.new).left Report)) }
+    ensures reads { OnlyReadsAt Report (D.state desk.old) (D.state desk.new) }
 {
     let mut line: u64 = 1;
     'lines: loop {
@@ -63,15 +60,12 @@ fn check<P: Point, R: Row<P>, D: Desk>(
     grid: &Grid<P>,
     desk: &mut D,
 ) -> Result<Judgement, CheckFault>
-    requires { D.begun desk.old Report ≡ true }
-    ensures answer { Checks grid.now (D.left desk.old Report)
-        (D.read_faults desk.old) (D.read_faults desk.new) result }
-    ensures taken { IfTold (D.left desk.old Report)
-        (λ text. TakesFew grid.now text (D.left desk.new Report)) }
-    ensures begun { D.begun desk.new Report ≡ true }
-    ensures later { D.read_faults desk.old ≤ D.read_faults desk.new }
-    ensures picture { KeepsPlace D.left D.begun Picture desk.old desk.new }
-    ensures output { KeepsOutput D.files D.written D.write_faults desk.old desk.new }
+    requires { (D.state desk.old).begun Report ≡ true }
+    ensures answer { Checks grid.now ((D.state desk.old).left Report)
+        (D.state desk.old).read_faults (D.state desk.new).read_faults result }
+    ensures taken { IfTold ((D.state desk.old).left Report)
+        (λ text. TakesFew grid.now text ((D.state desk.new).left Report)) }
+    ensures reads { OnlyReadsAt Report (D.state desk.old) (D.state desk.new) }
 {
     let _ = grid.sides();
     let Ok(row) = R::begin(alloc, grid) else {
@@ -94,15 +88,12 @@ pub fn check_flat<D: Desk>(
     grid: &Grid<P2>,
     desk: &mut D,
 ) -> Result<Judgement, CheckFault>
-    requires { D.begun desk.old Report ≡ true }
-    ensures answer { Checks grid.now (D.left desk.old Report)
-        (D.read_faults desk.old) (D.read_faults desk.new) result }
-    ensures taken { IfTold (D.left desk.old Report)
-        (λ text. TakesFew grid.now text (D.left desk.new Report)) }
-    ensures begun { D.begun desk.new Report ≡ true }
-    ensures later { D.read_faults desk.old ≤ D.read_faults desk.new }
-    ensures picture { KeepsPlace D.left D.begun Picture desk.old desk.new }
-    ensures output { KeepsOutput D.files D.written D.write_faults desk.old desk.new }
+    requires { (D.state desk.old).begun Report ≡ true }
+    ensures answer { Checks grid.now ((D.state desk.old).left Report)
+        (D.state desk.old).read_faults (D.state desk.new).read_faults result }
+    ensures taken { IfTold ((D.state desk.old).left Report)
+        (λ text. TakesFew grid.now text ((D.state desk.new).left Report)) }
+    ensures reads { OnlyReadsAt Report (D.state desk.old) (D.state desk.new) }
 {
     check::<P2, Flat, D>(alloc, grid, desk)
 }

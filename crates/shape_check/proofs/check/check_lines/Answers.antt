@@ -2,6 +2,7 @@ use Rattle.std.proofs.Common.{◌≡◌, false, refl, ◌∙◌, arith, []}
 use Rattle.std.specs.Prelude.{IsTrue}
 use Rattle.std.proofs.lemmas.List.Elements.{All-nil}
 use Rattle.shape_desk.specs.declared.desk.Place.TheVariants.{Report}
+use Rattle.shape_desk.proofs.Writes.{OnlyReadsAt-more}
 use Rattle.shape_desk.specs.Line.{IfTold, ahead_of}
 use Rattle.shape_report.specs.LineOf.{line_of}
 use Rattle.shape_check.specs.Next.{TakesClaim, IsBad}
@@ -22,9 +23,9 @@ lines-init g c = record {
 pub returns-then-not-take-clause-answer : goal.returns-then-not-take-clause-answer
 returns-then-not-take-clause-answer g c = λ X axes w.
     let inv = c.lines.invariant in
-    let text = ahead_of c.args.reader.now.ahead (g.D.Desk.left c.args.desk.now Report) in
-    let left = ahead_of c.lines.reader.ahead (g.D.Desk.left c.lines.desk Report) in
-    let new = ahead_of c.next_claim.new.reader.ahead (g.D.Desk.left c.next_claim.new.desk Report) in
+    let text = ahead_of c.args.reader.now.ahead ((g.D.Desk.state c.args.desk.now).left Report) in
+    let left = ahead_of c.lines.reader.ahead ((g.D.Desk.state c.lines.desk).left Report) in
+    let new = ahead_of c.next_claim.new.reader.ahead ((g.D.Desk.state c.next_claim.new.desk).left Report) in
     let l = line_of g.P.Point.coords c.in-Ok-Claim.claim in
     let taken : IfTold left (λ bytes. TakesClaim g.P.Point.DIM bytes new l) = rw c.in-Ok-Claim.field-0-is at c.in-Ok-Claim.ensures.answer in (
       record { some = inv.some; few = omega (arith, inv.few) },
@@ -38,34 +39,25 @@ lines-preserved g c =
     let inv = c.lines.invariant in
     let next = c.next_claim.ensures in
     let took = c.if-not-take.ensures in
-    let text = ahead_of c.args.reader.now.ahead (g.D.Desk.left c.args.desk.now Report) in
-    let left = ahead_of c.lines.reader.ahead (g.D.Desk.left c.lines.desk Report) in
-    let new = ahead_of c.next_claim.new.reader.ahead (g.D.Desk.left c.next_claim.new.desk Report) in
+    let text = ahead_of c.args.reader.now.ahead ((g.D.Desk.state c.args.desk.now).left Report) in
+    let left = ahead_of c.lines.reader.ahead ((g.D.Desk.state c.lines.desk).left Report) in
+    let new = ahead_of c.next_claim.new.reader.ahead ((g.D.Desk.state c.next_claim.new.desk).left Report) in
     let l = line_of g.P.Point.coords c.in-Ok-Claim.claim in
     let taken : IfTold left (λ bytes. TakesClaim g.P.Point.DIM bytes new l) = rw c.in-Ok-Claim.field-0-is at c.in-Ok-Claim.ensures.answer in
     record {
-      begun = next.begun;
+      begun = next.reads.still_begun;
       text = λ X axes w. if_told text (λ t h. one_more X t left (g.R.Judges.follows X c.lines.row) c.lines.line h g.P.Point.DIM l new (g.R.Judges.follows X c.take.new.self) axes taken (λ f.
           ((took.answer X h.lines f (λ good. omega (arith, g.met.R.Row.first))).0 refl, took.follows X h.lines f (λ good. omega (arith, g.met.R.Row.first))))) (inv.text X axes w);
       some = omega arith;
       few = omega (arith, inv.few, took.room);
-      later = omega (arith, inv.later, next.later);
-      picture = record {
-        same_left = next.picture.same_left ∙ inv.picture.same_left;
-        same_begun = next.picture.same_begun ∙ inv.picture.same_begun;
-      };
-      output = record {
-        same_files = next.output.same_files ∙ inv.output.same_files;
-        same_written = next.output.same_written ∙ inv.output.same_written;
-        same_faults = next.output.same_faults ∙ inv.output.same_faults;
-      };
+      reads = OnlyReadsAt-more inv.reads next.reads;
     }
 
 pub returns-in-Ok-Bad-clause-answer : goal.returns-in-Ok-Bad-clause-answer
 returns-in-Ok-Bad-clause-answer g c = λ X axes w.
     let inv = c.lines.invariant in
-    let text = ahead_of c.args.reader.now.ahead (g.D.Desk.left c.args.desk.now Report) in
-    let left = ahead_of c.lines.reader.ahead (g.D.Desk.left c.lines.desk Report) in
+    let text = ahead_of c.args.reader.now.ahead ((g.D.Desk.state c.args.desk.now).left Report) in
+    let left = ahead_of c.lines.reader.ahead ((g.D.Desk.state c.lines.desk).left Report) in
     let bad : IfTold left (IsBad g.P.Point.DIM) = rw c.in-Ok-Bad.field-0-is at c.in-Ok-Bad.ensures.answer in (
       record { some = inv.some; few = omega (arith, inv.few) },
       if_told text (λ t h. bad_line X t left (g.R.Judges.follows X c.lines.row) c.lines.line h g.P.Point.DIM axes bad) (inv.text X axes w),
@@ -74,8 +66,8 @@ returns-in-Ok-Bad-clause-answer g c = λ X axes w.
 pub returns-in-Ok-End-clause-answer : goal.returns-in-Ok-End-clause-answer
 returns-in-Ok-End-clause-answer g c = λ X axes w.
     let inv = c.lines.invariant in
-    let text = ahead_of c.args.reader.now.ahead (g.D.Desk.left c.args.desk.now Report) in
-    let left = ahead_of c.lines.reader.ahead (g.D.Desk.left c.lines.desk Report) in
+    let text = ahead_of c.args.reader.now.ahead ((g.D.Desk.state c.args.desk.now).left Report) in
+    let left = ahead_of c.lines.reader.ahead ((g.D.Desk.state c.lines.desk).left Report) in
     let end : IfTold left (λ bytes. bytes ≡ []) = rw c.in-Ok-End.field-0-is at c.in-Ok-End.ensures.answer in (
       record { some = inv.some; few = omega (arith, inv.few) },
       if_told text (λ t h. bad_at_end X t left (g.R.Judges.follows X c.lines.row) c.lines.line h (λ f e. let t : IsTrue false = (c.if-has_ended.ensures X h.lines f).1 e in cc) end) (inv.text X axes w),
