@@ -1,6 +1,6 @@
 //! The real desk: files of the system and standard output. It is the trusted edge of the program.
 //! It tells neither its files nor any bytes, so its contract is the trait's alone.
-ghost use Rattle.std.specs.Prelude.{◌≡◌, ◌≤◌, None, false, is_some, IfSome, length};
+ghost use Rattle.std.specs.Prelude.{◌≡◌, ◌<◌, ◌≤◌, ◌^◌, None, false, is_some, IfSome, length};
 ghost use Rattle.shape_desk.specs.Memory.{pick};
 
 use shape_desk::{Desk, Failed, Place};
@@ -15,6 +15,8 @@ pub struct HostDesk<'a, R: Files + Print> {
     report: Option<R::File>,
     read_faults: u64,
     write_faults: u64,
+    ghost reads_counted: { read_faults < 2 ^ 64 },
+    ghost writes_counted: { write_faults < 2 ^ 64 },
 }
 
 impl<'a, R: Files + Print> HostDesk<'a, R> {
@@ -55,19 +57,18 @@ fn read_next<F: Read + Drop>(file: &mut Option<F>, buf: &mut [u8]) -> Option<usi
 }
 
 impl<'a, R: Files + Print> Desk for HostDesk<'a, R> {
-    ghost files = { λ d. None };
-
-    ghost left = { λ d p. None };
-
-    ghost written = { λ d. None };
-
-    ghost begun = { λ d p. pick p (is_some d.picture) (is_some d.report) };
-
-    ghost read_faults = { λ d. d.read_faults };
-
-    ghost write_faults = { λ d. d.write_faults };
+    ghost state = { λ d. record {
+      files = None;
+      left = λ p. None;
+      begun = λ p. pick p (is_some d.picture) (is_some d.report);
+      written = None;
+      read_faults = d.read_faults;
+      write_faults = d.write_faults;
+    } };
 
     ghost tells_left = { λ d p tells _. tells };
+
+    ghost counts = { λ d. record { reads = d.reads_counted; writes = d.writes_counted } };
 
     fn begin(&mut self, place: Place, name: &[u8]) -> Result<(), Failed> {
         let file = open(self.rt, name);

@@ -1,9 +1,9 @@
 //! Checking a report: each of its lines in turn, up to the first bad one.
 //! Which line is good next is known to `progress`; this file knows of texts alone.
-ghost use Rattle.std.specs.Prelude.{◌≡◌, ◌≤◌, ◌<◌, ◌^◌, [], true, length};
-ghost use Rattle.shape_desk.specs.Desk.{KeepsPlace, KeepsOutput};
+ghost use Rattle.std.specs.Prelude.{◌≡◌, ◌<◌, ◌^◌, [], true, length};
+ghost use Rattle.shape_desk.specs.Desk.{OnlyReadsAt};
 ghost use Rattle.shape_desk.specs.Line.{ahead_of};
-ghost use Rattle.shape_desk.specs.declared.desk.Place.TheVariants.{Picture, Report};
+ghost use Rattle.shape_desk.specs.declared.desk.Place.TheVariants.{Report};
 ghost use Rattle.shape_check.specs.Follows.{Follows, lines_left};
 ghost use Rattle.shape_check.specs.Checks.{Checks};
 
@@ -24,15 +24,13 @@ fn check_lines<P: Point, J: OutlineJudge<P>, D: Desk>(
     reader: &mut LineReader,
     desk: &mut D,
 ) -> Result<Judgement, CheckFault>
-    requires begun { D.begun desk.old Report ≡ true }
+    requires begun { (D.state desk.old).begun Report ≡ true }
     requires axes { length progress.field.picture.sides ≡ P.DIM }
     requires first { Follows progress.stage progress.field (J.stands progress.field.picture progress.outline) [] }
     requires few { lines_left progress.stage progress.field (J.room progress.outline) < 2 ^ 62 }
-    ensures answer { Checks progress.field.picture (ahead_of reader.old.ahead (D.left desk.old Report)) (D.read_faults desk.old) (D.read_faults desk.new) result }
-    ensures begun { D.begun desk.new Report ≡ true }
-    ensures later { D.read_faults desk.old ≤ D.read_faults desk.new }
-    ensures picture { KeepsPlace D.left D.begun Picture desk.old desk.new }
-    ensures output { KeepsOutput D.files D.written D.write_faults desk.old desk.new }
+    ensures answer { Checks progress.field.picture (ahead_of reader.old.ahead ((D.state desk.old).left Report))
+        (D.state desk.old).read_faults (D.state desk.new).read_faults result }
+    ensures reads { OnlyReadsAt Report (D.state desk.old) (D.state desk.new) }
 {
     let mut line: u64 = 1;
     'lines: loop {
@@ -61,12 +59,10 @@ fn check<P: Pairing, J: OutlineJudge<P>, D: Desk>(
     grid: &Grid<P>,
     desk: &mut D,
 ) -> Result<Judgement, CheckFault>
-    requires { D.begun desk.old Report ≡ true }
-    ensures answer { Checks grid.now (D.left desk.old Report) (D.read_faults desk.old) (D.read_faults desk.new) result }
-    ensures begun { D.begun desk.new Report ≡ true }
-    ensures later { D.read_faults desk.old ≤ D.read_faults desk.new }
-    ensures picture { KeepsPlace D.left D.begun Picture desk.old desk.new }
-    ensures output { KeepsOutput D.files D.written D.write_faults desk.old desk.new }
+    requires { (D.state desk.old).begun Report ≡ true }
+    ensures answer { Checks grid.now ((D.state desk.old).left Report)
+        (D.state desk.old).read_faults (D.state desk.new).read_faults result }
+    ensures reads { OnlyReadsAt Report (D.state desk.old) (D.state desk.new) }
 {
     let _ = grid.sides();
     let Ok(progress) = Progress::<P, J>::new(alloc, grid) else {
@@ -88,12 +84,10 @@ pub fn check_flat<D: Desk>(
     grid: &Grid<P2>,
     desk: &mut D,
 ) -> Result<Judgement, CheckFault>
-    requires { D.begun desk.old Report ≡ true }
-    ensures answer { Checks grid.now (D.left desk.old Report) (D.read_faults desk.old) (D.read_faults desk.new) result }
-    ensures begun { D.begun desk.new Report ≡ true }
-    ensures later { D.read_faults desk.old ≤ D.read_faults desk.new }
-    ensures picture { KeepsPlace D.left D.begun Picture desk.old desk.new }
-    ensures output { KeepsOutput D.files D.written D.write_faults desk.old desk.new }
+    requires { (D.state desk.old).begun Report ≡ true }
+    ensures answer { Checks grid.now ((D.state desk.old).left Report)
+        (D.state desk.old).read_faults (D.state desk.new).read_faults result }
+    ensures reads { OnlyReadsAt Report (D.state desk.old) (D.state desk.new) }
 {
     check::<P2, CoverJudge, D>(alloc, grid, desk)
 }

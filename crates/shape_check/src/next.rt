@@ -1,9 +1,9 @@
 //! The next line of the report that is checked.
 //! A line that is too long, has no LF or is no line's spelling is bad whatever stands before it.
-ghost use Rattle.std.specs.Prelude.{◌≡◌, ◌≤◌, true};
-ghost use Rattle.shape_desk.specs.Desk.{KeepsPlace, KeepsOutput};
+ghost use Rattle.std.specs.Prelude.{◌≡◌, true};
+ghost use Rattle.shape_desk.specs.Desk.{OnlyReadsAt};
 ghost use Rattle.shape_desk.specs.Line.{ahead_of};
-ghost use Rattle.shape_desk.specs.declared.desk.Place.TheVariants.{Picture, Report};
+ghost use Rattle.shape_desk.specs.declared.desk.Place.TheVariants.{Report};
 ghost use Rattle.shape_check.specs.Next.{NextAnswer};
 
 use crate::answer::CheckFault;
@@ -27,12 +27,10 @@ pub(crate) fn next_claim<P: Point, D: Desk>(
     reader: &mut LineReader,
     desk: &mut D,
 ) -> Result<Next<P>, CheckFault>
-    requires { D.begun desk.old Report ≡ true }
-    ensures answer { NextAnswer P.DIM P.coords (ahead_of reader.old.ahead (D.left desk.old Report)) (ahead_of reader.new.ahead (D.left desk.new Report)) (D.read_faults desk.old) (D.read_faults desk.new) result }
-    ensures begun { D.begun desk.new Report ≡ true }
-    ensures later { D.read_faults desk.old ≤ D.read_faults desk.new }
-    ensures picture { KeepsPlace D.left D.begun Picture desk.old desk.new }
-    ensures output { KeepsOutput D.files D.written D.write_faults desk.old desk.new }
+    requires { (D.state desk.old).begun Report ≡ true }
+    ensures answer { NextAnswer P.DIM P.coords (ahead_of reader.old.ahead ((D.state desk.old).left Report)) (ahead_of reader.new.ahead ((D.state desk.new).left Report))
+        (D.state desk.old).read_faults (D.state desk.new).read_faults result }
+    ensures reads { OnlyReadsAt Report (D.state desk.old) (D.state desk.new) }
 {
     match reader.next_line(desk) {
         Ok(Some(_)) => match read_claim(reader.line()) {

@@ -5,14 +5,16 @@ use Rattle.std.specs.Prelude.{Option, None, Some, IsSome, MatchOption, Result, O
 use Rattle.shape_terms.specs.Pictures.{Picture}
 use Rattle.report_terms.specs.Holds.{Holds}
 use Rattle.report_terms.proofs.HoldsShows.{holds_shows}
-use Rattle.shape_desk.specs.Desk.{Files, Rose, IsAtFront}
+use Rattle.shape_desk.specs.Desk.{Files, DeskState, Rose, IsAtFront}
+use Rattle.shape_desk.specs.declared.desk.Place.TheVariants.{Report}
 use Rattle.shape_desk.specs.Line.{IfTold}
 use Rattle.shape_check.specs.Checks.{Checks}
 use Rattle.shape_check.specs.declared.answer.Judgement.{Judgement}
 use Rattle.shape_check.specs.declared.answer.Judgement.TheVariants as judgement
 use Rattle.shape_check.specs.declared.answer.CheckFault.{CheckFault}
 use Rattle.shape_check.specs.declared.answer.CheckFault.TheVariants as check
-use Rattle.shape_cli.specs.Runs.{OfFile, Judged}
+use Rattle.shape_cli.specs.Runs.{OfFile}
+use Rattle.shape_cli.specs.Parts.{Judged}
 
 -- what holds of the bytes left where they are told holds of the file
 pub of_file : (files : Option Files) (name : List ℕ) (left : Option (List ℕ)) (P : List ℕ → Type 0) → IsAtFront files name left → IfTold left P → OfFile files name P
@@ -23,7 +25,7 @@ of_file (Some files) name None P a h = absurd (none a.1)
     none s = cc
 of_file (Some files) name (Some bytes) P a h = subst (λ (o : Option (List ℕ)). MatchOption o ⊥ P) a.0 h
 
-rose_earlier : (before middle now : ℕ) → before ≤ middle → Rose middle now → Rose before now
+pub rose_earlier : (before middle now : ℕ) → before ≤ middle → Rose middle now → Rose before now
 rose_earlier before middle now l h = omega arith
 
 -- what is left at a place holds more weakly
@@ -31,8 +33,8 @@ pub weaker : (left : Option (List ℕ)) (P Q : List ℕ → Type 0) → ((bytes 
 weaker None P Q f h = tt
 weaker (Some bytes) P Q f h = f bytes h
 
-pub judged : (X : Picture) (files : Option Files) (report : List ℕ) (left : Option (List ℕ)) (before middle now : ℕ) (r : Result Judgement CheckFault) → IsAtFront files report left → before ≤ middle → Checks X left middle now r → Judged X files report before now r
-judged X files report left before middle now (Ok judgement.Yes) a l h = (tt, of_file files report left _ a (weaker left (Holds X) _ (λ bytes k. (k, holds_shows X bytes k)) h))
-judged X files report left before middle now (Ok (judgement.No k)) a l h = (h.0, of_file files report left _ a h.1)
-judged X files report left before middle now (Err check.ReadFault) a l h = inl (rose_earlier before middle now l h)
-judged X files report left before middle now (Err check.NoMemory) a l h = tt
+pub judged : (X : Picture) (report : List ℕ) (old mid new : DeskState) (r : Result Judgement CheckFault) → IsAtFront old.files report (mid.left Report) → old.read_faults ≤ mid.read_faults → Checks X (mid.left Report) mid.read_faults new.read_faults r → Judged X report old new r
+judged X report old mid new (Ok judgement.Yes) a l h = (tt, of_file old.files report (mid.left Report) _ a (weaker (mid.left Report) (Holds X) _ (λ bytes k. (k, holds_shows X bytes k)) h))
+judged X report old mid new (Ok (judgement.No k)) a l h = (h.0, of_file old.files report (mid.left Report) _ a h.1)
+judged X report old mid new (Err check.ReadFault) a l h = inl (rose_earlier old.read_faults mid.read_faults new.read_faults l h)
+judged X report old mid new (Err check.NoMemory) a l h = tt

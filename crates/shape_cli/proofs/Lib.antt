@@ -1,2 +1,6 @@
 pub mod Files
-pub mod Refusals
+pub mod Endings
+pub mod Sources
+pub mod OneCommand
+pub mod Complete
+pub mod Landed

@@ -1,29 +1,66 @@
--- The commands of the program and their words.
--- A further command is a constructor, its words, and its place in `IsNoForm`.
-use Rattle.std.specs.Prelude.{◌≡◌, ℕ, List, [], ◌∷◌, codes, ⊤}
+-- The commands of the program and their words: what is asked for, times where the picture is read.
+-- A further source or command is a constructor and its words.
+use Rattle.std.specs.Prelude.{◌≡◌, ◌++◌, ℕ, List, [], ◌∷◌, codes, map, ⊤}
+use Rattle.std.specs.declared.vec.Vec.{Vec}
+use Rattle.shape_cli.specs.declared.words.Source.{Source as ProgramSource}
+use Rattle.shape_cli.specs.declared.words.Source.TheVariants as source
 use Rattle.shape_cli.specs.declared.words.Command.{Command}
 use Rattle.shape_cli.specs.declared.words.Command.TheVariants as command
 
--- a command: the analysis of a flat picture with a rule, or the check of a report of it
+-- where a picture is read: a plain PBM in a file
+pub data Source : Type 0 where
+  Pbm : (file : List ℕ) → Source
+
+-- a command: the analysis of a picture with a rule, or the check of a report of it
 pub data Asked : Type 0 where
-  AnalyseFlat : (file rule : List ℕ) → Asked
-  CheckFlat : (file report : List ℕ) → Asked
+  Analyse : (source : Source) → (rule : List ℕ) → Asked
+  Check : (source : Source) → (report : List ℕ) → Asked
+
+-- the file of a source
+abbrev pub file_of : Source → List ℕ
+file_of (Source.Pbm file) = file
+
+-- the source of a command
+abbrev pub source_of : Asked → Source
+source_of (Asked.Analyse source rule) = source
+source_of (Asked.Check source report) = source
+
+-- the words of a source
+abbrev pub source_words : Source → List (List ℕ)
+source_words (Source.Pbm file) = codes "pbm" ∷ file ∷ []
 
 -- the one spelling of a command
 abbrev pub words_of : Asked → List (List ℕ)
-words_of (Asked.AnalyseFlat file rule) = codes "analyse" ∷ codes "pbm" ∷ file ∷ rule ∷ []
-words_of (Asked.CheckFlat file report) = codes "check" ∷ codes "pbm" ∷ file ∷ report ∷ []
+words_of (Asked.Analyse source rule) = codes "analyse" ∷ (source_words source ++ rule ∷ [])
+words_of (Asked.Check source report) = codes "check" ∷ (source_words source ++ report ∷ [])
 
 -- the rule of a command is one that there is
 abbrev pub IsInRange : Asked → Type 0
-IsInRange (Asked.AnalyseFlat file rule) = rule ≡ codes "none"
-IsInRange (Asked.CheckFlat file report) = ⊤
+IsInRange (Asked.Analyse source rule) = rule ≡ codes "none"
+IsInRange (Asked.Check source report) = ⊤
 
 -- the words spell no command
 abbrev pub IsNoForm : List (List ℕ) → Type 0
 IsNoForm words = (c : Asked) → IsInRange c → words ≡ words_of c → ⊥
 
--- what a command of the program asks for
-abbrev pub command_of : Command → Asked
-command_of (command.Analyse file) = Asked.AnalyseFlat file.now (codes "none")
-command_of (command.Check file report) = Asked.CheckFlat file.now report.now
+-- the words spell a command of which something holds
+pub record Asks (words : List (List ℕ)) (P : Asked → Type 0) : Type 0 where
+  pub command : Asked
+  pub in_range : IsInRange command
+  pub spelled : words ≡ words_of command
+  pub holds : P command
+
+-- ---- the program's own
+
+-- the bytes of the words of a command line
+abbrev pub texts : {Z : Type 0} → List (Vec ℕ Z) → List (List ℕ)
+texts words = map (λ w. w.items) words
+
+-- the source that the program reads
+abbrev pub read_source : ProgramSource → Source
+read_source (source.Pbm file) = Source.Pbm file.now
+
+-- the command that the program does
+abbrev pub read_command : Command → Asked
+read_command (command.Analyse source) = Asked.Analyse (read_source source) (codes "none")
+read_command (command.Check source report) = Asked.Check (read_source source) report.now

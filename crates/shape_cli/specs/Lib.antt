@@ -1,3 +1,6 @@
 pub mod Outcomes
 pub mod Commands
 pub mod Runs
+pub mod Parts
+pub mod Complete
+pub mod Landed

@@ -3,12 +3,14 @@
 #![tactic(auto)]
 
 mod analysis;
+mod laws;
 mod outcome;
 mod picture;
 mod top;
 mod verdict;
 mod words;
 
+pub use laws::{outcomes_speak, runs_are_complete, verdicts_are_right, words_are_of_one_command};
 pub use outcome::Outcome;
 pub use top::run;
 

@@ -218,63 +218,72 @@ fn a_failed_write(rt: HostRuntime) -> Result<(), Fail> {
 }
 
 #[test]
+fn a_segment_left_out(rt: HostRuntime) -> Result<(), Fail> {
+    let alloc = rt.alloc();
+    let picture = b"P1 2 2 1111".as_slice();
+    let mut desk = desk(alloc, picture, &[], &[])?;
+    let words = words(alloc, "analyse pbm a.pbm none")?;
+    assert_eq!(rt; run(alloc, &words, &mut desk), Outcome::Done);
+    let mut report = Vec::new(alloc);
+    for line in desk.output().split(|&c| c == b'\n') {
+        if !line.is_empty() && !line.starts_with(b"seg 1 2 ") {
+            report.extend_from_slice(line)?;
+            report.push(b'\n')?;
+        }
+    }
+    let want = Outcome::No { line: 15 };
+    assert_eq!(rt; checked(alloc, picture, &report)?, want);
+    Ok(())
+}
+
+#[test]
+fn refused_files(rt: HostRuntime) -> Result<(), Fail> {
+    let alloc = rt.alloc();
+    let table = [
+        (b"".as_slice(), PictureFault::Short { at: 0 }),
+        (b"P1 3 1 1 0".as_slice(), PictureFault::Short { at: 10 }),
+        (b"P1 1 1 a".as_slice(), PictureFault::BadByte { at: 7 }),
+        (b"P1 0 1 1".as_slice(), PictureFault::ZeroSide),
+        (
+            b"P1 1025 1 1".as_slice(),
+            PictureFault::SideTooLarge { value: 1025 },
+        ),
+        (b"P4 1 1 x".as_slice(), PictureFault::NotPlain),
+        (b"P1 2x2 1".as_slice(), PictureFault::BadNumber { at: 4 }),
+    ];
+    for (bytes, fault) in table {
+        for line in ["analyse pbm a.pbm none", "check pbm a.pbm a.pbm"] {
+            let mut desk = desk(alloc, bytes, &[], &[])?;
+            let outcome = run(alloc, &words(alloc, line)?, &mut desk);
+            assert_eq!(rt; outcome, Outcome::Picture(fault));
+            assert_eq!(rt; desk.output().len(), 0);
+        }
+    }
+    Ok(())
+}
+
+#[test]
 fn refusals(rt: HostRuntime) -> Result<(), Fail> {
     let alloc = rt.alloc();
     let one = b"P1 1 1 1".as_slice();
-    let plain = "analyse pbm a.pbm none";
     let table = [
-        (
-            plain,
-            b"".as_slice(),
-            Outcome::Picture(PictureFault::Short { at: 0 }),
-        ),
-        (
-            plain,
-            b"P1 3 1 1 0".as_slice(),
-            Outcome::Picture(PictureFault::Short { at: 10 }),
-        ),
-        (
-            plain,
-            b"P1 1 1 a".as_slice(),
-            Outcome::Picture(PictureFault::BadByte { at: 7 }),
-        ),
-        (
-            plain,
-            b"P1 0 1 1".as_slice(),
-            Outcome::Picture(PictureFault::ZeroSide),
-        ),
-        (
-            plain,
-            b"P1 1025 1 1".as_slice(),
-            Outcome::Picture(PictureFault::SideTooLarge { value: 1025 }),
-        ),
-        (
-            plain,
-            b"P4 1 1 x".as_slice(),
-            Outcome::Picture(PictureFault::NotPlain),
-        ),
-        (
-            plain,
-            b"P1 2x2 1".as_slice(),
-            Outcome::Picture(PictureFault::BadNumber { at: 4 }),
-        ),
-        ("analyse pbm nofile none", one, Outcome::ReadFault),
-        ("check pbm nofile a.pbm", one, Outcome::ReadFault),
-        ("check pbm a.pbm nofile", one, Outcome::ReadFault),
-        ("check pbm a.pbm", one, Outcome::Usage),
-        ("analyse pbm a.pbm zzz", one, Outcome::Usage),
-        ("analyse raw 0 2 2 a none", one, Outcome::Usage),
-        ("trial pbm 01 4", one, Outcome::Usage),
-        ("", one, Outcome::Usage),
+        ("analyse pbm nofile none", Outcome::ReadFault),
+        ("check pbm nofile a.pbm", Outcome::ReadFault),
+        ("check pbm a.pbm nofile", Outcome::ReadFault),
+        ("check pbm a.pbm", Outcome::Usage),
+        ("analyse pbm a.pbm zzz", Outcome::Usage),
+        ("analyse raw 0 2 2 a none", Outcome::Usage),
+        ("trial pbm 01 4", Outcome::Usage),
+        ("", Outcome::Usage),
     ];
-    for (line, bytes, outcome) in table {
-        let mut desk = desk(alloc, bytes, &[], &[])?;
+    for (line, outcome) in table {
+        let mut desk = desk(alloc, one, &[], &[])?;
         assert_eq!(rt; run(alloc, &words(alloc, line)?, &mut desk), outcome);
         assert_eq!(rt; desk.output().len(), 0);
     }
     let mut desk = desk(alloc, one, &[2], &[])?;
     assert_eq!(rt;
-        run(alloc, &words(alloc, plain)?, &mut desk),
+        run(alloc, &words(alloc, "analyse pbm a.pbm none")?, &mut desk),
         Outcome::ReadFault
     );
     Ok(())

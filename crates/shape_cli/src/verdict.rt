@@ -1,16 +1,15 @@
 //! The command `check`: the picture, then the report, then the verdict line.
 //! The report is judged line by line; nothing of it is kept.
-ghost use Rattle.std.specs.Prelude.{◌≡◌, ◌≤◌, ◌⊎◌, ℕ, length, take, ⊤};
-ghost use Rattle.shape_desk.specs.Desk.{Rose, IsMissing, PutsText, HasCause, KeepsOutput, KeepsPlaces};
-ghost use Rattle.shape_picture.specs.Plain.{PlainFault};
-ghost use Rattle.shape_picture.specs.Answers.{most_side, most_bytes, SpellsSome};
-ghost use Rattle.shape_picture.specs.declared.fault.PictureFault.{PictureFault};
-ghost use Rattle.shape_check.specs.declared.answer.Judgement.TheVariants as judgement;
-ghost use Rattle.shape_cli.specs.Runs.{FileIs, RefusesPicture, Judged, IsCounted, verdict_text, GaveVerdict, CutVerdict, LacksReport, IsSilent, IsRefused, IsJudged};
+ghost use Rattle.std.specs.Prelude.{◌≡◌, ◌≤◌, length, take};
+ghost use Rattle.shape_desk.specs.Desk.{OnlyReads, WritesText};
+ghost use Rattle.shape_cli.specs.Commands.{Asked, read_source};
 ghost use Rattle.shape_cli.specs.Outcomes.{outcome_of};
+ghost use Rattle.shape_cli.specs.Parts.{Judged, IsCounted, verdict_text};
+ghost use Rattle.shape_cli.specs.Runs.{Ran, KeepsFiles};
 
 use crate::outcome::{Outcome, refused};
 use crate::picture::open_picture;
+use crate::words::Source;
 use shape_check::{CheckFault, Judgement, check_flat};
 use shape_desk::{Desk, Failed, Place, put_all, put_number, put_word};
 use shape_grid::Grid;
@@ -24,9 +23,8 @@ fn judge<D: Desk>(
     report: &[u8],
     desk: &mut D,
 ) -> Result<Judgement, CheckFault>
-    ensures judged { Judged grid.now (D.files desk.old) report.now (D.read_faults desk.old) (D.read_faults desk.new) result }
-    ensures later { D.read_faults desk.old ≤ D.read_faults desk.new }
-    ensures output { KeepsOutput D.files D.written D.write_faults desk.old desk.new }
+    ensures judged { Judged grid.now report.now (D.state desk.old) (D.state desk.new) result }
+    ensures only { OnlyReads (D.state desk.old) (D.state desk.new) }
 {
     match desk.begin(Place::Report, report) {
         Ok(()) => check_flat(alloc, grid, desk),
@@ -54,9 +52,7 @@ fn put_verdict(verdict: Judgement, buf: &mut [u8]) -> usize
 // Writes the verdict line.
 fn write_verdict<D: Desk>(verdict: Judgement, desk: &mut D) -> Result<(), Failed>
     requires { IsCounted verdict }
-    ensures text { PutsText (D.written desk.old) (D.written desk.new) result (verdict_text verdict) }
-    ensures cause { HasCause (D.write_faults desk.old) (D.write_faults desk.new) result }
-    ensures places { KeepsPlaces D.files D.left D.begun D.read_faults desk.old desk.new }
+    ensures { WritesText (verdict_text verdict) (D.state desk.old) (D.state desk.new) result }
 {
     let mut buf = [0; 32];
     let len = put_verdict(verdict, &mut buf);
@@ -73,28 +69,18 @@ fn given(verdict: Judgement) -> Outcome
     }
 }
 
-// Checks the report in a file against the picture in another.
+// Checks the report in a file against the picture at a source.
 pub(crate) fn check_file<D: Desk>(
     alloc: Global,
-    file: &[u8],
+    source: Source<'_>,
     report: &[u8],
     desk: &mut D,
 ) -> Outcome
-    ensures form { result ≡ Outcome.Usage → ⊥ }
-    ensures analysed { result ≡ Outcome.Done → ⊥ }
-    ensures picture { RefusesPicture (D.files desk.old) file.now result }
-    ensures read_fault { result ≡ Outcome.ReadFault → Rose (D.read_faults desk.old) (D.read_faults desk.new) ⊎ (IsMissing (D.files desk.old) file.now ⊎ LacksReport (D.files desk.old) file.now report.now) }
-    ensures write_fault { result ≡ Outcome.WriteFault → CutVerdict (D.files desk.old) file.now report.now (D.written desk.old) (D.written desk.new) (D.write_faults desk.old) (D.write_faults desk.new) }
-    ensures yes { result ≡ Outcome.Yes → GaveVerdict (D.files desk.old) file.now report.now (D.written desk.old) (D.written desk.new) judgement.Yes }
-    ensures no { (k : ℕ) → result ≡ Outcome.No k → GaveVerdict (D.files desk.old) file.now report.now (D.written desk.old) (D.written desk.new) (judgement.No k) }
-    ensures complete { FileIs (D.files desk.old) file.now (SpellsSome most_side most_bytes) → FileIs (D.files desk.old) report.now (λ _. ⊤) → (Rose (D.read_faults desk.old) (D.read_faults desk.new) → ⊥) → (Rose (D.write_faults desk.old) (D.write_faults desk.new) → ⊥) → IsJudged result }
-    ensures refused { (f : PictureFault) → FileIs (D.files desk.old) file.now (λ bytes. PlainFault most_side most_bytes bytes f) → (Rose (D.read_faults desk.old) (D.read_faults desk.new) → ⊥) → IsRefused f result }
-    ensures silent { IsSilent result → D.written desk.new ≡ D.written desk.old }
-    ensures files { D.files desk.new ≡ D.files desk.old }
-    ensures read_later { D.read_faults desk.old ≤ D.read_faults desk.new }
-    ensures write_later { D.write_faults desk.old ≤ D.write_faults desk.new }
+    ensures ran { Ran (Asked.Check (read_source source.entry) report.now)
+        (D.state desk.old) (D.state desk.new) result }
+    ensures kept { KeepsFiles (D.state desk.old) (D.state desk.new) }
 {
-    let grid = match open_picture(alloc, file, desk) {
+    let grid = match open_picture(alloc, source, desk) {
         Ok(grid) => grid,
         Err(error) => return refused(error),
     };

@@ -1,8 +1,6 @@
 //! Counting the calls of a desk in memory, and choosing which of them fail.
 //! Both counts stay at their type's end; how a call is chosen may be changed here.
-ghost use Rattle.std.specs.Prelude.{◌≡◌, ◌≤◌, ◌||◌};
-ghost use Rattle.shape_desk.specs.Memory.{CallCount, next_is_bad, after_call};
-ghost use Rattle.shape_desk.specs.Calls.{count_of};
+ghost use Rattle.std.specs.Prelude.{◌≡◌, ◌<◌, ◌≤◌, ◌^◌, ◌||◌};
 
 /// The calls of one kind.
 #[derive(Drop)]
@@ -13,9 +11,13 @@ pub struct Calls {
     pub made: u64,
     /// How many calls failed.
     pub faults: u64,
+    ghost counted: { faults < 2 ^ 64 },
 }
 
 impl Calls {
+    ghost use Rattle.shape_desk.specs.Memory.{next_is_bad, after_call};
+    ghost use Rattle.shape_desk.specs.Calls.{count_of};
+
     /// No call yet.
     pub fn new(bad: Vec<u64>) -> Calls
         ensures { count_of result ≡ record { bad = bad.items; made = 0; faults = 0 } }

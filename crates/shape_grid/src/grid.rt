@@ -1,6 +1,6 @@
 //! The grid: one truth value a point, in raster order, and the number of those that are true.
 //! Another way of keeping the values changes nothing outside this file.
-ghost use Rattle.std.specs.Prelude.{◌≡◌, ◌+◌, ◌<◌, ◌≤◌, ◌^◌, [], ◌∷◌, IfOk, IfSome, MatchOption, IsTrue, All, true, false, length};
+ghost use Rattle.std.specs.Prelude.{◌≡◌, ◌+◌, ◌<◌, ◌≤◌, ◌^◌, [], ◌∷◌, IfOk, IfSome, MatchOption, IsTrue, All, true, false, length, slice_set};
 ghost use Rattle.std.specs.Iterator.{YieldsFirstBy, item_count};
 ghost use Rattle.shape_terms.specs.Points.{AreSides, sides_of, in_box, box_count, raster_point};
 ghost use Rattle.shape_terms.specs.Pictures.{IsPicture, at, blank, with_value, object_points, objects_from};
@@ -92,7 +92,16 @@ impl<P: Point> Grid<P> {
         requires { IsTrue (in_box self.old.sides (P.coords p)) }
         ensures { self.new ≡ with_value self.old (P.coords p) true }
     {
-        let i = self.sides.raster(p) as usize;
+        let i = self.sides.raster(p);
+        self.set_number(i);
+    }
+
+    /// Makes the point with a raster number an object point.
+    pub fn set_number(&mut self, i: u32)
+        requires { i < box_count self.old.sides }
+        ensures { self.new ≡ record { sides = self.old.sides; values = slice_set self.old.values i true } }
+    {
+        let i = i as usize;
         if !self.values[i] {
             self.values[i] = true;
             self.objects += 1;

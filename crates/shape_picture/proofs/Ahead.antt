@@ -1,11 +1,9 @@
--- Bytes that were read ahead, and what calls that only read leave alone.
+-- Bytes that were read ahead.
 -- Facts of lists and of the desk's words; nothing here knows of pictures.
-use Rattle.std.proofs.Common.{◌≡◌, ℕ, suc, ◌+◌, ◌-◌, ◌<◌, Bool, List, [], ◌∷◌, ◌++◌, length, get_or, take, drop, Option, None, Some, refl, sym, ap, ◌∙◌, arith}
+use Rattle.std.proofs.Common.{◌≡◌, ℕ, suc, ◌+◌, ◌-◌, ◌<◌, List, [], ◌∷◌, ◌++◌, length, get_or, take, drop, Option, None, Some, refl, sym, ap, ◌∙◌, arith}
 use Rattle.std.proofs.lemmas.List.{append_assoc, drop_more}
-use Rattle.shape_desk.specs.declared.desk.Place.{Place}
-use Rattle.shape_desk.specs.Desk.{Files, Takes}
+use Rattle.shape_desk.specs.Desk.{Takes}
 use Rattle.shape_desk.specs.Line.{ahead_of}
-use Rattle.shape_picture.specs.Answers.{OnlyReads}
 
 -- taking no byte
 pub Takes-none : (a : Option (List ℕ)) → Takes a a []
@@ -42,19 +40,3 @@ pub cut_first : (buf : List ℕ) (i k c : ℕ) → i < k → i < length buf → 
 cut_first buf i k c l m e =
     let n : k - i ≡ suc (k - (i + 1)) = omega arith in
     rw (n, drop_more buf i c m) (ap (λ (x : ℕ). x ∷ take (k - (i + 1)) (drop (i + 1) buf)) (sym e))
-
--- two calls that only read are one
-pub OnlyReads-more : {D : Type 0} {files : D → Option Files} {left : D → Place → Option (List ℕ)} {written : D → Option (List ℕ)} {begun : D → Place → Bool} {reads writes : D → ℕ} {a b c : D} → OnlyReads files left written begun reads writes a b → OnlyReads files left written begun reads writes b c → OnlyReads files left written begun reads writes a c
-OnlyReads-more p q = record {
-  still_begun = q.still_begun;
-  later = omega (arith, p.later, q.later);
-  report = record {
-    same_left = q.report.same_left ∙ p.report.same_left;
-    same_begun = q.report.same_begun ∙ p.report.same_begun;
-  };
-  output = record {
-    same_files = q.output.same_files ∙ p.output.same_files;
-    same_written = q.output.same_written ∙ p.output.same_written;
-    same_faults = q.output.same_faults ∙ p.output.same_faults;
-  };
-}

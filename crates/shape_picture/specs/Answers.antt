@@ -1,10 +1,8 @@
 -- What a reader of plain PBM answers, and what it leaves of the desk: all that its callers have to read beside `Plain`.
 -- The words of the reader's parts stand in `Bytes`, `Header`, `Raster` and `Parts`.
-use Rattle.std.specs.Prelude.{◌≡◌, ℕ, ◌≤◌, ◌^◌, Bool, true, List, length, Option, Result, Ok, Err, ⊤}
+use Rattle.std.specs.Prelude.{ℕ, ◌≤◌, ◌^◌, List, length, Option, Result, Ok, Err, ⊤}
 use Rattle.shape_terms.specs.Pictures.{Picture}
-use Rattle.shape_desk.specs.declared.desk.Place.{Place}
-use Rattle.shape_desk.specs.declared.desk.Place.TheVariants as place
-use Rattle.shape_desk.specs.Desk.{Files, Rose, Takes, KeepsOutput, KeepsPlace}
+use Rattle.shape_desk.specs.Desk.{Rose, Takes}
 use Rattle.shape_desk.specs.Line.{IfTold}
 use Rattle.shape_picture.specs.declared.fault.PictureFault.{PictureFault}
 use Rattle.shape_picture.specs.declared.fault.PictureError.{PictureError}
@@ -36,13 +34,6 @@ abbrev pub HasFault : ℕ → ℕ → List ℕ → Type 0
 HasFault limit longest bytes = (f : PictureFault) × PlainFault limit longest bytes f
 
 -- ---- the desk
-
--- a call read the picture's place alone: it is still begun, and the other place, the files and the output are as they were
-pub record OnlyReads {D : Type 0} (files : D → Option Files) (left : D → Place → Option (List ℕ)) (written : D → Option (List ℕ)) (begun : D → Place → Bool) (read_faults write_faults : D → ℕ) (old new : D) : Type 0 where
-  pub still_begun : begun new place.Picture ≡ true
-  pub later : read_faults old ≤ read_faults new
-  pub report : KeepsPlace left begun place.Report old new
-  pub output : KeepsOutput files written write_faults old new
 
 -- at most so many bytes were taken from those left, also those that were read ahead
 pub record TakesAtMost (longest : ℕ) (old new : Option (List ℕ)) : Type 0 where

@@ -1,10 +1,9 @@
 //! Bytes of the picture's place, taken one by one and read ahead in pieces.
 //! Never more bytes are read than the caller still wants; the size of a piece is this file's own.
 ghost use Rattle.std.specs.Prelude.{◌≡◌, ◌+◌, ◌-◌, ◌≤◌, max, [], ◌∷◌, true, length, take, drop, IfOk, OnOk, OnErr, MatchResult, MatchOption, option_to_list};
-ghost use Rattle.shape_desk.specs.Desk.{Rose, Takes, IsEnd};
+ghost use Rattle.shape_desk.specs.Desk.{Rose, IsEnd, Reads, OnlyReadsAt};
 ghost use Rattle.shape_desk.specs.Line.{ahead_of};
 ghost use Rattle.shape_desk.specs.declared.desk.Place.TheVariants.{Picture};
-ghost use Rattle.shape_picture.specs.Answers.{OnlyReads};
 ghost use Rattle.shape_picture.specs.Bytes.{NextByte};
 
 use shape_desk::{Desk, Failed, Place};
@@ -34,15 +33,10 @@ impl Model for ByteReader {
 fn fill<D: Desk>(buf: &mut [u8], desk: &mut D, most: u64) -> Result<usize, Failed>
     requires size { length buf.old ≡ 512 }
     requires most { 1 ≤ most }
-    requires begun { D.begun desk.old Picture ≡ true }
+    requires begun { (D.state desk.old).begun Picture ≡ true }
     ensures size { length buf.new ≡ 512 }
-    ensures count { IfOk result (λ n. (n ≤ 512) × (n ≤ most)) }
-    ensures taken { IfOk result (λ n. Takes (D.left desk.old Picture) (D.left desk.new Picture) (take n buf.new)) }
-    ensures end { IfOk result (λ n. n ≡ 0 → IsEnd (D.left desk.old Picture)) }
-    ensures cause { OnErr result (Rose (D.read_faults desk.old) (D.read_faults desk.new)) }
-    ensures kept { OnErr result (D.left desk.new Picture ≡ D.left desk.old Picture) }
-    ensures reads { OnlyReads D.files D.left D.written D.begun D.read_faults D.write_faults
-        desk.old desk.new }
+    ensures few { IfOk result (λ n. n ≤ most) }
+    ensures answer { Reads Picture (D.state desk.old) (D.state desk.new) result buf.new }
 {
     let want = most.min(512) as usize;
     desk.read(Place::Picture, &mut buf[..want])
@@ -66,13 +60,14 @@ impl ByteReader {
     // Reads bytes ahead where there are none.
     fn refill<D: Desk>(&mut self, desk: &mut D, most: u64) -> Result<(), Failed>
         requires most { 1 ≤ most }
-        requires begun { D.begun desk.old Picture ≡ true }
-        ensures same { ahead_of self.new (D.left desk.new Picture) ≡ ahead_of self.old (D.left desk.old Picture) }
-        ensures end { OnOk result (self.new ≡ [] → IsEnd (D.left desk.new Picture)) }
-        ensures cause { OnErr result (Rose (D.read_faults desk.old) (D.read_faults desk.new)) }
+        requires begun { (D.state desk.old).begun Picture ≡ true }
+        ensures same { ahead_of self.new ((D.state desk.new).left Picture)
+            ≡ ahead_of self.old ((D.state desk.old).left Picture) }
+        ensures end { OnOk result (self.new ≡ [] → IsEnd ((D.state desk.new).left Picture)) }
+        ensures cause { OnErr result
+            (Rose (D.state desk.old).read_faults (D.state desk.new).read_faults) }
         ensures room { length self.new ≤ max (length self.old) most }
-        ensures reads { OnlyReads D.files D.left D.written D.begun D.read_faults D.write_faults
-            desk.old desk.new }
+        ensures reads { OnlyReadsAt Picture (D.state desk.old) (D.state desk.new) }
     {
         if self.start < self.end {
             return Ok(());
@@ -89,7 +84,8 @@ impl ByteReader {
 
     // Takes the next of the bytes that were read ahead.
     fn pop(&mut self) -> Option<u8>
-        ensures { MatchOption result ((self.old ≡ []) × (self.new ≡ [])) (λ c. self.old ≡ c ∷ self.new) }
+        ensures { MatchOption result ((self.old ≡ []) × (self.new ≡ []))
+            (λ c. self.old ≡ c ∷ self.new) }
     {
         if self.start < self.end {
             let c = self.buf[self.start];
@@ -103,15 +99,15 @@ impl ByteReader {
     /// Takes the next byte; none is left at the end of the file. At most `most` bytes are then ahead, unless more were before.
     pub fn next<D: Desk>(&mut self, desk: &mut D, most: u64) -> Result<Option<u8>, Failed>
         requires most { 1 ≤ most }
-        requires begun { D.begun desk.old Picture ≡ true }
+        requires begun { (D.state desk.old).begun Picture ≡ true }
         ensures next { NextByte
-            (ahead_of self.old (D.left desk.old Picture)) (ahead_of self.new (D.left desk.new Picture))
-            (D.read_faults desk.old) (D.read_faults desk.new) result }
+            (ahead_of self.old ((D.state desk.old).left Picture))
+            (ahead_of self.new ((D.state desk.new).left Picture))
+            (D.state desk.old).read_faults (D.state desk.new).read_faults result }
         ensures room { MatchResult result
             (λ o. length self.new + length (option_to_list o) ≤ max (length self.old) most)
             (λ _. length self.new ≤ max (length self.old) most) }
-        ensures reads { OnlyReads D.files D.left D.written D.begun D.read_faults D.write_faults
-            desk.old desk.new }
+        ensures reads { OnlyReadsAt Picture (D.state desk.old) (D.state desk.new) }
     {
         match self.refill(desk, most) {
             Ok(()) => Ok(self.pop()),

@@ -12,3 +12,6 @@ mod raster;
 pub use fault::{PictureError, PictureFault};
 pub use laws::one_answer;
 pub use plain::{MOST_BYTES, MOST_SIDE, read_plain};
+
+#[cfg(test)]
+mod tests;

@@ -42,10 +42,10 @@ pub fn piece_at(comment: bool, count: u32, at: u64, c: u8) -> Result<Piece, Pict
 pub fn put<P: Point>(grid: &mut Grid<P>, i: u32, object: bool)
     requires { i < box_count grid.old.sides }
     ensures sides { grid.new.sides ≡ grid.old.sides }
-    ensures values { grid.new.values ≡ (if object then slice_set grid.old.values i true else grid.old.values) }
+    ensures values { grid.new.values
+        ≡ (if object then slice_set grid.old.values i true else grid.old.values) }
 {
     if object {
-        let sides = grid.sides();
-        grid.set(sides.unraster(i));
+        grid.set_number(i);
     }
 }

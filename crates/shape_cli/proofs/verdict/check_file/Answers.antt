@@ -1,23 +1,18 @@
-use Rattle.std.proofs.Common.{subst, sym}
-use Rattle.shape_cli.specs.Runs.{IsRefused, IsJudged}
-use Rattle.shape_cli.proofs.Refusals.{judged, refused, not_opened}
+use Rattle.std.proofs.Common.{subst}
+use Rattle.shape_desk.proofs.Writes.{OnlyReads-more}
+use Rattle.shape_cli.specs.Commands.{read_source}
+use Rattle.shape_cli.specs.Outcomes.{outcome_of}
+use Rattle.shape_cli.specs.Parts.{IsRight, verdict_text}
+use Rattle.shape_cli.specs.Runs.{OfFile}
+use Rattle.shape_cli.proofs.Endings.{cut_short, verdict_answers}
 use Rattle.shape_cli.proofs.verdict.check_file.Goals as goal
 
-pub returns-in-Err-clause-complete : goal.returns-in-Err-clause-complete
-returns-in-Err-clause-complete g c = λ h r n w.
-    let d = g.D.Desk in
-    subst IsJudged (sym c.refused.ensures) (judged (d.files c.args.desk.now) c.args.file.now (d.read_faults c.args.desk.now) (d.read_faults c.open_picture.new.desk) c.in-Err.error h n c.in-Err.ensures.opened)
-
-pub returns-in-Err-clause-refused : goal.returns-in-Err-clause-refused
-returns-in-Err-clause-refused g c = λ f h n.
-    let d = g.D.Desk in
-    subst (IsRefused f) (sym c.refused.ensures) (refused (d.files c.args.desk.now) c.args.file.now f (d.read_faults c.args.desk.now) (d.read_faults c.open_picture.new.desk) c.in-Err.error h n c.in-Err.ensures.opened)
-
-pub returns-in-Err-ReadFault-clause-refused : goal.returns-in-Err-ReadFault-clause-refused
-returns-in-Err-ReadFault-clause-refused g c = λ f h n. not_opened (g.D.Desk.files c.args.desk.now) c.args.file.now f c.in-Ok.grid h c.in-Ok.ensures.opened
-
-pub returns-in-Ok-write_verdict-clause-refused : goal.returns-in-Ok-write_verdict-clause-refused
-returns-in-Ok-write_verdict-clause-refused g c = λ f h n. absurd (not_opened (g.D.Desk.files c.args.desk.now) c.args.file.now f c.in-Ok.grid h c.in-Ok.ensures.opened)
-
-pub returns-clause-refused : goal.returns-clause-refused
-returns-clause-refused g c = λ f h n. not_opened (g.D.Desk.files c.args.desk.now) c.args.file.now f c.in-Ok.grid h c.in-Ok.ensures.opened
+pub returns-clause-ran : goal.returns-clause-ran
+returns-clause-ran g c =
+    let s = g.D.Desk.state in
+    let v = c.in-Ok-judge.verdict in
+    let report = c.args.report.now in
+    let w = c.in-Err-write_verdict.ensures in
+    let j = c.in-Ok-judge.ensures in
+    let right = subst (λ f. OfFile f report (IsRight c.in-Ok.grid v)) c.in-Ok.ensures.only.same_files j.judged.1 in
+    cut_short _ (s c.args.desk.now) (s c.judge.new.desk) (s c.write_verdict.new.desk) (outcome_of v) (verdict_text v) (OnlyReads-more c.in-Ok.ensures.only j.only) (verdict_answers (read_source c.args.source) report (s c.args.desk.now).files c.in-Ok.grid v c.in-Ok.ensures.opened right) w.text.err w.failed

@@ -1,71 +1,72 @@
 use Rattle.std.proofs.Common.{◌≡◌, ◌+◌, ◌*◌, ◌<◌, length, sym, ap, ◌∙◌, arith}
 use Rattle.shape_terms.specs.Points.{box_count}
 use Rattle.shape_desk.specs.declared.desk.Place.TheVariants.{Picture}
+use Rattle.shape_picture.specs.Answers.{most_side, most_bytes}
 use Rattle.shape_picture.specs.Plain.{number_value}
-use Rattle.shape_picture.proofs.Ahead.{OnlyReads-more}
+use Rattle.shape_desk.proofs.Writes.{OnlyReadsAt-more}
 use Rattle.shape_picture.proofs.RasterSteps.{gap_next, comment_next, pixel_next, pixel_last, total_is, raster_unfinished}
 use Rattle.shape_picture.proofs.ByteSteps.{stops_long, stops_earlier}
 use Rattle.shape_picture.proofs.plain.read_raster.Goals as goal
 
 pub returns-in-Err-clause-answer : goal.returns-in-Err-clause-answer
-returns-in-Err-clause-answer g c = λ limit all h.
-    let r = c.loop-at.invariant.0 limit all h in
+returns-in-Err-clause-answer g c = λ all h.
+    let r = c.loop-at.invariant.0 all h in
     let p = r.pixels in
-    stops_earlier limit c.args.longest all (g.D.Desk.left c.next_piece.new.desk Picture) (g.D.Desk.read_faults c.args.desk.now) (g.D.Desk.read_faults c.loop-at.desk) (g.D.Desk.read_faults c.next_piece.new.desk) c.in-Err.error c.loop-at.invariant.4.later
-    (c.in-Err.ensures.answer limit all r.front p.width p.height p.raster r.taken p.within)
+    stops_earlier most_side most_bytes all ((g.D.Desk.state c.next_piece.new.desk).left Picture) (g.D.Desk.state c.args.desk.now).read_faults (g.D.Desk.state c.loop-at.desk).read_faults (g.D.Desk.state c.next_piece.new.desk).read_faults c.in-Err.error c.loop-at.invariant.4.only.later
+    (c.in-Err.ensures.answer all r.front p.width p.height p.raster r.taken p.within)
 
 pub loop-at-preserved-in-Ok-Gap : goal.loop-at-preserved-in-Ok-Gap
 loop-at-preserved-in-Ok-Gap g c = (
-  λ limit all h.
-      let r = c.loop-at.invariant.0 limit all h in
+  λ all h.
+      let r = c.loop-at.invariant.0 all h in
       let p = r.pixels in
-      let k = rw c.in-Ok-Gap.field-0-is at (c.in-Ok-Gap.ensures.answer limit all r.front p.width p.height p.raster r.taken p.within) in
-      record { front = _; pixels = gap_next limit c.loop-at.grid c.loop-at.comment c.loop-at.count r.front p k.byte k.goes; taken = k.taken },
+      let k = rw c.in-Ok-Gap.field-0-is at (c.in-Ok-Gap.ensures.answer all r.front p.width p.height p.raster r.taken p.within) in
+      record { front = _; pixels = gap_next most_side c.loop-at.grid c.loop-at.comment c.loop-at.count r.front p k.byte k.goes; taken = k.taken },
   c.loop-at.invariant.1,
   c.loop-at.invariant.2,
   c.loop-at.invariant.3,
-  OnlyReads-more c.loop-at.invariant.4 c.in-Ok-Gap.ensures.reads,
+  OnlyReadsAt-more c.loop-at.invariant.4 c.in-Ok-Gap.ensures.reads,
 )
 
 pub loop-at-preserved-in-Ok-Comment : goal.loop-at-preserved-in-Ok-Comment
 loop-at-preserved-in-Ok-Comment g c = (
-  λ limit all h.
-      let r = c.loop-at.invariant.0 limit all h in
+  λ all h.
+      let r = c.loop-at.invariant.0 all h in
       let p = r.pixels in
-      let k = rw c.in-Ok-Comment.field-0-is at (c.in-Ok-Comment.ensures.answer limit all r.front p.width p.height p.raster r.taken p.within) in
-      record { front = _; pixels = comment_next limit c.loop-at.grid c.loop-at.comment c.loop-at.count r.front p k.byte k.goes; taken = k.taken },
+      let k = rw c.in-Ok-Comment.field-0-is at (c.in-Ok-Comment.ensures.answer all r.front p.width p.height p.raster r.taken p.within) in
+      record { front = _; pixels = comment_next most_side c.loop-at.grid c.loop-at.comment c.loop-at.count r.front p k.byte k.goes; taken = k.taken },
   c.loop-at.invariant.1,
   c.loop-at.invariant.2,
   c.loop-at.invariant.3,
-  OnlyReads-more c.loop-at.invariant.4 c.in-Ok-Comment.ensures.reads,
+  OnlyReadsAt-more c.loop-at.invariant.4 c.in-Ok-Comment.ensures.reads,
 )
 
 pub returns-then-count-total-clause-answer : goal.returns-then-count-total-clause-answer
-returns-then-count-total-clause-answer g c = λ limit all h.
-    let r = c.loop-at.invariant.0 limit all h in
+returns-then-count-total-clause-answer g c = λ all h.
+    let r = c.loop-at.invariant.0 all h in
     let p = r.pixels in
-    let k = rw c.in-Ok-Pixel.field-0-is at (c.in-Ok-Pixel.ensures.answer limit all r.front p.width p.height p.raster r.taken p.within) in
-    let t : c.loop-at.count + 1 ≡ number_value p.width * number_value p.height = c.if-count-total.true ∙ c.loop-at.invariant.2 ∙ sym (ap box_count c.loop-at.invariant.1) ∙ total_is limit c.loop-at.grid c.loop-at.comment c.loop-at.count r.front p in
-    let few : length r.front < c.args.longest = omega (arith, r.taken.many, c.loop-at-test.true) in
-    pixel_last limit c.loop-at.grid c.put.new.grid c.loop-at.comment c.loop-at.count r.front c.in-Ok-Pixel.object c.args.longest (c.loop-at.at + 1) all (g.D.Desk.left c.next_piece.new.desk Picture) c.next_piece.new.bytes p k.byte k.goes c.put.ensures.sides (rw c.in-Ok-Pixel.object-is at c.put.ensures.values) t few k.taken
+    let k = rw c.in-Ok-Pixel.field-0-is at (c.in-Ok-Pixel.ensures.answer all r.front p.width p.height p.raster r.taken p.within) in
+    let t : c.loop-at.count + 1 ≡ number_value p.width * number_value p.height = c.if-count-total.true ∙ c.loop-at.invariant.2 ∙ sym (ap box_count c.loop-at.invariant.1) ∙ total_is most_side c.loop-at.grid c.loop-at.comment c.loop-at.count r.front p in
+    let few : length r.front < most_bytes = omega (arith, r.taken.many, c.loop-at-test.true) in
+    pixel_last most_side c.loop-at.grid c.put.new.grid c.loop-at.comment c.loop-at.count r.front c.in-Ok-Pixel.object most_bytes (c.loop-at.at + 1) all ((g.D.Desk.state c.next_piece.new.desk).left Picture) c.next_piece.new.bytes p k.byte k.goes c.put.ensures.sides (rw c.in-Ok-Pixel.object-is at c.put.ensures.values) t few k.taken
 
 pub loop-at-preserved : goal.loop-at-preserved
 loop-at-preserved g c = (
-  λ limit all h.
-      let r = c.loop-at.invariant.0 limit all h in
+  λ all h.
+      let r = c.loop-at.invariant.0 all h in
       let p = r.pixels in
-      let k = rw c.in-Ok-Pixel.field-0-is at (c.in-Ok-Pixel.ensures.answer limit all r.front p.width p.height p.raster r.taken p.within) in
-      let t : number_value p.width * number_value p.height ≡ c.count-total.result = sym (c.loop-at.invariant.2 ∙ sym (ap box_count c.loop-at.invariant.1) ∙ total_is limit c.loop-at.grid c.loop-at.comment c.loop-at.count r.front p) in
+      let k = rw c.in-Ok-Pixel.field-0-is at (c.in-Ok-Pixel.ensures.answer all r.front p.width p.height p.raster r.taken p.within) in
+      let t : number_value p.width * number_value p.height ≡ c.count-total.result = sym (c.loop-at.invariant.2 ∙ sym (ap box_count c.loop-at.invariant.1) ∙ total_is most_side c.loop-at.grid c.loop-at.comment c.loop-at.count r.front p) in
       let m : c.loop-at.count + 1 < number_value p.width * number_value p.height = omega (arith, t, c.loop-at.invariant.3, c.if-count-total.false) in
-      record { front = _; pixels = pixel_next limit c.loop-at.grid c.put.new.grid c.loop-at.comment c.loop-at.count r.front c.in-Ok-Pixel.object p k.byte k.goes c.put.ensures.sides (rw c.in-Ok-Pixel.object-is at c.put.ensures.values) m; taken = k.taken },
+      record { front = _; pixels = pixel_next most_side c.loop-at.grid c.put.new.grid c.loop-at.comment c.loop-at.count r.front c.in-Ok-Pixel.object p k.byte k.goes c.put.ensures.sides (rw c.in-Ok-Pixel.object-is at c.put.ensures.values) m; taken = k.taken },
   c.put.ensures.sides ∙ c.loop-at.invariant.1,
   c.loop-at.invariant.2,
   omega (arith, c.loop-at.invariant.3, c.if-count-total.false),
-  OnlyReads-more c.loop-at.invariant.4 c.in-Ok-Pixel.ensures.reads,
+  OnlyReadsAt-more c.loop-at.invariant.4 c.in-Ok-Pixel.ensures.reads,
 )
 
 pub returns-clause-answer : goal.returns-clause-answer
-returns-clause-answer g c = λ limit all h.
-    let r = c.loop-at.invariant.0 limit all h in
+returns-clause-answer g c = λ all h.
+    let r = c.loop-at.invariant.0 all h in
     let p = r.pixels in
-    stops_long limit c.args.longest c.loop-at.at all (g.D.Desk.left c.loop-at.desk Picture) c.loop-at.bytes r.front (g.D.Desk.read_faults c.args.desk.now) (g.D.Desk.read_faults c.loop-at.desk) r.taken c.loop-at-test.false (raster_unfinished limit c.loop-at.count c.loop-at.comment r.front p.width p.height p.raster p.within)
+    stops_long most_side most_bytes c.loop-at.at all ((g.D.Desk.state c.loop-at.desk).left Picture) c.loop-at.bytes r.front (g.D.Desk.state c.args.desk.now).read_faults (g.D.Desk.state c.loop-at.desk).read_faults r.taken c.loop-at-test.false (raster_unfinished most_side c.loop-at.count c.loop-at.comment r.front p.width p.height p.raster p.within)

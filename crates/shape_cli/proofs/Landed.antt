@@ -1,0 +1,116 @@
+-- What `run` says of each outcome by itself follows from the relation of a run.
+-- One law for each clause, over the command that the words spell.
+use Rattle.std.proofs.Common.{◌≡◌, ◌⊎◌, inl, inr, ℕ, List, refl, ap, sym, subst, ◌∙◌}
+use Rattle.std.specs.Prelude.{codes}
+use Rattle.shape_desk.specs.Desk.{DeskState, Rose, Puts, PutsFront}
+use Rattle.shape_picture.specs.declared.fault.PictureFault.{PictureFault}
+use Rattle.shape_check.specs.declared.answer.Judgement.TheVariants as judgement
+use Rattle.shape_cli.specs.Commands.{Source, Asked, IsInRange, Asks, words_of, source_of}
+use Rattle.shape_cli.specs.Runs.{Answers, Lacks, CutShort, IsFaultOf, Ran}
+use Rattle.shape_cli.specs.Complete.{IsAnswer, HasRun}
+use Rattle.shape_cli.specs.Landed.{Analyses, Checks, WroteFor, CutFor, GaveVerdict, CutVerdict, LacksPicture, LacksFile, IsBeforeWrites, IsRefused, IsAnalysed, IsJudged, SaysOutcome, ComesOut}
+use Rattle.shape_cli.specs.declared.outcome.Outcome.{Outcome}
+use Rattle.shape_cli.specs.declared.outcome.Outcome.TheVariants as outcome
+use Rattle.shape_cli.proofs.OneCommand.{asked, ran}
+use Rattle.shape_cli.proofs.Complete.{answers, refuses}
+
+module _ (words : List (List ℕ)) (old new : DeskState) where
+  -- the words of an analysis, with the one rule
+  with_none : (file rule : List ℕ) → rule ≡ codes "none" → words ≡ words_of (Asked.Analyse (Source.Pbm file) rule) → words ≡ words_of (Asked.Analyse (Source.Pbm file) (codes "none"))
+  with_none file rule i w = w ∙ ap (λ x. words_of (Asked.Analyse (Source.Pbm file) x)) i
+
+  -- ---- one outcome of one command
+
+  done_of : (c : Asked) → IsInRange c → words ≡ words_of c → Ran c old new outcome.Done → Analyses words (λ file. WroteFor file old new)
+  done_of (Asked.Analyse (Source.Pbm file) rule) i w r = (file, with_none file rule i w, record { picture = r.right.0; spells = r.right.1; text = r.text; right = r.right.2; puts = r.puts })
+  done_of (Asked.Check (Source.Pbm file) report) i w r = absurd r.right
+
+  yes_of : (c : Asked) → words ≡ words_of c → Ran c old new outcome.Yes → Checks words (λ file report. GaveVerdict file report old new judgement.Yes)
+  yes_of (Asked.Analyse (Source.Pbm file) rule) w r = absurd r.right
+  yes_of (Asked.Check (Source.Pbm file) report) w r = let a = r.right in (file, report, w, record { picture = a.1.0; spells = a.1.1; right = a.1.2; puts = subst (λ t. Puts old.written new.written t) a.0 r.puts })
+
+  no_of : (k : ℕ) (c : Asked) → words ≡ words_of c → Ran c old new (outcome.No k) → Checks words (λ file report. GaveVerdict file report old new (judgement.No k))
+  no_of k (Asked.Analyse (Source.Pbm file) rule) w r = absurd r.right
+  no_of k (Asked.Check (Source.Pbm file) report) w r = let a = r.right in (file, report, w, record { picture = a.1.0; spells = a.1.1; right = a.1.2; puts = subst (λ t. Puts old.written new.written t) a.0 r.puts })
+
+  cut_report : (file rule text : List ℕ) (o : Outcome) → Answers (Asked.Analyse (Source.Pbm file) rule) old.files o text → PutsFront old.written new.written text → Rose old.write_faults new.write_faults → CutFor file old new
+  cut_report file rule text outcome.Done a p f = record { picture = a.0; spells = a.1; text = text; right = a.2; puts = p; cause = f }
+  cut_report file rule text _ a p f = absurd a
+
+  cut_verdict : (file report text : List ℕ) (o : Outcome) → Answers (Asked.Check (Source.Pbm file) report) old.files o text → PutsFront old.written new.written text → Rose old.write_faults new.write_faults → CutVerdict file report old new
+  cut_verdict file report text outcome.Yes a p f = record { verdict = judgement.Yes; picture = a.1.0; spells = a.1.1; right = a.1.2; puts = subst (λ t. PutsFront old.written new.written t) a.0 p; cause = f }
+  cut_verdict file report text (outcome.No k) a p f = record { verdict = judgement.No k; picture = a.1.0; spells = a.1.1; right = a.1.2; puts = subst (λ t. PutsFront old.written new.written t) a.0 p; cause = f }
+  cut_verdict file report text _ a p f = absurd a
+
+  cut_of : (c : Asked) → IsInRange c → words ≡ words_of c → CutShort c old new → Analyses words (λ file. CutFor file old new) ⊎ Checks words (λ file report. CutVerdict file report old new)
+  cut_of (Asked.Analyse (Source.Pbm file) rule) i w r = inl (file, with_none file rule i w, cut_report file rule r.text r.outcome r.right r.puts r.cause)
+  cut_of (Asked.Check (Source.Pbm file) report) i w r = inr (file, report, w, cut_verdict file report r.text r.outcome r.right r.puts r.cause)
+
+  fault_of : (f : PictureFault) (c : Asked) → IsInRange c → words ≡ words_of c → IsFaultOf old.files (source_of c) f → Analyses words (λ file. IsFaultOf old.files (Source.Pbm file) f) ⊎ Checks words (λ file report. IsFaultOf old.files (Source.Pbm file) f)
+  fault_of f (Asked.Analyse (Source.Pbm file) rule) i w r = inl (file, with_none file rule i w, r)
+  fault_of f (Asked.Check (Source.Pbm file) report) i w r = inr (file, report, w, r)
+
+  lacks_of : (c : Asked) → IsInRange c → words ≡ words_of c → Rose old.read_faults new.read_faults ⊎ Lacks c old.files → Analyses words (λ file. LacksPicture file old new) ⊎ Checks words (λ file report. LacksFile file report old new)
+  lacks_of (Asked.Analyse (Source.Pbm file) rule) i w r = inl (file, with_none file rule i w, r)
+  lacks_of (Asked.Check (Source.Pbm file) report) i w (inl rose) = inr (file, report, w, inl rose)
+  lacks_of (Asked.Check (Source.Pbm file) report) i w (inr (inl m)) = inr (file, report, w, inr (inl m))
+  lacks_of (Asked.Check (Source.Pbm file) report) i w (inr (inr m)) = inr (file, report, w, inr (inr (m.0, (m.1.0, m.1.1))))
+
+  silent : (o : Outcome) → HasRun words old new o → IsBeforeWrites o → new.written ≡ old.written
+  silent outcome.Usage h s = ap (λ d. d.written) (h.untouched refl)
+  silent (outcome.Picture f) h s = (asked words old new (outcome.Picture f) h (λ e. cc)).holds.1
+  silent outcome.ReadFault h s = (asked words old new outcome.ReadFault h (λ e. cc)).holds.1
+  silent outcome.NoMemory h s = (asked words old new outcome.NoMemory h (λ e. cc)).holds
+  silent outcome.Done h s = absurd s
+  silent outcome.Yes h s = absurd s
+  silent (outcome.No k) h s = absurd s
+  silent outcome.WriteFault h s = absurd s
+
+  -- ---- all outcomes
+
+  module _ (o : Outcome) (h : HasRun words old new o) where
+    -- the command, where the outcome is known
+    for_outcome : (p : Outcome) → o ≡ p → (p ≡ outcome.Usage → ⊥) → Asks words (λ c. Ran c old new p)
+    for_outcome p e u = subst (λ x. Asks words (λ c. Ran c old new x)) e (asked words old new o h (λ f. u (sym e ∙ f)))
+
+    pub says : SaysOutcome words old new o
+    says = record {
+      picture = λ f e. let a = for_outcome (outcome.Picture f) e (λ u. cc) in fault_of f a.command a.in_range a.spelled a.holds.0;
+      read_fault = λ e. let a = for_outcome outcome.ReadFault e (λ u. cc) in lacks_of a.command a.in_range a.spelled a.holds.0;
+      write_fault = λ e. let a = for_outcome outcome.WriteFault e (λ u. cc) in cut_of a.command a.in_range a.spelled a.holds;
+      done = λ e. let a = for_outcome outcome.Done e (λ u. cc) in done_of a.command a.in_range a.spelled a.holds;
+      yes = λ e. let a = for_outcome outcome.Yes e (λ u. cc) in yes_of a.command a.spelled a.holds;
+      no = λ k e. let a = for_outcome (outcome.No k) e (λ u. cc) in no_of k a.command a.spelled a.holds;
+      silent = silent o h;
+    }
+
+    analysed : (source : Source) (rule : List ℕ) (p : Outcome) → IsAnswer (Asked.Analyse source rule) p ⊎ (p ≡ outcome.NoMemory) → IsAnalysed p
+    analysed source rule p (inr e) = subst IsAnalysed (sym e) tt
+    analysed source rule outcome.Done (inl a) = tt
+    analysed source rule _ (inl a) = absurd a
+
+    judged : (source : Source) (report : List ℕ) (p : Outcome) → IsAnswer (Asked.Check source report) p ⊎ (p ≡ outcome.NoMemory) → IsJudged p
+    judged source report p (inr e) = subst IsJudged (sym e) tt
+    judged source report outcome.Yes (inl a) = tt
+    judged source report (outcome.No k) (inl a) = tt
+    judged source report _ (inl a) = absurd a
+
+    refused : (f : PictureFault) (p : Outcome) → (p ≡ outcome.Picture f) ⊎ (p ≡ outcome.NoMemory) → IsRefused f p
+    refused f p (inl e) = subst (IsRefused f) (sym e) refl
+    refused f p (inr e) = subst (IsRefused f) (sym e) tt
+
+    pub comes : ComesOut words old new o
+    comes = record {
+      analyse_complete = λ file e s r w.
+          let c = Asked.Analyse (Source.Pbm file) (codes "none") in
+          analysed (Source.Pbm file) (codes "none") o (answers c old new o (ran words old new o c h refl e) s tt (record { read = r; write = w }));
+      check_complete = λ file report e s t r w.
+          let c = Asked.Check (Source.Pbm file) report in
+          judged (Source.Pbm file) report o (answers c old new o (ran words old new o c h tt e) s t (record { read = r; write = w }));
+      analyse_refused = λ file f e s r.
+          let c = Asked.Analyse (Source.Pbm file) (codes "none") in
+          refused f o (refuses c old new o f (ran words old new o c h refl e) s r);
+      check_refused = λ file report f e s r.
+          let c = Asked.Check (Source.Pbm file) report in
+          refused f o (refuses c old new o f (ran words old new o c h tt e) s r);
+    }

@@ -1,0 +1,43 @@
+-- What the parts of a run answer: the picture that is read, and the verdict on the report.
+-- These words are the program's own; its callers need `Runs` alone.
+use Rattle.std.specs.Prelude.{◌⊎◌, ℕ, List, ⊤, Result, Ok, Err}
+use Rattle.shape_terms.specs.Pictures.{Picture}
+use Rattle.report_terms.specs.Holds.{FirstBad}
+use Rattle.shape_desk.specs.Desk.{DeskState, Rose, IsMissing}
+use Rattle.shape_picture.specs.declared.fault.PictureError.{PictureError}
+use Rattle.shape_picture.specs.declared.fault.PictureError.TheVariants as error
+use Rattle.shape_check.specs.Checks.{IsLineNumber}
+use Rattle.shape_check.specs.declared.answer.Judgement.{Judgement}
+use Rattle.shape_check.specs.declared.answer.Judgement.TheVariants as judgement
+use Rattle.shape_check.specs.declared.answer.CheckFault.{CheckFault}
+use Rattle.shape_check.specs.declared.answer.CheckFault.TheVariants as check
+use Rattle.shape_cli.specs.Commands.{Source, file_of}
+use Rattle.shape_cli.specs.Runs.{OfFile, IsPictureOf, IsFaultOf, IsReport, yes_text, no_text}
+
+-- what the reading of a source gives: its picture, its fault, or the cause of the failure
+abbrev pub Opened : Source → DeskState → DeskState → Result Picture PictureError → Type 0
+Opened source old new (Ok X) = IsPictureOf old.files source X
+Opened source old new (Err (error.Bad f)) = IsFaultOf old.files source f
+Opened source old new (Err error.ReadFault) = Rose old.read_faults new.read_faults ⊎ IsMissing old.files (file_of source)
+Opened source old new (Err error.NoMemory) = ⊤
+
+-- the verdict line
+abbrev pub verdict_text : Judgement → List ℕ
+verdict_text judgement.Yes = yes_text
+verdict_text (judgement.No k) = no_text k
+
+-- yes: the bytes are a report of the picture; no: the line is the first bad one
+abbrev pub IsRight : Picture → Judgement → List ℕ → Type 0
+IsRight X judgement.Yes bytes = IsReport X bytes
+IsRight X (judgement.No k) bytes = FirstBad X bytes k
+
+-- the number of a line is one that the program can count to
+abbrev pub IsCounted : Judgement → Type 0
+IsCounted judgement.Yes = ⊤
+IsCounted (judgement.No k) = IsLineNumber k
+
+-- what the judging of a report's file gives
+abbrev pub Judged : Picture → List ℕ → DeskState → DeskState → Result Judgement CheckFault → Type 0
+Judged X report old new (Ok v) = IsCounted v × OfFile old.files report (IsRight X v)
+Judged X report old new (Err check.ReadFault) = Rose old.read_faults new.read_faults ⊎ IsMissing old.files report
+Judged X report old new (Err check.NoMemory) = ⊤

@@ -1,0 +1,57 @@
+//! What follows from `Ran` for every run: that answers come where nothing failed, and which.
+//! These are laws alone: the calls do nothing, what counts is their clauses.
+ghost use Rattle.std.specs.Prelude.{◌≡◌, ◌⊎◌, ℕ, List};
+ghost use Rattle.shape_terms.specs.Pictures.{Picture};
+ghost use Rattle.report_terms.specs.Holds.{Holds};
+ghost use Rattle.shape_desk.specs.Desk.{DeskState, Rose};
+ghost use Rattle.shape_picture.specs.declared.fault.PictureFault.{PictureFault};
+ghost use Rattle.shape_cli.specs.Commands.{Source, Asked, IsInRange, source_of, words_of};
+ghost use Rattle.shape_cli.specs.Runs.{Lacks, Ran};
+ghost use Rattle.shape_cli.specs.Complete.{FileIs, FindsPicture, FindsSome, FindsFault, FindsRest, HasNoFault, IsAnswer, HasRun};
+ghost use Rattle.shape_cli.specs.Landed.{SaysOutcome, ComesOut};
+ghost use Rattle.shape_cli.specs.declared.outcome.Outcome.{Outcome};
+ghost use Rattle.shape_cli.specs.declared.outcome.Outcome.TheVariants as outcome;
+
+/// Words spell one command at most, and it is the one of which `run` speaks.
+pub fn words_are_of_one_command()
+    ensures one { (c d : Asked) → words_of c ≡ words_of d → c ≡ d }
+    ensures ran { (words : List (List ℕ)) (old new : DeskState) (o : Outcome) (c : Asked)
+        → HasRun words old new o → IsInRange c → words ≡ words_of c → Ran c old new o }
+{}
+
+/// What a run owes, but for want of memory.
+///
+/// A source that is there and accepted, and all other files there, give an answer where no count rose. A source that is
+/// there and has a fault gives that fault where no count of reads rose. A missing file is a failed read.
+pub fn runs_are_complete()
+    ensures answers { (c : Asked) (old new : DeskState) (o : Outcome)
+        → Ran c old new o → FindsSome old.files (source_of c) → FindsRest c old.files
+        → HasNoFault old new → IsAnswer c o ⊎ (o ≡ outcome.NoMemory) }
+    ensures refuses { (c : Asked) (old new : DeskState) (o : Outcome) (f : PictureFault)
+        → Ran c old new o → FindsFault old.files (source_of c) f
+        → (Rose old.read_faults new.read_faults → ⊥)
+        → (o ≡ outcome.Picture f) ⊎ (o ≡ Outcome.NoMemory) }
+    ensures lacks { (c : Asked) (old new : DeskState) (o : Outcome)
+        → Ran c old new o → Lacks c old.files
+        → (o ≡ outcome.ReadFault) ⊎ (o ≡ Outcome.NoMemory) }
+{}
+
+/// A report that holds of the picture gets `yes`, and every other text `no`, where no count rose and but for want of memory.
+pub fn verdicts_are_right()
+    ensures yes { (source : Source) (report : List ℕ) (X : Picture) (old new : DeskState) (o : Outcome)
+        → Ran (Asked.Check source report) old new o → FindsPicture old.files source X
+        → FileIs old.files report (Holds X) → HasNoFault old new
+        → (o ≡ outcome.Yes) ⊎ (o ≡ Outcome.NoMemory) }
+    ensures no { (source : Source) (report : List ℕ) (X : Picture) (old new : DeskState) (o : Outcome)
+        → Ran (Asked.Check source report) old new o → FindsPicture old.files source X
+        → FileIs old.files report (λ bytes. Holds X bytes → ⊥) → HasNoFault old new
+        → ((k : ℕ) × (o ≡ outcome.No k)) ⊎ (o ≡ Outcome.NoMemory) }
+{}
+
+/// What `run` says of each outcome by itself.
+pub fn outcomes_speak()
+    ensures says { (words : List (List ℕ)) (old new : DeskState) (o : Outcome)
+        → HasRun words old new o → SaysOutcome words old new o }
+    ensures comes { (words : List (List ℕ)) (old new : DeskState) (o : Outcome)
+        → HasRun words old new o → ComesOut words old new o }
+{}

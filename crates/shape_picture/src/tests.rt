@@ -1,0 +1,204 @@
+//! What no clause says: that pictures are read with ample memory, and the edges of each fault by example.
+ghost use Rattle.std.specs.Prelude.{◌<◌, ◌^◌, true, None};
+
+use crate::fault::{PictureError, PictureFault};
+use crate::plain::{MOST_BYTES, read_plain};
+use shape_desk::{Desk, Failed, MemoryDesk, Place};
+use shape_grid::Grid;
+use shape_space::P2;
+use std::alloc::Global;
+use std::test::Fail;
+
+// What is read of a file, in pieces of so many bytes, where the call of the desk with this number fails.
+fn read(
+    alloc: Global,
+    bytes: &[u8],
+    piece: usize,
+    bad_read: u64,
+) -> Result<Grid<P2>, PictureError> {
+    let Ok(name) = Vec::from_slice(alloc, b"f") else {
+        return Err(PictureError::NoMemory);
+    };
+    let Ok(file) = Vec::from_slice(alloc, bytes) else {
+        return Err(PictureError::NoMemory);
+    };
+    let mut files = Vec::new(alloc);
+    let Ok(()) = files.push((name, file)) else {
+        return Err(PictureError::NoMemory);
+    };
+    let Ok(bad_reads) = Vec::from_slice(alloc, &[bad_read]) else {
+        return Err(PictureError::NoMemory);
+    };
+    let Ok(mut desk) = MemoryDesk::new(alloc, files, bad_reads, Vec::new(alloc), piece.max(1), 0)
+    else {
+        return Err(PictureError::NoMemory);
+    };
+    if desk.begin(Place::Picture, b"f").is_err() {
+        return Err(PictureError::ReadFault);
+    }
+    read_plain(alloc, &mut desk)
+}
+
+fn fault(alloc: Global, bytes: &[u8]) -> Option<PictureError> {
+    match read(alloc, bytes, 3, 0) {
+        Ok(_) => None,
+        Err(error) => Some(error),
+    }
+}
+
+// The number of object points of the picture that is read in pieces of one byte.
+fn count(alloc: Global, bytes: &[u8]) -> Option<u32> {
+    match read(alloc, bytes, 1, 0) {
+        Ok(grid) => Some(grid.count()),
+        Err(_) => None,
+    }
+}
+
+#[test]
+fn faults(rt: HostRuntime) -> Result<(), Fail> {
+    let alloc = rt.alloc();
+    let cases: [(&[u8], PictureFault); 16] = [
+        (b"", PictureFault::Short { at: 0 }),
+        (b"P1 0", PictureFault::Short { at: 4 }),
+        (b"P1 3 1 1 0", PictureFault::Short { at: 10 }),
+        (b"P1 1 1 #1", PictureFault::Short { at: 9 }),
+        (b"P4 1 1 x", PictureFault::NotPlain),
+        (b"P1x", PictureFault::NotPlain),
+        (b"P1 2x2 1", PictureFault::BadNumber { at: 4 }),
+        (b"P1 0x", PictureFault::BadNumber { at: 4 }),
+        (b"P1 0 3 ", PictureFault::ZeroSide),
+        (b"P1 0#", PictureFault::ZeroSide),
+        (b"P1 1025 1 1", PictureFault::SideTooLarge { value: 1025 }),
+        (b"P1 99999 1", PictureFault::SideTooLarge { value: 9999 }),
+        (b"P1 1 1 x", PictureFault::BadByte { at: 7 }),
+        (b"P1 2 1 0 2", PictureFault::BadByte { at: 9 }),
+        (b"P1 2 1 1#", PictureFault::BadByte { at: 8 }),
+        (b"P1 2 1 1 #c\n1", PictureFault::BadByte { at: 9 }),
+    ];
+    for (bytes, want) in cases {
+        assert_eq!(rt; fault(alloc, bytes), Some(PictureError::Bad(want)));
+    }
+    Ok(())
+}
+
+#[test]
+fn pictures(rt: HostRuntime) -> Result<(), Fail> {
+    let alloc = rt.alloc();
+    assert_eq!(rt;
+        count(alloc, b"P1#a\n02#b\r3 \t#c\r\n#d\n10 1\n011rest"),
+        Some(4)
+    );
+    assert_eq!(rt; count(alloc, b"P1 1 1 #c\n1#"), Some(1));
+    assert_eq!(rt; count(alloc, b"P1\t1\r\n01 1"), Some(1));
+    match read(alloc, b"P1 3 2 011 001", 512, 0) {
+        Ok(grid) => {
+            assert_eq!(rt; grid.count(), 3);
+            assert!(rt; grid.has(P2 { x: 2, y: 0 }) && grid.has(P2 { x: 2, y: 1 }));
+            assert!(rt; grid.has(P2 { x: 1, y: 0 }) && !grid.has(P2 { x: 1, y: 1 }));
+        }
+        Err(_) => assert!(rt; false),
+    }
+    Ok(())
+}
+
+#[test]
+fn widest(rt: HostRuntime) -> Result<(), Fail> {
+    let alloc = rt.alloc();
+    let mut widest = Vec::from_slice(alloc, b"P1 1024 1 ")?;
+    for _ in 0..1024u32 {
+        widest.push(b'0')?;
+    }
+    assert_eq!(rt; count(alloc, &widest), Some(0));
+    Ok(())
+}
+
+#[test]
+fn failed_reads(rt: HostRuntime) -> Result<(), Fail> {
+    let alloc = rt.alloc();
+    for bad_read in 2..5 {
+        match read(alloc, b"P1 1 1 1", 3, bad_read) {
+            Ok(_) => assert!(rt; false),
+            Err(error) => assert_eq!(rt; error, PictureError::ReadFault),
+        }
+    }
+    Ok(())
+}
+
+// A picture of one pixel: some bytes, so many blanks, and then `1` without end. It tells nothing.
+#[derive(Drop)]
+struct Blanks {
+    head: &'static [u8],
+    at: usize,
+    blanks: u64,
+    ghost none: { 0 < 2 ^ 64 },
+}
+
+impl Desk for Blanks {
+    ghost state = { λ d. record {
+      files = None;
+      left = λ p. None;
+      begun = λ p. true;
+      written = None;
+      read_faults = 0;
+      write_faults = 0;
+    } };
+
+    ghost tells_left = { λ d p tells _. tells };
+
+    ghost counts = { λ d. record { reads = d.none; writes = d.none } };
+
+    fn begin(&mut self, _place: Place, _name: &[u8]) -> Result<(), Failed> {
+        Ok(())
+    }
+
+    fn read(&mut self, _place: Place, buf: &mut [u8]) -> Result<usize, Failed> {
+        if buf.is_empty() {
+            return Ok(0);
+        }
+        if self.at < self.head.len() {
+            buf[0] = self.head[self.at];
+            self.at += 1;
+            return Ok(1);
+        }
+        if self.blanks == 0 {
+            buf[0] = b'1';
+            return Ok(1);
+        }
+        let count = buf.len().min(self.blanks as usize);
+        buf[..count].fill(b' ');
+        self.blanks -= count as u64;
+        Ok(count)
+    }
+
+    fn write(&mut self, bytes: &[u8]) -> Result<usize, Failed> {
+        Ok(bytes.len())
+    }
+}
+
+// What is read of so many bytes, blanks behind the head and one pixel last.
+fn read_long(alloc: Global, head: &'static [u8], length: u64) -> Result<Grid<P2>, PictureError> {
+    let blanks = length.saturating_sub(head.len() as u64).saturating_sub(1);
+    let mut desk = Blanks {
+        head,
+        at: 0,
+        blanks,
+    };
+    read_plain(alloc, &mut desk)
+}
+
+#[test]
+fn longest(rt: HostRuntime) -> Result<(), Fail> {
+    let alloc = rt.alloc();
+    match read_long(alloc, b"P1 1 1 ", MOST_BYTES) {
+        Ok(grid) => assert_eq!(rt; grid.count(), 1),
+        Err(_) => assert!(rt; false),
+    }
+    let too_long = PictureError::Bad(PictureFault::TooLong);
+    for head in [b"P1 1 1 ".as_slice(), b"P1".as_slice()] {
+        match read_long(alloc, head, MOST_BYTES + 1) {
+            Ok(_) => assert!(rt; false),
+            Err(error) => assert_eq!(rt; error, too_long),
+        }
+    }
+    Ok(())
+}
