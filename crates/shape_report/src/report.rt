@@ -2,7 +2,7 @@
 //! How a line is spelled is told in `spell`; a further way to give a report away is one more function here.
 ghost use Rattle.std.specs.Prelude.{◌≡◌, ◌++◌, [], OnOk, OnErr};
 ghost use Rattle.report_terms.specs.Lines.{line_text, IsLineOf};
-ghost use Rattle.shape_desk.specs.Desk.{PutsText, HasCause, KeepsPlaces};
+ghost use Rattle.shape_desk.specs.Desk.{WritesText};
 ghost use Rattle.shape_report.specs.LineOf.{line_of};
 
 use crate::line::Line;
@@ -69,9 +69,7 @@ pub struct WriteFault;
 ///
 /// A fault comes only from a write that failed; a front of the text was written then.
 pub fn write_report<D: Desk>(report: &Report, desk: &mut D) -> Result<(), WriteFault>
-    ensures text { PutsText (D.written desk.old) (D.written desk.new) result report.now }
-    ensures cause { HasCause (D.write_faults desk.old) (D.write_faults desk.new) result }
-    ensures places { KeepsPlaces D.files D.left D.begun D.read_faults desk.old desk.new }
+    ensures { WritesText report.now (D.state desk.old) (D.state desk.new) result }
 {
     match put_all(report.text(), desk) {
         Ok(()) => Ok(()),
