@@ -1,7 +1,7 @@
 -- A report grows by the good lines of contours, and at its end it holds.
 -- One law for each kind of line that is added.
-use Rattle.std.proofs.Common.{◌≡◌, ◌+◌, ◌-◌, ◌*◌, ◌/◌, ◌<◌, ◌≤◌, ℕ, List, [], ◌∷◌, ◌++◌, length, map, refl, sym, ap, ◌∙◌, subst, arith, Some, true}
-use Rattle.std.specs.Prelude.{◌==◌, All, Contains, flat_map, slice_get, slice_index_or}
+use Rattle.std.proofs.Common.{◌≡◌, ◌+◌, ◌-◌, ◌*◌, ◌/◌, ◌<◌, ◌≤◌, ℕ, List, [], ◌∷◌, ◌++◌, length, map, refl, sym, ap, ◌∙◌, subst, arith, Some}
+use Rattle.std.specs.Prelude.{All, Contains, flat_map, slice_get, slice_index_or}
 use Rattle.std.proofs.lemmas.List.{append-nil}
 use Rattle.std.proofs.lemmas.List.Elements.{All-nil, All-cons, All-head, All-tail, Contains-append_right}
 use Rattle.std.proofs.lemmas.Option.{get_or_from_slice_get}
@@ -12,7 +12,7 @@ use Rattle.shape_terms.specs.Traces.{Contour, AreContours, contour_of}
 use Rattle.shape_terms.specs.Naive.{Naive}
 use Rattle.shape_terms.specs.Covers.{Stretch, Evidence, IsEvidence, IsSegment, gap_run}
 use Rattle.report_terms.specs.Lines.{Line, line_text, text_of, IsLineOf}
-use Rattle.report_terms.specs.ContourLines.{Standing, standing, no_contour, open_contour, IsFull, OutlineClaim, ContourClaim}
+use Rattle.report_terms.specs.ContourLines.{Standing, standing, no_contour, open_contour, IsFull, OutlineClaim}
 use Rattle.report_terms.specs.Sections.{Section, section_of, lines_of, GoodAfter}
 use Rattle.report_terms.specs.Holds.{Holds}
 use Rattle.report_terms.proofs.SectionLaws.{none_past, come_more, come_past, good_at, lines_push}
