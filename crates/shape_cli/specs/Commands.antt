@@ -29,10 +29,14 @@ source_of (Asked.Check source report) = source
 abbrev pub source_words : Source → List (List ℕ)
 source_words (Source.Pbm file) = codes "pbm" ∷ file ∷ []
 
+-- the words of a source between a first and a last word
+abbrev pub with_words : List ℕ → Source → List ℕ → List (List ℕ)
+with_words first source last = first ∷ (source_words source ++ last ∷ [])
+
 -- the one spelling of a command
 abbrev pub words_of : Asked → List (List ℕ)
-words_of (Asked.Analyse source rule) = codes "analyse" ∷ (source_words source ++ rule ∷ [])
-words_of (Asked.Check source report) = codes "check" ∷ (source_words source ++ report ∷ [])
+words_of (Asked.Analyse source rule) = with_words (codes "analyse") source rule
+words_of (Asked.Check source report) = with_words (codes "check") source report
 
 -- the rule of a command is one that there is
 abbrev pub IsInRange : Asked → Type 0

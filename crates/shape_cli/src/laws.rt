@@ -10,7 +10,6 @@ ghost use Rattle.shape_cli.specs.Runs.{Lacks, Ran};
 ghost use Rattle.shape_cli.specs.Complete.{FileIs, FindsPicture, FindsSome, FindsFault, FindsRest, HasNoFault, IsAnswer, HasRun};
 ghost use Rattle.shape_cli.specs.Landed.{SaysOutcome, ComesOut};
 ghost use Rattle.shape_cli.specs.declared.outcome.Outcome.{Outcome};
-ghost use Rattle.shape_cli.specs.declared.outcome.Outcome.TheVariants as outcome;
 
 /// Words spell one command at most, and it is the one of which `run` speaks.
 pub fn words_are_of_one_command()
@@ -26,26 +25,28 @@ pub fn words_are_of_one_command()
 pub fn runs_are_complete()
     ensures answers { (c : Asked) (old new : DeskState) (o : Outcome)
         → Ran c old new o → FindsSome old.files (source_of c) → FindsRest c old.files
-        → HasNoFault old new → IsAnswer c o ⊎ (o ≡ outcome.NoMemory) }
+        → HasNoFault old new → IsAnswer c o ⊎ (o ≡ Outcome.NoMemory) }
     ensures refuses { (c : Asked) (old new : DeskState) (o : Outcome) (f : PictureFault)
         → Ran c old new o → FindsFault old.files (source_of c) f
         → (Rose old.read_faults new.read_faults → ⊥)
-        → (o ≡ outcome.Picture f) ⊎ (o ≡ Outcome.NoMemory) }
+        → (o ≡ Outcome.Picture f) ⊎ (o ≡ Outcome.NoMemory) }
     ensures lacks { (c : Asked) (old new : DeskState) (o : Outcome)
         → Ran c old new o → Lacks c old.files
-        → (o ≡ outcome.ReadFault) ⊎ (o ≡ Outcome.NoMemory) }
+        → (o ≡ Outcome.ReadFault) ⊎ (o ≡ Outcome.NoMemory) }
 {}
 
-/// A report that holds of the picture gets `yes`, and every other text `no`, where no count rose and but for want of memory.
+/// A report that holds of the picture gets `yes`, and every other text `no`, where no count rose, but for want of memory.
 pub fn verdicts_are_right()
-    ensures yes { (source : Source) (report : List ℕ) (X : Picture) (old new : DeskState) (o : Outcome)
+    ensures yes { (source : Source) (report : List ℕ) (X : Picture)
+        (old new : DeskState) (o : Outcome)
         → Ran (Asked.Check source report) old new o → FindsPicture old.files source X
         → FileIs old.files report (Holds X) → HasNoFault old new
-        → (o ≡ outcome.Yes) ⊎ (o ≡ Outcome.NoMemory) }
-    ensures no { (source : Source) (report : List ℕ) (X : Picture) (old new : DeskState) (o : Outcome)
+        → (o ≡ Outcome.Yes) ⊎ (o ≡ Outcome.NoMemory) }
+    ensures no { (source : Source) (report : List ℕ) (X : Picture)
+        (old new : DeskState) (o : Outcome)
         → Ran (Asked.Check source report) old new o → FindsPicture old.files source X
         → FileIs old.files report (λ bytes. Holds X bytes → ⊥) → HasNoFault old new
-        → ((k : ℕ) × (o ≡ outcome.No k)) ⊎ (o ≡ Outcome.NoMemory) }
+        → ((k : ℕ) × (o ≡ Outcome.No k)) ⊎ (o ≡ Outcome.NoMemory) }
 {}
 
 /// What `run` says of each outcome by itself.

@@ -17,7 +17,8 @@ pub(crate) fn open_picture<D: Desk>(
     source: Source<'_>,
     desk: &mut D,
 ) -> Result<Grid<P2>, PictureError>
-    ensures opened { Opened (read_source source.entry) (D.state desk.old) (D.state desk.new) result }
+    ensures opened { Opened (read_source source.entry)
+        (D.state desk.old) (D.state desk.new) result }
     ensures only { OnlyReads (D.state desk.old) (D.state desk.new) }
 {
     let Source::Pbm { file } = source;

@@ -1,7 +1,7 @@
 //! The words of a command line.
 //! A command has one spelling: fixed words in their places, the words of a source, and names of files.
-ghost use Rattle.std.specs.Prelude.{◌≡◌, ◌↔◌, ◌++◌, [], ◌∷◌, MatchOption, IsTrue};
-ghost use Rattle.shape_cli.specs.Commands.{texts, source_words, words_of, read_source, read_command, IsNoForm};
+ghost use Rattle.std.specs.Prelude.{◌≡◌, ◌↔◌, MatchOption, IsTrue};
+ghost use Rattle.shape_cli.specs.Commands.{texts, with_words, words_of, read_source, read_command, IsNoForm};
 
 /// Where a picture is read.
 #[derive(Clone, Copy)]
@@ -34,8 +34,8 @@ fn is_text(word: &Vec<u8>, text: &[u8]) -> bool
 // The command of the first word, a source and the last word.
 fn with_source<'a>(first: &Vec<u8>, source: Source<'a>, last: &'a Vec<u8>) -> Option<Command<'a>>
     ensures { MatchOption result
-        (IsNoForm (first.now.items ∷ (source_words (read_source source.entry) ++ last.now.items ∷ [])))
-        (λ c. first.now.items ∷ (source_words (read_source source.entry) ++ last.now.items ∷ [])
+        (IsNoForm (with_words first.now.items (read_source source.entry) last.now.items))
+        (λ c. with_words first.now.items (read_source source.entry) last.now.items
         ≡ words_of (read_command c)) }
 {
     if is_text(first, b"check") {
