@@ -1,4 +1,4 @@
-use Rattle.std.proofs.Common.{◌≡◌, false, refl, ◌∙◌, arith, []}
+use Rattle.std.proofs.Common.{◌≡◌, false, rules, refl, ◌∙◌, arith, []}
 use Rattle.std.specs.Prelude.{IsTrue}
 use Rattle.std.proofs.lemmas.List.Elements.{All-nil}
 use Rattle.shape_desk.specs.declared.desk.Place.TheVariants.{Report}
@@ -15,9 +15,7 @@ lines-init g c = record {
   text = λ X axes w. told_start X _ _ (g.met.R.Judges.entered X c.args.row [] w (record { order = All-nil _; complete = λ t l. absurd (let z = g.met.R.Row.first in omega arith) }) refl);
   some = omega arith;
   few = omega (arith, c.requires.few);
-  later = omega arith;
-  picture = record { same_left = refl; same_begun = refl };
-  output = record { same_files = refl; same_written = refl; same_faults = refl };
+  reads = search rules;
 }
 
 pub returns-then-not-take-clause-answer : goal.returns-then-not-take-clause-answer
