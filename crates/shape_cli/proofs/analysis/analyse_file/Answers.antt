@@ -1,4 +1,3 @@
-use Rattle.report_terms.specs.Lines.{text_of}
 use Rattle.shape_cli.specs.declared.outcome.Outcome.TheVariants.{Done}
 use Rattle.shape_cli.proofs.Endings.{cut_short}
 use Rattle.shape_cli.proofs.analysis.analyse_file.Goals as goal
@@ -7,4 +6,4 @@ pub returns-clause-ran : goal.returns-clause-ran
 returns-clause-ran g c =
     let s = g.D.Desk.state in
     let w = c.in-Err-write_report.ensures in
-    cut_short _ (s c.args.desk.now) (s c.open_picture.new.desk) (s c.write_report.new.desk) Done (text_of c.in-Ok-analyse_flat.report) c.in-Ok.ensures.only (c.in-Ok.grid, c.in-Ok.ensures.opened, c.in-Ok-analyse_flat.ensures) w.text.err w.failed
+    cut_short _ (s c.args.desk.now) (s c.open_picture.new.desk) (s c.write_report.new.desk) Done (c.in-Ok-analyse_flat.report) c.in-Ok.ensures.only (c.in-Ok.grid, c.in-Ok.ensures.opened, c.in-Ok-analyse_flat.ensures) w.text.err w.failed
