@@ -1,5 +1,5 @@
 -- What scans of a framed box have found: a square for each of its points, axis after axis.
-use Rattle.std.specs.Prelude.{◌≡◌, ℕ, ◌+◌, ◌*◌, ◌/◌, ◌%◌, ◌-◌, ◌^◌, ◌<◌, ◌≤◌, true, false, List, slice_index}
+use Rattle.std.specs.Prelude.{◌≡◌, ◌⊎◌, ℕ, ◌+◌, ◌*◌, ◌/◌, ◌%◌, ◌-◌, ◌^◌, ◌<◌, ◌≤◌, true, false, List, slice_index}
 use Rattle.shape_terms.specs.Points.{Point, box_count}
 use Rattle.shape_terms.specs.Pictures.{Picture, at, Least}
 use Rattle.shape_terms.specs.FramedBox.{framed_sides, framed_point}
@@ -55,3 +55,12 @@ pub record AreSquaresOn (X : Picture) (c : ℕ) (squares : List ℕ) : Type 0 wh
 pub record IsFirstSquare (X : Picture) (i s : ℕ) : Type 0 where
   pub object : at X (framed_point X.sides i) ≡ true → s ≡ 2 ^ 26
   pub bare : at X (framed_point X.sides i) ≡ false → s ≡ 0
+
+-- each place has 0 or 2^26
+abbrev pub HasTwo : List ℕ → Type 0
+HasTwo squares = (i : ℕ) → (slice_index squares i ≡ 0) ⊎ (slice_index squares i ≡ 2 ^ 26)
+
+-- w is the way back along a line to its last place with 0, where `back g` is the square g places back and k places stand before; 8192 where there is none, and all others have 2^26
+pub record IsWay (back : ℕ → ℕ) (k w : ℕ) : Type 0 where
+  pub free : (g : ℕ) → g ≤ k → g < w → back g ≡ 2 ^ 26
+  pub end : (w ≡ 8192) ⊎ ((w ≤ k) × (back w ≡ 0))

@@ -62,10 +62,10 @@ impl<P: Point> FieldJudge<P> {
         ensures picture { self.new.picture ≡ self.old.picture }
         ensures answer { (lines : List Terms.Line) → StandsFor self.old lines
             → (IsTrue result ↔ NearClaim self.old.picture lines
-                (Terms.Line.Near (P.coords p) (P.coords q) s)) }
+            (Terms.Line.Near (P.coords p) (P.coords q) s)) }
         ensures stands { (lines : List Terms.Line) → StandsFor self.old lines
             → OnTrue result (StandsFor self.new
-                (lines ++ Terms.Line.Near (P.coords p) (P.coords q) s ∷ [])) }
+            (lines ++ Terms.Line.Near (P.coords p) (P.coords q) s ∷ [])) }
         ensures room { OnTrue result (room_of self.new < room_of self.old) }
     {
         let grid = self.scans.grid();

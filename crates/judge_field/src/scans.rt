@@ -4,8 +4,9 @@ ghost use Rattle.std.specs.Prelude.{◌≡◌, ◌+◌, ◌*◌, ◌-◌, ◌<�
 ghost use Rattle.shape_terms.specs.Points.{box_count};
 ghost use Rattle.shape_terms.specs.Pictures.{at};
 ghost use Rattle.shape_terms.specs.FramedBox.{framed_sides};
-ghost use Rattle.judge_field.specs.Scanned.{IsLeastSquare, IsFirstSquare, IsScannedAt, HasScanned, AreSquaresOn};
+ghost use Rattle.judge_field.specs.Scanned.{IsLeastSquare, IsFirstSquare, IsScannedAt, HasScanned, AreSquaresOn, HasTwo};
 
+use crate::first::scan_first;
 use crate::line::least_at;
 use shape_grid::Grid;
 use shape_space::{NoMemory, Point};
@@ -53,7 +54,7 @@ fn first_square<P: Point>(grid: &Grid<P>, i: u32) -> u32
 fn first_squares<P: Point>(alloc: Global, grid: &Grid<P>) -> Result<Vec<u32>, NoMemory>
     ensures long { IfOk result (λ v. length v.items ≡ box_count (framed_sides grid.now.sides)) }
     ensures squares { IfOk result (λ v. AreSquaresOn grid.now 1 v.items) }
-    ensures small { IfOk result (λ v. (i : ℕ) → slice_index v.items i ≤ 2 ^ 26) }
+    ensures two { IfOk result (λ v. HasTwo v.items) }
 {
     let n = grid.sides().framed_count();
     let Ok(mut squares) = Vec::with_capacity(alloc, n as usize) else {
@@ -108,6 +109,27 @@ fn scan_axis(alloc: Global, squares: &[u32], before: u32, side: u32) -> Result<V
     Ok(next)
 }
 
+// The squares on one axis more. Before the first axis each point has 0 or nothing, and its lines are looked along once from either end.
+fn scan_more(alloc: Global, squares: &[u32], before: u32, side: u32) -> Result<Vec<u32>, NoMemory>
+    requires whole { (rows : ℕ) × (length squares.now ≡ before * (side * rows)) }
+    requires apart { 0 < before }
+    requires some { 1 ≤ side }
+    requires near { side ≤ 4096 }
+    requires few { length squares.now < 2 ^ 31 }
+    requires small { (i : ℕ) → slice_index squares.now i ≤ 2 ^ 26 }
+    requires two { before ≡ 1 → HasTwo squares.now }
+    ensures long { IfOk result (λ v. length v.items ≡ length squares.now) }
+    ensures scanned { IfOk result (λ v. (i : ℕ) → i < length squares.now
+        → IsScannedAt before side squares.now i (slice_index v.items i)) }
+    ensures small { IfOk result (λ v. (i : ℕ) → slice_index v.items i ≤ 2 ^ 26) }
+{
+    if before == 1 {
+        scan_first(alloc, squares, side)
+    } else {
+        scan_axis(alloc, squares, before, side)
+    }
+}
+
 // The squares on all axes.
 fn all_squares<P: Point>(alloc: Global, grid: &Grid<P>) -> Result<Vec<u32>, NoMemory>
     ensures long { IfOk result (λ v. length v.items ≡ box_count (framed_sides grid.now.sides)) }
@@ -120,7 +142,7 @@ fn all_squares<P: Point>(alloc: Global, grid: &Grid<P>) -> Result<Vec<u32>, NoMe
     let mut before: u32 = 1;
     for k in 0..P::DIM {
         let side = sides.framed_side(k);
-        let Ok(next) = scan_axis(alloc, &squares, before, side) else {
+        let Ok(next) = scan_more(alloc, &squares, before, side) else {
             return Err(NoMemory);
         };
         squares = next;

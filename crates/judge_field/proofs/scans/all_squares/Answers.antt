@@ -1,13 +1,15 @@
-use Rattle.std.proofs.Common.{◌≡◌, ◌<◌, ◌+◌, ◌*◌, ◌∙◌, take, drop, length, refl, ap, sym, arith}
+use Rattle.std.proofs.Common.{◌≡◌, ◌<◌, ◌+◌, ◌*◌, ◌∙◌, take, drop, length, refl, ap, sym, subst, arith, ◌≤◌}
+use Rattle.std.proofs.lemmas.Nat.{mul-le}
 use Rattle.shape_terms.specs.Points.{box_count, sides_of}
 use Rattle.shape_terms.specs.FramedBox.{framed_sides}
 use Rattle.shape_terms.proofs.FramedBoxes.{few_framed}
 use Rattle.shape_terms.proofs.AxisCounts.{whole_count, before_step, before_few, some_framed, apart_on_axis}
+use Rattle.judge_field.specs.Scanned.{HasTwo}
 use Rattle.judge_field.proofs.ScanAxes.{scanned, scan_more}
 use Rattle.judge_field.proofs.scans.all_squares.Goals as goal
 
-pub scan_axis-requires-clause-whole : goal.scan_axis-requires-clause-whole
-scan_axis-requires-clause-whole g c =
+pub scan_more-requires-clause-whole : goal.scan_more-requires-clause-whole
+scan_more-requires-clause-whole g c =
     let ns = g.P.Point.coords c.sides-sides.result.lengths in
     let k = c.loop-k.k in
     let a = g.met.P.Point.axes c.sides-sides.result.lengths in
@@ -17,17 +19,20 @@ scan_axis-requires-clause-whole g c =
       ap length c.deref.ensures.value ∙ i.long ∙ ap (λ s. box_count (framed_sides s)) (sym c.sides-sides.ensures.value) ∙ whole_count ns k c.loop-k.before c.framed_side-side.result _ l i.before c.framed_side-side.ensures.value refl,
     )
 
-pub scan_axis-requires-clause-apart : goal.scan_axis-requires-clause-apart
-scan_axis-requires-clause-apart g c = omega (arith, c.loop-k.invariant.before, some_framed (sides_of (take c.loop-k.k (g.P.Point.coords c.sides-sides.result.lengths))))
+pub scan_more-requires-clause-apart : goal.scan_more-requires-clause-apart
+scan_more-requires-clause-apart g c = omega (arith, c.loop-k.invariant.before, some_framed (sides_of (take c.loop-k.k (g.P.Point.coords c.sides-sides.result.lengths))))
 
-pub scan_axis-requires-clause-few : goal.scan_axis-requires-clause-few
-scan_axis-requires-clause-few g c =
+pub scan_more-requires-clause-few : goal.scan_more-requires-clause-few
+scan_more-requires-clause-few g c =
     let s = c.sides-sides.result in
     let ns = g.P.Point.coords s.lengths in
     let a = g.met.P.Point.axes s.lengths in
     let f = few_framed g.P.Point.MAX_SIDE ns s.in_range g.met.P.Point.flat_side (rw a g.met.P.Point.two_or_three) (rw a g.met.P.Point.solid_side) in
     let long : length c.deref.result.now ≡ box_count (framed_sides (sides_of ns)) = ap length c.deref.ensures.value ∙ c.loop-k.invariant.long ∙ ap (λ s. box_count (framed_sides s)) (sym c.sides-sides.ensures.value) in
     omega (arith, f, long)
+
+pub scan_more-requires-clause-two : goal.scan_more-requires-clause-two
+scan_more-requires-clause-two g c = λ e. subst HasTwo (sym c.deref.ensures.value) (c.loop-k.invariant.two e)
 
 pub overflow_mul-before : goal.overflow_mul-before
 overflow_mul-before g c =
@@ -57,10 +62,15 @@ loop-k-preserved g c =
     let total : box_count (framed_sides X.sides) ≡ c.loop-k.before * (side * rows) = ap (λ s. box_count (framed_sides s)) is ∙ whole_count ns k c.loop-k.before side rows l i.before w refl in
     let same = c.deref.ensures.value in
     let long : length c.deref.result.now ≡ box_count (framed_sides X.sides) = ap length same ∙ i.long in
-    let scan = scanned c.loop-k.before side rows (length c.deref.result.now) c.deref.result.now c.in-Ok-scan_axis.next.items (long ∙ total) c.in-Ok-scan_axis.ensures.scanned in
+    let scan = scanned c.loop-k.before side rows (length c.deref.result.now) c.deref.result.now c.in-Ok-scan_more.next.items (long ∙ total) c.in-Ok-scan_more.ensures.scanned in
     record {
       before = before_step ns k c.loop-k.before side l w i.before;
-      long = c.in-Ok-scan_axis.ensures.long ∙ long;
-      squares = scan_more X c.loop-k.before side rows total (λ low low2 x y high p q h j m. apart_on_axis X.sides ns k c.loop-k.before side low low2 x y high is l i.before w p q h j) c.loop-k.squares.items i.squares c.in-Ok-scan_axis.next.items (rw same at scan);
-      small = c.in-Ok-scan_axis.ensures.small;
+      long = c.in-Ok-scan_more.ensures.long ∙ long;
+      squares = scan_more X c.loop-k.before side rows total (λ low low2 x y high p q h j m. apart_on_axis X.sides ns k c.loop-k.before side low low2 x y high is l i.before w p q h j) c.loop-k.squares.items i.squares c.in-Ok-scan_more.next.items (rw same at scan);
+      small = c.in-Ok-scan_more.ensures.small;
+      two = λ e. absurd (
+          let s : 1 ≤ c.loop-k.before = omega (arith, i.before, some_framed (sides_of (take k ns))) in
+          let m = mul-le 1 2 c.loop-k.before side s (omega (arith, w)) in
+          omega arith
+          );
     }

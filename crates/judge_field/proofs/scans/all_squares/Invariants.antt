@@ -1,7 +1,7 @@
 use Rattle.std.proofs.Common.{◌≡◌, ℕ, ◌≤◌, ◌^◌, length, get_or, take}
 use Rattle.shape_terms.specs.Points.{sides_of, box_count}
 use Rattle.shape_terms.specs.FramedBox.{framed_sides}
-use Rattle.judge_field.specs.Scanned.{AreSquaresOn}
+use Rattle.judge_field.specs.Scanned.{AreSquaresOn, HasTwo}
 use Rattle.judge_field.proofs.scans.all_squares.Given as goal
 
 abbrev pub invariant-loop-k : goal.invariant-loop-k
@@ -10,4 +10,5 @@ invariant-loop-k g l = record {
   long : length l.squares.items ≡ box_count (framed_sides l.grid.sides);
   squares : AreSquaresOn l.grid l.before l.squares.items;
   small : (i : ℕ) → get_or l.squares.items i 0 ≤ 2 ^ 26;
+  two : l.before ≡ 1 → HasTwo l.squares.items;
 }
