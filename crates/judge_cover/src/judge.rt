@@ -57,10 +57,10 @@ impl Model for CoverJudge {
     ghost view = { λ j. state_of j.contours j.begun j.points j.declared j.segments.items j.gaps };
 
     ghost invariant = { λ j. IsInStep j.contours
-            (state_of j.contours j.begun j.points j.declared j.segments.items j.gaps).standing
+        (state_of j.contours j.begun j.points j.declared j.segments.items j.gaps).standing
         × HasRound j.contours
-            (state_of j.contours j.begun j.points j.declared j.segments.items j.gaps).standing
-            (map point_of j.round.items) (vec_capacity j.round) (vec_capacity j.segments) };
+        (state_of j.contours j.begun j.points j.declared j.segments.items j.gaps).standing
+        (map point_of j.round.items) (vec_capacity j.round) (vec_capacity j.segments) };
 }
 
 impl CoverJudge {
@@ -170,7 +170,7 @@ impl CoverJudge {
     fn take_segment(&mut self, next: Places, line: &Naive) -> bool
         ensures answer { IsTrue result
             ↔ IsNextSegment self.old.contours self.old.standing next.first next.last
-                line.now.axis (naive_of 2 line.now) }
+            line.now.axis (naive_of 2 line.now) }
         ensures contours { self.new.contours ≡ self.old.contours }
         ensures next { OnTrue result
             (self.new.standing ≡ with_segment self.old.standing (stretch_of next)) }
@@ -222,7 +222,7 @@ impl CoverJudge {
         requires axis { axis < 2 }
         ensures { IsTrue result
             ↔ IsEvidence axis (gap_run (open_points self.now) self.now.standing.stretches k)
-                (evidence_of refusal.now) }
+            (evidence_of refusal.now) }
     {
         let first = self.next_first(k).saturating_sub(1);
         let last = self.end(k);

@@ -39,7 +39,8 @@ fn keeps_sense(run: &[P2], axis: usize) -> bool
 // Whether a line is a proper one that holds the run, along which the other coordinate keeps its sense.
 pub(crate) fn holds_segment(run: &[P2], line: &Naive) -> bool
     requires few { length run.now < 2 ^ 31 }
-    ensures { IsTrue result ↔ (IsNaiveFor line.now.axis (map point_of run.now) (naive_of 2 line.now) × KeepsSense line.now.axis (map point_of run.now)) }
+    ensures { IsTrue result ↔ (IsNaiveFor line.now.axis (map point_of run.now) (naive_of 2 line.now)
+        × KeepsSense line.now.axis (map point_of run.now)) }
 {
     if line.axis > 1 || !is_proper::<P2>(line) {
         return false;

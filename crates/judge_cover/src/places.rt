@@ -15,7 +15,9 @@ pub struct Places {
 
 // Whether places come after those before.
 fn rise(before: &[Places], next: Places) -> bool
-    ensures { IsTrue result ↔ IfSome (slice_get (map stretch_of before.now) (length (map stretch_of before.now) - 1)) (λ s. (s.first < next.first) × (s.last < next.last)) }
+    ensures { IsTrue result
+        ↔ IfSome (slice_get (map stretch_of before.now) (length (map stretch_of before.now) - 1))
+        (λ s. (s.first < next.first) × (s.last < next.last)) }
 {
     let k = before.len();
     k == 0 || before[k - 1].first < next.first && before[k - 1].last < next.last
@@ -25,7 +27,9 @@ fn rise(before: &[Places], next: Places) -> bool
 fn close(before: &[Places], n: u32, next: Places) -> bool
     requires few { n ≤ 2 ^ 24 }
     requires around { All (IsAround n) (map stretch_of before.now) }
-    ensures { IsTrue result ↔ next.last < (slice_index_or (map stretch_of before.now ++ stretch_of next ∷ []) 0 (stretch_of next)).last + n }
+    ensures { IsTrue result
+        ↔ next.last < (slice_index_or (map stretch_of before.now ++ stretch_of next ∷ []) 0
+        (stretch_of next)).last + n }
 {
     let first = if before.is_empty() { next } else { before[0] };
     next.last < n || next.last - n < first.last
@@ -36,7 +40,8 @@ pub(crate) fn come_next(before: &[Places], declared: u32, n: u32, next: Places) 
     requires few { n ≤ 2 ^ 24 }
     requires more { length before.now < declared }
     requires around { All (IsAround n) (map stretch_of before.now) }
-    ensures { IsTrue result ↔ AreNextPlaces n declared (map stretch_of before.now) next.first next.last }
+    ensures { IsTrue result
+        ↔ AreNextPlaces n declared (map stretch_of before.now) next.first next.last }
 {
     if next.first >= n || next.last < next.first || next.last >= next.first + n {
         return false;

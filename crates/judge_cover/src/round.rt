@@ -10,7 +10,8 @@ use shape_space::P2;
 // Puts the points of a contour into the buffer, twice round.
 pub(crate) fn load(round: &mut Vec<P2>, contour: &Contour)
     requires { 2 * length contour.now.points ≤ vec_capacity round.old }
-    ensures twice { map point_of round.new.items ≡ arc contour.now.points 0 (2 * length contour.now.points - 1) }
+    ensures twice { map point_of round.new.items ≡ arc contour.now.points 0
+        (2 * length contour.now.points - 1) }
     ensures capacity { vec_capacity round.new ≡ vec_capacity round.old }
 {
     let n = contour.len();

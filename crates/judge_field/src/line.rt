@@ -22,7 +22,8 @@ fn first_look(squares: &[u32], start: usize, step: usize, side: u32, x: u32) -> 
     requires inside { (y : ℕ) → y < side → start + y * step < length squares.now }
     requires few { length squares.now < 2 ^ 32 }
     requires small { (i : ℕ) → slice_index squares.now i ≤ 2 ^ 26 }
-    ensures { IsLeastFrom (λ y. slice_index squares.now (start + y * step)) side x x (x + 1) result }
+    ensures { IsLeastFrom (λ y. slice_index squares.now (start + y * step))
+        side x x (x + 1) result }
 {
     let last = side - 1;
     let own = squares[start + x as usize * step];
@@ -57,7 +58,8 @@ fn scan_down(squares: &[u32], start: usize, step: usize, side: u32, x: u32, best
     requires inside { (y : ℕ) → y < side → start + y * step < length squares.now }
     requires few { length squares.now < 2 ^ 32 }
     requires small { (i : ℕ) → slice_index squares.now i ≤ 2 ^ 26 }
-    requires best { IsLeastFrom (λ y. slice_index squares.now (start + y * step)) side x x side best }
+    requires best { IsLeastFrom (λ y. slice_index squares.now (start + y * step))
+        side x x side best }
     ensures { IsLeastFrom (λ y. slice_index squares.now (start + y * step)) side x 0 side result }
 {
     let mut best = best;

@@ -94,7 +94,8 @@ fn scan_axis(alloc: Global, squares: &[u32], before: u32, side: u32) -> Result<V
     requires few { length squares.now < 2 ^ 31 }
     requires small { (i : ℕ) → slice_index squares.now i ≤ 2 ^ 26 }
     ensures long { IfOk result (λ v. length v.items ≡ length squares.now) }
-    ensures scanned { IfOk result (λ v. (i : ℕ) → i < length squares.now → IsScannedAt before side squares.now i (slice_index v.items i)) }
+    ensures scanned { IfOk result (λ v. (i : ℕ) → i < length squares.now
+        → IsScannedAt before side squares.now i (slice_index v.items i)) }
     ensures small { IfOk result (λ v. (i : ℕ) → slice_index v.items i ≤ 2 ^ 26) }
 {
     let n = squares.len() as u32;
@@ -133,7 +134,8 @@ fn scan_more(alloc: Global, squares: &[u32], before: u32, side: u32) -> Result<V
 // The squares on all axes.
 fn all_squares<P: Point>(alloc: Global, grid: &Grid<P>) -> Result<Vec<u32>, NoMemory>
     ensures long { IfOk result (λ v. length v.items ≡ box_count (framed_sides grid.now.sides)) }
-    ensures squares { IfOk result (λ v. AreSquaresOn grid.now (box_count (framed_sides grid.now.sides)) v.items) }
+    ensures squares { IfOk result (λ v. AreSquaresOn grid.now
+        (box_count (framed_sides grid.now.sides)) v.items) }
 {
     let sides = grid.sides();
     let Ok(mut squares) = first_squares(alloc, grid) else {

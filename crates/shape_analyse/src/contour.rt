@@ -22,7 +22,8 @@ fn add_outline(contour: &Contour, segments: u32, report: &mut Report) -> Result<
     requires side { contour.now.start.side < 4 }
     requires some { 1 ≤ segments }
     requires few { segments ≤ length contour.now.points }
-    ensures { (X : Picture) (contours : List Trace) (k : ℕ) → slice_get contours k ≡ Some contour.now
+    ensures { (X : Picture) (contours : List Trace) (k : ℕ)
+        → slice_get contours k ≡ Some contour.now
         → IsTextOf (HasOutlined X contours k) report.old
         → OnOk result (Stands X contours (outlined k contour.now segments) report.new) }
 {
@@ -74,7 +75,8 @@ fn add_segments(cover: &Cover, report: &mut Report) -> Result<(), NoMemory>
 // Adds the line of a gap for one axis.
 fn add_gap(axis: u8, refusal: Refusal, report: &mut Report) -> Result<(), NoMemory>
     requires { IsLineOf 2 (gap_line axis (evidence_of refusal)) }
-    ensures { OnOk result (report.new ≡ report.old ++ line_text (gap_line axis (evidence_of refusal))) }
+    ensures { OnOk result (report.new
+        ≡ report.old ++ line_text (gap_line axis (evidence_of refusal))) }
 {
     let line: Line<P2> = match refusal {
         Refusal::Turned(turn) => Line::Turn {
@@ -96,7 +98,8 @@ fn add_gaps(cover: &Cover, report: &mut Report) -> Result<(), NoMemory>
     ensures { (X : Picture) (contours : List Trace) (k : ℕ) (contour : Trace)
         → slice_get contours k ≡ Some contour → IsCoverOf contour.points cover.now
         → Stands X contours (covered k contour cover.now 0) report.old
-        → OnOk result (Stands X contours (covered k contour cover.now (2 * length cover.now)) report.new) }
+        → OnOk result (Stands X contours
+        (covered k contour cover.now (2 * length cover.now)) report.new) }
 {
     for j in 0..cover.len() {
         let gap = cover.gap(j);
@@ -115,7 +118,8 @@ fn add_gaps(cover: &Cover, report: &mut Report) -> Result<(), NoMemory>
 // Adds all lines of a contour.
 fn add_contour(alloc: Global, contour: &Contour, report: &mut Report) -> Result<(), NoMemory>
     requires side { contour.now.start.side < 4 }
-    ensures { (X : Picture) (contours : List Trace) (k : ℕ) → slice_get contours k ≡ Some contour.now
+    ensures { (X : Picture) (contours : List Trace) (k : ℕ)
+        → slice_get contours k ≡ Some contour.now
         → IsTextOf (HasOutlined X contours k) report.old
         → OnOk result (IsTextOf (HasOutlined X contours (k + 1)) report.new) }
 {

@@ -7,6 +7,7 @@ ghost use Rattle.report_terms.specs.Lines.{Line, spelling, IsLineOf};
 ///
 /// So a text has one reading at most, whoever wrote the reader.
 pub fn one_spelling()
-    ensures same { (d : ℕ) (l m : Line) → IsLineOf d l → IsLineOf d m → spelling l ≡ spelling m → l ≡ m }
+    ensures same { (d : ℕ) (l m : Line) → IsLineOf d l → IsLineOf d m → spelling l ≡ spelling m
+        → l ≡ m }
     ensures short { (d : ℕ) (l : Line) → d ≤ 3 → IsLineOf d l → length (spelling l) ≤ 1024 }
 {}

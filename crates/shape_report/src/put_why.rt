@@ -69,7 +69,8 @@ fn put_step_share(one: StepShare, text: &mut Text)
 fn put_step_shares(shares: &StepShares, text: &mut Text)
     requires room { length text.old + 189 ≤ 1024 }
     requires range { (counted 4 (step_share 2)).InRange shares.now }
-    ensures text { text.new ≡ text.old ++ behind_blanks ((counted 4 (step_share 2)).words shares.now) }
+    ensures text { text.new ≡ text.old ++ behind_blanks
+        ((counted 4 (step_share 2)).words shares.now) }
     ensures room { length text.new ≤ length text.old + 189 }
 {
     text.count(shares.len() as u32);
@@ -82,7 +83,8 @@ fn put_step_shares(shares: &StepShares, text: &mut Text)
 pub(crate) fn put_why(weights: &Refutation, text: &mut Text)
     requires room { length text.old + 567 ≤ 1024 }
     requires range { (why 2).InRange (refutation_of weights.now) }
-    ensures text { text.new ≡ text.old ++ behind_blanks ((why 2).words (refutation_of weights.now)) }
+    ensures text { text.new ≡ text.old ++ behind_blanks
+        ((why 2).words (refutation_of weights.now)) }
     ensures room { length text.new ≤ length text.old + 567 }
 {
     put_shares(&weights.low, text);

@@ -77,7 +77,8 @@ fn put_at<P: Point>(p: P, text: &mut Text)
 fn put_seg(first: u32, last: u32, line: &Naive, text: &mut Text)
     requires empty { text.old ≡ [] }
     requires axis { line.now.axis < 2 }
-    ensures { text.new ≡ kind_text 2 Kind.Seg (first, (last, (line.now.axis, (take 2 line.now.a, line.now.mu)))) }
+    ensures { text.new ≡ kind_text 2 Kind.Seg
+        (first, (last, (line.now.axis, (take 2 line.now.a, line.now.mu)))) }
 {
     text.put(b"seg");
     text.count(first);
