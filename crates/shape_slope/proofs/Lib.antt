@@ -1,4 +1,3 @@
-pub mod Fractions
 pub mod Choosing
 pub mod Together
 pub mod Tighter

@@ -65,9 +65,9 @@ flat_kept rows f old j s a b = record {
 pub tight_more : (rows : List Row) (f : Frac) (old new : Span) (j : ℕ) → IsTight rows f j old → IsTightened rows f old j new → IsTight rows f (j + 1) new
 tight_more rows f old new j t x = record {
   span = x.span;
-  met = λ k a b n m hm i e. elim (ℕ_discrete k j) [
+  met = λ k b n m hm i e. elim (ℕ_discrete k j) [
     | yes q ↦ subst (MeetsAt rows f n m) (sym q) (x.met n m hm i (λ z. e (subst (λ (v : ℕ). (row_at rows v).y ≡ pos 0) (sym q) z)))
-    | no q ↦ t.met k a (omega arith) n m hm (x.closer n m hm i) e
+    | no q ↦ t.met k (omega arith) n m hm (x.closer n m hm i) e
   ];
 }
 
@@ -79,11 +79,15 @@ tight_first rows f s =
     let l = s.some in
     record {
       span = record { lower_place = omega arith; upper_place = omega arith; lower_second = omega arith; upper_second = omega arith; falls = omega (arith, ints, a); rises = omega (arith, ints, b) };
-      met = λ j h k n m hm i e. elim (ℕ_discrete j 2) [
-        | yes q ↦ subst (MeetsAt rows f n m) (sym q) i.0
-        | no q ↦ (let r : j ≡ 3 = omega (arith, h, k, q) in subst (MeetsAt rows f n m) (sym r) i.1)
-      ];
+      met = met;
     }
+  where
+    met : (j : ℕ) → j < 4 → (n m : ℤ) → pos 0 <ℤ m → MeetsAt rows f n m 2 × MeetsAt rows f n m 3 → ((row_at rows j).y ≡ pos 0 → ⊥) → MeetsAt rows f n m j
+    met zero k n m hm i e = absurd (e (ap (λ (r : Row). r.y) s.plus_first))
+    met (suc zero) k n m hm i e = absurd (e (ap (λ (r : Row). r.y) s.minus_first))
+    met (suc (suc zero)) k n m hm i e = i.0
+    met (suc (suc (suc zero))) k n m hm i e = i.1
+    met (suc (suc (suc (suc j)))) k n m hm i e = absurd (omega arith)
 
 -- rows of a span are steep
 pub steep_lower : (rows : List Row) (s : Span) → AreSmall rows → IsSpan rows s → IsSteep (row_at rows s.lower)

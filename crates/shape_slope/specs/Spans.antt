@@ -38,7 +38,7 @@ pub record IsTightened (rows : List Row) (f : Frac) (old : Span) (j : ℕ) (new 
   pub closer : IsCloser rows f new old
   pub met : (n m : ℤ) → pos 0 <ℤ m → IsAmid rows f n m new → ((row_at rows j).y ≡ pos 0 → ⊥) → MeetsAt rows f n m j
 
--- each second slope amid the span meets the rows from 2 to below k in which it stands
+-- each second slope amid the span meets the first k rows in which it stands
 pub record IsTight (rows : List Row) (f : Frac) (k : ℕ) (s : Span) : Type 0 where
   pub span : IsSpan rows s
-  pub met : (j : ℕ) → 2 ≤ j → j < k → (n m : ℤ) → pos 0 <ℤ m → IsAmid rows f n m s → ((row_at rows j).y ≡ pos 0 → ⊥) → MeetsAt rows f n m j
+  pub met : (j : ℕ) → j < k → (n m : ℤ) → pos 0 <ℤ m → IsAmid rows f n m s → ((row_at rows j).y ≡ pos 0 → ⊥) → MeetsAt rows f n m j
