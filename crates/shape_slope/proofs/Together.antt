@@ -6,7 +6,7 @@ use Rattle.std.proofs.lemmas.Int.{ints}
 use Rattle.shape_slope.specs.declared.row.Row.{Row}
 use Rattle.shape_slope.specs.declared.combination.Combination.{Combination}
 use Rattle.shape_slope.specs.Rows.{row_at, AreOpposite, IsSteep, IsSmall, Meets}
-use Rattle.shape_slope.specs.Combinations.{IsCombination, IsBounded}
+use Rattle.shape_slope.specs.Combinations.{IsCombination}
 use Rattle.shape_slope.specs.Ranges.{LeaveRoom}
 use Rattle.shape_terms.proofs.Products.{rings}
 
@@ -55,9 +55,6 @@ leave_room rows c i j p q ei ej h v w m = room (row_at rows i) (row_at rows j) v
 -- rows that are not opposite leave room
 pub not_opposite : (p q : ℤ) (r s : Row) → (AreOpposite r.y s.y → ⊥) → LeaveRoom p q r s
 not_opposite p q r s h = (λ a b. absurd (h (inl (a, b))), λ a b. absurd (h (inr (b, a))))
-
-pub bounded : (rows : List Row) (c : Combination) → IsCombination rows c → IsBounded c
-bounded rows c h = record { x_small = h.x_small; z_small = h.z_small }
 
 pub combined_of : (rows : List Row) (i j : ℕ) (v w x z : ℤ) (a b : Row) → i < length rows → j < length rows → a ≡ row_at rows i → b ≡ row_at rows j → IsSteep a → IsSteep b
     → AreOpposite (row_at rows i).y (row_at rows j).y → 4 ≤ j → v ≡ pos (unsigned_abs b.y) → w ≡ pos (unsigned_abs a.y) → x ≡ v *ℤ a.x +ℤ w *ℤ b.x → z ≡ v *ℤ a.z +ℤ w *ℤ b.z
