@@ -1,7 +1,7 @@
 -- An exclusion of all slopes by two combinations, as weights that refute the points.
 -- How an exclusion is found belongs elsewhere.
 use Rattle.std.proofs.Common.{◌≡◌, ℕ, zero, suc, ◌+◌, ◌-◌, ◌<◌, ◌≤◌, ◌^◌, ◌⊎◌, inl, inr, true, List, length, map, refl, ap, sym, subst, ◌∙◌, arith}
-use Rattle.std.specs.Prelude.{ℤ, pos, negsuc, neg_ℤ, ◌+ℤ◌, ◌-ℤ◌, ◌*ℤ◌, ◌≤ℤ◌, All}
+use Rattle.std.specs.Prelude.{ℤ, pos, negsuc, neg_ℤ, ◌+ℤ◌, ◌-ℤ◌, ◌*ℤ◌, ◌≤ℤ◌}
 use Rattle.std.proofs.lemmas.Int.{ints}
 use Rattle.std.proofs.lemmas.List.{length-map}
 use Rattle.shape_terms.specs.Points.{Point, coordinate}
@@ -17,7 +17,7 @@ use Rattle.shape_slope.specs.declared.eliminate.Excluded.{Excluded}
 use Rattle.shape_slope.specs.Rows.{row_at}
 use Rattle.shape_slope.specs.Combinations.{IsCombination}
 use Rattle.shape_slope.specs.Solutions.{IsExcluded}
-use Rattle.shape_slope.specs.Pairs.{ArePairs, IsPlaceOf, AreSmallWeights, first_axis, second_axis, pair_row}
+use Rattle.shape_slope.specs.Pairs.{ArePairs, first_axis, second_axis, pair_row}
 use Rattle.shape_slope.specs.Systems.{rows_for, bounding_step, pair_at, no_weights, with_row, with_up, balance, coefficient}
 use Rattle.shape_slope.specs.Weighing.{IsWeighed, AreWeights}
 use Rattle.shape_terms.proofs.Products.{rings}

@@ -7,7 +7,7 @@ use native.Mathlib.Decide.{ℕ_discrete}
 use Rattle.shape_slope.specs.declared.row.Row.{Row}
 use Rattle.shape_space.specs.declared.frac.Frac.{Frac}
 use Rattle.shape_slope.specs.declared.span.Span.{Span}
-use Rattle.shape_slope.specs.Rows.{row_at, level, AreSmall, IsSteep, IsSystem}
+use Rattle.shape_slope.specs.Rows.{row_at, level, IsSystem}
 use Rattle.shape_slope.specs.Spans.{MeetsAt, IsSpan, IsTightened, IsTight}
 use Rattle.shape_slope.proofs.Tighter.{follows_upper, follows_lower}
 
