@@ -25,42 +25,10 @@ use Rattle.shape_slope.proofs.Certified.{few_axes, low_axis, first_low, each_axi
 
 -- ---- the scalar product, axis by axis
 
-rest : List ℤ → List ℤ
-rest [] = []
-rest (x ∷ xs) = xs
-
-rest_at : (a : List ℤ) (k : ℕ) → coordinate (rest a) k ≡ coordinate a (suc k)
-unfolding rest
-rest_at [] k = refl
-rest_at (x ∷ a) k = refl
-
-dot_step : (a p : List ℤ) → dot a p ≡ coordinate a 0 *ℤ coordinate p 0 +ℤ dot (rest a) (rest p)
-unfolding rest
-dot_step [] p = omega (arith, ints)
-dot_step (a ∷ row) [] = let e = dot_none row in omega (arith, ints, e)
-dot_step (a ∷ row) (x ∷ p) = refl
-
-rest_short : (p : List ℤ) (n : ℕ) → length p ≤ suc n → length (rest p) ≤ n
-unfolding rest
-rest_short [] n h = omega arith
-rest_short (x ∷ p) n h = omega arith
-
-dot_empty : (a p : List ℤ) → length p ≤ 0 → dot a p ≡ pos 0
-dot_empty a [] h = dot_none a
-dot_empty a (x ∷ p) h = absurd (omega arith)
-
 dot_three : (a p : List ℤ) → length p ≤ 3 → dot a p ≡ coordinate a 0 *ℤ coordinate p 0 +ℤ (coordinate a 1 *ℤ coordinate p 1 +ℤ coordinate a 2 *ℤ coordinate p 2)
-dot_three a p h =
-    let s0 = dot_step a p in
-    let s1 = dot_step (rest a) (rest p) in
-    let s2 = dot_step (rest (rest a)) (rest (rest p)) in
-    let s3 = dot_empty (rest (rest (rest a))) (rest (rest (rest p))) (rest_short (rest (rest p)) 0 (rest_short (rest p) 1 (rest_short p 2 h))) in
-    let e1 : coordinate (rest a) 0 *ℤ coordinate (rest p) 0 ≡ coordinate a 1 *ℤ coordinate p 1 = λ i. rest_at a 0 i *ℤ rest_at p 0 i in
-    let e2 : coordinate (rest (rest a)) 0 *ℤ coordinate (rest (rest p)) 0 ≡ coordinate a 2 *ℤ coordinate p 2 = λ i. (rest_at (rest a) 0 ∙ rest_at a 1) i *ℤ (rest_at (rest p) 0 ∙ rest_at p 1) i in
-    sums (dot a p) (dot (rest a) (rest p)) (dot (rest (rest a)) (rest (rest p))) (dot (rest (rest (rest a))) (rest (rest (rest p)))) _ _ _ _ _ s0 s1 s2 s3 e1 e2
-  where
-    sums : (s0 s1 s2 s3 p q r q' r' : ℤ) → s0 ≡ p +ℤ s1 → s1 ≡ q +ℤ s2 → s2 ≡ r +ℤ s3 → s3 ≡ pos 0 → q ≡ q' → r ≡ r' → s0 ≡ p +ℤ (q' +ℤ r')
-    sums s0 s1 s2 s3 p q r q' r' h0 h1 h2 h3 eq er = omega (arith, ints, h0, h1, h2, h3, eq, er)
+dot_three a (x ∷ y ∷ z ∷ w ∷ p) h = absurd (omega arith)
+dot_three (a ∷ b ∷ c ∷ r) p h = let e = dot_none r in omega (arith, ints, e)
+dot_three a p h = omega (arith, ints)
 
 pub dot_by_axes : (t : ℕ) (a p : List ℤ) → t < 3 → length p ≤ 3 → dot a p ≡ (coordinate a (first_axis t) *ℤ coordinate p (first_axis t) +ℤ coordinate a (second_axis t) *ℤ coordinate p (second_axis t)) +ℤ coordinate a t *ℤ coordinate p t
 dot_by_axes zero a p h l = let e = dot_three a p l in omega (arith, ints, e)
