@@ -21,6 +21,7 @@ use Rattle.shape_slope.specs.Pairs.{MeetsPair, AreSlopes, AreSmallCoefficients, 
 use Rattle.shape_slope.specs.Systems.{rows_for, pair_at}
 use Rattle.shape_terms.proofs.Products.{rings}
 use Rattle.shape_terms.proofs.Order.{mul-le_ℤ, mul-lt_ℤ}
+use Rattle.shape_slope.proofs.Together.{regrouped}
 use Rattle.shape_slope.proofs.Certified.{few_axes, low_axis, first_low, each_axis, first_other, second_other, pair_at_row}
 
 -- ---- the scalar product, axis by axis
@@ -50,10 +51,7 @@ pair_value d t points pair a few axis lh ll =
     (coordinate-difference p q (first_axis t)) (coordinate-difference p q (second_axis t)) (coordinate-difference p q t)
   where
     sums : (s a x b y c z x' y' z' : ℤ) → s ≡ (a *ℤ x +ℤ b *ℤ y) +ℤ c *ℤ z → x ≡ x' → y ≡ y' → z ≡ z' → s -ℤ c ≡ (x' *ℤ a +ℤ y' *ℤ b) +ℤ (z' -ℤ pos 1) *ℤ c
-    sums s a x b y c z x' y' z' e ex ey ez = rw (sym ex, sym ey, sym ez) (plain s a x b y c z e)
-      where
-        plain : (s a x b y c z : ℤ) → s ≡ (a *ℤ x +ℤ b *ℤ y) +ℤ c *ℤ z → s -ℤ c ≡ (x *ℤ a +ℤ y *ℤ b) +ℤ (z -ℤ pos 1) *ℤ c
-        plain s a x b y c z e = omega (arith, ints, rings, e)
+    sums s a x b y c z x' y' z' e ex ey ez = rw (sym ex, sym ey, sym ez) (omega (arith, ints, rings, e))
 
 pub row_meets : (d t : ℕ) (points : List Point) (pair : Pair) (a : List ℤ) → d ≤ 3 → t < 3 → length (point_at points pair.high) ≡ d → length (point_at points pair.low) ≡ d
     → MeetsRow (coordinate a (first_axis t)) (coordinate a (second_axis t)) (coordinate a t) (pair_row t points pair) ↔ MeetsPair t points a pair
@@ -95,18 +93,12 @@ slopes_meet d t points pairs s a two axis long h o = record {
     inside : (u : ℕ) → (u < d) ⊎ (d ≤ u)
     inside u = grind arith
 
-    -- the rows that bound the slopes
-    plus : (a b c : ℤ) → (negsuc 0 *ℤ a +ℤ pos 0 *ℤ b +ℤ negsuc 0 *ℤ c) <ℤ pos 0 → (pos 1 *ℤ a +ℤ pos 0 *ℤ b +ℤ negsuc 0 *ℤ c) <ℤ pos 0 → pos (nat_abs a) ≤ℤ c
-    plus a b c h l = omega (arith, ints, h, l)
-
-    plus' : (a b c : ℤ) → (pos 0 *ℤ a +ℤ negsuc 0 *ℤ b +ℤ negsuc 0 *ℤ c) <ℤ pos 0 → (pos 0 *ℤ a +ℤ pos 1 *ℤ b +ℤ negsuc 0 *ℤ c) <ℤ pos 0 → pos (nat_abs b) ≤ℤ c
-    plus' a b c h l = omega (arith, ints, h, l)
-
+    -- by the rows that bound the slopes
     a_within : pos (nat_abs s.a) ≤ℤ s.c
-    a_within = plus s.a s.b s.c (h.met 0 (omega arith)) (h.met 1 (omega arith))
+    a_within = let u = h.met 0 (omega arith) in let v = h.met 1 (omega arith) in omega (arith, ints, u, v)
 
     b_within : pos (nat_abs s.b) ≤ℤ s.c
-    b_within = plus' s.a s.b s.c (h.met 2 (omega arith)) (h.met 3 (omega arith))
+    b_within = let u = h.met 2 (omega arith) in let v = h.met 3 (omega arith) in omega (arith, ints, u, v)
 
     is_within : (u : ℕ) (v : ℤ) → coordinate (take d a) u ≡ v → pos (nat_abs v) ≤ℤ s.c → pos (nat_abs (coordinate (take d a) u)) ≤ℤ coordinate (take d a) t
     is_within u v e l = rw (e, main) l
@@ -145,10 +137,7 @@ slopes_meet d t points pairs s a two axis long h o = record {
             omega (arith, ints, x, y)
 
         same : (y b b' : ℤ) → y ≡ pos 0 → y *ℤ b ≡ y *ℤ b'
-        same y b b' e = ap (λ (z : ℤ). z *ℤ b) e ∙ zeros b b' ∙ sym (ap (λ (z : ℤ). z *ℤ b') e)
-          where
-            zeros : (b b' : ℤ) → pos 0 *ℤ b ≡ pos 0 *ℤ b'
-            zeros b b' = omega (arith, ints)
+        same y b b' e = rw e (omega (arith, ints))
 
         by_second : (second_axis t < d) ⊎ (d ≤ second_axis t) → gap points q (second_axis t) *ℤ coordinate (take d a) (second_axis t) ≡ gap points q (second_axis t) *ℤ s.b
         by_second (inl k) = ap (λ (z : ℤ). gap points q (second_axis t) *ℤ z) (within (second_axis t) k ∙ o.second k)
@@ -164,32 +153,14 @@ abbrev pub value : ℤ → ℤ → ℤ → Row → ℤ
 value p q r c = c.x *ℤ p +ℤ c.y *ℤ q +ℤ c.z *ℤ r
 
 bound_low : (t : ℕ) (points : List Point) (pairs : List Pair) (p q r : ℤ) (i : ℕ) → pos (nat_abs p) ≤ℤ r → pos (nat_abs q) ≤ℤ r → i < 4 → value p q r (row_at (rows_for t points pairs) i) ≤ℤ pos 0
-bound_low t points pairs p q r zero h k l = omega (arith, ints, h)
-bound_low t points pairs p q r (suc zero) h k l = omega (arith, ints, h)
-bound_low t points pairs p q r (suc (suc zero)) h k l = omega (arith, ints, k)
-bound_low t points pairs p q r (suc (suc (suc zero))) h k l = omega (arith, ints, k)
 bound_low t points pairs p q r (suc (suc (suc (suc i)))) h k l = absurd (omega arith)
+bound_low t points pairs p q r i h k l = omega (arith, ints, h, k)
 
 combination_value : (v w x1 y1 z1 x2 y2 z2 x z p q r : ℤ) → x ≡ v *ℤ x1 +ℤ w *ℤ x2 → pos 0 ≡ v *ℤ y1 +ℤ w *ℤ y2 → z ≡ v *ℤ z1 +ℤ w *ℤ z2
     → x *ℤ p +ℤ z *ℤ r ≡ v *ℤ (x1 *ℤ p +ℤ y1 *ℤ q +ℤ z1 *ℤ r) +ℤ w *ℤ (x2 *ℤ p +ℤ y2 *ℤ q +ℤ z2 *ℤ r)
 combination_value v w x1 y1 z1 x2 y2 z2 x z p q r ex ey ez =
     let e : pos 0 *ℤ q ≡ (v *ℤ y1 +ℤ w *ℤ y2) *ℤ q = ap (λ (m : ℤ). m *ℤ q) ey in
-    rw (ex, ez) (sums ((v *ℤ x1 +ℤ w *ℤ x2) *ℤ p) ((v *ℤ z1 +ℤ w *ℤ z2) *ℤ r) ((v *ℤ y1 +ℤ w *ℤ y2) *ℤ q) _ (none q ∙ e) (expand v w x1 y1 z1 x2 y2 z2 p q r))
-  where
-    none : (q : ℤ) → pos 0 ≡ pos 0 *ℤ q
-    none q = omega (arith, ints)
-
-    sums : (a b c s : ℤ) → pos 0 ≡ c → a +ℤ c +ℤ b ≡ s → a +ℤ b ≡ s
-    sums a b c s e h = omega (arith, ints, e, h)
-
-    expand : (v w x1 y1 z1 x2 y2 z2 p q r : ℤ) → (v *ℤ x1 +ℤ w *ℤ x2) *ℤ p +ℤ (v *ℤ y1 +ℤ w *ℤ y2) *ℤ q +ℤ (v *ℤ z1 +ℤ w *ℤ z2) *ℤ r ≡ v *ℤ (x1 *ℤ p +ℤ y1 *ℤ q +ℤ z1 *ℤ r) +ℤ w *ℤ (x2 *ℤ p +ℤ y2 *ℤ q +ℤ z2 *ℤ r)
-    expand v w x1 y1 z1 x2 y2 z2 p q r = let a = part v w x1 x2 p in let b = part v w y1 y2 q in let c = part v w z1 z2 r in let d = three v (x1 *ℤ p) (y1 *ℤ q) (z1 *ℤ r) in let e = three w (x2 *ℤ p) (y2 *ℤ q) (z2 *ℤ r) in omega (arith, ints, a, b, c, d, e)
-      where
-        part : (v w x y p : ℤ) → (v *ℤ x +ℤ w *ℤ y) *ℤ p ≡ v *ℤ (x *ℤ p) +ℤ w *ℤ (y *ℤ p)
-        part v w x y p = omega (arith, ints, rings)
-
-        three : (v x y z : ℤ) → v *ℤ (x +ℤ y +ℤ z) ≡ v *ℤ x +ℤ v *ℤ y +ℤ v *ℤ z
-        three v x y z = omega (arith, ints, rings)
+    rw (ex, ez) (omega (arith, ints, rings, e))
 
 -- slopes that meet all rows meet each combination, strictly where a pair stands in it
 combination_low : (rows : List Row) (c : Combination) (p q r : ℤ) → IsCombination rows c → value p q r (row_at rows c.first) ≤ℤ pos 0 → value p q r (row_at rows c.second) ≤ℤ pos 0
@@ -203,9 +174,6 @@ combination_low rows c p q r h a b =
     sums : (s m n v w : ℤ) → s ≡ m +ℤ w *ℤ n → m ≤ℤ (v *ℤ pos 0) → pos 0 <ℤ w → n ≤ℤ pos 0 → (s ≤ℤ pos 0) × (n <ℤ pos 0 → s <ℤ pos 0)
     sums s m n v w e a l b = (let g = mul-le_ℤ w n (pos 0) (omega (arith, ints, l)) b in omega (arith, ints, e, a, g), λ k. (let g = mul-lt_ℤ w n (pos 0) l k in omega (arith, ints, e, a, g)))
 
-turned : (v w x1 z1 x2 z2 p r : ℤ) → v *ℤ (x1 *ℤ p +ℤ z1 *ℤ r) +ℤ w *ℤ (x2 *ℤ p +ℤ z2 *ℤ r) ≡ (v *ℤ x1 +ℤ w *ℤ x2) *ℤ p +ℤ (v *ℤ z1 +ℤ w *ℤ z2) *ℤ r
-turned v w x1 z1 x2 z2 p r = omega (arith, ints, rings)
-
 pub excluded_rows : (rows : List Row) (k : Excluded) (p q r : ℤ) → IsExcluded rows k → pos 1 ≤ℤ r → ((i : ℕ) → i < length rows → value p q r (row_at rows i) ≤ℤ pos 0) → ((i : ℕ) → 4 ≤ i → i < length rows → value p q r (row_at rows i) <ℤ pos 0) → ⊥
 excluded_rows rows k p q r x hr low below =
     let a = combination_low rows k.first p q r x.first (low k.first.first x.first.first) (low k.first.second x.first.second) in
@@ -216,10 +184,7 @@ excluded_rows rows k p q r x hr low below =
     total = expand k.first_weight k.second_weight k.first.x k.first.z k.second.x k.second.z k.rest p r x.gone x.rest
       where
         expand : (v w x1 z1 x2 z2 s p r : ℤ) → pos 0 ≡ v *ℤ x1 +ℤ w *ℤ x2 → s ≡ v *ℤ z1 +ℤ w *ℤ z2 → v *ℤ (x1 *ℤ p +ℤ z1 *ℤ r) +ℤ w *ℤ (x2 *ℤ p +ℤ z2 *ℤ r) ≡ s *ℤ r
-        expand v w x1 z1 x2 z2 s p r e f = let g = ap (λ (m : ℤ). m *ℤ p) e in rw f (plain v w x1 z1 x2 z2 p r g)
-          where
-            plain : (v w x1 z1 x2 z2 p r : ℤ) → pos 0 *ℤ p ≡ (v *ℤ x1 +ℤ w *ℤ x2) *ℤ p → v *ℤ (x1 *ℤ p +ℤ z1 *ℤ r) +ℤ w *ℤ (x2 *ℤ p +ℤ z2 *ℤ r) ≡ (v *ℤ z1 +ℤ w *ℤ z2) *ℤ r
-            plain v w x1 z1 x2 z2 p r g = let t = turned v w x1 z1 x2 z2 p r in omega (arith, ints, t, g)
+        expand v w x1 z1 x2 z2 s p r e f = let g = ap (λ (m : ℤ). m *ℤ p) e in let t = regrouped v w x1 z1 x2 z2 p r in rw f (omega (arith, ints, t, g))
 
     over : pos 0 ≤ℤ (k.rest *ℤ r)
     over = let m = mul-le_ℤ k.rest (pos 0) r x.rest_low (omega (arith, ints, hr)) in omega (arith, ints, m)

@@ -134,13 +134,7 @@ module _ {Q : Type 0} (f : Q → Point) (d t : ℕ) (ps : List Q) (pairs : List 
 
 joined : (f g v w v' w' x1 x2 x3 x4 x x' a b c e : ℤ) → a ≡ f *ℤ v → b ≡ f *ℤ w → c ≡ g *ℤ v' → e ≡ g *ℤ w' → x ≡ v *ℤ x1 +ℤ w *ℤ x2 → x' ≡ v' *ℤ x3 +ℤ w' *ℤ x4
     → ((a *ℤ x1 +ℤ b *ℤ x2) +ℤ c *ℤ x3) +ℤ e *ℤ x4 ≡ f *ℤ x +ℤ g *ℤ x'
-joined f g v w v' w' x1 x2 x3 x4 x x' a b c e ea eb ec ee ex ex' = rw (ea, eb, ec, ee, ex, ex') (expand f v w x1 x2 (g *ℤ v') (g *ℤ w') x3 x4 ∙ ap (λ (z : ℤ). f *ℤ (v *ℤ x1 +ℤ w *ℤ x2) +ℤ z) (inner g v' w' x3 x4))
-  where
-    inner : (g v w x y : ℤ) → (g *ℤ v) *ℤ x +ℤ (g *ℤ w) *ℤ y ≡ g *ℤ (v *ℤ x +ℤ w *ℤ y)
-    inner g v w x y = omega (arith, ints, rings)
-
-    expand : (f v w x y p q x' y' : ℤ) → (((f *ℤ v) *ℤ x +ℤ (f *ℤ w) *ℤ y) +ℤ p *ℤ x') +ℤ q *ℤ y' ≡ f *ℤ (v *ℤ x +ℤ w *ℤ y) +ℤ (p *ℤ x' +ℤ q *ℤ y')
-    expand f v w x y p q x' y' = let e = inner f v w x y in omega (arith, ints, e)
+joined f g v w v' w' x1 x2 x3 x4 x x' a b c e ea eb ec ee ex ex' = rw (ea, eb, ec, ee, ex, ex') (omega (arith, ints, rings))
 
 -- the four rows and the steps up
 abbrev pub all_weights : ℕ → List Pair → Excluded → ℕ → ℕ → ℕ → ℕ → ℕ → Refutation

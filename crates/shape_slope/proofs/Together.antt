@@ -23,16 +23,14 @@ some_size : (y w : ℤ) → AreOpposite y w → pos 1 ≤ℤ pos (unsigned_abs y
 some_size y w (inl h) = omega (arith, ints, h.0)
 some_size y w (inr h) = omega (arith, ints, h.0)
 
+pub regrouped : (v w x1 z1 x2 z2 p q : ℤ) → v *ℤ (x1 *ℤ p +ℤ z1 *ℤ q) +ℤ w *ℤ (x2 *ℤ p +ℤ z2 *ℤ q) ≡ (v *ℤ x1 +ℤ w *ℤ x2) *ℤ p +ℤ (v *ℤ z1 +ℤ w *ℤ z2) *ℤ q
+regrouped v w x1 z1 x2 z2 p q = omega (arith, ints, rings)
+
 -- the combination says that the two rows leave room
 room_of : (x1 y1 z1 x2 y2 z2 v w x z p q : ℤ) → v ≡ y2 → w ≡ neg_ℤ y1 → x ≡ v *ℤ x1 +ℤ w *ℤ x2 → z ≡ v *ℤ z1 +ℤ w *ℤ z2 → (x *ℤ p +ℤ z *ℤ q) <ℤ pos 0
     → (y2 *ℤ (x1 *ℤ p +ℤ z1 *ℤ q)) <ℤ (y1 *ℤ (x2 *ℤ p +ℤ z2 *ℤ q))
-room_of x1 y1 z1 x2 y2 z2 v w x z p q ev ew ex ez h =
-    let e : x *ℤ p +ℤ z *ℤ q ≡ v *ℤ (x1 *ℤ p +ℤ z1 *ℤ q) +ℤ w *ℤ (x2 *ℤ p +ℤ z2 *ℤ q) = rw (ex, ez) (expand x1 z1 x2 z2 v w p q) in
-    apart v w y1 y2 (x1 *ℤ p +ℤ z1 *ℤ q) (x2 *ℤ p +ℤ z2 *ℤ q) ev ew (rw e at h)
+room_of x1 y1 z1 x2 y2 z2 v w x z p q ev ew ex ez h = apart v w y1 y2 (x1 *ℤ p +ℤ z1 *ℤ q) (x2 *ℤ p +ℤ z2 *ℤ q) ev ew (rw (ex, ez, ← regrouped v w x1 z1 x2 z2 p q) at h)
   where
-    expand : (x1 z1 x2 z2 v w p q : ℤ) → (v *ℤ x1 +ℤ w *ℤ x2) *ℤ p +ℤ (v *ℤ z1 +ℤ w *ℤ z2) *ℤ q ≡ v *ℤ (x1 *ℤ p +ℤ z1 *ℤ q) +ℤ w *ℤ (x2 *ℤ p +ℤ z2 *ℤ q)
-    expand x1 z1 x2 z2 v w p q = omega (arith, ints, rings)
-
     apart : (v w y1 y2 l m : ℤ) → v ≡ y2 → w ≡ neg_ℤ y1 → (v *ℤ l +ℤ w *ℤ m) <ℤ pos 0 → (y2 *ℤ l) <ℤ (y1 *ℤ m)
     apart v w y1 y2 l m ev ew h = let a = ap (λ (t : ℤ). t *ℤ l) ev in let b = ap (λ (t : ℤ). t *ℤ m) ew in omega (arith, ints, rings, a, b, h)
 
