@@ -1,7 +1,7 @@
 -- The slopes that pairs of places ask of a line, and the lines that hold a run: each is told of the other.
 -- How least lines are found belongs elsewhere.
 use Rattle.std.proofs.Common.{◌≡◌, ℕ, zero, suc, ◌<◌, ◌≤◌, List, [], ◌∷◌, length, map, refl, ap, sym, subst, arith}
-use Rattle.std.specs.Prelude.{◌≢◌, ℤ, pos, ◌+ℤ◌, ◌-ℤ◌, ◌*ℤ◌, neg_ℤ, ◌≤ℤ◌, ◌<ℤ◌, nat_abs, unsigned_abs}
+use Rattle.std.specs.Prelude.{◌≢◌, ◌↔◌, ℤ, pos, ◌+ℤ◌, ◌-ℤ◌, ◌*ℤ◌, neg_ℤ, ◌≤ℤ◌, ◌<ℤ◌, nat_abs, unsigned_abs}
 use Rattle.std.proofs.lemmas.Int.{ints, by_lt_z}
 use Rattle.std.proofs.lemmas.List.{get_or-map, length-map}
 use Rattle.shape_space.specs.declared.point.P2.{P2}
@@ -13,7 +13,7 @@ use Rattle.shape_terms.specs.Refutations.{point_at}
 use Rattle.shape_terms.specs.Turns.{other_axis}
 use Rattle.shape_terms.proofs.Linear.{dot_none, dot-difference}
 use Rattle.shape_terms.proofs.Products.{rings}
-use Rattle.shape_least.specs.Least.{IsLeastLine, Pairs, Meets, ShowsLeast}
+use Rattle.shape_least.specs.Least.{IsLeastLine, Pairs, Meets, side_of, room_of, ShowsLeast}
 use Rattle.shape_least.specs.Slopes.{IsSlope}
 use Rattle.shape_least.proofs.ShortSlopes.{IsNear, near, HasShort, short_slope}
 
@@ -22,46 +22,22 @@ abbrev row : ℕ → ℤ → ℤ → List ℤ
 row zero r q = q ∷ r ∷ []
 row (suc t) r q = r ∷ q ∷ []
 
-two_coordinates : (p : Point) → length p ≡ 2 → p ≡ coordinate p 0 ∷ coordinate p 1 ∷ []
-two_coordinates [] e = absurd (omega arith)
-two_coordinates (x ∷ []) e = absurd (omega arith)
-two_coordinates (x ∷ y ∷ []) e = refl
-two_coordinates (x ∷ y ∷ z ∷ p) e = absurd (omega arith)
-
 -- ---- values
 
-dot_flat : (a : List ℤ) (x y : ℤ) → dot a (x ∷ y ∷ []) ≡ coordinate a 0 *ℤ x +ℤ coordinate a 1 *ℤ y
-dot_flat [] x y = omega (arith, ints)
-dot_flat (p ∷ []) x y = omega (arith, ints)
-dot_flat (p ∷ q ∷ a) x y = let e = dot_none a in omega (arith, ints, e)
-
 -- the value of a row at a point, by the axis t and the other one
-value_flat : (t : ℕ) (a : List ℤ) (x y : ℤ) → t < 2 → dot a (x ∷ y ∷ []) ≡ coordinate a (other_axis t) *ℤ coordinate (x ∷ y ∷ []) (other_axis t) +ℤ coordinate a t *ℤ coordinate (x ∷ y ∷ []) t
-value_flat zero a x y l = let e = dot_flat a x y in omega (arith, ints, e)
-value_flat (suc zero) a x y l = dot_flat a x y
-value_flat (suc (suc t)) a x y l = absurd (omega arith)
-
 pub value_on : (t : ℕ) (a : List ℤ) (p : Point) → t < 2 → length p ≡ 2 → dot a p ≡ coordinate a (other_axis t) *ℤ coordinate p (other_axis t) +ℤ coordinate a t *ℤ coordinate p t
-value_on t a p l two = subst (λ (q : Point). dot a q ≡ coordinate a (other_axis t) *ℤ coordinate q (other_axis t) +ℤ coordinate a t *ℤ coordinate q t) (sym (two_coordinates p two)) (value_flat t a (coordinate p 0) (coordinate p 1) l)
-
--- how far apart two points are on the other axis, and one less how far on the axis t
-abbrev pub side_of : ℕ → Point → Point → ℤ
-side_of t p q = coordinate q (other_axis t) -ℤ coordinate p (other_axis t)
-
-abbrev pub room_of : ℕ → Point → Point → ℤ
-room_of t p q = pos 1 -ℤ (coordinate q t -ℤ coordinate p t)
+value_on (suc (suc t)) a p l two = absurd (omega arith)
+value_on t a [] l two = absurd (omega arith)
+value_on t a (x ∷ []) l two = absurd (omega arith)
+value_on t a (x ∷ y ∷ z ∷ p) l two = absurd (omega arith)
+value_on t (a ∷ b ∷ c) p l two = let e = dot_none c in omega (arith, ints, e)
+value_on t a p l two = omega (arith, ints)
 
 rise : (t : ℕ) (a : List ℤ) (p q : Point) → t < 2 → length p ≡ 2 → length q ≡ 2 → dot a (difference q p) ≡ coordinate a (other_axis t) *ℤ side_of t p q +ℤ coordinate a t *ℤ (coordinate q t -ℤ coordinate p t)
 rise t a p q l hp hq = by (dot a q) (dot a p) (coordinate a (other_axis t)) (coordinate a t) (coordinate q (other_axis t)) (coordinate q t) (coordinate p (other_axis t)) (coordinate p t) (dot a (difference q p)) (dot-difference a q p) (value_on t a q l hq) (value_on t a p l hp)
   where
     by : (v w c b x y z u d : ℤ) → d ≡ v -ℤ w → v ≡ c *ℤ x +ℤ b *ℤ y → w ≡ c *ℤ z +ℤ b *ℤ u → d ≡ c *ℤ (x -ℤ z) +ℤ b *ℤ (y -ℤ u)
     by v w c b x y z u d e f g = omega (arith, ints, rings, e, f, g)
-
-less_to : (c s b d v : ℤ) → v ≡ c *ℤ s +ℤ b *ℤ d → v <ℤ b → (c *ℤ s) <ℤ (b *ℤ (pos 1 -ℤ d))
-less_to c s b d v e h = omega (arith, ints, rings, e, h)
-
-less_from : (c s b d v : ℤ) → v ≡ c *ℤ s +ℤ b *ℤ d → (c *ℤ s) <ℤ (b *ℤ (pos 1 -ℤ d)) → v <ℤ b
-less_from c s b d v e h = omega (arith, ints, rings, e, h)
 
 -- ---- axes
 
@@ -93,22 +69,20 @@ row_proper (suc zero) c b l some low high = record { main = some; others = other
 row_proper (suc (suc t)) c b l some low high = absurd (omega arith)
 
 row_main : (t : ℕ) (c b : ℤ) → t < 2 → coordinate (row t c b) t ≡ b
-row_main zero c b l = refl
-row_main (suc zero) c b l = refl
 row_main (suc (suc t)) c b l = absurd (omega arith)
+row_main t c b l = refl
 
 row_side : (t : ℕ) (c b : ℤ) → t < 2 → coordinate (row t c b) (other_axis t) ≡ c
-row_side zero c b l = refl
-row_side (suc zero) c b l = refl
 row_side (suc (suc t)) c b l = absurd (omega arith)
+row_side t c b l = refl
 
 -- ---- the slopes of lines
 module _ (t : ℕ) (run : List Point) (l : t < 2) (flat : (i : ℕ) → i < length run → length (point_at run i) ≡ 2) where
-  pub meets_slope : (n : Naive) (i j : ℕ) → i < length run → j < length run → Meets t run n i j → (coordinate n.a (other_axis t) *ℤ side_of t (point_at run i) (point_at run j)) <ℤ (coordinate n.a t *ℤ room_of t (point_at run i) (point_at run j))
-  meets_slope n i j li lj m = less_to (coordinate n.a (other_axis t)) (side_of t (point_at run i) (point_at run j)) (coordinate n.a t) (coordinate (point_at run j) t -ℤ coordinate (point_at run i) t) (dot n.a (difference (point_at run j) (point_at run i))) (rise t n.a (point_at run i) (point_at run j) l (flat i li) (flat j lj)) m
-
-  pub slope_meets : (n : Naive) (i j : ℕ) → i < length run → j < length run → (coordinate n.a (other_axis t) *ℤ side_of t (point_at run i) (point_at run j)) <ℤ (coordinate n.a t *ℤ room_of t (point_at run i) (point_at run j)) → Meets t run n i j
-  slope_meets n i j li lj m = less_from (coordinate n.a (other_axis t)) (side_of t (point_at run i) (point_at run j)) (coordinate n.a t) (coordinate (point_at run j) t -ℤ coordinate (point_at run i) t) (dot n.a (difference (point_at run j) (point_at run i))) (rise t n.a (point_at run i) (point_at run j) l (flat i li) (flat j lj)) m
+  pub meets_slope : (n : Naive) (i j : ℕ) → i < length run → j < length run → Meets t run n i j ↔ (coordinate n.a (other_axis t) *ℤ side_of t (point_at run i) (point_at run j)) <ℤ (coordinate n.a t *ℤ room_of t (point_at run i) (point_at run j))
+  meets_slope n i j li lj = less (coordinate n.a (other_axis t)) (side_of t (point_at run i) (point_at run j)) (coordinate n.a t) (coordinate (point_at run j) t -ℤ coordinate (point_at run i) t) (dot n.a (difference (point_at run j) (point_at run i))) (rise t n.a (point_at run i) (point_at run j) l (flat i li) (flat j lj))
+    where
+      less : (c s b d v : ℤ) → v ≡ c *ℤ s +ℤ b *ℤ d → v <ℤ b ↔ (c *ℤ s) <ℤ (b *ℤ (pos 1 -ℤ d))
+      less c s b d v e = (λ h. omega (arith, ints, rings, e, h), λ h. omega (arith, ints, rings, e, h))
 
   -- a line that holds the run meets each pair
   pub holds_meets : (n : Naive) (i j : ℕ) → i < length run → j < length run → IsNaiveFor t run n → Meets t run n i j
@@ -156,7 +130,7 @@ module _ (t : ℕ) (run : List Point) (l : t < 2) (flat : (i : ℕ) → i < leng
     r2 = room_of t (point_at run p.low2) (point_at run p.high2)
 
     line_slope : (n : Naive) → IsProper t n → Meets t run n p.low1 p.high1 → Meets t run n p.low2 p.high2 → IsSlope s1 r1 s2 r2 (coordinate n.a (other_axis t)) (coordinate n.a t)
-    line_slope n h m1 m2 = let s = side_size n h in record { some = h.main; low = s.0; high = s.1; first = meets_slope n p.low1 p.high1 l1 h1 m1; second = meets_slope n p.low2 p.high2 l2 h2 m2 }
+    line_slope n h m1 m2 = let s = side_size n h in record { some = h.main; low = s.0; high = s.1; first = (meets_slope n p.low1 p.high1 l1 h1).0 m1; second = (meets_slope n p.low2 p.high2 l2 h2).0 m2 }
 
     pub lowest_shows : (q : ℤ) → ((b c : ℤ) → IsSlope s1 r1 s2 r2 c b → q ≤ℤ b) → ShowsLeast t run q p
     lowest_shows q h = record {
@@ -173,8 +147,8 @@ module _ (t : ℕ) (run : List Point) (l : t < 2) (flat : (i : ℕ) → i < leng
         let m = row_main t c b l in
         let o = row_side t c b l in
         h.none n (row_proper t c b l s.some s.low s.high) (subst (λ (z : ℤ). z <ℤ q) (sym m) k)
-        (slope_meets n p.low1 p.high1 l1 h1 (subst (λ (z : ℤ). (z *ℤ s1) <ℤ (coordinate (row t c b) t *ℤ r1)) (sym o) (subst (λ (z : ℤ). (c *ℤ s1) <ℤ (z *ℤ r1)) (sym m) s.first)))
-        (slope_meets n p.low2 p.high2 l2 h2 (subst (λ (z : ℤ). (z *ℤ s2) <ℤ (coordinate (row t c b) t *ℤ r2)) (sym o) (subst (λ (z : ℤ). (c *ℤ s2) <ℤ (z *ℤ r2)) (sym m) s.second)))))
+        ((meets_slope n p.low1 p.high1 l1 h1).1 (subst (λ (z : ℤ). (z *ℤ s1) <ℤ (coordinate (row t c b) t *ℤ r1)) (sym o) (subst (λ (z : ℤ). (c *ℤ s1) <ℤ (z *ℤ r1)) (sym m) s.first)))
+        ((meets_slope n p.low2 p.high2 l2 h2).1 (subst (λ (z : ℤ). (z *ℤ s2) <ℤ (coordinate (row t c b) t *ℤ r2)) (sym o) (subst (λ (z : ℤ). (c *ℤ s2) <ℤ (z *ℤ r2)) (sym m) s.second)))))
         (λ k. k)
 
     -- where a line holds the run, some slope has a small denominator

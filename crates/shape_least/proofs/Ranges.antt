@@ -35,14 +35,6 @@ floor_pos n s some = record { low = low; high = high }
     high : pos n <ℤ (pos (n / s) *ℤ pos s +ℤ pos s)
     high = let a : n < (n / s) * s + s = omega arith in omega (arith, ints, a)
 
--- the multiple by a side below 0
-pub turned_side : (a s n q : ℤ) → ((b : ℤ) → (b *ℤ neg_ℤ s) ≤ℤ n ↔ b ≤ℤ q) → ((a *ℤ s) ≤ℤ n → neg_ℤ q ≤ℤ a) × (neg_ℤ q ≤ℤ a → (a *ℤ s) ≤ℤ n)
-turned_side a s n q h =
-    let e = h (neg_ℤ a) in (
-      (λ l. let k = e.0 (omega (arith, ints, rings, l)) in omega (arith, ints, k)),
-      λ l. let k = e.1 (omega (arith, ints, l)) in omega (arith, ints, rings, k),
-    )
-
 -- ---- ranges
 
 -- what the narrowing says of each number
@@ -62,17 +54,17 @@ narrow_down low high side m n q v l h some ms vq f g a =
     let back : ((a *ℤ side) ≤ℤ n) → v ≤ℤ a = (λ o. let y = e.0 (omega (arith, ints, rings, o, k)) in omega (arith, ints, y, vq)) in
     ((λ i. let x = (g a).0 i in (x.0, to x.1)), λ x. (g a).1 (x.0, back x.1))
 
+flat : (side : ℤ) → (pos 0 <ℤ side → ⊥) → (side <ℤ pos 0 → ⊥) → side ≡ pos 0
+flat side p q = by_lt_z side (pos 0) (λ k. absurd (q k)) (λ k. by_lt_z (pos 0) side (λ m. absurd (p m)) (λ m. omega (arith, ints, k, m)))
+
 pub narrow_none : (low high side n : ℤ) → (pos 0 <ℤ side → ⊥) → (side <ℤ pos 0 → ⊥) → n <ℤ pos 0 → IsNarrowed low high side n (pos 1) (pos 0)
 narrow_none low high side n p q l a = (
-  (λ i. absurd (let x = i.from in let y = i.to in omega (arith, ints, x, y))),
-  λ x. absurd (let e : side ≡ pos 0 = by_lt_z side (pos 0) (λ k. absurd (q k)) (λ k. by_lt_z (pos 0) side (λ m. absurd (p m)) (λ m. omega (arith, ints, k, m))) in let f = ap (λ (z : ℤ). a *ℤ z) e in let y = x.1 in omega (arith, ints, rings, f, y, l)),
+  λ i. absurd (let x = i.from in let y = i.to in omega (arith, ints, x, y)),
+  λ x. absurd (let f = ap (λ (z : ℤ). a *ℤ z) (flat side p q) in let y = x.1 in omega (arith, ints, rings, f, y, l)),
 )
 
 pub narrow_all : (low high side n : ℤ) → (pos 0 <ℤ side → ⊥) → (side <ℤ pos 0 → ⊥) → pos 0 ≤ℤ n → IsNarrowed low high side n low high
-narrow_all low high side n p q l a = (
-  (λ i. (i, (let e : side ≡ pos 0 = by_lt_z side (pos 0) (λ k. absurd (q k)) (λ k. by_lt_z (pos 0) side (λ m. absurd (p m)) (λ m. omega (arith, ints, k, m))) in let f = ap (λ (z : ℤ). a *ℤ z) e in omega (arith, ints, rings, f, l)))),
-  λ x. x.0,
-)
+narrow_all low high side n p q l a = (λ i. (i, (let f = ap (λ (z : ℤ). a *ℤ z) (flat side p q) in omega (arith, ints, rings, f, l))), λ x. x.0)
 
 -- ---- slopes with a denominator
 

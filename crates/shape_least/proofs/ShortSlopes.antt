@@ -1,6 +1,6 @@
 -- Where a line holds a run, each two pairs of its places have a slope with a small denominator between the bounds that they give.
 -- Plain variables alone stand here.
-use Rattle.std.proofs.Common.{arith}
+use Rattle.std.proofs.Common.{◌≡◌, arith}
 use Rattle.std.proofs.Math.IntN.{ℤ, pos, negsuc, ◌+ℤ◌, ◌-ℤ◌, ◌*ℤ◌, neg_ℤ}
 use Rattle.std.specs.Prelude.{◌≤◌, nat_abs, unsigned_abs}
 use lib.Signed.{◌<ℤ◌, ◌≤ℤ◌}
@@ -40,27 +40,18 @@ pub record HasShort (s1 r1 s2 r2 : ℤ) : Type 0 where
   pub slope : IsSlope s1 r1 s2 r2 c b
   pub short : b ≤ℤ pos 16384
 
-both_up : (s1 r1 s2 r2 : ℤ) → pos 0 ≤ℤ s1 → pos 0 ≤ℤ s2 → IsNear s1 r1 → IsNear s2 r2 → HasShort s1 r1 s2 r2
-both_up s1 r1 s2 r2 h k n m =
+-- two bounds of one direction: a slope of 1 or -1
+both : (s1 r1 s2 r2 c : ℤ) → neg_ℤ (pos 1) ≤ℤ c → c ≤ℤ pos 1 → c *ℤ s1 ≡ neg_ℤ (pos (nat_abs s1)) → c *ℤ s2 ≡ neg_ℤ (pos (nat_abs s2)) → IsNear s1 r1 → IsNear s2 r2 → HasShort s1 r1 s2 r2
+both s1 r1 s2 r2 c low high e f n m =
     let nl = n.low in
     let ml = m.low in
-    record {
-      c = negsuc 0;
-      b = pos 1;
-      slope = record { some = omega (arith, ints); low = omega (arith, ints); high = omega (arith, ints); first = omega (arith, ints, rings, nl, h); second = omega (arith, ints, rings, ml, k) };
-      short = omega (arith, ints);
-    }
+    record { c = c; b = pos 1; slope = record { some = omega (arith, ints); low = low; high = high; first = omega (arith, ints, nl, e); second = omega (arith, ints, ml, f) }; short = omega (arith, ints) }
+
+both_up : (s1 r1 s2 r2 : ℤ) → pos 0 ≤ℤ s1 → pos 0 ≤ℤ s2 → IsNear s1 r1 → IsNear s2 r2 → HasShort s1 r1 s2 r2
+both_up s1 r1 s2 r2 h k = both s1 r1 s2 r2 (negsuc 0) (omega (arith, ints)) (omega (arith, ints)) (omega (arith, ints, h)) (omega (arith, ints, k))
 
 both_down : (s1 r1 s2 r2 : ℤ) → s1 ≤ℤ pos 0 → s2 ≤ℤ pos 0 → IsNear s1 r1 → IsNear s2 r2 → HasShort s1 r1 s2 r2
-both_down s1 r1 s2 r2 h k n m =
-    let nl = n.low in
-    let ml = m.low in
-    record {
-      c = pos 1;
-      b = pos 1;
-      slope = record { some = omega (arith, ints); low = omega (arith, ints); high = omega (arith, ints); first = omega (arith, ints, rings, nl, h); second = omega (arith, ints, rings, ml, k) };
-      short = omega (arith, ints);
-    }
+both_down s1 r1 s2 r2 h k = both s1 r1 s2 r2 (pos 1) (omega (arith, ints)) (omega (arith, ints)) (omega (arith, ints, h)) (omega (arith, ints, k))
 
 -- one bound from above and one from below: their mediant
 crossed : (s1 r1 s2 r2 a b : ℤ) → pos 0 <ℤ s1 → s2 <ℤ pos 0 → s1 ≤ℤ pos 8192 → neg_ℤ (pos 8192) ≤ℤ s2 → IsNear s1 r1 → IsNear s2 r2 → IsSlope s1 r1 s2 r2 a b → HasShort s1 r1 s2 r2

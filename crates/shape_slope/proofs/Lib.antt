@@ -1,12 +1,9 @@
-pub mod Fractions
-pub mod Choosing
 pub mod Together
 pub mod Tighter
 pub mod Narrowing
 pub mod Tightening
 pub mod Solving
 pub mod Gaps
-pub mod SystemRows
 pub mod Weighed
 pub mod Certified
 pub mod Refuting

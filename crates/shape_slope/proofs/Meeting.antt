@@ -1,7 +1,7 @@
 -- Coefficients that meet pairs, as slopes that meet rows, and the other way round.
 -- How slopes are found belongs elsewhere.
 use Rattle.std.proofs.Common.{◌≡◌, ◌≢◌, ℕ, zero, suc, ◌+◌, ◌-◌, ◌<◌, ◌≤◌, ◌^◌, ◌⊎◌, inl, inr, List, [], ◌∷◌, length, take, get_or, refl, ap, sym, subst, ◌∙◌, arith}
-use Rattle.std.specs.Prelude.{ℤ, pos, negsuc, ◌+ℤ◌, ◌-ℤ◌, ◌*ℤ◌, ◌≤ℤ◌, ◌<ℤ◌, All, nat_abs, unsigned_abs}
+use Rattle.std.specs.Prelude.{◌↔◌, ℤ, pos, negsuc, ◌+ℤ◌, ◌-ℤ◌, ◌*ℤ◌, ◌≤ℤ◌, ◌<ℤ◌, All, nat_abs, unsigned_abs}
 use Rattle.std.proofs.lemmas.Int.{ints}
 use Rattle.std.proofs.lemmas.List.{length-map, get_or-take, get_or_past, get_or_default, length-take-le}
 use Rattle.shape_terms.specs.Points.{Point, coordinate}
@@ -21,60 +21,20 @@ use Rattle.shape_slope.specs.Pairs.{MeetsPair, AreSlopes, AreSmallCoefficients, 
 use Rattle.shape_slope.specs.Systems.{rows_for, pair_at}
 use Rattle.shape_terms.proofs.Products.{rings}
 use Rattle.shape_terms.proofs.Order.{mul-le_ℤ, mul-lt_ℤ}
-use Rattle.shape_slope.proofs.Certified.{each_axis, first_other, second_other, pair_at_row}
+use Rattle.shape_slope.proofs.Together.{regrouped}
+use Rattle.shape_slope.proofs.Certified.{few_axes, low_axis, first_low, each_axis, first_other, second_other, pair_at_row}
 
 -- ---- the scalar product, axis by axis
 
-rest : List ℤ → List ℤ
-rest [] = []
-rest (x ∷ xs) = xs
-
-rest_at : (a : List ℤ) (k : ℕ) → coordinate (rest a) k ≡ coordinate a (suc k)
-unfolding rest
-rest_at [] k = refl
-rest_at (x ∷ a) k = refl
-
-dot_step : (a p : List ℤ) → dot a p ≡ coordinate a 0 *ℤ coordinate p 0 +ℤ dot (rest a) (rest p)
-unfolding rest
-dot_step [] p = omega (arith, ints)
-dot_step (a ∷ row) [] = let e = dot_none row in omega (arith, ints, e)
-dot_step (a ∷ row) (x ∷ p) = refl
-
-rest_short : (p : List ℤ) (n : ℕ) → length p ≤ suc n → length (rest p) ≤ n
-unfolding rest
-rest_short [] n h = omega arith
-rest_short (x ∷ p) n h = omega arith
-
-dot_empty : (a p : List ℤ) → length p ≤ 0 → dot a p ≡ pos 0
-dot_empty a [] h = dot_none a
-dot_empty a (x ∷ p) h = absurd (omega arith)
-
 dot_three : (a p : List ℤ) → length p ≤ 3 → dot a p ≡ coordinate a 0 *ℤ coordinate p 0 +ℤ (coordinate a 1 *ℤ coordinate p 1 +ℤ coordinate a 2 *ℤ coordinate p 2)
-dot_three a p h =
-    let s0 = dot_step a p in
-    let s1 = dot_step (rest a) (rest p) in
-    let s2 = dot_step (rest (rest a)) (rest (rest p)) in
-    let s3 = dot_empty (rest (rest (rest a))) (rest (rest (rest p))) (rest_short (rest (rest p)) 0 (rest_short (rest p) 1 (rest_short p 2 h))) in
-    let e1 : coordinate (rest a) 0 *ℤ coordinate (rest p) 0 ≡ coordinate a 1 *ℤ coordinate p 1 = λ i. rest_at a 0 i *ℤ rest_at p 0 i in
-    let e2 : coordinate (rest (rest a)) 0 *ℤ coordinate (rest (rest p)) 0 ≡ coordinate a 2 *ℤ coordinate p 2 = λ i. (rest_at (rest a) 0 ∙ rest_at a 1) i *ℤ (rest_at (rest p) 0 ∙ rest_at p 1) i in
-    sums (dot a p) (dot (rest a) (rest p)) (dot (rest (rest a)) (rest (rest p))) (dot (rest (rest (rest a))) (rest (rest (rest p)))) _ _ _ _ _ s0 s1 s2 s3 e1 e2
-  where
-    sums : (s0 s1 s2 s3 p q r q' r' : ℤ) → s0 ≡ p +ℤ s1 → s1 ≡ q +ℤ s2 → s2 ≡ r +ℤ s3 → s3 ≡ pos 0 → q ≡ q' → r ≡ r' → s0 ≡ p +ℤ (q' +ℤ r')
-    sums s0 s1 s2 s3 p q r q' r' h0 h1 h2 h3 eq er = omega (arith, ints, h0, h1, h2, h3, eq, er)
+dot_three a (x ∷ y ∷ z ∷ w ∷ p) h = absurd (omega arith)
+dot_three (a ∷ b ∷ c ∷ r) p h = let e = dot_none r in omega (arith, ints, e)
+dot_three a p h = omega (arith, ints)
 
 pub dot_by_axes : (t : ℕ) (a p : List ℤ) → t < 3 → length p ≤ 3 → dot a p ≡ (coordinate a (first_axis t) *ℤ coordinate p (first_axis t) +ℤ coordinate a (second_axis t) *ℤ coordinate p (second_axis t)) +ℤ coordinate a t *ℤ coordinate p t
-dot_by_axes zero a p h l = dot_three a p l ∙ turn (coordinate a 0 *ℤ coordinate p 0) (coordinate a 1 *ℤ coordinate p 1) (coordinate a 2 *ℤ coordinate p 2)
-  where
-    turn : (x y z : ℤ) → x +ℤ (y +ℤ z) ≡ (y +ℤ z) +ℤ x
-    turn x y z = omega (arith, ints)
-dot_by_axes (suc zero) a p h l = dot_three a p l ∙ turn (coordinate a 0 *ℤ coordinate p 0) (coordinate a 1 *ℤ coordinate p 1) (coordinate a 2 *ℤ coordinate p 2)
-  where
-    turn : (x y z : ℤ) → x +ℤ (y +ℤ z) ≡ (x +ℤ z) +ℤ y
-    turn x y z = omega (arith, ints)
-dot_by_axes (suc (suc zero)) a p h l = dot_three a p l ∙ turn (coordinate a 0 *ℤ coordinate p 0) (coordinate a 1 *ℤ coordinate p 1) (coordinate a 2 *ℤ coordinate p 2)
-  where
-    turn : (x y z : ℤ) → x +ℤ (y +ℤ z) ≡ (x +ℤ y) +ℤ z
-    turn x y z = omega (arith, ints)
+dot_by_axes zero a p h l = let e = dot_three a p l in omega (arith, ints, e)
+dot_by_axes (suc zero) a p h l = let e = dot_three a p l in omega (arith, ints, e)
+dot_by_axes (suc (suc zero)) a p h l = let e = dot_three a p l in omega (arith, ints, e)
 dot_by_axes (suc (suc (suc t))) a p h l = absurd (omega arith)
 
 -- ---- a pair and its row
@@ -91,24 +51,14 @@ pair_value d t points pair a few axis lh ll =
     (coordinate-difference p q (first_axis t)) (coordinate-difference p q (second_axis t)) (coordinate-difference p q t)
   where
     sums : (s a x b y c z x' y' z' : ℤ) → s ≡ (a *ℤ x +ℤ b *ℤ y) +ℤ c *ℤ z → x ≡ x' → y ≡ y' → z ≡ z' → s -ℤ c ≡ (x' *ℤ a +ℤ y' *ℤ b) +ℤ (z' -ℤ pos 1) *ℤ c
-    sums s a x b y c z x' y' z' e ex ey ez = rw (sym ex, sym ey, sym ez) (plain s a x b y c z e)
-      where
-        plain : (s a x b y c z : ℤ) → s ≡ (a *ℤ x +ℤ b *ℤ y) +ℤ c *ℤ z → s -ℤ c ≡ (x *ℤ a +ℤ y *ℤ b) +ℤ (z -ℤ pos 1) *ℤ c
-        plain s a x b y c z e = omega (arith, ints, rings, e)
-
-pub meets_row : (d t : ℕ) (points : List Point) (pair : Pair) (a : List ℤ) → d ≤ 3 → t < 3 → length (point_at points pair.high) ≡ d → length (point_at points pair.low) ≡ d
-    → MeetsPair t points a pair → MeetsRow (coordinate a (first_axis t)) (coordinate a (second_axis t)) (coordinate a t) (pair_row t points pair)
-meets_row d t points pair a few axis lh ll h = let e = pair_value d t points pair a few axis lh ll in below (dot a (difference (point_at points pair.high) (point_at points pair.low))) (coordinate a t) _ e h
-  where
-    below : (s c r : ℤ) → s -ℤ c ≡ r → s <ℤ c → r <ℤ pos 0
-    below s c r e h = omega (arith, ints, e, h)
+    sums s a x b y c z x' y' z' e ex ey ez = rw (sym ex, sym ey, sym ez) (omega (arith, ints, rings, e))
 
 pub row_meets : (d t : ℕ) (points : List Point) (pair : Pair) (a : List ℤ) → d ≤ 3 → t < 3 → length (point_at points pair.high) ≡ d → length (point_at points pair.low) ≡ d
-    → MeetsRow (coordinate a (first_axis t)) (coordinate a (second_axis t)) (coordinate a t) (pair_row t points pair) → MeetsPair t points a pair
-row_meets d t points pair a few axis lh ll h = let e = pair_value d t points pair a few axis lh ll in below (dot a (difference (point_at points pair.high) (point_at points pair.low))) (coordinate a t) _ e h
+    → MeetsRow (coordinate a (first_axis t)) (coordinate a (second_axis t)) (coordinate a t) (pair_row t points pair) ↔ MeetsPair t points a pair
+row_meets d t points pair a few axis lh ll = let e = pair_value d t points pair a few axis lh ll in below (dot a (difference (point_at points pair.high) (point_at points pair.low))) (coordinate a t) _ e
   where
-    below : (s c r : ℤ) → s -ℤ c ≡ r → r <ℤ pos 0 → s <ℤ c
-    below s c r e h = omega (arith, ints, e, h)
+    below : (s c r : ℤ) → s -ℤ c ≡ r → r <ℤ pos 0 ↔ s <ℤ c
+    below s c r e = (λ h. omega (arith, ints, e, h), λ h. omega (arith, ints, e, h))
 
 -- ---- slopes that meet the rows
 
@@ -119,15 +69,11 @@ AreLong d points pairs = All (λ (pair : Pair). (length (point_at points pair.lo
 pub slopes_meet : (d t : ℕ) (points : List Point) (pairs : List Pair) (s : Solution) (a : List ℤ) → (d ≡ 2) ⊎ (d ≡ 3) → t < d → AreLong d points pairs → IsSolution (rows_for t points pairs) s → IsSlopesOf d t s a → AreSlopes t points pairs (take d a)
 slopes_meet d t points pairs s a two axis long h o = record {
   proper = record { main = subst (λ (z : ℤ). pos 1 ≤ℤ z) (sym main) h.main; others = λ u n. others u n (inside u) };
-  meets = λ j p l. row_meets d t points (get_or pairs j p) (take d a) few three (long j p l).1 (long j p l).0 (pair_met j p l);
+  meets = λ j p l. (row_meets d t points (get_or pairs j p) (take d a) few three (long j p l).1 (long j p l).0).0 (pair_met j p l);
 }
   where
     few : d ≤ 3
-    few = both two
-      where
-        both : (d ≡ 2) ⊎ (d ≡ 3) → d ≤ 3
-        both (inl e) = omega (arith, e)
-        both (inr e) = omega (arith, e)
+    few = few_axes d two
 
     three : t < 3
     three = omega (arith, few, axis)
@@ -141,38 +87,18 @@ slopes_meet d t points pairs s a two axis long h o = record {
     main : coordinate (take d a) t ≡ s.c
     main = within t axis ∙ o.main
 
-    first_low : first_axis t < d
-    first_low = both two (low t)
-      where
-        low : (t : ℕ) → first_axis t < 2
-        low zero = omega arith
-        low (suc t) = omega arith
-
-        both : (d ≡ 2) ⊎ (d ≡ 3) → first_axis t < 2 → first_axis t < d
-        both (inl e) k = omega (arith, e, k)
-        both (inr e) k = omega (arith, e, k)
-
     first : coordinate (take d a) (first_axis t) ≡ s.a
-    first = within (first_axis t) first_low ∙ o.first
+    first = within (first_axis t) (first_low d t two) ∙ o.first
 
     inside : (u : ℕ) → (u < d) ⊎ (d ≤ u)
     inside u = grind arith
 
-    second : (coordinate (take d a) (second_axis t) ≡ s.b) ⊎ (coordinate (take d a) (second_axis t) ≡ pos 0)
-    second = elim (inside (second_axis t)) [ inl l ↦ inl (within (second_axis t) l ∙ o.second l) | inr l ↦ inr (past (second_axis t) l) ]
-
-    -- the rows that bound the slopes
-    plus : (a b c : ℤ) → (negsuc 0 *ℤ a +ℤ pos 0 *ℤ b +ℤ negsuc 0 *ℤ c) <ℤ pos 0 → (pos 1 *ℤ a +ℤ pos 0 *ℤ b +ℤ negsuc 0 *ℤ c) <ℤ pos 0 → pos (nat_abs a) ≤ℤ c
-    plus a b c h l = omega (arith, ints, h, l)
-
-    plus' : (a b c : ℤ) → (pos 0 *ℤ a +ℤ negsuc 0 *ℤ b +ℤ negsuc 0 *ℤ c) <ℤ pos 0 → (pos 0 *ℤ a +ℤ pos 1 *ℤ b +ℤ negsuc 0 *ℤ c) <ℤ pos 0 → pos (nat_abs b) ≤ℤ c
-    plus' a b c h l = omega (arith, ints, h, l)
-
+    -- by the rows that bound the slopes
     a_within : pos (nat_abs s.a) ≤ℤ s.c
-    a_within = plus s.a s.b s.c (h.met 0 (omega arith)) (h.met 1 (omega arith))
+    a_within = let u = h.met 0 (omega arith) in let v = h.met 1 (omega arith) in omega (arith, ints, u, v)
 
     b_within : pos (nat_abs s.b) ≤ℤ s.c
-    b_within = plus' s.a s.b s.c (h.met 2 (omega arith)) (h.met 3 (omega arith))
+    b_within = let u = h.met 2 (omega arith) in let v = h.met 3 (omega arith) in omega (arith, ints, u, v)
 
     is_within : (u : ℕ) (v : ℤ) → coordinate (take d a) u ≡ v → pos (nat_abs v) ≤ℤ s.c → pos (nat_abs (coordinate (take d a) u)) ≤ℤ coordinate (take d a) t
     is_within u v e l = rw (e, main) l
@@ -180,17 +106,13 @@ slopes_meet d t points pairs s a two axis long h o = record {
     zero_within : pos (nat_abs (pos 0)) ≤ℤ s.c
     zero_within = let m = h.main in omega (arith, ints, m)
 
-    second_within : (coordinate (take d a) (second_axis t) ≡ s.b) ⊎ (coordinate (take d a) (second_axis t) ≡ pos 0) → pos (nat_abs (coordinate (take d a) (second_axis t))) ≤ℤ coordinate (take d a) t
-    second_within (inl e) = is_within (second_axis t) s.b e b_within
-    second_within (inr e) = is_within (second_axis t) (pos 0) e zero_within
-
-    by_axis : (u : ℕ) → u ≢ t → (u ≡ t) ⊎ ((u ≡ first_axis t) ⊎ (u ≡ second_axis t)) → pos (nat_abs (coordinate (take d a) u)) ≤ℤ coordinate (take d a) t
-    by_axis u n (inl e) = absurd (n e)
-    by_axis u n (inr (inl e)) = subst (λ (v : ℕ). pos (nat_abs (coordinate (take d a) v)) ≤ℤ coordinate (take d a) t) (sym e) (is_within (first_axis t) s.a first a_within)
-    by_axis u n (inr (inr e)) = subst (λ (v : ℕ). pos (nat_abs (coordinate (take d a) v)) ≤ℤ coordinate (take d a) t) (sym e) (second_within second)
+    by_axis : (u : ℕ) → u ≢ t → u < d → (u ≡ t) ⊎ ((u ≡ first_axis t) ⊎ (u ≡ second_axis t)) → pos (nat_abs (coordinate (take d a) u)) ≤ℤ coordinate (take d a) t
+    by_axis u n l (inl e) = absurd (n e)
+    by_axis u n l (inr (inl e)) = is_within u s.a (within u l ∙ ap (coordinate a) e ∙ o.first) a_within
+    by_axis u n l (inr (inr e)) = is_within u s.b (within u l ∙ ap (coordinate a) e ∙ o.second (omega (arith, e, l))) b_within
 
     others : (u : ℕ) → u ≢ t → (u < d) ⊎ (d ≤ u) → pos (nat_abs (coordinate (take d a) u)) ≤ℤ coordinate (take d a) t
-    others u n (inl l) = by_axis u n (each_axis t u three (omega (arith, few, l)))
+    others u n (inl l) = by_axis u n l (each_axis t u three (omega (arith, few, l)))
     others u n (inr l) = is_within u (pos 0) (past u l) zero_within
 
     pair_met : (j : ℕ) (p : Pair) → j < length pairs → MeetsRow (coordinate (take d a) (first_axis t)) (coordinate (take d a) (second_axis t)) (coordinate (take d a) t) (pair_row t points (get_or pairs j p))
@@ -215,10 +137,7 @@ slopes_meet d t points pairs s a two axis long h o = record {
             omega (arith, ints, x, y)
 
         same : (y b b' : ℤ) → y ≡ pos 0 → y *ℤ b ≡ y *ℤ b'
-        same y b b' e = ap (λ (z : ℤ). z *ℤ b) e ∙ zeros b b' ∙ sym (ap (λ (z : ℤ). z *ℤ b') e)
-          where
-            zeros : (b b' : ℤ) → pos 0 *ℤ b ≡ pos 0 *ℤ b'
-            zeros b b' = omega (arith, ints)
+        same y b b' e = rw e (omega (arith, ints))
 
         by_second : (second_axis t < d) ⊎ (d ≤ second_axis t) → gap points q (second_axis t) *ℤ coordinate (take d a) (second_axis t) ≡ gap points q (second_axis t) *ℤ s.b
         by_second (inl k) = ap (λ (z : ℤ). gap points q (second_axis t) *ℤ z) (within (second_axis t) k ∙ o.second k)
@@ -234,93 +153,50 @@ abbrev pub value : ℤ → ℤ → ℤ → Row → ℤ
 value p q r c = c.x *ℤ p +ℤ c.y *ℤ q +ℤ c.z *ℤ r
 
 bound_low : (t : ℕ) (points : List Point) (pairs : List Pair) (p q r : ℤ) (i : ℕ) → pos (nat_abs p) ≤ℤ r → pos (nat_abs q) ≤ℤ r → i < 4 → value p q r (row_at (rows_for t points pairs) i) ≤ℤ pos 0
-bound_low t points pairs p q r zero h k l = omega (arith, ints, h)
-bound_low t points pairs p q r (suc zero) h k l = omega (arith, ints, h)
-bound_low t points pairs p q r (suc (suc zero)) h k l = omega (arith, ints, k)
-bound_low t points pairs p q r (suc (suc (suc zero))) h k l = omega (arith, ints, k)
 bound_low t points pairs p q r (suc (suc (suc (suc i)))) h k l = absurd (omega arith)
+bound_low t points pairs p q r i h k l = omega (arith, ints, h, k)
 
 combination_value : (v w x1 y1 z1 x2 y2 z2 x z p q r : ℤ) → x ≡ v *ℤ x1 +ℤ w *ℤ x2 → pos 0 ≡ v *ℤ y1 +ℤ w *ℤ y2 → z ≡ v *ℤ z1 +ℤ w *ℤ z2
     → x *ℤ p +ℤ z *ℤ r ≡ v *ℤ (x1 *ℤ p +ℤ y1 *ℤ q +ℤ z1 *ℤ r) +ℤ w *ℤ (x2 *ℤ p +ℤ y2 *ℤ q +ℤ z2 *ℤ r)
 combination_value v w x1 y1 z1 x2 y2 z2 x z p q r ex ey ez =
     let e : pos 0 *ℤ q ≡ (v *ℤ y1 +ℤ w *ℤ y2) *ℤ q = ap (λ (m : ℤ). m *ℤ q) ey in
-    rw (ex, ez) (sums ((v *ℤ x1 +ℤ w *ℤ x2) *ℤ p) ((v *ℤ z1 +ℤ w *ℤ z2) *ℤ r) ((v *ℤ y1 +ℤ w *ℤ y2) *ℤ q) _ (none q ∙ e) (expand v w x1 y1 z1 x2 y2 z2 p q r))
-  where
-    none : (q : ℤ) → pos 0 ≡ pos 0 *ℤ q
-    none q = omega (arith, ints)
-
-    sums : (a b c s : ℤ) → pos 0 ≡ c → a +ℤ c +ℤ b ≡ s → a +ℤ b ≡ s
-    sums a b c s e h = omega (arith, ints, e, h)
-
-    expand : (v w x1 y1 z1 x2 y2 z2 p q r : ℤ) → (v *ℤ x1 +ℤ w *ℤ x2) *ℤ p +ℤ (v *ℤ y1 +ℤ w *ℤ y2) *ℤ q +ℤ (v *ℤ z1 +ℤ w *ℤ z2) *ℤ r ≡ v *ℤ (x1 *ℤ p +ℤ y1 *ℤ q +ℤ z1 *ℤ r) +ℤ w *ℤ (x2 *ℤ p +ℤ y2 *ℤ q +ℤ z2 *ℤ r)
-    expand v w x1 y1 z1 x2 y2 z2 p q r = let a = part v w x1 x2 p in let b = part v w y1 y2 q in let c = part v w z1 z2 r in let d = three v (x1 *ℤ p) (y1 *ℤ q) (z1 *ℤ r) in let e = three w (x2 *ℤ p) (y2 *ℤ q) (z2 *ℤ r) in omega (arith, ints, a, b, c, d, e)
-      where
-        part : (v w x y p : ℤ) → (v *ℤ x +ℤ w *ℤ y) *ℤ p ≡ v *ℤ (x *ℤ p) +ℤ w *ℤ (y *ℤ p)
-        part v w x y p = omega (arith, ints, rings)
-
-        three : (v x y z : ℤ) → v *ℤ (x +ℤ y +ℤ z) ≡ v *ℤ x +ℤ v *ℤ y +ℤ v *ℤ z
-        three v x y z = omega (arith, ints, rings)
+    rw (ex, ez) (omega (arith, ints, rings, e))
 
 -- slopes that meet all rows meet each combination, strictly where a pair stands in it
-combination_low : (rows : List Row) (c : Combination) (p q r : ℤ) → IsCombination rows c → value p q r (row_at rows c.first) ≤ℤ pos 0 → value p q r (row_at rows c.second) ≤ℤ pos 0 → (c.x *ℤ p +ℤ c.z *ℤ r) ≤ℤ pos 0
+combination_low : (rows : List Row) (c : Combination) (p q r : ℤ) → IsCombination rows c → value p q r (row_at rows c.first) ≤ℤ pos 0 → value p q r (row_at rows c.second) ≤ℤ pos 0
+    → ((c.x *ℤ p +ℤ c.z *ℤ r) ≤ℤ pos 0) × (value p q r (row_at rows c.second) <ℤ pos 0 → (c.x *ℤ p +ℤ c.z *ℤ r) <ℤ pos 0)
 combination_low rows c p q r h a b =
     let e = combination_value c.first_weight c.second_weight (row_at rows c.first).x (row_at rows c.first).y (row_at rows c.first).z (row_at rows c.second).x (row_at rows c.second).y (row_at rows c.second).z c.x c.z p q r h.x h.y h.z in
     let m = mul-le_ℤ c.first_weight (value p q r (row_at rows c.first)) (pos 0) h.first_low a in
-    let n = mul-le_ℤ c.second_weight (value p q r (row_at rows c.second)) (pos 0) (let l = h.second_low in omega (arith, ints, l)) b in
-    sums (c.x *ℤ p +ℤ c.z *ℤ r) _ _ c.first_weight c.second_weight e m n
+    let w : pos 0 <ℤ c.second_weight = (let l = h.second_low in omega (arith, ints, l)) in
+    sums (c.x *ℤ p +ℤ c.z *ℤ r) _ (value p q r (row_at rows c.second)) c.first_weight c.second_weight e m w b
   where
-    sums : (s m n v w : ℤ) → s ≡ m +ℤ n → m ≤ℤ (v *ℤ pos 0) → n ≤ℤ (w *ℤ pos 0) → s ≤ℤ pos 0
-    sums s m n v w e a b = omega (arith, ints, e, a, b)
-
-combination_below : (rows : List Row) (c : Combination) (p q r : ℤ) → IsCombination rows c → value p q r (row_at rows c.first) ≤ℤ pos 0 → value p q r (row_at rows c.second) <ℤ pos 0 → (c.x *ℤ p +ℤ c.z *ℤ r) <ℤ pos 0
-combination_below rows c p q r h a b =
-    let e = combination_value c.first_weight c.second_weight (row_at rows c.first).x (row_at rows c.first).y (row_at rows c.first).z (row_at rows c.second).x (row_at rows c.second).y (row_at rows c.second).z c.x c.z p q r h.x h.y h.z in
-    let m = mul-le_ℤ c.first_weight (value p q r (row_at rows c.first)) (pos 0) h.first_low a in
-    let n = mul-lt_ℤ c.second_weight (value p q r (row_at rows c.second)) (pos 0) (let l = h.second_low in omega (arith, ints, l)) b in
-    sums (c.x *ℤ p +ℤ c.z *ℤ r) _ _ c.first_weight c.second_weight e m n
-  where
-    sums : (s m n v w : ℤ) → s ≡ m +ℤ n → m ≤ℤ (v *ℤ pos 0) → n <ℤ (w *ℤ pos 0) → s <ℤ pos 0
-    sums s m n v w e a b = omega (arith, ints, e, a, b)
-
-turned : (v w x1 z1 x2 z2 p r : ℤ) → v *ℤ (x1 *ℤ p +ℤ z1 *ℤ r) +ℤ w *ℤ (x2 *ℤ p +ℤ z2 *ℤ r) ≡ (v *ℤ x1 +ℤ w *ℤ x2) *ℤ p +ℤ (v *ℤ z1 +ℤ w *ℤ z2) *ℤ r
-turned v w x1 z1 x2 z2 p r = omega (arith, ints, rings)
+    sums : (s m n v w : ℤ) → s ≡ m +ℤ w *ℤ n → m ≤ℤ (v *ℤ pos 0) → pos 0 <ℤ w → n ≤ℤ pos 0 → (s ≤ℤ pos 0) × (n <ℤ pos 0 → s <ℤ pos 0)
+    sums s m n v w e a l b = (let g = mul-le_ℤ w n (pos 0) (omega (arith, ints, l)) b in omega (arith, ints, e, a, g), λ k. (let g = mul-lt_ℤ w n (pos 0) l k in omega (arith, ints, e, a, g)))
 
 pub excluded_rows : (rows : List Row) (k : Excluded) (p q r : ℤ) → IsExcluded rows k → pos 1 ≤ℤ r → ((i : ℕ) → i < length rows → value p q r (row_at rows i) ≤ℤ pos 0) → ((i : ℕ) → 4 ≤ i → i < length rows → value p q r (row_at rows i) <ℤ pos 0) → ⊥
 excluded_rows rows k p q r x hr low below =
     let a = combination_low rows k.first p q r x.first (low k.first.first x.first.first) (low k.first.second x.first.second) in
     let b = combination_low rows k.second p q r x.second (low k.second.first x.second.first) (low k.second.second x.second.second) in
-    by_pair a b x.pair
+    sums (k.first.x *ℤ p +ℤ k.first.z *ℤ r) (k.second.x *ℤ p +ℤ k.second.z *ℤ r) (k.rest *ℤ r) k.first_weight k.second_weight total over x.first_low x.second_low a.0 b.0 (by_pair a.1 b.1 x.pair)
   where
     total : k.first_weight *ℤ (k.first.x *ℤ p +ℤ k.first.z *ℤ r) +ℤ k.second_weight *ℤ (k.second.x *ℤ p +ℤ k.second.z *ℤ r) ≡ k.rest *ℤ r
     total = expand k.first_weight k.second_weight k.first.x k.first.z k.second.x k.second.z k.rest p r x.gone x.rest
       where
         expand : (v w x1 z1 x2 z2 s p r : ℤ) → pos 0 ≡ v *ℤ x1 +ℤ w *ℤ x2 → s ≡ v *ℤ z1 +ℤ w *ℤ z2 → v *ℤ (x1 *ℤ p +ℤ z1 *ℤ r) +ℤ w *ℤ (x2 *ℤ p +ℤ z2 *ℤ r) ≡ s *ℤ r
-        expand v w x1 z1 x2 z2 s p r e f = let g = ap (λ (m : ℤ). m *ℤ p) e in rw f (plain v w x1 z1 x2 z2 p r g)
-          where
-            plain : (v w x1 z1 x2 z2 p r : ℤ) → pos 0 *ℤ p ≡ (v *ℤ x1 +ℤ w *ℤ x2) *ℤ p → v *ℤ (x1 *ℤ p +ℤ z1 *ℤ r) +ℤ w *ℤ (x2 *ℤ p +ℤ z2 *ℤ r) ≡ (v *ℤ z1 +ℤ w *ℤ z2) *ℤ r
-            plain v w x1 z1 x2 z2 p r g = let t = turned v w x1 z1 x2 z2 p r in omega (arith, ints, t, g)
+        expand v w x1 z1 x2 z2 s p r e f = let g = ap (λ (m : ℤ). m *ℤ p) e in let t = regrouped v w x1 z1 x2 z2 p r in rw f (omega (arith, ints, t, g))
 
     over : pos 0 ≤ℤ (k.rest *ℤ r)
     over = let m = mul-le_ℤ k.rest (pos 0) r x.rest_low (omega (arith, ints, hr)) in omega (arith, ints, m)
 
-    sums : (a b s v w : ℤ) → (v *ℤ a) +ℤ (w *ℤ b) ≡ s → pos 0 ≤ℤ s → ((v *ℤ a) <ℤ (v *ℤ pos 0)) → ((w *ℤ b) ≤ℤ (w *ℤ pos 0)) → ⊥
-    sums a b s v w e h m n = omega (arith, ints, e, h, m, n)
+    sums : (a b s v w : ℤ) → v *ℤ a +ℤ w *ℤ b ≡ s → pos 0 ≤ℤ s → pos 1 ≤ℤ v → pos 0 ≤ℤ w → a ≤ℤ pos 0 → b ≤ℤ pos 0 → (a <ℤ pos 0) ⊎ ((b <ℤ pos 0) × (pos 1 ≤ℤ w)) → ⊥
+    sums a b s v w e h hv hw la lb (inl l) = let m = mul-lt_ℤ v a (pos 0) (omega (arith, ints, hv)) l in let n = mul-le_ℤ w b (pos 0) hw lb in omega (arith, ints, e, h, m, n)
+    sums a b s v w e h hv hw la lb (inr l) = let m = mul-le_ℤ v a (pos 0) (omega (arith, ints, hv)) la in let n = mul-lt_ℤ w b (pos 0) (omega (arith, ints, l.1)) l.0 in omega (arith, ints, e, h, m, n)
 
-    sums' : (a b s v w : ℤ) → (v *ℤ a) +ℤ (w *ℤ b) ≡ s → pos 0 ≤ℤ s → ((v *ℤ a) ≤ℤ (v *ℤ pos 0)) → ((w *ℤ b) <ℤ (w *ℤ pos 0)) → ⊥
-    sums' a b s v w e h m n = omega (arith, ints, e, h, m, n)
-
-    one_low : pos 0 <ℤ k.first_weight
-    one_low = let h = x.first_low in omega (arith, ints, h)
-
-    by_pair : (k.first.x *ℤ p +ℤ k.first.z *ℤ r) ≤ℤ pos 0 → (k.second.x *ℤ p +ℤ k.second.z *ℤ r) ≤ℤ pos 0 → (4 ≤ k.first.second) ⊎ ((4 ≤ k.second.second) × (pos 1 ≤ℤ k.second_weight)) → ⊥
-    by_pair a b (inl l) =
-        let c = combination_below rows k.first p q r x.first (low k.first.first x.first.first) (below k.first.second l x.first.second) in
-        sums (k.first.x *ℤ p +ℤ k.first.z *ℤ r) (k.second.x *ℤ p +ℤ k.second.z *ℤ r) (k.rest *ℤ r) k.first_weight k.second_weight total over
-        (mul-lt_ℤ k.first_weight _ (pos 0) one_low c) (mul-le_ℤ k.second_weight _ (pos 0) x.second_low b)
-    by_pair a b (inr l) =
-        let c = combination_below rows k.second p q r x.second (low k.second.first x.second.first) (below k.second.second l.0 x.second.second) in
-        sums' (k.first.x *ℤ p +ℤ k.first.z *ℤ r) (k.second.x *ℤ p +ℤ k.second.z *ℤ r) (k.rest *ℤ r) k.first_weight k.second_weight total over
-        (mul-le_ℤ k.first_weight _ (pos 0) (omega (arith, ints, one_low)) a) (mul-lt_ℤ k.second_weight _ (pos 0) (let h = l.1 in omega (arith, ints, h)) c)
+    by_pair : (value p q r (row_at rows k.first.second) <ℤ pos 0 → (k.first.x *ℤ p +ℤ k.first.z *ℤ r) <ℤ pos 0) → (value p q r (row_at rows k.second.second) <ℤ pos 0 → (k.second.x *ℤ p +ℤ k.second.z *ℤ r) <ℤ pos 0)
+        → (4 ≤ k.first.second) ⊎ ((4 ≤ k.second.second) × (pos 1 ≤ℤ k.second_weight)) → ((k.first.x *ℤ p +ℤ k.first.z *ℤ r) <ℤ pos 0) ⊎ (((k.second.x *ℤ p +ℤ k.second.z *ℤ r) <ℤ pos 0) × (pos 1 ≤ℤ k.second_weight))
+    by_pair f g (inl l) = inl (f (below k.first.second l x.first.second))
+    by_pair f g (inr l) = inr (g (below k.second.second l.0 x.second.second), l.1)
 
 -- no proper coefficients meet the pairs
 pub excluded_slopes : (d t : ℕ) (points : List Point) (pairs : List Pair) (k : Excluded) (a : List ℤ) → d ≤ 3 → t < 3 → AreLong d points pairs → IsExcluded (rows_for t points pairs) k → AreSlopes t points pairs a → ⊥
@@ -331,7 +207,7 @@ excluded_slopes d t points pairs k a few three long x h =
     pair_low i l m =
         let j : i - 4 < length pairs = (let e = length-map pairs (pair_row t points) in omega (arith, l, m, e)) in
         let g = long (i - 4) (record { low = 0; high = 0 }) j in
-        subst (MeetsRow (coordinate a (first_axis t)) (coordinate a (second_axis t)) (coordinate a t)) (sym (pair_at_row t points pairs i l j)) (meets_row d t points (pair_at pairs (i - 4)) a few three g.1 g.0 (h.meets (i - 4) (record { low = 0; high = 0 }) j))
+        subst (MeetsRow (coordinate a (first_axis t)) (coordinate a (second_axis t)) (coordinate a t)) (sym (pair_at_row t points pairs i l j)) ((row_meets d t points (pair_at pairs (i - 4)) a few three g.1 g.0).1 (h.meets (i - 4) (record { low = 0; high = 0 }) j))
 
     small : (i : ℕ) → (i < 4) ⊎ (4 ≤ i)
     small i = grind arith
@@ -348,29 +224,11 @@ excluded_slopes d t points pairs k a few three long x h =
 -- ---- coefficients in their places
 
 past_three : (d : ℕ) (a b c : ℤ) → (d ≡ 2) ⊎ (d ≡ 3) → (d ≡ 2 → c ≡ pos 0) → (k : ℕ) → d ≤ k → coordinate (a ∷ b ∷ c ∷ []) k ≡ pos 0
-past_three d a b c two flat zero h = absurd (few two)
-  where
-    few : (d ≡ 2) ⊎ (d ≡ 3) → ⊥
-    few (inl e) = omega (arith, e, h)
-    few (inr e) = omega (arith, e, h)
-past_three d a b c two flat (suc zero) h = absurd (few two)
-  where
-    few : (d ≡ 2) ⊎ (d ≡ 3) → ⊥
-    few (inl e) = omega (arith, e, h)
-    few (inr e) = omega (arith, e, h)
+past_three d a b c two flat (suc (suc (suc k))) h = refl
 past_three d a b c (inl e) flat (suc (suc zero)) h = flat e
 past_three d a b c (inr e) flat (suc (suc zero)) h = absurd (omega (arith, e, h))
-past_three d a b c two flat (suc (suc (suc k))) h = refl
-
-small_three : (a b c : ℤ) → unsigned_abs a ≤ 2 ^ 27 → unsigned_abs b ≤ 2 ^ 27 → unsigned_abs c ≤ 2 ^ 27 → All (λ x. nat_abs x < 2 ^ 50) (a ∷ b ∷ c ∷ [])
-small_three a b c ha hb hc zero x l = omega (arith, ha)
-small_three a b c ha hb hc (suc zero) x l = omega (arith, hb)
-small_three a b c ha hb hc (suc (suc zero)) x l = omega (arith, hc)
-small_three a b c ha hb hc (suc (suc (suc k))) x l = absurd (omega arith)
-
-pub third_small : (d : ℕ) (b z : ℤ) → (d ≡ 2) ⊎ (d ≡ 3) → (d ≡ 3 → z ≡ b) → (d ≡ 2 → z ≡ pos 0) → unsigned_abs b ≤ 2 ^ 27 → unsigned_abs z ≤ 2 ^ 27
-third_small d b z (inl e) solid flat h = let f = flat e in omega (arith, ints, f)
-third_small d b z (inr e) solid flat h = let f = solid e in rw f h
+past_three d a b c (inl e) flat k h = absurd (omega (arith, e, h))
+past_three d a b c (inr e) flat k h = absurd (omega (arith, e, h))
 
 in_space : (d : ℕ) → (d ≡ 2) ⊎ (d ≡ 3) → 2 < d → d ≡ 3
 in_space d (inl e) h = absurd (omega (arith, e, h))
@@ -389,16 +247,18 @@ slopes_z d t s z (inr e) l n m solid = subst (λ (v : ℕ). IsSlopesOf d v s (s.
     at : t ≡ 2
     at = omega (arith, e, l, n, m)
 
-pub small_x : (d : ℕ) (a b c : ℤ) → (d ≡ 2) ⊎ (d ≡ 3) → (d ≡ 2 → c ≡ pos 0) → unsigned_abs a ≤ 2 ^ 27 → unsigned_abs b ≤ 2 ^ 27 → unsigned_abs c ≤ 2 ^ 27 → AreSmallCoefficients d (a ∷ b ∷ c ∷ [])
-small_x d a b c two flat ha hb hc = record { three = refl; past = past_three d a b c two flat; small = small_three a b c ha hb hc }
+pub small_slopes : (d t : ℕ) (s : Solution) (a : List ℤ) → (d ≡ 2) ⊎ (d ≡ 3) → t < d → unsigned_abs s.a ≤ 2 ^ 27 → unsigned_abs s.b ≤ 2 ^ 27 → unsigned_abs s.c ≤ 2 ^ 27 → IsSlopesOf d t s a → AreSmallCoefficients d a
+small_slopes d t s a two axis ha hb hc o = record {
+  three = o.three;
+  past = o.past;
+  small = λ k x l. (let e = get_or_default a k x (pos 0) l in let h = at k (each_axis t k (low_axis d t two axis) (let n = o.three in omega (arith, n, l))) (inside (second_axis t)) in omega (arith, ap nat_abs e, h));
+}
+  where
+    inside : (u : ℕ) → (u < d) ⊎ (d ≤ u)
+    inside u = grind arith
 
-pub small_z : (d t : ℕ) (a b c : ℤ) → (d ≡ 2) ⊎ (d ≡ 3) → t < d → (t ≡ 0 → ⊥) → (t ≡ 1 → ⊥) → unsigned_abs a ≤ 2 ^ 27 → unsigned_abs b ≤ 2 ^ 27 → unsigned_abs c ≤ 2 ^ 27 → AreSmallCoefficients d (a ∷ b ∷ c ∷ [])
-small_z d t a b c two l n m ha hb hc = record { three = refl; past = past_three d a b c two (λ e. absurd (omega (arith, e, l, n, m))); small = small_three a b c ha hb hc }
-
-pub few_axes : (d : ℕ) → (d ≡ 2) ⊎ (d ≡ 3) → d ≤ 3
-few_axes d (inl e) = omega (arith, e)
-few_axes d (inr e) = omega (arith, e)
-
-pub low_axis : (d t : ℕ) → (d ≡ 2) ⊎ (d ≡ 3) → t < d → t < 3
-low_axis d t (inl e) l = omega (arith, e, l)
-low_axis d t (inr e) l = omega (arith, e, l)
+    at : (k : ℕ) → (k ≡ t) ⊎ ((k ≡ first_axis t) ⊎ (k ≡ second_axis t)) → (second_axis t < d) ⊎ (d ≤ second_axis t) → nat_abs (coordinate a k) ≤ 2 ^ 27
+    at k (inl e) l = rw (e, o.main) hc
+    at k (inr (inl e)) l = rw (e, o.first) ha
+    at k (inr (inr e)) (inl l) = rw (e, o.second l) hb
+    at k (inr (inr e)) (inr l) = rw (e, o.past (second_axis t) l) (omega (arith, ints))

@@ -1,7 +1,7 @@
 -- An exclusion of all slopes by two combinations, as weights that refute the points.
 -- How an exclusion is found belongs elsewhere.
 use Rattle.std.proofs.Common.{◌≡◌, ℕ, zero, suc, ◌+◌, ◌-◌, ◌<◌, ◌≤◌, ◌^◌, ◌⊎◌, inl, inr, true, List, length, map, refl, ap, sym, subst, ◌∙◌, arith}
-use Rattle.std.specs.Prelude.{ℤ, pos, negsuc, neg_ℤ, ◌+ℤ◌, ◌-ℤ◌, ◌*ℤ◌, ◌≤ℤ◌, All}
+use Rattle.std.specs.Prelude.{ℤ, pos, negsuc, neg_ℤ, ◌+ℤ◌, ◌-ℤ◌, ◌*ℤ◌, ◌≤ℤ◌}
 use Rattle.std.proofs.lemmas.Int.{ints}
 use Rattle.std.proofs.lemmas.List.{length-map}
 use Rattle.shape_terms.specs.Points.{Point, coordinate}
@@ -17,23 +17,22 @@ use Rattle.shape_slope.specs.declared.eliminate.Excluded.{Excluded}
 use Rattle.shape_slope.specs.Rows.{row_at}
 use Rattle.shape_slope.specs.Combinations.{IsCombination}
 use Rattle.shape_slope.specs.Solutions.{IsExcluded}
-use Rattle.shape_slope.specs.Pairs.{ArePairs, IsPlaceOf, AreSmallWeights, first_axis, second_axis, pair_row}
+use Rattle.shape_slope.specs.Pairs.{ArePairs, first_axis, second_axis, pair_row}
 use Rattle.shape_slope.specs.Systems.{rows_for, bounding_step, pair_at, no_weights, with_row, with_up, balance, coefficient}
 use Rattle.shape_slope.specs.Weighing.{IsWeighed, AreWeights}
 use Rattle.shape_terms.proofs.Products.{rings}
 use Rattle.shape_terms.proofs.Order.{mul-le_ℤ}
 use Rattle.shape_slope.proofs.Gaps.{no_gap}
 use Rattle.shape_slope.proofs.Weighed.{balance_row, balance_up, weighed_none, weaker, weighed_step, weighed_row, weighed_row_pair, IsLawful, total_row, total_row_pair}
-use Rattle.shape_slope.proofs.Certified.{each_axis, first_other, second_other, IsRowAt, row_is, pair_at_row}
+use Rattle.shape_slope.proofs.Certified.{few_axes, low_axis, first_low, each_axis, first_other, second_other, IsRowAt, row_is, pair_at_row}
+
+none : (g u : ℤ) (v : ℕ) → pos v ≡ g *ℤ u → u ≡ pos 0 → v ≡ 0
+none g u v e z = let q = ap (λ (x : ℤ). g *ℤ x) z in omega (arith, ints, e, q)
 
 -- ---- lawful rows
 
 rows_long : (t : ℕ) (points : List Point) (pairs : List Pair) → length (rows_for t points pairs) ≡ 4 + length pairs
 rows_long t points pairs = let h = length-map pairs (pair_row t points) in omega (arith, h)
-
-first_low : (t : ℕ) → first_axis t < 2
-first_low zero = omega arith
-first_low (suc t) = omega arith
 
 second_low : (t : ℕ) → second_axis t < 3
 second_low zero = omega arith
@@ -41,26 +40,15 @@ second_low (suc zero) = omega arith
 second_low (suc (suc t)) = omega arith
 
 module _ {Q : Type 0} (f : Q → Point) (d t : ℕ) (ps : List Q) (pairs : List Pair) (axes : (q : Q) → length (f q) ≡ d) (two : (d ≡ 2) ⊎ (d ≡ 3)) (axis : t < d) (are : ArePairs (length ps) pairs) where
-  at_least_two : 2 ≤ d
-  at_least_two = both two
-    where
-      both : (d ≡ 2) ⊎ (d ≡ 3) → 2 ≤ d
-      both (inl e) = omega (arith, e)
-      both (inr e) = omega (arith, e)
-
   three : t < 3
-  three = both two
-    where
-      both : (d ≡ 2) ⊎ (d ≡ 3) → t < 3
-      both (inl e) = omega (arith, e, axis)
-      both (inr e) = omega (arith, e, axis)
+  three = low_axis d t two axis
 
   are_mapped : ArePairs (length (map f ps)) pairs
   are_mapped = subst (λ (n : ℕ). ArePairs n pairs) (sym (length-map ps f)) are
 
   low_step : (i : ℕ) → i < 2 → IsStepOf d t (bounding_step t i)
-  low_step zero h = (omega (arith, first_low t, at_least_two), first_other t)
-  low_step (suc zero) h = (omega (arith, first_low t, at_least_two), first_other t)
+  low_step zero h = (first_low d t two, first_other t)
+  low_step (suc zero) h = (first_low d t two, first_other t)
   low_step (suc (suc i)) h = absurd (omega arith)
 
   high_step : (i : ℕ) → 2 ≤ i → i < 4 → d ≡ 3 → IsStepOf d t (bounding_step t i)
@@ -133,9 +121,6 @@ module _ {Q : Type 0} (f : Q → Point) (d t : ℕ) (ps : List Q) (pairs : List 
       → IsWeighed d t (map f ps) pairs (n + 2) (m + 1) (with_row t pairs (with_row t pairs r v c.first) w c.second)
   weighed_combination c g n m v w r h i e sv sw = by_kind h.kind
     where
-      none : (g u : ℤ) (v : ℕ) → pos v ≡ g *ℤ u → u ≡ pos 0 → v ≡ 0
-      none g u v e z = let q = ap (λ (x : ℤ). g *ℤ x) z in omega (arith, ints, e, q)
-
       by_kind : ((c.second < 2) × (c.first_weight ≡ pos 0)) ⊎ (4 ≤ c.second) → IsWeighed d t (map f ps) pairs (n + 2) (m + 1) (with_row t pairs (with_row t pairs r v c.first) w c.second)
       by_kind (inl k) = subst (λ (z : ℕ). IsWeighed d t (map f ps) pairs (n + 2) (m + 1) (with_row t pairs (with_row t pairs r z c.first) w c.second)) (sym (none g c.first_weight v e k.1))
           (weaker d t (map f ps) pairs (n + 1) (m + 1) (n + 2) (m + 1) (with_row t pairs r w c.second) (omega arith) (omega arith) (weighed_row d t (map f ps) pairs n m r w c.second i sw are_mapped (lawful_second c w h)))
@@ -149,13 +134,7 @@ module _ {Q : Type 0} (f : Q → Point) (d t : ℕ) (ps : List Q) (pairs : List 
 
 joined : (f g v w v' w' x1 x2 x3 x4 x x' a b c e : ℤ) → a ≡ f *ℤ v → b ≡ f *ℤ w → c ≡ g *ℤ v' → e ≡ g *ℤ w' → x ≡ v *ℤ x1 +ℤ w *ℤ x2 → x' ≡ v' *ℤ x3 +ℤ w' *ℤ x4
     → ((a *ℤ x1 +ℤ b *ℤ x2) +ℤ c *ℤ x3) +ℤ e *ℤ x4 ≡ f *ℤ x +ℤ g *ℤ x'
-joined f g v w v' w' x1 x2 x3 x4 x x' a b c e ea eb ec ee ex ex' = rw (ea, eb, ec, ee, ex, ex') (expand f v w x1 x2 (g *ℤ v') (g *ℤ w') x3 x4 ∙ ap (λ (z : ℤ). f *ℤ (v *ℤ x1 +ℤ w *ℤ x2) +ℤ z) (inner g v' w' x3 x4))
-  where
-    inner : (g v w x y : ℤ) → (g *ℤ v) *ℤ x +ℤ (g *ℤ w) *ℤ y ≡ g *ℤ (v *ℤ x +ℤ w *ℤ y)
-    inner g v w x y = omega (arith, ints, rings)
-
-    expand : (f v w x y p q x' y' : ℤ) → (((f *ℤ v) *ℤ x +ℤ (f *ℤ w) *ℤ y) +ℤ p *ℤ x') +ℤ q *ℤ y' ≡ f *ℤ (v *ℤ x +ℤ w *ℤ y) +ℤ (p *ℤ x' +ℤ q *ℤ y')
-    expand f v w x y p q x' y' = let e = inner f v w x y in omega (arith, ints, e)
+joined f g v w v' w' x1 x2 x3 x4 x x' a b c e ea eb ec ee ex ex' = rw (ea, eb, ec, ee, ex, ex') (omega (arith, ints, rings))
 
 -- the four rows and the steps up
 abbrev pub all_weights : ℕ → List Pair → Excluded → ℕ → ℕ → ℕ → ℕ → ℕ → Refutation
@@ -194,9 +173,6 @@ pub record AreParts (k : Excluded) (a b c e n : ℕ) : Type 0 where
 
 pub kind_of : (c : Combination) (g : ℤ) (v : ℕ) → ((c.second < 2) × (c.first_weight ≡ pos 0)) ⊎ (4 ≤ c.second) → pos v ≡ g *ℤ c.first_weight → ((c.second < 2) × (v ≡ 0)) ⊎ (4 ≤ c.second)
 kind_of c g v (inl k) e = inl (k.0, none g c.first_weight v e k.1)
-  where
-    none : (g u : ℤ) (v : ℕ) → pos v ≡ g *ℤ u → u ≡ pos 0 → v ≡ 0
-    none g u v e z = let q = ap (λ (x : ℤ). g *ℤ x) z in omega (arith, ints, e, q)
 kind_of c g v (inr k) e = inr k
 
 up_low : (r : Refutation) (n : ℕ) → (with_up r n).low ≡ r.low
@@ -220,7 +196,7 @@ module _ {Q : Type 0} (f : Q → Point) (d t : ℕ) (ps : List Q) (pairs : List 
       weighed_up d t (map f ps) pairs 4 2 _ n w2 rest_small
 
   row_of : (i : ℕ) → i < length (rows_for t (map f ps) pairs) → IsRowAt t (map f ps) pairs i (row_at (rows_for t (map f ps) pairs) i)
-  row_of i l = row_is t (map f ps) pairs i (three f d t ps pairs axes two axis are) (let r = rows_long t (map f ps) pairs in omega (arith, l, r))
+  row_of i l = row_is t (map f ps) pairs i (low_axis d t two axis) (let r = rows_long t (map f ps) pairs in omega (arith, l, r))
 
   -- what is left on an axis, where the four rows have these coefficients
   left : (i : ℕ) (x1 x2 x3 x4 y z : ℤ) → coefficient t (map f ps) pairs k.first.first i ≡ x1 → coefficient t (map f ps) pairs k.first.second i ≡ x2 → coefficient t (map f ps) pairs k.second.first i ≡ x3 → coefficient t (map f ps) pairs k.second.second i ≡ x4
@@ -233,24 +209,8 @@ module _ {Q : Type 0} (f : Q → Point) (d t : ℕ) (ps : List Q) (pairs : List 
       parts.first_first parts.first_second parts.second_first parts.second_second ey ez))
 
   balanced : (i : ℕ) → i < d → balance t (map f ps) (all_weights t pairs k a b c e n) i ≡ pos 0
-  balanced i l = by_axis (each_axis t i (three f d t ps pairs axes two axis are) (three' two))
+  balanced i l = by_axis (each_axis t i (low_axis d t two axis) (omega (arith, few_axes d two, l)))
     where
-      three' : (d ≡ 2) ⊎ (d ≡ 3) → i < 3
-      three' (inl h) = omega (arith, h, l)
-      three' (inr h) = omega (arith, h, l)
-
-      r1 : IsRowAt t (map f ps) pairs k.first.first (row_at (rows_for t (map f ps) pairs) k.first.first)
-      r1 = row_of k.first.first x.first.first
-
-      r2 : IsRowAt t (map f ps) pairs k.first.second (row_at (rows_for t (map f ps) pairs) k.first.second)
-      r2 = row_of k.first.second x.first.second
-
-      r3 : IsRowAt t (map f ps) pairs k.second.first (row_at (rows_for t (map f ps) pairs) k.second.first)
-      r3 = row_of k.second.first x.second.first
-
-      r4 : IsRowAt t (map f ps) pairs k.second.second (row_at (rows_for t (map f ps) pairs) k.second.second)
-      r4 = row_of k.second.second x.second.second
-
       off : (s v g : ℤ) → s ≡ pos 0 → v ≡ pos 0 → s +ℤ g *ℤ neg_ℤ v ≡ pos 0
       off s v g h o = let q = ap (λ (z : ℤ). g *ℤ z) o in omega (arith, ints, rings, h, q)
 
@@ -261,13 +221,13 @@ module _ {Q : Type 0} (f : Q → Point) (d t : ℕ) (ps : List Q) (pairs : List 
       zeros g h = omega (arith, ints)
 
       at_first : balance t (map f ps) (all_weights t pairs k a b c e n) (first_axis t) ≡ pos 0
-      at_first = left (first_axis t) _ _ _ _ k.first.x k.second.x r1.x r2.x r3.x r4.x x.first.x x.second.x ∙ off (k.first_weight *ℤ k.first.x +ℤ k.second_weight *ℤ k.second.x) (coordinate (unit t) (first_axis t)) (pos n) (sym x.gone) (unit_other t (first_axis t) (first_other t))
+      at_first = left (first_axis t) _ _ _ _ k.first.x k.second.x (row_of _ x.first.first).x (row_of _ x.first.second).x (row_of _ x.second.first).x (row_of _ x.second.second).x x.first.x x.second.x ∙ off (k.first_weight *ℤ k.first.x +ℤ k.second_weight *ℤ k.second.x) (coordinate (unit t) (first_axis t)) (pos n) (sym x.gone) (unit_other t (first_axis t) (first_other t))
 
       at_second : balance t (map f ps) (all_weights t pairs k a b c e n) (second_axis t) ≡ pos 0
-      at_second = left (second_axis t) _ _ _ _ (pos 0) (pos 0) r1.y r2.y r3.y r4.y x.first.y x.second.y ∙ off (k.first_weight *ℤ pos 0 +ℤ k.second_weight *ℤ pos 0) (coordinate (unit t) (second_axis t)) (pos n) (zeros k.first_weight k.second_weight) (unit_other t (second_axis t) (second_other t))
+      at_second = left (second_axis t) _ _ _ _ (pos 0) (pos 0) (row_of _ x.first.first).y (row_of _ x.first.second).y (row_of _ x.second.first).y (row_of _ x.second.second).y x.first.y x.second.y ∙ off (k.first_weight *ℤ pos 0 +ℤ k.second_weight *ℤ pos 0) (coordinate (unit t) (second_axis t)) (pos n) (zeros k.first_weight k.second_weight) (unit_other t (second_axis t) (second_other t))
 
       at_main : balance t (map f ps) (all_weights t pairs k a b c e n) t ≡ pos 0
-      at_main = left t _ _ _ _ k.first.z k.second.z r1.z r2.z r3.z r4.z x.first.z x.second.z ∙ on (k.first_weight *ℤ k.first.z +ℤ k.second_weight *ℤ k.second.z) (coordinate (unit t) t) (pos n) k.rest x.rest parts.rest (unit_same t)
+      at_main = left t _ _ _ _ k.first.z k.second.z (row_of _ x.first.first).z (row_of _ x.first.second).z (row_of _ x.second.first).z (row_of _ x.second.second).z x.first.z x.second.z ∙ on (k.first_weight *ℤ k.first.z +ℤ k.second_weight *ℤ k.second.z) (coordinate (unit t) t) (pos n) k.rest x.rest parts.rest (unit_same t)
 
       by_axis : (i ≡ t) ⊎ ((i ≡ first_axis t) ⊎ (i ≡ second_axis t)) → balance t (map f ps) (all_weights t pairs k a b c e n) i ≡ pos 0
       by_axis (inl h) = subst (λ (j : ℕ). balance t (map f ps) (all_weights t pairs k a b c e n) j ≡ pos 0) (sym h) at_main
@@ -303,13 +263,10 @@ module _ {Q : Type 0} (f : Q → Point) (d t : ℕ) (ps : List Q) (pairs : List 
 
   pub refutes : Refutes d t (map f ps) (all_weights t pairs k a b c e n)
   refutes = (refutes_is f d t ps (all_weights t pairs k a b c e n) true axes axis
-      (λ i s l. let p = (w.low i s l).place in let q = length-map ps f in omega (arith, p, q))
-      (λ i s l. let p = (w.high i s l).place in let q = length-map ps f in omega (arith, p, q))
-      (λ i s l. (w.steps i s l).step) some w.same ((λ h. meets), (λ h. refl))).0 refl
+      (λ i s l. let p = (all_weighed.low i s l).place in let q = length-map ps f in omega (arith, p, q))
+      (λ i s l. let p = (all_weighed.high i s l).place in let q = length-map ps f in omega (arith, p, q))
+      (λ i s l. (all_weighed.steps i s l).step) some all_weighed.same ((λ h. meets), (λ h. refl))).0 refl
     where
-      w : IsWeighed d t (map f ps) pairs 4 3 (all_weights t pairs k a b c e n)
-      w = all_weighed
-
       meets : (i : ℕ) → i < d → coordinate (low_side t (map f ps) (all_weights t pairs k a b c e n)) i ≡ coordinate (high_side t (map f ps) (all_weights t pairs k a b c e n)) i
       meets i l =
           low_is t i (map f ps) (all_weights t pairs k a b c e n)
@@ -319,24 +276,20 @@ module _ {Q : Type 0} (f : Q → Point) (d t : ℕ) (ps : List Q) (pairs : List 
           moved : (h l s : ℤ) → (h -ℤ l) -ℤ s ≡ pos 0 → l +ℤ s ≡ h
           moved h l s e = omega (arith, ints, e)
 
-  pub small_weights : AreSmallWeights (all_weights t pairs k a b c e n)
-  small_weights = record {
-    few_low = w.low_few;
-    few_high = w.high_few;
-    few_steps = (let h = w.steps_few in omega (arith, h));
-    low = λ i s l. (w.low i s l).small;
-    high = λ i s l. (w.high i s l).small;
-    steps = λ i s l. (w.steps i s l).small;
+  pub are_weights : AreWeights d t (map f ps) pairs (all_weights t pairs k a b c e n)
+  are_weights = record {
+    refutes = refutes;
+    small = record {
+      few_low = w.low_few;
+      few_high = w.high_few;
+      few_steps = (let h = w.steps_few in omega (arith, h));
+      low = λ i s l. (w.low i s l).small;
+      high = λ i s l. (w.high i s l).small;
+      steps = λ i s l. (w.steps i s l).small;
+    };
+    low = λ i s l. (w.low i s l).from;
+    high = λ i s l. (w.high i s l).from;
   }
     where
       w : IsWeighed d t (map f ps) pairs 4 3 (all_weights t pairs k a b c e n)
       w = all_weighed
-
-  pub from_pairs : All (λ s. IsPlaceOf pairs s.place) (all_weights t pairs k a b c e n).low × All (λ s. IsPlaceOf pairs s.place) (all_weights t pairs k a b c e n).high
-  from_pairs = (λ i s l. (w.low i s l).from, λ i s l. (w.high i s l).from)
-    where
-      w : IsWeighed d t (map f ps) pairs 4 3 (all_weights t pairs k a b c e n)
-      w = all_weighed
-
-  pub are_weights : AreWeights d t (map f ps) pairs (all_weights t pairs k a b c e n)
-  are_weights = record { refutes = refutes; small = small_weights; low = from_pairs.0; high = from_pairs.1 }

@@ -1,9 +1,9 @@
 -- Slopes that meet all rows, back from the bounds of the first and of the second.
 -- How the bounds are found belongs elsewhere.
-use Rattle.std.proofs.Common.{◌≡◌, ℕ, zero, suc, ◌<◌, ◌≤◌, ◌⊎◌, inl, inr, List, length, refl, ap, sym, subst, ◌∙◌, arith}
+use Rattle.std.proofs.Common.{◌≡◌, ℕ, zero, suc, ◌<◌, ◌≤◌, ◌^◌, ◌⊎◌, inl, inr, List, length, refl, ap, arith}
 use Rattle.std.specs.Prelude.{ℤ, pos, neg_ℤ, negsuc, ◌+ℤ◌, ◌*ℤ◌, ◌≤ℤ◌, ◌<ℤ◌, unsigned_abs}
-use Rattle.std.proofs.lemmas.Int.{ints}
-use native.Mathlib.Decide.{ℕ_discrete}
+use Rattle.std.proofs.lemmas.Int.{ints, unsigned_abs-mul}
+use Rattle.std.proofs.lemmas.Nat.{mul-le}
 use Rattle.shape_slope.specs.declared.row.Row.{Row}
 use Rattle.shape_space.specs.declared.frac.Frac.{Frac}
 use Rattle.shape_slope.specs.declared.span.Span.{Span}
@@ -26,47 +26,23 @@ order a b = grind arith
 turned : (y z l m : ℤ) → (z *ℤ l) <ℤ (y *ℤ m) → (l *ℤ z) <ℤ (m *ℤ y)
 turned y z l m h = omega (arith, ints, h)
 
--- the rows 2 and 3 leave room
-first_room : (rows : List Row) (p q : ℤ) → IsSystem rows → pos 0 <ℤ q → LeavesRoom p q (row_at rows 2) (row_at rows 3)
-first_room rows p q s hq a b = rw (s.plus_second, s.minus_second) (omega (arith, ints, hq))
-
-room_between : (rows : List Row) (p q : ℤ) (l u : ℕ) → IsSystem rows → pos 0 <ℤ q → 2 ≤ l → 2 ≤ u → l < length rows → u < length rows → ((j : ℕ) → 4 ≤ j → j < length rows → IsMet rows p q j)
+room_between : (rows : List Row) (p q : ℤ) (l u : ℕ) → 2 ≤ l → 2 ≤ u → l < length rows → u < length rows → ((j : ℕ) → j < length rows → IsMet rows j p q)
     → (row_at rows l).y <ℤ pos 0 → pos 0 <ℤ (row_at rows u).y → LeavesRoom p q (row_at rows l) (row_at rows u)
-room_between rows p q l u s hq hl hu ll lu met a b = by_order (order l u)
+room_between rows p q l u hl hu ll lu met a b = by_order (order l u)
   where
     both : (v w : ℕ) → (row_at rows v).y <ℤ pos 0 → v ≡ w → pos 0 <ℤ (row_at rows w).y → ⊥
     both v w f e r = let g = ap (λ (k : ℕ). (row_at rows k).y) e in omega (arith, ints, f, r, g)
 
-    low : l < u → 4 ≤ u → LeavesRoom p q (row_at rows l) (row_at rows u)
-    low h k = ((met u k lu).room l hl h).0
-
-    high : u < l → 4 ≤ l → LeavesRoom p q (row_at rows l) (row_at rows u)
-    high h k = ((met l k ll).room u hu h).1
-
-    big : (v : ℕ) → (4 ≤ v) ⊎ (v < 4)
-    big v = grind arith
-
     by_order : (l < u) ⊎ ((l ≡ u) ⊎ (u < l)) → LeavesRoom p q (row_at rows l) (row_at rows u)
-    by_order (inl h) = elim (big u) [
-      | inl k ↦ low h k
-      | inr k ↦ (let el : l ≡ 2 = omega (arith, hl, h, k) in let eu : u ≡ 3 = omega (arith, hl, h, k) in
-          subst (λ (v : ℕ). LeavesRoom p q (row_at rows v) (row_at rows u)) (sym el) (subst (λ (v : ℕ). LeavesRoom p q (row_at rows 2) (row_at rows v)) (sym eu) (first_room rows p q s hq)))
-    ]
+    by_order (inl h) = ((met u lu).room l hl h).0
     by_order (inr (inl e)) = absurd (both l u a e b)
-    by_order (inr (inr h)) = elim (big l) [
-      | inl k ↦ high h k
-      | inr k ↦ (let el : l ≡ 3 = omega (arith, hu, h, k) in absurd (rises l el a))
-    ]
-      where
-        rises : (v : ℕ) → v ≡ 3 → (row_at rows v).y <ℤ pos 0 → ⊥
-        rises v e f = let g : (row_at rows v).y ≡ pos 1 = ap (λ (k : ℕ). (row_at rows k).y) e ∙ ap (λ (r : Row). r.y) s.minus_second in omega (arith, ints, f, g)
+    by_order (inr (inr h)) = ((met l ll).room u hu h).1
 
-pub span_room : (rows : List Row) (f : Frac) (r : Range) (s : Span) → IsSystem rows → IsSmallSlope f → IsWhole rows (length rows) r → IsInside f.num f.den r → IsSpan rows s
+pub span_room : (rows : List Row) (f : Frac) (r : Range) (s : Span) → IsSmallSlope f → IsWhole rows (length rows) r → IsInside f.num f.den r → IsSpan rows s
     → (level f.num f.den (row_at rows s.lower) *ℤ (row_at rows s.upper).y) <ℤ (level f.num f.den (row_at rows s.upper) *ℤ (row_at rows s.lower).y)
-span_room rows f r s y z w i h =
-    let hq : pos 0 <ℤ f.den = (let d = z.den in omega (arith, ints, d)) in
+span_room rows f r s z w i h =
     turned (row_at rows s.lower).y (row_at rows s.upper).y (level f.num f.den (row_at rows s.lower)) (level f.num f.den (row_at rows s.upper))
-    (room_between rows f.num f.den s.lower s.upper y hq h.lower_second h.upper_second h.lower_place h.upper_place (λ j a b. w.met j a b f.num f.den hq i) h.falls h.rises h.falls h.rises)
+    (room_between rows f.num f.den s.lower s.upper h.lower_second h.upper_second h.lower_place h.upper_place (λ j a. w.met j a f.num f.den (let d = z.den in omega (arith, ints, d)) i) h.falls h.rises h.falls h.rises)
 
 -- ---- the slopes over one denominator
 
@@ -83,70 +59,31 @@ flat_met x y z p q n m e hm h = let a = mul-lt_ℤ m (x *ℤ p +ℤ z *ℤ q) (p
     below : (u l m : ℤ) → u ≡ pos 0 *ℤ n → (m *ℤ l) <ℤ (m *ℤ pos 0) → (u +ℤ l *ℤ m) <ℤ pos 0
     below u l m e h = omega (arith, ints, e, h)
 
-pub solution_is : (rows : List Row) (f : Frac) (r : Range) (s : Span) (g : Frac) (o : Solution) → IsSystem rows → IsSmallSlope f → IsWhole rows (length rows) r → IsInside f.num f.den r → IsTight rows f (length rows) s
-    → IsAmid rows f g.num g.den s → pos 1 ≤ℤ g.den → unsigned_abs g.num ≤ 112656384 → o.a ≡ f.num *ℤ g.den → o.b ≡ g.num → o.c ≡ f.den *ℤ g.den → unsigned_abs o.a ≤ 56034816 → unsigned_abs o.c ≤ 56034816
-    → IsSolution rows o
-solution_is rows f r s g o y z w i t am hg sg ea eb ec sa sc = record {
+pub solution_is : (rows : List Row) (f : Frac) (r : Range) (s : Span) (g : Frac) (o : Solution) → IsSmallSlope f → IsWhole rows (length rows) r → IsInside f.num f.den r → IsTight rows f (length rows) s
+    → IsAmid rows f g.num g.den s → pos 1 ≤ℤ g.den → unsigned_abs g.num ≤ 112656384 → unsigned_abs g.den ≤ 382 → o.a ≡ f.num *ℤ g.den → o.b ≡ g.num → o.c ≡ f.den *ℤ g.den → IsSolution rows o
+solution_is rows f r s g o z w i t am hg sg sm ea eb ec = record {
   main = some f.den g.den o.c z.den hg ec;
-  met = λ k l. row_met rows f g.num g.den o.a o.b o.c k ea eb ec (each k l);
-  a_small = omega (arith, sa);
+  met = λ k l. row_met rows f g.num g.den o.a o.b o.c k ea eb ec (each k l (is_zero (row_at rows k).y));
+  a_small = small f.num z.num_small o.a ea;
   b_small = omega (arith, sg, ap unsigned_abs eb);
-  c_small = omega (arith, sc);
+  c_small = small f.den z.den_small o.c ec;
 }
   where
-    hq : pos 0 <ℤ f.den
-    hq = let d = z.den in omega (arith, ints, d)
-
-    hm : pos 0 <ℤ g.den
-    hm = omega (arith, ints, hg)
-
     some : (q m c : ℤ) → pos 1 ≤ℤ q → pos 1 ≤ℤ m → c ≡ q *ℤ m → pos 1 ≤ℤ c
     some q m c h k e = let a = mul-lt_ℤ q (pos 0) m (omega (arith, ints, h)) (omega (arith, ints, k)) in omega (arith, ints, e, a)
 
-    flat : (k : ℕ) → (row_at rows k).y ≡ pos 0 → level f.num f.den (row_at rows k) <ℤ pos 0 → MeetsAt rows f g.num g.den k
-    flat k e h = flat_met (row_at rows k).x (row_at rows k).y (row_at rows k).z f.num f.den g.num g.den e hm h
-
-    plus : (p q : ℤ) → neg_ℤ q <ℤ p → (negsuc 0 *ℤ p +ℤ negsuc 0 *ℤ q) <ℤ pos 0
-    plus p q h = omega (arith, ints, h)
-
-    minus : (p q : ℤ) → p <ℤ q → (pos 1 *ℤ p +ℤ negsuc 0 *ℤ q) <ℤ pos 0
-    minus p q h = omega (arith, ints, h)
-
-    zeroth : MeetsAt rows f g.num g.den 0
-    zeroth = flat 0 (ap (λ (v : Row). v.y) y.plus_first) (rw y.plus_first (plus f.num f.den (w.low f.num f.den hq i)))
-
-    first : MeetsAt rows f g.num g.den 1
-    first = flat 1 (ap (λ (v : Row). v.y) y.minus_first) (rw y.minus_first (minus f.num f.den (w.high f.num f.den hq i)))
+    small : (v : ℤ) → unsigned_abs v ≤ 146688 → (x : ℤ) → x ≡ v *ℤ g.den → unsigned_abs x ≤ 2 ^ 27
+    small v h x e = let m = mul-le (unsigned_abs v) (unsigned_abs g.den) 146688 382 h sm in omega (arith, m, ap unsigned_abs e, unsigned_abs-mul v g.den)
 
     is_zero : (v : ℤ) → (v ≡ pos 0) ⊎ (v ≡ pos 0 → ⊥)
     is_zero (pos zero) = inl refl
     is_zero (pos (suc v)) = inr (λ e. omega (arith, ints, e))
     is_zero (negsuc v) = inr (λ e. omega (arith, ints, e))
 
-    second : (k : ℕ) → 2 ≤ k → k < 4 → (row_at rows k).y ≡ pos 0 → ⊥
-    second k a b e = elim (ℕ_discrete k 2) [
-      | yes q ↦ (let v : (row_at rows k).y ≡ negsuc 0 = ap (λ (u : ℕ). (row_at rows u).y) q ∙ ap (λ (u : Row). u.y) y.plus_second in omega (arith, ints, e, v))
-      | no q ↦ (let c : k ≡ 3 = omega (arith, a, b, q) in let v : (row_at rows k).y ≡ pos 1 = ap (λ (u : ℕ). (row_at rows u).y) c ∙ ap (λ (u : Row). u.y) y.minus_second in omega (arith, ints, e, v))
-    ]
-
-    later : (k : ℕ) → 2 ≤ k → k < length rows → ((row_at rows k).y ≡ pos 0) ⊎ ((row_at rows k).y ≡ pos 0 → ⊥) → MeetsAt rows f g.num g.den k
-    later k a l (inr n) = t.met k a l g.num g.den hm am n
-    later k a l (inl e) = elim (small k) [
-      | inl b ↦ absurd (second k a b e)
-      | inr b ↦ flat k e ((w.met k b l f.num f.den hq i).flat e)
-    ]
-      where
-        small : (v : ℕ) → (v < 4) ⊎ (4 ≤ v)
-        small v = grind arith
-
-    each : (k : ℕ) → k < length rows → MeetsAt rows f g.num g.den k
-    each k l = elim (ℕ_discrete k 0) [
-      | yes e ↦ subst (MeetsAt rows f g.num g.den) (sym e) zeroth
-      | no e ↦ elim (ℕ_discrete k 1) [
-        | yes d ↦ subst (MeetsAt rows f g.num g.den) (sym d) first
-        | no d ↦ later k (omega (arith, e, d)) l (is_zero (row_at rows k).y)
-      ]
-    ]
+    each : (k : ℕ) → k < length rows → ((row_at rows k).y ≡ pos 0) ⊎ ((row_at rows k).y ≡ pos 0 → ⊥) → MeetsAt rows f g.num g.den k
+    each k l (inr n) = t.met k l g.num g.den (omega (arith, ints, hg)) am n
+    each k l (inl e) =
+        flat_met (row_at rows k).x (row_at rows k).y (row_at rows k).z f.num f.den g.num g.den e (omega (arith, ints, hg)) ((w.met k l f.num f.den (let d = z.den in omega (arith, ints, d)) i).flat e)
 
 -- ---- no slopes
 
@@ -165,54 +102,28 @@ one_excludes rows c h = record {
   pair = inl h.pair;
 }
 
--- a combination of one bound of the first slope
-alone_x : (rows : List Row) (c : Combination) → IsCombination rows c → c.first_weight ≡ pos 0 → (c.x ≡ c.second_weight *ℤ (row_at rows c.second).x) × (c.z ≡ c.second_weight *ℤ (row_at rows c.second).z)
-alone_x rows c h e = (drop c.x c.first_weight (row_at rows c.first).x (c.second_weight *ℤ (row_at rows c.second).x) h.x e, drop c.z c.first_weight (row_at rows c.first).z (c.second_weight *ℤ (row_at rows c.second).z) h.z e)
-  where
-    drop : (x v a b : ℤ) → x ≡ v *ℤ a +ℤ b → v ≡ pos 0 → x ≡ b
-    drop x v a b h e = let f = ap (λ (t : ℤ). t *ℤ a) e in omega (arith, ints, h, f)
-
-slope_row : (rows : List Row) (c : Combination) → IsSystem rows → IsCombination rows c → c.second < 2 → c.first_weight ≡ pos 0 → (c.z ≡ neg_ℤ c.second_weight) × (((c.second ≡ 0) × (c.x ≡ neg_ℤ c.second_weight)) ⊎ ((c.second ≡ 1) × (c.x ≡ c.second_weight)))
-slope_row rows c s h l e = elim (ℕ_discrete c.second 0) [
-  | yes q ↦ ((zeroth q).0, inl (q, (zeroth q).1))
-  | no q ↦ (let o : c.second ≡ 1 = omega (arith, l, q) in ((first o).0, inr (o, (first o).1)))
-]
-  where
-    a : (c.x ≡ c.second_weight *ℤ (row_at rows c.second).x) × (c.z ≡ c.second_weight *ℤ (row_at rows c.second).z)
-    a = alone_x rows c h e
-
-    down : (z w v : ℤ) → z ≡ w *ℤ v → v ≡ negsuc 0 → z ≡ neg_ℤ w
-    down z w v h e = let f = ap (λ (t : ℤ). w *ℤ t) e in omega (arith, ints, h, f)
-
-    upw : (z w v : ℤ) → z ≡ w *ℤ v → v ≡ pos 1 → z ≡ w
-    upw z w v h e = let f = ap (λ (t : ℤ). w *ℤ t) e in omega (arith, ints, h, f)
-
-    zeroth : c.second ≡ 0 → (c.z ≡ neg_ℤ c.second_weight) × (c.x ≡ neg_ℤ c.second_weight)
-    zeroth q = (down c.z c.second_weight (row_at rows c.second).z a.1 (ap (λ (u : ℕ). (row_at rows u).z) q ∙ ap (λ (u : Row). u.z) s.plus_first), down c.x c.second_weight (row_at rows c.second).x a.0 (ap (λ (u : ℕ). (row_at rows u).x) q ∙ ap (λ (u : Row). u.x) s.plus_first))
-
-    first : c.second ≡ 1 → (c.z ≡ neg_ℤ c.second_weight) × (c.x ≡ c.second_weight)
-    first q = (down c.z c.second_weight (row_at rows c.second).z a.1 (ap (λ (u : ℕ). (row_at rows u).z) q ∙ ap (λ (u : Row). u.z) s.minus_first), upw c.x c.second_weight (row_at rows c.second).x a.0 (ap (λ (u : ℕ). (row_at rows u).x) q ∙ ap (λ (u : Row). u.x) s.minus_first))
-
 -- two bounds that leave no room are not both bounds of the first slope alone
 some_pair : (rows : List Row) (r : Range) → IsSystem rows → IsRange rows r → (r.upper.z *ℤ r.lower.x) ≤ℤ (r.lower.z *ℤ r.upper.x) → (4 ≤ r.lower.second) ⊎ (4 ≤ r.upper.second)
 some_pair rows r s h f = by_kinds h.lower.kind h.upper.kind
   where
-    apart : (lx lz ux uz v w : ℤ) → pos 1 ≤ℤ v → pos 1 ≤ℤ w → lx ≡ neg_ℤ v → lz ≡ neg_ℤ v → ux ≡ w → uz ≡ neg_ℤ w → (uz *ℤ lx) ≤ℤ (lz *ℤ ux) → ⊥
-    apart lx lz ux uz v w hv hw e1 e2 e3 e4 f = let g : (neg_ℤ w *ℤ neg_ℤ v) ≤ℤ (neg_ℤ v *ℤ w) = rw (e1, e2, e3, e4) at f in let m = mul-lt_ℤ w (pos 0) v (omega (arith, ints, hw)) (omega (arith, ints, hv)) in omega (arith, ints, rings, g, m)
+    z_of : (k : ℕ) → k < 2 → (row_at rows k).z ≡ negsuc 0
+    z_of zero l = ap (λ (v : Row). v.z) s.plus_first
+    z_of (suc zero) l = ap (λ (v : Row). v.z) s.minus_first
+    z_of (suc (suc k)) l = absurd (omega arith)
 
-    none : (r.lower.second < 2) → (r.lower.first_weight ≡ pos 0) → (r.upper.second < 2) → (r.upper.first_weight ≡ pos 0) → ⊥
-    none a b c d = by_rows (slope_row rows r.lower s h.lower a b) (slope_row rows r.upper s h.upper c d)
-      where
-        by_rows : (r.lower.z ≡ neg_ℤ r.lower.second_weight) × (((r.lower.second ≡ 0) × (r.lower.x ≡ neg_ℤ r.lower.second_weight)) ⊎ ((r.lower.second ≡ 1) × (r.lower.x ≡ r.lower.second_weight)))
-            → (r.upper.z ≡ neg_ℤ r.upper.second_weight) × (((r.upper.second ≡ 0) × (r.upper.x ≡ neg_ℤ r.upper.second_weight)) ⊎ ((r.upper.second ≡ 1) × (r.upper.x ≡ r.upper.second_weight))) → ⊥
-        by_rows (lz, inl lx) (uz, inr ux) = apart r.lower.x r.lower.z r.upper.x r.upper.z r.lower.second_weight r.upper.second_weight h.lower.second_low h.upper.second_low lx.1 lz ux.1 uz f
-        by_rows (lz, inr lx) u = (let e = lx.1 in let g = h.falls in let w = h.lower.second_low in omega (arith, ints, e, g, w))
-        by_rows (lz, inl lx) (uz, inl ux) = (let e = ux.1 in let g = h.rises in let w = h.upper.second_low in omega (arith, ints, e, g, w))
+    under : (z v a w b : ℤ) → z ≡ v *ℤ a +ℤ w *ℤ b → v ≡ pos 0 → b ≡ negsuc 0 → pos 1 ≤ℤ w → z <ℤ pos 0
+    under z v a w b h e g l = let p = ap (λ (t : ℤ). t *ℤ a) e in let q = ap (λ (t : ℤ). w *ℤ t) g in omega (arith, ints, h, p, q, l)
+
+    falls : (c : Combination) → IsCombination rows c → (c.second < 2) × (c.first_weight ≡ pos 0) → c.z <ℤ pos 0
+    falls c h k = under c.z c.first_weight (row_at rows c.first).z c.second_weight (row_at rows c.second).z h.z k.1 (z_of c.second k.0) h.second_low
+
+    apart : (lx lz ux uz : ℤ) → lx <ℤ pos 0 → lz <ℤ pos 0 → pos 0 <ℤ ux → uz <ℤ pos 0 → (uz *ℤ lx) ≤ℤ (lz *ℤ ux) → ⊥
+    apart lx lz ux uz a b c d f = let m = mul-lt_ℤ (neg_ℤ uz) lx (pos 0) (omega (arith, ints, d)) a in let n = mul-lt_ℤ ux lz (pos 0) c b in omega (arith, ints, rings, f, m, n)
 
     by_kinds : ((r.lower.second < 2) × (r.lower.first_weight ≡ pos 0)) ⊎ (4 ≤ r.lower.second) → ((r.upper.second < 2) × (r.upper.first_weight ≡ pos 0)) ⊎ (4 ≤ r.upper.second) → (4 ≤ r.lower.second) ⊎ (4 ≤ r.upper.second)
     by_kinds (inr a) k = inl a
     by_kinds (inl a) (inr b) = inr b
-    by_kinds (inl a) (inl b) = absurd (none a.0 a.1 b.0 b.1)
+    by_kinds (inl a) (inl b) = absurd (apart r.lower.x r.lower.z r.upper.x r.upper.z h.falls (falls r.lower h.lower a) h.rises (falls r.upper h.upper b) f)
 
 pub two_exclude : (rows : List Row) (r : Range) (w rest : ℤ) → IsSystem rows → IsRange rows r → (r.upper.z *ℤ r.lower.x) ≤ℤ (r.lower.z *ℤ r.upper.x) → w ≡ neg_ℤ r.lower.x
     → rest ≡ r.upper.x *ℤ r.lower.z +ℤ w *ℤ r.upper.z → unsigned_abs rest ≤ 10758684672 → IsExcluded rows (record { first = r.lower; first_weight = r.upper.x; second = r.upper; second_weight = w; rest = rest })

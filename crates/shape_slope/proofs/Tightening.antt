@@ -7,12 +7,9 @@ use native.Mathlib.Decide.{ℕ_discrete}
 use Rattle.shape_slope.specs.declared.row.Row.{Row}
 use Rattle.shape_space.specs.declared.frac.Frac.{Frac}
 use Rattle.shape_slope.specs.declared.span.Span.{Span}
-use Rattle.shape_slope.specs.Rows.{row_at, level, AreSmall, IsSteep, IsSystem}
+use Rattle.shape_slope.specs.Rows.{row_at, level, IsSystem}
 use Rattle.shape_slope.specs.Spans.{MeetsAt, IsSpan, IsTightened, IsTight}
 use Rattle.shape_slope.proofs.Tighter.{follows_upper, follows_lower}
-
-size_of : List Row → ℕ → ℤ
-size_of rows i = pos (unsigned_abs (row_at rows i).y)
 
 pub lower_taken : (rows : List Row) (f : Frac) (old : Span) (j : ℕ) → IsSpan rows old → j < length rows → 4 ≤ j → (row_at rows j).y <ℤ pos 0
     → (level f.num f.den (row_at rows old.lower) *ℤ pos (unsigned_abs (row_at rows j).y)) <ℤ (level f.num f.den (row_at rows j) *ℤ pos (unsigned_abs (row_at rows old.lower).y))
@@ -26,11 +23,7 @@ lower_taken rows f old j s l k y h = record {
 pub lower_kept : (rows : List Row) (f : Frac) (old : Span) (j : ℕ) → IsSpan rows old → (row_at rows j).y <ℤ pos 0
     → (level f.num f.den (row_at rows j) *ℤ pos (unsigned_abs (row_at rows old.lower).y)) ≤ℤ (level f.num f.den (row_at rows old.lower) *ℤ pos (unsigned_abs (row_at rows j).y))
     → IsTightened rows f old j old
-lower_kept rows f old j s y h = record {
-  span = s;
-  closer = λ n m hm a. a;
-  met = λ n m hm a e. follows_lower n m (row_at rows old.lower).y (level f.num f.den (row_at rows old.lower)) (row_at rows j).y (level f.num f.den (row_at rows j)) hm s.falls y h a.0;
-}
+lower_kept rows f old j s y h = record { span = s; closer = λ n m hm a. a; met = λ n m hm a e. follows_lower n m (row_at rows old.lower).y (level f.num f.den (row_at rows old.lower)) (row_at rows j).y (level f.num f.den (row_at rows j)) hm s.falls y h a.0 }
 
 pub upper_taken : (rows : List Row) (f : Frac) (old : Span) (j : ℕ) → IsSpan rows old → j < length rows → 4 ≤ j → pos 0 <ℤ (row_at rows j).y
     → (level f.num f.den (row_at rows old.upper) *ℤ pos (unsigned_abs (row_at rows j).y)) <ℤ (level f.num f.den (row_at rows j) *ℤ pos (unsigned_abs (row_at rows old.upper).y))
@@ -44,18 +37,10 @@ upper_taken rows f old j s l k y h = record {
 pub upper_kept : (rows : List Row) (f : Frac) (old : Span) (j : ℕ) → IsSpan rows old → pos 0 <ℤ (row_at rows j).y
     → (level f.num f.den (row_at rows j) *ℤ pos (unsigned_abs (row_at rows old.upper).y)) ≤ℤ (level f.num f.den (row_at rows old.upper) *ℤ pos (unsigned_abs (row_at rows j).y))
     → IsTightened rows f old j old
-upper_kept rows f old j s y h = record {
-  span = s;
-  closer = λ n m hm a. a;
-  met = λ n m hm a e. follows_upper n m (row_at rows old.upper).y (level f.num f.den (row_at rows old.upper)) (row_at rows j).y (level f.num f.den (row_at rows j)) hm s.rises y h a.1;
-}
+upper_kept rows f old j s y h = record { span = s; closer = λ n m hm a. a; met = λ n m hm a e. follows_upper n m (row_at rows old.upper).y (level f.num f.den (row_at rows old.upper)) (row_at rows j).y (level f.num f.den (row_at rows j)) hm s.rises y h a.1 }
 
 pub flat_kept : (rows : List Row) (f : Frac) (old : Span) (j : ℕ) → IsSpan rows old → ((row_at rows j).y <ℤ pos 0 → ⊥) → (pos 0 <ℤ (row_at rows j).y → ⊥) → IsTightened rows f old j old
-flat_kept rows f old j s a b = record {
-  span = s;
-  closer = λ n m hm x. x;
-  met = λ n m hm x e. absurd (e (neither (row_at rows j).y a b));
-}
+flat_kept rows f old j s a b = record { span = s; closer = λ n m hm x. x; met = λ n m hm x e. absurd (e (neither (row_at rows j).y a b)) }
   where
     neither : (y : ℤ) → (y <ℤ pos 0 → ⊥) → (pos 0 <ℤ y → ⊥) → y ≡ pos 0
     neither (pos zero) a b = refl
@@ -65,9 +50,9 @@ flat_kept rows f old j s a b = record {
 pub tight_more : (rows : List Row) (f : Frac) (old new : Span) (j : ℕ) → IsTight rows f j old → IsTightened rows f old j new → IsTight rows f (j + 1) new
 tight_more rows f old new j t x = record {
   span = x.span;
-  met = λ k a b n m hm i e. elim (ℕ_discrete k j) [
+  met = λ k b n m hm i e. elim (ℕ_discrete k j) [
     | yes q ↦ subst (MeetsAt rows f n m) (sym q) (x.met n m hm i (λ z. e (subst (λ (v : ℕ). (row_at rows v).y ≡ pos 0) (sym q) z)))
-    | no q ↦ t.met k a (omega arith) n m hm (x.closer n m hm i) e
+    | no q ↦ t.met k (omega arith) n m hm (x.closer n m hm i) e
   ];
 }
 
@@ -79,24 +64,15 @@ tight_first rows f s =
     let l = s.some in
     record {
       span = record { lower_place = omega arith; upper_place = omega arith; lower_second = omega arith; upper_second = omega arith; falls = omega (arith, ints, a); rises = omega (arith, ints, b) };
-      met = λ j h k n m hm i e. elim (ℕ_discrete j 2) [
-        | yes q ↦ subst (MeetsAt rows f n m) (sym q) i.0
-        | no q ↦ (let r : j ≡ 3 = omega (arith, h, k, q) in subst (MeetsAt rows f n m) (sym r) i.1)
-      ];
+      met = met;
     }
-
--- rows of a span are steep
-pub steep_lower : (rows : List Row) (s : Span) → AreSmall rows → IsSpan rows s → IsSteep (row_at rows s.lower)
-steep_lower rows s a h = (a s.lower _ h.lower_place).steep (λ e. omega (arith, ints, e, h.falls))
-
-pub steep_upper : (rows : List Row) (s : Span) → AreSmall rows → IsSpan rows s → IsSteep (row_at rows s.upper)
-steep_upper rows s a h = (a s.upper _ h.upper_place).steep (λ e. omega (arith, ints, e, h.rises))
-
-pub steep_below : (rows : List Row) (j : ℕ) → AreSmall rows → j < length rows → (row_at rows j).y <ℤ pos 0 → IsSteep (row_at rows j)
-steep_below rows j a l h = (a j _ l).steep (λ e. omega (arith, ints, e, h))
-
-pub steep_above : (rows : List Row) (j : ℕ) → AreSmall rows → j < length rows → pos 0 <ℤ (row_at rows j).y → IsSteep (row_at rows j)
-steep_above rows j a l h = (a j _ l).steep (λ e. omega (arith, ints, e, h))
+  where
+    met : (j : ℕ) → j < 4 → (n m : ℤ) → pos 0 <ℤ m → MeetsAt rows f n m 2 × MeetsAt rows f n m 3 → ((row_at rows j).y ≡ pos 0 → ⊥) → MeetsAt rows f n m j
+    met zero k n m hm i e = absurd (e (ap (λ (r : Row). r.y) s.plus_first))
+    met (suc zero) k n m hm i e = absurd (e (ap (λ (r : Row). r.y) s.minus_first))
+    met (suc (suc zero)) k n m hm i e = i.0
+    met (suc (suc (suc zero))) k n m hm i e = i.1
+    met (suc (suc (suc (suc j)))) k n m hm i e = absurd (omega arith)
 
 pub compared : (b : Bool) (x z y w x' z' y' w' : ℤ) → x ≡ x' → z ≡ z' → y ≡ y' → w ≡ w' → IsTrue b ↔ (z *ℤ pos (unsigned_abs y)) <ℤ (w *ℤ pos (unsigned_abs x)) → IsTrue b ↔ (z' *ℤ pos (unsigned_abs y')) <ℤ (w' *ℤ pos (unsigned_abs x'))
 compared b x z y w x' z' y' w' ex ez ey ew h = rw (sym ex, sym ez, sym ey, sym ew) h

@@ -1,12 +1,12 @@
 -- Two rows together: what their combination says, and what it leaves of the second slope.
 -- Plain variables alone stand here.
-use Rattle.std.proofs.Common.{◌≡◌, ℕ, ◌<◌, ◌≤◌, inl, inr, List, length, ap, subst, ◌∙◌, arith}
+use Rattle.std.proofs.Common.{◌≡◌, ℕ, ◌+◌, ◌*◌, ◌<◌, ◌≤◌, inl, inr, List, length, ap, sym, subst, ◌∙◌, arith}
 use Rattle.std.specs.Prelude.{ℤ, pos, ◌+ℤ◌, ◌*ℤ◌, ◌≤ℤ◌, ◌<ℤ◌, unsigned_abs, neg_ℤ}
 use Rattle.std.proofs.lemmas.Int.{ints}
 use Rattle.shape_slope.specs.declared.row.Row.{Row}
 use Rattle.shape_slope.specs.declared.combination.Combination.{Combination}
 use Rattle.shape_slope.specs.Rows.{row_at, AreOpposite, IsSteep, IsSmall, Meets}
-use Rattle.shape_slope.specs.Combinations.{IsCombination, IsBounded}
+use Rattle.shape_slope.specs.Combinations.{IsCombination}
 use Rattle.shape_slope.specs.Ranges.{LeaveRoom}
 use Rattle.shape_terms.proofs.Products.{rings}
 
@@ -23,59 +23,62 @@ some_size : (y w : ℤ) → AreOpposite y w → pos 1 ≤ℤ pos (unsigned_abs y
 some_size y w (inl h) = omega (arith, ints, h.0)
 some_size y w (inr h) = omega (arith, ints, h.0)
 
-pub combined_is : (rows : List Row) (i j : ℕ) (v w x z : ℤ) → i < length rows → j < length rows → IsSteep (row_at rows i) → IsSteep (row_at rows j)
-    → AreOpposite (row_at rows i).y (row_at rows j).y → 4 ≤ j → v ≡ pos (unsigned_abs (row_at rows j).y) → w ≡ pos (unsigned_abs (row_at rows i).y)
-    → x ≡ v *ℤ (row_at rows i).x +ℤ w *ℤ (row_at rows j).x → z ≡ v *ℤ (row_at rows i).z +ℤ w *ℤ (row_at rows j).z
-    → unsigned_abs x ≤ 73344 → unsigned_abs z ≤ 73344 → IsCombination rows (record { first = i; first_weight = v; second = j; second_weight = w; x = x; z = z })
-combined_is rows i j v w x z hi hj si sj o k ev ew ex ez sx sz = record {
-  first = hi;
-  second = hj;
-  first_low = omega (arith, ints, ev);
-  first_high = (let m = sj.y_small in rw ev m);
-  second_low = (let m = some_size (row_at rows i).y (row_at rows j).y o in rw ew m);
-  second_high = (let m = si.y_small in rw ew m);
-  x = ex;
-  y = rw (ev, ew) (gone (row_at rows i).y (row_at rows j).y o);
-  z = ez;
-  x_small = sx;
-  z_small = sz;
-  kind = inr k;
-}
+pub regrouped : (v w x1 z1 x2 z2 p q : ℤ) → v *ℤ (x1 *ℤ p +ℤ z1 *ℤ q) +ℤ w *ℤ (x2 *ℤ p +ℤ z2 *ℤ q) ≡ (v *ℤ x1 +ℤ w *ℤ x2) *ℤ p +ℤ (v *ℤ z1 +ℤ w *ℤ z2) *ℤ q
+regrouped v w x1 z1 x2 z2 p q = omega (arith, ints, rings)
 
 -- the combination says that the two rows leave room
 room_of : (x1 y1 z1 x2 y2 z2 v w x z p q : ℤ) → v ≡ y2 → w ≡ neg_ℤ y1 → x ≡ v *ℤ x1 +ℤ w *ℤ x2 → z ≡ v *ℤ z1 +ℤ w *ℤ z2 → (x *ℤ p +ℤ z *ℤ q) <ℤ pos 0
     → (y2 *ℤ (x1 *ℤ p +ℤ z1 *ℤ q)) <ℤ (y1 *ℤ (x2 *ℤ p +ℤ z2 *ℤ q))
-room_of x1 y1 z1 x2 y2 z2 v w x z p q ev ew ex ez h =
-    let e : x *ℤ p +ℤ z *ℤ q ≡ v *ℤ (x1 *ℤ p +ℤ z1 *ℤ q) +ℤ w *ℤ (x2 *ℤ p +ℤ z2 *ℤ q) = rw (ex, ez) (expand x1 z1 x2 z2 v w p q) in
-    apart v w y1 y2 (x1 *ℤ p +ℤ z1 *ℤ q) (x2 *ℤ p +ℤ z2 *ℤ q) ev ew (rw e at h)
+room_of x1 y1 z1 x2 y2 z2 v w x z p q ev ew ex ez h = apart v w y1 y2 (x1 *ℤ p +ℤ z1 *ℤ q) (x2 *ℤ p +ℤ z2 *ℤ q) ev ew (rw (ex, ez, ← regrouped v w x1 z1 x2 z2 p q) at h)
   where
-    expand : (x1 z1 x2 z2 v w p q : ℤ) → (v *ℤ x1 +ℤ w *ℤ x2) *ℤ p +ℤ (v *ℤ z1 +ℤ w *ℤ z2) *ℤ q ≡ v *ℤ (x1 *ℤ p +ℤ z1 *ℤ q) +ℤ w *ℤ (x2 *ℤ p +ℤ z2 *ℤ q)
-    expand x1 z1 x2 z2 v w p q = omega (arith, ints, rings)
-
     apart : (v w y1 y2 l m : ℤ) → v ≡ y2 → w ≡ neg_ℤ y1 → (v *ℤ l +ℤ w *ℤ m) <ℤ pos 0 → (y2 *ℤ l) <ℤ (y1 *ℤ m)
     apart v w y1 y2 l m ev ew h = let a = ap (λ (t : ℤ). t *ℤ l) ev in let b = ap (λ (t : ℤ). t *ℤ m) ew in omega (arith, ints, rings, a, b, h)
 
-pub leave_room : (rows : List Row) (c : Combination) (p q : ℤ) → IsCombination rows c → c.first_weight ≡ pos (unsigned_abs (row_at rows c.second).y) → c.second_weight ≡ pos (unsigned_abs (row_at rows c.first).y)
-    → Meets p q c.x c.z → LeaveRoom p q (row_at rows c.first) (row_at rows c.second)
-leave_room rows c p q h v w m = (
-  λ a b. room_of (row_at rows c.first).x (row_at rows c.first).y (row_at rows c.first).z (row_at rows c.second).x (row_at rows c.second).y (row_at rows c.second).z c.first_weight c.second_weight c.x c.z p q
-      (omega (arith, ints, v, b)) (omega (arith, ints, w, a)) h.x h.z m,
-  λ a b. room_of (row_at rows c.second).x (row_at rows c.second).y (row_at rows c.second).z (row_at rows c.first).x (row_at rows c.first).y (row_at rows c.first).z c.second_weight c.first_weight c.x c.z p q
-      (omega (arith, ints, w, b)) (omega (arith, ints, v, a)) (omega (arith, ints, h.x)) (omega (arith, ints, h.z)) m,
-)
+pub leave_room : (rows : List Row) (c : Combination) (i j : ℕ) (p q : ℤ) → c.first ≡ i → c.second ≡ j → IsCombination rows c → c.first_weight ≡ pos (unsigned_abs (row_at rows j).y) → c.second_weight ≡ pos (unsigned_abs (row_at rows i).y)
+    → Meets p q c.x c.z → LeaveRoom p q (row_at rows i) (row_at rows j)
+leave_room rows c i j p q ei ej h v w m = room (row_at rows i) (row_at rows j) v w (x_of ei ej) (z_of ei ej)
+  where
+    x_of : c.first ≡ i → c.second ≡ j → c.x ≡ c.first_weight *ℤ (row_at rows i).x +ℤ c.second_weight *ℤ (row_at rows j).x
+    x_of ei ej = h.x ∙ (λ l. c.first_weight *ℤ (row_at rows (ei l)).x +ℤ c.second_weight *ℤ (row_at rows (ej l)).x)
+
+    z_of : c.first ≡ i → c.second ≡ j → c.z ≡ c.first_weight *ℤ (row_at rows i).z +ℤ c.second_weight *ℤ (row_at rows j).z
+    z_of ei ej = h.z ∙ (λ l. c.first_weight *ℤ (row_at rows (ei l)).z +ℤ c.second_weight *ℤ (row_at rows (ej l)).z)
+
+    room : (r s : Row) → c.first_weight ≡ pos (unsigned_abs s.y) → c.second_weight ≡ pos (unsigned_abs r.y) → c.x ≡ c.first_weight *ℤ r.x +ℤ c.second_weight *ℤ s.x → c.z ≡ c.first_weight *ℤ r.z +ℤ c.second_weight *ℤ s.z → LeaveRoom p q r s
+    room r s v w x z = (
+      λ a b. room_of r.x r.y r.z s.x s.y s.z c.first_weight c.second_weight c.x c.z p q (omega (arith, ints, v, b)) (omega (arith, ints, w, a)) x z m,
+      λ a b. room_of s.x s.y s.z r.x r.y r.z c.second_weight c.first_weight c.x c.z p q (omega (arith, ints, w, b)) (omega (arith, ints, v, a)) (omega (arith, ints, x)) (omega (arith, ints, z)) m,
+    )
 
 -- rows that are not opposite leave room
 pub not_opposite : (p q : ℤ) (r s : Row) → (AreOpposite r.y s.y → ⊥) → LeaveRoom p q r s
 not_opposite p q r s h = (λ a b. absurd (h (inl (a, b))), λ a b. absurd (h (inr (b, a))))
 
-pub bounded : (rows : List Row) (c : Combination) → IsCombination rows c → IsBounded c
-bounded rows c h = record { x_small = h.x_small; z_small = h.z_small }
-
--- the same for rows that were read
 pub combined_of : (rows : List Row) (i j : ℕ) (v w x z : ℤ) (a b : Row) → i < length rows → j < length rows → a ≡ row_at rows i → b ≡ row_at rows j → IsSteep a → IsSteep b
     → AreOpposite (row_at rows i).y (row_at rows j).y → 4 ≤ j → v ≡ pos (unsigned_abs b.y) → w ≡ pos (unsigned_abs a.y) → x ≡ v *ℤ a.x +ℤ w *ℤ b.x → z ≡ v *ℤ a.z +ℤ w *ℤ b.z
-    → unsigned_abs x ≤ 73344 → unsigned_abs z ≤ 73344 → IsCombination rows (record { first = i; first_weight = v; second = j; second_weight = w; x = x; z = z })
-combined_of rows i j v w x z a b hi hj ea eb sa sb o k ev ew ex ez sx sz =
-    combined_is rows i j v w x z hi hj (subst IsSteep ea sa) (subst IsSteep eb sb) o k
-    (ev ∙ ap (λ (r : Row). pos (unsigned_abs r.y)) eb) (ew ∙ ap (λ (r : Row). pos (unsigned_abs r.y)) ea)
-    (ex ∙ (λ l. v *ℤ (ea l).x +ℤ w *ℤ (eb l).x)) (ez ∙ (λ l. v *ℤ (ea l).z +ℤ w *ℤ (eb l).z)) sx sz
+    → ((m n : ℕ) → unsigned_abs v ≤ m → unsigned_abs a.x ≤ n → unsigned_abs w ≤ m → unsigned_abs b.x ≤ n → unsigned_abs x ≤ m * n + m * n)
+    → ((m n : ℕ) → unsigned_abs v ≤ m → unsigned_abs a.z ≤ n → unsigned_abs w ≤ m → unsigned_abs b.z ≤ n → unsigned_abs z ≤ m * n + m * n)
+    → IsCombination rows (record { first = i; first_weight = v; second = j; second_weight = w; x = x; z = z })
+combined_of rows i j v w x z a b hi hj ea eb sa sb o k ev ew ex ez sx sz = record {
+  first = hi;
+  second = hj;
+  first_low = omega (arith, ints, ev);
+  first_high = v_high;
+  second_low = (let m = some_size a.y b.y opposite in rw ew m);
+  second_high = w_high;
+  x = ex ∙ (λ l. v *ℤ (ea l).x +ℤ w *ℤ (eb l).x);
+  y = rw (ev, ew) (gone a.y b.y opposite) ∙ (λ l. v *ℤ (ea l).y +ℤ w *ℤ (eb l).y);
+  z = ez ∙ (λ l. v *ℤ (ea l).z +ℤ w *ℤ (eb l).z);
+  x_small = sx 191 192 v_high (omega (arith, sa.x_small)) w_high (omega (arith, sb.x_small));
+  z_small = sz 191 192 v_high sa.z_small w_high sb.z_small;
+  kind = inr k;
+}
+  where
+    v_high : unsigned_abs v ≤ 191
+    v_high = let m = sb.y_small in rw ev m
+
+    w_high : unsigned_abs w ≤ 191
+    w_high = let m = sa.y_small in rw ew m
+
+    opposite : AreOpposite a.y b.y
+    opposite = subst (λ (r : Row). AreOpposite r.y b.y) (sym ea) (subst (λ (r : Row). AreOpposite (row_at rows i).y r.y) (sym eb) o)

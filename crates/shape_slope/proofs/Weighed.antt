@@ -72,9 +72,6 @@ pub balance_up : (t : ℕ) (points : List Point) (r : Refutation) (w k : ℕ) �
 balance_up t points r zero k = omega (arith, ints)
 balance_up t points r (suc w) k = balance_step t points r (suc w) Step.Up k
 
-pub balance_none : (t : ℕ) (points : List Point) (k : ℕ) → balance t points no_weights k ≡ pos 0
-balance_none t points k = refl
-
 -- ---- entries
 
 length_more : {X : Type 0} (xs : List X) (x : X) → length (xs ++ x ∷ []) ≡ length xs + 1

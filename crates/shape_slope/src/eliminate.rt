@@ -8,7 +8,7 @@ ghost use Rattle.shape_slope.specs.Spans.{IsSpan, IsAmid, IsSmallSlope};
 ghost use Rattle.shape_slope.specs.Solutions.{IsSolution, IsExcluded, IsElimination};
 
 use crate::combination::Combination;
-use crate::exact::{combine_across, scale};
+use crate::exact::{combine, product};
 use crate::range::{Narrowed, Range, first_slopes};
 use crate::row::Row;
 use crate::slope::{leaves_room, slope_inside};
@@ -83,22 +83,20 @@ fn second_slope(rows: &[Row], f: Frac, s: Span) -> Frac
 // The slopes p/q and n/m over one denominator.
 fn together(f: Frac, g: Frac) -> Solution
     requires slope { IsSmallSlope f }
-    requires num_small { unsigned_abs g.num ≤ 112656384 }
     requires den_small { unsigned_abs g.den ≤ 382 }
     ensures a { result.a ≡ f.num *ℤ g.den }
     ensures b { result.b ≡ g.num }
     ensures c { result.c ≡ f.den *ℤ g.den }
-    ensures a_small { unsigned_abs result.a ≤ 56034816 }
-    ensures c_small { unsigned_abs result.c ≤ 56034816 }
 {
     Solution {
-        a: scale(f.num, g.den),
+        a: product(f.num, g.den),
         b: g.num,
-        c: scale(f.den, g.den),
+        c: product(f.den, g.den),
     }
 }
 
 // The slopes that meet all rows, where the bounds of the first leave room.
+#[tactic(auto, using(crate::proofs::Solving::span_room))]
 fn slopes_within(rows: &[Row], r: Range) -> Solution
     requires system { IsSystem rows.now }
     requires whole { IsWhole rows.now (length rows.now) r }
@@ -140,7 +138,7 @@ fn excluded_by_two(rows: &[Row], r: Range) -> Excluded
         first_weight: v,
         second: r.upper,
         second_weight: w,
-        rest: combine_across(v, r.lower.z, w, r.upper.z),
+        rest: combine(v, r.lower.z, w, r.upper.z),
     }
 }
 

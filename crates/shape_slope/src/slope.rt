@@ -2,7 +2,7 @@
 //! Which slope between them is chosen may change here.
 ghost use Rattle.std.specs.Prelude.{◌≡◌, ◌≤◌, ◌+◌, ◌↔◌, IsTrue, pos, neg_ℤ, ◌*ℤ◌, ◌≤ℤ◌, ◌<ℤ◌, unsigned_abs};
 ghost use Rattle.shape_slope.specs.Rows.{Meets};
-ghost use Rattle.shape_slope.specs.Fractions.{IsBetween};
+ghost use Rattle.shape_slope.specs.Spans.{IsBetween};
 
 use crate::exact::product;
 use shape_space::Frac;

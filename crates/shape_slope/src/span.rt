@@ -4,7 +4,7 @@ ghost use Rattle.std.specs.Prelude.{◌≡◌, ◌<◌, ◌≤◌, ◌↔◌, Is
 ghost use Rattle.shape_slope.specs.Rows.{row_at, level as level_of, AreSmall, IsSteep, IsSystem};
 ghost use Rattle.shape_slope.specs.Spans.{IsSpan, IsSmallSlope, IsTightened, IsTight};
 
-use crate::exact::level;
+use crate::exact::combine;
 use crate::range::is_tighter;
 use crate::row::{Row, read};
 use shape_space::Frac;
@@ -36,7 +36,7 @@ pub fn tilt_of(rows: &[Row], f: Frac, i: usize) -> Tilt
     let r = read(rows, i);
     Tilt {
         y: r.y,
-        w: level(r.x, r.z, f.num, f.den),
+        w: combine(r.x, f.num, r.z, f.den),
     }
 }
 
