@@ -88,6 +88,26 @@ apart a b mu ux uy lx ly px py qx qy r c hb hu hl hp hq lt =
     let m = (qy -ℤ py) +ℤ c in
     least_multiple b n (k *ℤ n -ℤ d *ℤ m) hb (divides a b d k n m e f) (omega (arith, ints))
 
+-- leaning points are taken
+module _ (s : Seg) (is : IsSegment s) where
+  upper_taken : (x y : ℤ) → s.x0 ≤ℤ x → x ≤ℤ s.x1 → rest s.a s.b x y ≡ s.mu → IsTaken s x y
+  upper_taken x y f g e = let b = is.b_pos in record { from = f; to = g; low = omega (arith, ints, e); high = omega (arith, ints, e, b) }
+
+  lower_taken : (x y : ℤ) → s.x0 ≤ℤ x → x ≤ℤ s.x1 → rest s.a s.b x y ≡ s.mu +ℤ s.b -ℤ pos 1 → IsTaken s x y
+  lower_taken x y f g e = let b = is.b_pos in record { from = f; to = g; low = omega (arith, ints, e, b); high = omega (arith, ints, e) }
+
+  pub u_taken : IsTaken s s.ux s.uy
+  u_taken = let a = is.u_k in let b = is.k_to in upper_taken s.ux s.uy is.u_from (omega (arith, ints, a, b)) is.u_is
+
+  pub k_taken : IsTaken s s.kx s.ky
+  k_taken = let a = is.u_k in let b = is.u_from in lower_taken s.kx s.ky (omega (arith, ints, a, b)) is.k_to is.k_is
+
+  pub l_taken : IsTaken s s.lx s.ly
+  l_taken = let a = is.l_v in let b = is.v_to in lower_taken s.lx s.ly is.l_from (omega (arith, ints, a, b)) is.l_is
+
+  pub v_taken : IsTaken s s.vx s.vy
+  v_taken = let a = is.l_v in let b = is.l_from in upper_taken s.vx s.vy (omega (arith, ints, a, b)) is.v_to is.v_is
+
 -- ---- the point is on the line
 module _ (s : Seg) (is : IsSegment s) (mx my : ℤ) (next : mx ≡ s.x1 +ℤ pos 1) (low : s.mu ≤ℤ rest s.a s.b mx my) (high : rest s.a s.b mx my <ℤ (s.mu +ℤ s.b)) where
   -- where M does not lean above, the last upper leaning point stays near

@@ -8,13 +8,13 @@ use Rattle.std.proofs.Math.ListN.{get_or-append}
 use Rattle.std.proofs.Math.Seq.{get_or-append_seam}
 use Rattle.shape_terms.specs.Points.{Point, coordinate}
 use Rattle.shape_terms.specs.Refutations.{point_at, Refutes}
-use Rattle.shape_terms.specs.Straight.{KeepsSense}
 use Rattle.shape_line.specs.Slopes.{Span, levels, gap, lower_of, upper_of, IsSpan, span_refutation}
 use Rattle.shape_terms.proofs.Products.{rings}
 use Rattle.shape_line.proofs.SpanRefutes.{spans_refute}
 use Rattle.shape_line.specs.Segments.{Seg, rest, IsTaken, IsSegment}
 use Rattle.shape_line.specs.Frames.{IsSense, along, height, IsRunOf, place_from}
-use Rattle.shape_line.proofs.Frames.{more, keeps, taken_one}
+use Rattle.shape_line.proofs.Frames.{more, stands}
+use Rattle.shape_line.proofs.Growing.{u_taken, k_taken, l_taken, v_taken}
 use Rattle.shape_line.proofs.Refusing.{clash_low, clash_high}
 
 weighed_low : (q d p D : ℤ) → q *ℤ d -ℤ p *ℤ D ≡ D *ℤ neg_ℤ p -ℤ d *ℤ neg_ℤ q
@@ -33,24 +33,15 @@ module _ (t : ℕ) (s : ℤ) (l : t < 2) (sense : IsSense s) (seg : Seg) (is : I
   at_end : (n : ℕ) (x0 x1 z : ℤ) → pos n ≡ x1 -ℤ x0 +ℤ pos 1 → z ≡ x1 +ℤ pos 1 → z ≡ x0 +ℤ pos n
   at_end n x0 x1 z e f = omega (arith, ints)
 
-  pub whole_keeps : KeepsSense t (run ++ p ∷ [])
-  whole_keeps = keeps t s l sense seg.x0 whole (more (λ i q. along t s q ≡ seg.x0 +ℤ pos i) run p h.place (at_end (length run) seg.x0 seg.x1 (along t s p) h.count next))
+  whole_place : (i : ℕ) → i < length whole → along t s (point_at whole i) ≡ seg.x0 +ℤ pos i
+  whole_place = more (λ i q. along t s q ≡ seg.x0 +ℤ pos i) run p h.place (at_end (length run) seg.x0 seg.x1 (along t s p) h.count next)
 
   -- the height of a point of the segment, at its place
   level_is : (x y : ℤ) → IsTaken seg x y → (place_from seg.x0 x < length run) × (levels t whole (place_from seg.x0 x) ≡ neg_ℤ y)
   level_is x y k =
-      let i = place_from seg.x0 x in
-      let m : i < length run = inside (length run) seg.x0 seg.x1 x h.count k.from k.to in
-      let q : point_at whole i ≡ point_at run i = get_or-append run (p ∷ []) [] i m in
-      let e = taken_one seg _ _ _ _ is.b_pos (h.place i m ∙ back seg.x0 x k.from) (h.taken i m) k in
-      (m, ap (λ (r : Point). coordinate r t) q ∙ turned _ _ e)
+      let a = stands t s l sense seg run is.b_pos h x y k in
+      (a.inside, ap (λ (r : Point). coordinate r t) (get_or-append run (p ∷ []) [] (place_from seg.x0 x) a.inside) ∙ turned _ _ a.high)
     where
-      inside : (n : ℕ) (x0 x1 x : ℤ) → pos n ≡ x1 -ℤ x0 +ℤ pos 1 → x0 ≤ℤ x → x ≤ℤ x1 → nat_abs (x -ℤ x0) < n
-      inside n x0 x1 x e f g = omega (arith, ints)
-
-      back : (x0 x : ℤ) → x0 ≤ℤ x → x0 +ℤ pos (nat_abs (x -ℤ x0)) ≡ x
-      back x0 x f = omega (arith, ints)
-
       turned : (c y : ℤ) → neg_ℤ c ≡ y → c ≡ neg_ℤ y
       turned c y e = omega (arith, ints)
 
@@ -60,12 +51,6 @@ module _ (t : ℕ) (s : ℤ) (l : t < 2) (sense : IsSense s) (seg : Seg) (is : I
     where
       twice : (c : ℤ) → c ≡ neg_ℤ (neg_ℤ c)
       twice c = omega (arith, ints)
-
-  upper_taken : (x y : ℤ) → seg.x0 ≤ℤ x → x ≤ℤ seg.x1 → rest seg.a seg.b x y ≡ seg.mu → IsTaken seg x y
-  upper_taken x y f g e = let b = is.b_pos in record { from = f; to = g; low = omega (arith, ints, e); high = omega (arith, ints, e, b) }
-
-  lower_taken : (x y : ℤ) → seg.x0 ≤ℤ x → x ≤ℤ seg.x1 → rest seg.a seg.b x y ≡ seg.mu +ℤ seg.b -ℤ pos 1 → IsTaken seg x y
-  lower_taken x y f g e = let b = is.b_pos in record { from = f; to = g; low = omega (arith, ints, e, b); high = omega (arith, ints, e) }
 
   -- the first upper leaning point with the last lower one, and that one with the point
   abbrev pub low_pair : Span
@@ -96,30 +81,18 @@ module _ (t : ℕ) (s : ℤ) (l : t < 2) (sense : IsSense s) (seg : Seg) (is : I
   span_last : (x y : ℤ) → IsTaken seg x y → IsSpan (length whole) (record { first = place_from seg.x0 x; last = length run })
   span_last x y k = record { rising = (level_is x y k).0; within = omega (arith, count) }
 
-  u_taken : IsTaken seg seg.ux seg.uy
-  u_taken = let a = is.u_k in let b = is.k_to in upper_taken seg.ux seg.uy is.u_from (omega (arith, ints, a, b)) is.u_is
-
-  k_taken : IsTaken seg seg.kx seg.ky
-  k_taken = let a = is.u_k in let b = is.u_from in lower_taken seg.kx seg.ky (omega (arith, ints, a, b)) is.k_to is.k_is
-
-  l_taken : IsTaken seg seg.lx seg.ly
-  l_taken = let a = is.l_v in let b = is.v_to in lower_taken seg.lx seg.ly is.l_from (omega (arith, ints, a, b)) is.l_is
-
-  v_taken : IsTaken seg seg.vx seg.vy
-  v_taken = let a = is.l_v in let b = is.l_from in upper_taken seg.vx seg.vy (omega (arith, ints, a, b)) is.v_to is.v_is
-
   pub low_spans : IsSpan (length (run ++ p ∷ [])) low_pair × IsSpan (length (run ++ p ∷ [])) low_next
-  low_spans = (spans seg.ux seg.uy seg.kx seg.ky u_taken k_taken is.u_k, span_last seg.kx seg.ky k_taken)
+  low_spans = (spans seg.ux seg.uy seg.kx seg.ky (u_taken seg is) (k_taken seg is) is.u_k, span_last seg.kx seg.ky (k_taken seg is))
 
   pub high_spans : IsSpan (length (run ++ p ∷ [])) high_pair × IsSpan (length (run ++ p ∷ [])) high_next
-  high_spans = (spans seg.lx seg.ly seg.vx seg.vy l_taken v_taken is.l_v, span_last seg.vx seg.vy v_taken)
+  high_spans = (spans seg.lx seg.ly seg.vx seg.vy (l_taken seg is) (v_taken seg is) is.l_v, span_last seg.vx seg.vy (v_taken seg is))
 
   -- the numbers of the bounds
   pub low_numbers : (lower_of (levels t (run ++ p ∷ [])) low_pair ≡ neg_ℤ ((seg.ky -ℤ seg.uy) +ℤ pos 1)) × (upper_of (levels t (run ++ p ∷ [])) low_next ≡ neg_ℤ ((height t p -ℤ seg.ky) -ℤ pos 1)) × (gap low_pair ≡ seg.kx -ℤ seg.ux) × (gap low_next ≡ along t s p -ℤ seg.kx)
   low_numbers =
-      let u = (level_is seg.ux seg.uy u_taken).1 in
-      let k = (level_is seg.kx seg.ky k_taken).1 in
-      (less _ _ _ _ u k, more_one _ _ _ _ k level_last, gap_is seg.x0 seg.ux seg.kx is.u_from is.u_k, gap_last (length run) seg.x0 seg.x1 seg.kx (along t s p) h.count k_taken.from is.k_to next)
+      let u = (level_is seg.ux seg.uy (u_taken seg is)).1 in
+      let k = (level_is seg.kx seg.ky (k_taken seg is)).1 in
+      (less _ _ _ _ u k, more_one _ _ _ _ k level_last, gap_is seg.x0 seg.ux seg.kx is.u_from is.u_k, gap_last (length run) seg.x0 seg.x1 seg.kx (along t s p) h.count (k_taken seg is).from is.k_to next)
     where
       less : (a b y z : ℤ) → a ≡ neg_ℤ y → b ≡ neg_ℤ z → b -ℤ a -ℤ pos 1 ≡ neg_ℤ ((z -ℤ y) +ℤ pos 1)
       less a b y z e f = omega (arith, ints)
@@ -129,9 +102,9 @@ module _ (t : ℕ) (s : ℤ) (l : t < 2) (sense : IsSense s) (seg : Seg) (is : I
 
   pub high_numbers : (upper_of (levels t (run ++ p ∷ [])) high_pair ≡ neg_ℤ ((seg.vy -ℤ seg.ly) -ℤ pos 1)) × (lower_of (levels t (run ++ p ∷ [])) high_next ≡ neg_ℤ ((height t p -ℤ seg.vy) +ℤ pos 1)) × (gap high_pair ≡ seg.vx -ℤ seg.lx) × (gap high_next ≡ along t s p -ℤ seg.vx)
   high_numbers =
-      let u = (level_is seg.lx seg.ly l_taken).1 in
-      let k = (level_is seg.vx seg.vy v_taken).1 in
-      (more_one _ _ _ _ u k, less _ _ _ _ k level_last, gap_is seg.x0 seg.lx seg.vx is.l_from is.l_v, gap_last (length run) seg.x0 seg.x1 seg.vx (along t s p) h.count v_taken.from is.v_to next)
+      let u = (level_is seg.lx seg.ly (l_taken seg is)).1 in
+      let k = (level_is seg.vx seg.vy (v_taken seg is)).1 in
+      (more_one _ _ _ _ u k, less _ _ _ _ k level_last, gap_is seg.x0 seg.lx seg.vx is.l_from is.l_v, gap_last (length run) seg.x0 seg.x1 seg.vx (along t s p) h.count (v_taken seg is).from is.v_to next)
     where
       less : (a b y z : ℤ) → a ≡ neg_ℤ y → b ≡ neg_ℤ z → b -ℤ a -ℤ pos 1 ≡ neg_ℤ ((z -ℤ y) +ℤ pos 1)
       less a b y z e f = omega (arith, ints)
@@ -147,13 +120,13 @@ module _ (t : ℕ) (s : ℤ) (l : t < 2) (sense : IsSense s) (seg : Seg) (is : I
   low_refutes n e =
       let b = low_spans in
       let m = low_numbers in
-      spans_refute t whole low_pair low_next n l flat_whole whole_keeps b.0 b.1 (e ∙ (weighed_low ((height t p -ℤ seg.ky) -ℤ pos 1) (seg.kx -ℤ seg.ux) ((seg.ky -ℤ seg.uy) +ℤ pos 1) (along t s p -ℤ seg.kx) ∙ sym (λ i. m.3 i *ℤ m.0 i -ℤ m.2 i *ℤ m.1 i)))
+      spans_refute t s seg.x0 whole low_pair low_next n l flat_whole whole_place b.0 b.1 (e ∙ (weighed_low ((height t p -ℤ seg.ky) -ℤ pos 1) (seg.kx -ℤ seg.ux) ((seg.ky -ℤ seg.uy) +ℤ pos 1) (along t s p -ℤ seg.kx) ∙ sym (λ i. m.3 i *ℤ m.0 i -ℤ m.2 i *ℤ m.1 i)))
 
   pub high_refutes : (n : ℕ) → pos n ≡ ((seg.vy -ℤ seg.ly) -ℤ pos 1) *ℤ (along t s p -ℤ seg.vx) -ℤ ((height t p -ℤ seg.vy) +ℤ pos 1) *ℤ (seg.vx -ℤ seg.lx) → Refutes 2 t (run ++ p ∷ []) (span_refutation high_next high_pair n)
   high_refutes n e =
       let b = high_spans in
       let m = high_numbers in
-      spans_refute t whole high_next high_pair n l flat_whole whole_keeps b.1 b.0 (e ∙ (weighed_high ((seg.vy -ℤ seg.ly) -ℤ pos 1) (seg.vx -ℤ seg.lx) ((height t p -ℤ seg.vy) +ℤ pos 1) (along t s p -ℤ seg.vx) ∙ sym (λ i. m.2 i *ℤ m.1 i -ℤ m.3 i *ℤ m.0 i)))
+      spans_refute t s seg.x0 whole high_next high_pair n l flat_whole whole_place b.1 b.0 (e ∙ (weighed_high ((seg.vy -ℤ seg.ly) -ℤ pos 1) (seg.vx -ℤ seg.lx) ((height t p -ℤ seg.vy) +ℤ pos 1) (along t s p -ℤ seg.vx) ∙ sym (λ i. m.2 i *ℤ m.1 i -ℤ m.3 i *ℤ m.0 i)))
 
   -- and it is no less than 0
   pub low_order : rest seg.a seg.b (along t s p) (height t p) <ℤ (seg.mu -ℤ pos 1) → (((seg.ky -ℤ seg.uy) +ℤ pos 1) *ℤ (along t s p -ℤ seg.kx)) ≤ℤ (((height t p -ℤ seg.ky) -ℤ pos 1) *ℤ (seg.kx -ℤ seg.ux))
