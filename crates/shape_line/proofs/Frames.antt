@@ -19,7 +19,7 @@ use Rattle.shape_terms.proofs.Order.{mul-le_ℤ}
 use Rattle.shape_least.proofs.LeastLines.{value_on}
 use Rattle.shape_line.proofs.OneWay.{two_coordinates}
 use Rattle.shape_line.specs.Segments.{Seg, rest, IsTaken, IsLonger}
-use Rattle.shape_line.specs.Frames.{IsSense, along, height, IsRunOf, place_from}
+use Rattle.shape_line.specs.Frames.{IsSense, along, height, IsRunOf, place_from, StandsAt}
 
 -- ---- senses
 
@@ -86,12 +86,7 @@ module _ (t : ℕ) (s : ℤ) (l : t < 2) (sense : IsSense s) where
       counts m n e = omega (arith, ints)
 
   -- a point of the segment stands at its place
-  pub record StandsAt (x0 x y : ℤ) (run : List Point) : Type 0 where
-    pub inside : place_from x0 x < length run
-    pub far : along t s (point_at run (place_from x0 x)) ≡ x
-    pub high : height t (point_at run (place_from x0 x)) ≡ y
-
-  pub stands : (seg : Seg) (run : List Point) → pos 0 <ℤ seg.b → IsRunOf t s seg run → (x y : ℤ) → IsTaken seg x y → StandsAt seg.x0 x y run
+  pub stands : (seg : Seg) (run : List Point) → pos 0 <ℤ seg.b → IsRunOf t s seg run → (x y : ℤ) → IsTaken seg x y → StandsAt t s seg.x0 run x y
   stands seg run some h x y k =
       let i = place_from seg.x0 x in
       let m : i < length run = within (length run) seg.x0 seg.x1 x h.count k.from k.to in

@@ -10,9 +10,9 @@ use Rattle.shape_terms.specs.Refutations.{point_at}
 use Rattle.shape_terms.specs.Turns.{other_axis}
 use Rattle.shape_terms.proofs.Linear.{dot-difference}
 use Rattle.shape_line.specs.Segments.{Seg, rest, IsTaken, IsSegment}
-use Rattle.shape_line.specs.Frames.{IsSense, along, height, IsRunOf, place_from}
+use Rattle.shape_line.specs.Frames.{IsSense, along, height, IsRunOf, place_from, StandsAt}
 use Rattle.shape_terms.proofs.Products.{rings}
-use Rattle.shape_line.proofs.Frames.{which, folded, StandsAt, stands}
+use Rattle.shape_line.proofs.Frames.{which, folded, stands}
 use Rattle.shape_line.proofs.Growing.{bezout, u_taken, k_taken, l_taken, v_taken}
 use Rattle.shape_line.proofs.Outcomes.{run_of_segment, segment_straight, naive_holds}
 use Rattle.shape_refute.specs.Terms.{flat_point, naive_of}
@@ -38,7 +38,7 @@ pairs_in seg = record { low1 = place_from seg.x0 seg.ux; high1 = place_from seg.
 
 module _ (t : ℕ) (s : ℤ) (l : t < 2) (sense : IsSense s) (seg : Seg) (is : IsSegment seg) (run : List Point) (h : IsRunOf t s seg run) where
   abbrev Stands : ℤ → ℤ → Type 0
-  Stands x y = StandsAt t s l sense seg.x0 x y run
+  Stands x y = StandsAt t s seg.x0 run x y
 
   at : (x y : ℤ) → IsTaken seg x y → Stands x y
   at = stands t s l sense seg run is.b_pos h

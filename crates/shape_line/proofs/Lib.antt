@@ -9,7 +9,6 @@ pub mod Frames
 pub mod Views
 pub mod SegmentClashes
 pub mod Steps
-pub mod Rooms
 pub mod Reasons
 pub mod Staying
 pub mod Outcomes

@@ -12,16 +12,12 @@ use Rattle.shape_terms.specs.Refutations.{point_at, Refutes}
 use Rattle.shape_terms.specs.Turns.{IsTurn, change_at, other_axis}
 use Rattle.shape_refute.specs.declared.naive.Naive.{Naive}
 use Rattle.shape_refute.specs.Terms.{flat_point}
-use Rattle.shape_line.specs.Slopes.{Span, IsSpan, span_refutation}
 use Rattle.shape_terms.proofs.Products.{rings}
 use Rattle.shape_line.specs.Segments.{Seg, IsSegment}
 use Rattle.shape_line.specs.Frames.{IsSense, along, height, IsRunOf, line_points, place_from, end_point}
 use Rattle.shape_line.specs.Grown.{segment_of, IsGrown}
-use Rattle.shape_line.specs.declared.clash.Crossing.{Crossing}
-use Rattle.shape_line.specs.Clashes.{span, IsCrossing}
 use Rattle.shape_line.proofs.Frames.{which, same_point, taken_one}
 use Rattle.shape_line.proofs.Steps.{run_is}
-use Rattle.shape_line.proofs.SegmentClashes.{low_spans, low_refutes, high_spans, high_refutes}
 
 -- ---- turns
 
@@ -104,43 +100,3 @@ module _ (t : ℕ) (s : ℤ) (line : Naive) (first last : P2) (upper lower : Lis
       let l : length run - 1 < length run = omega (arith, n) in
       let e = at_last (length run) _ _ _ h.count n (h.place (length run - 1) l) in
       same_point t s (end_point run) (flat_point last) g.axis g.sense (h.flat (length run - 1) l) refl e (taken_one seg _ _ _ _ g.some e (h.taken (length run - 1) l) g.ends)
-
-  module _ (p : P2) (next : along t s (flat_point p) ≡ along t s (flat_point last) +ℤ pos 1) (is : IsSegment (segment_of t s line first last upper lower)) (few : length (line_points t s (segment_of t s line first last upper lower)) ≤ 8193) where
-    short : length (run ++ flat_point p ∷ []) ≤ 8194
-    short = omega (arith, few, length-append run (flat_point p ∷ []))
-
-    -- the remainder is too small
-    pub low_crossing : (c : Crossing) → c.lower.first ≡ place_from seg.x0 seg.ux → c.lower.last ≡ place_from seg.x0 seg.kx → c.upper.first ≡ place_from seg.x0 seg.kx → c.upper.last ≡ length run
-        → pos c.up ≡ ((height t (flat_point p) -ℤ seg.ky) -ℤ pos 1) *ℤ (seg.kx -ℤ seg.ux) -ℤ ((seg.ky -ℤ seg.uy) +ℤ pos 1) *ℤ (along t s (flat_point p) -ℤ seg.kx) → c.up ≤ 268435456
-        → IsCrossing t (line_points t s (segment_of t s line first last upper lower) ++ flat_point p ∷ []) c
-    low_crossing c e1 e2 e3 e4 up small =
-        let h = run_is t s line first last upper lower g in
-        let spans = low_spans t s g.axis g.sense seg is run h (flat_point p) refl next in
-        let r = low_refutes t s g.axis g.sense seg is run h (flat_point p) refl next c.up up in
-        let lo : record { first = place_from seg.x0 seg.ux; last = place_from seg.x0 seg.kx } ≡ span c.lower = (λ i. record { first = sym e1 i; last = sym e2 i }) in
-        let hi : record { first = place_from seg.x0 seg.kx; last = length run } ≡ span c.upper = (λ i. record { first = sym e3 i; last = sym e4 i }) in
-        record {
-          short = short;
-          lower = subst (λ (q : Span). IsSpan (length (run ++ flat_point p ∷ [])) q) lo spans.0;
-          upper = subst (λ (q : Span). IsSpan (length (run ++ flat_point p ∷ [])) q) hi spans.1;
-          small = small;
-          refutes = subst (λ (q : Span). Refutes 2 t (run ++ flat_point p ∷ []) (span_refutation q (span c.upper) c.up)) lo (subst (λ (q : Span). Refutes 2 t (run ++ flat_point p ∷ []) (span_refutation (record { first = place_from seg.x0 seg.ux; last = place_from seg.x0 seg.kx }) q c.up)) hi r);
-        }
-
-    -- it is too great
-    pub high_crossing : (c : Crossing) → c.lower.first ≡ place_from seg.x0 seg.vx → c.lower.last ≡ length run → c.upper.first ≡ place_from seg.x0 seg.lx → c.upper.last ≡ place_from seg.x0 seg.vx
-        → pos c.up ≡ ((seg.vy -ℤ seg.ly) -ℤ pos 1) *ℤ (along t s (flat_point p) -ℤ seg.vx) -ℤ ((height t (flat_point p) -ℤ seg.vy) +ℤ pos 1) *ℤ (seg.vx -ℤ seg.lx) → c.up ≤ 268435456
-        → IsCrossing t (line_points t s (segment_of t s line first last upper lower) ++ flat_point p ∷ []) c
-    high_crossing c e1 e2 e3 e4 up small =
-        let h = run_is t s line first last upper lower g in
-        let spans = high_spans t s g.axis g.sense seg is run h (flat_point p) refl next in
-        let r = high_refutes t s g.axis g.sense seg is run h (flat_point p) refl next c.up up in
-        let lo : record { first = place_from seg.x0 seg.vx; last = length run } ≡ span c.lower = (λ i. record { first = sym e1 i; last = sym e2 i }) in
-        let hi : record { first = place_from seg.x0 seg.lx; last = place_from seg.x0 seg.vx } ≡ span c.upper = (λ i. record { first = sym e3 i; last = sym e4 i }) in
-        record {
-          short = short;
-          lower = subst (λ (q : Span). IsSpan (length (run ++ flat_point p ∷ [])) q) lo spans.1;
-          upper = subst (λ (q : Span). IsSpan (length (run ++ flat_point p ∷ [])) q) hi spans.0;
-          small = small;
-          refutes = subst (λ (q : Span). Refutes 2 t (run ++ flat_point p ∷ []) (span_refutation q (span c.upper) c.up)) lo (subst (λ (q : Span). Refutes 2 t (run ++ flat_point p ∷ []) (span_refutation (record { first = place_from seg.x0 seg.vx; last = length run }) q c.up)) hi r);
-        }
