@@ -1,7 +1,7 @@
 -- A point that is refused: the turn or the weights that the program names.
 -- The arithmetic stands in `Clashes`.
 use Rattle.std.proofs.Common.{◌≡◌, ℕ, ◌+◌, ◌-◌, ◌<◌, ◌≤◌, List, [], ◌∷◌, ◌++◌, length, refl, ap, sym, subst, ◌∙◌, arith, ◌⊎◌, inl, inr}
-use Rattle.std.specs.Prelude.{ℤ, pos, negsuc, ◌+ℤ◌, ◌-ℤ◌, ◌*ℤ◌, ◌≤ℤ◌, ◌<ℤ◌}
+use Rattle.std.specs.Prelude.{ℤ, pos, negsuc, ◌+ℤ◌, ◌-ℤ◌, ◌*ℤ◌, neg_ℤ, ◌≤ℤ◌, ◌<ℤ◌}
 use Rattle.std.proofs.lemmas.Int.{ints}
 use Rattle.std.proofs.lemmas.List.{length-append}
 use Rattle.std.proofs.Math.ListN.{get_or-append}
@@ -16,27 +16,24 @@ use Rattle.shape_terms.proofs.Products.{rings}
 use Rattle.shape_line.specs.Segments.{Seg, IsSegment}
 use Rattle.shape_line.specs.Frames.{IsSense, along, height, IsRunOf, line_points, place_from, end_point}
 use Rattle.shape_line.specs.Grown.{segment_of, IsGrown}
-use Rattle.shape_line.proofs.Frames.{which, same_point, taken_one}
+use Rattle.shape_line.proofs.Frames.{which, signed_up, signed_down, same_point, taken_one}
 use Rattle.shape_line.proofs.Steps.{run_is}
 
 -- ---- turns
 
 -- a point that is not one further along makes a turn with the first change
 turn_by : (s : ℤ) (a b c d : ℤ) → (s ≡ pos 1) ⊎ (s ≡ negsuc 0) → s *ℤ b -ℤ s *ℤ a ≡ pos 1 → (s *ℤ d -ℤ s *ℤ c ≡ pos 1 → ⊥) → ((b -ℤ a ≡ pos 1) × (d -ℤ c ≡ pos 1) → ⊥) × ((b -ℤ a ≡ negsuc 0) × (d -ℤ c ≡ negsuc 0) → ⊥)
-turn_by s a b c d (inl e) h k = ((λ u. k (forward s c d e u.1)), λ u. backward s a b e h u.0)
+turn_by s a b c d (inl e) h k = ((λ u. k ((λ i. signed_up s d e i -ℤ signed_up s c e i) ∙ u.1)), λ u. off _ (sym (λ i. signed_up s b e i -ℤ signed_up s a e i) ∙ h) u.0)
   where
-    forward : (s c d : ℤ) → s ≡ pos 1 → d -ℤ c ≡ pos 1 → s *ℤ d -ℤ s *ℤ c ≡ pos 1
-    forward s c d e h = let x = ap (λ (z : ℤ). z *ℤ d) e in let y = ap (λ (z : ℤ). z *ℤ c) e in omega (arith, ints, rings, h, x, y)
-
-    backward : (s a b : ℤ) → s ≡ pos 1 → s *ℤ b -ℤ s *ℤ a ≡ pos 1 → b -ℤ a ≡ negsuc 0 → ⊥
-    backward s a b e h g = let x = ap (λ (z : ℤ). z *ℤ a) e in let y = ap (λ (z : ℤ). z *ℤ b) e in omega (arith, ints, rings, h, g, x, y)
-turn_by s a b c d (inr e) h k = ((λ u. forward s a b e h u.0), λ u. k (backward s c d e u.1))
+    off : (x : ℤ) → x ≡ pos 1 → x ≡ negsuc 0 → ⊥
+    off x h k = omega (arith, ints)
+turn_by s a b c d (inr e) h k = ((λ u. off a b (sym (λ i. signed_down s b e i -ℤ signed_down s a e i) ∙ h) u.0), λ u. k ((λ i. signed_down s d e i -ℤ signed_down s c e i) ∙ back c d u.1))
   where
-    backward : (s c d : ℤ) → s ≡ negsuc 0 → d -ℤ c ≡ negsuc 0 → s *ℤ d -ℤ s *ℤ c ≡ pos 1
-    backward s c d e h = let x = ap (λ (z : ℤ). z *ℤ d) e in let y = ap (λ (z : ℤ). z *ℤ c) e in omega (arith, ints, rings, h, x, y)
+    off : (a b : ℤ) → neg_ℤ b -ℤ neg_ℤ a ≡ pos 1 → b -ℤ a ≡ pos 1 → ⊥
+    off a b h k = omega (arith, ints)
 
-    forward : (s a b : ℤ) → s ≡ negsuc 0 → s *ℤ b -ℤ s *ℤ a ≡ pos 1 → b -ℤ a ≡ pos 1 → ⊥
-    forward s a b e h g = let x = ap (λ (z : ℤ). z *ℤ a) e in let y = ap (λ (z : ℤ). z *ℤ b) e in omega (arith, ints, rings, h, g, x, y)
+    back : (c d : ℤ) → d -ℤ c ≡ negsuc 0 → neg_ℤ d -ℤ neg_ℤ c ≡ pos 1
+    back c d h = omega (arith, ints)
 
 one_apart : (x y z : ℤ) → y ≡ x +ℤ pos 0 → z ≡ x +ℤ pos 1 → z -ℤ y ≡ pos 1
 one_apart x y z e f = omega (arith, ints)
