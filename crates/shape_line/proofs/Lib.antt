@@ -17,5 +17,4 @@ pub mod CloseRuns
 pub mod LowestLines
 pub mod LeastSegments
 pub mod GrownRuns
-pub mod Fronts
 pub mod RunVerdicts
