@@ -1,7 +1,7 @@
 -- The line of a segment is least: its leaning points give two pairs of which its slope is a neighbour.
 -- Told of segments in their frame; how they grow belongs elsewhere.
-use Rattle.std.proofs.Common.{◌≡◌, ℕ, ◌<◌, ◌≤◌, ◌⊎◌, inl, inr, List, length, refl, sym, subst, ◌∙◌, arith}
-use Rattle.std.specs.Prelude.{ℤ, pos, negsuc, ◌+ℤ◌, ◌-ℤ◌, ◌*ℤ◌, neg_ℤ, ◌≤ℤ◌, ◌<ℤ◌, nat_abs}
+use Rattle.std.proofs.Common.{◌≡◌, ℕ, ◌<◌, ◌≤◌, List, length, refl, sym, subst, ◌∙◌, arith}
+use Rattle.std.specs.Prelude.{ℤ, pos, ◌+ℤ◌, ◌-ℤ◌, ◌*ℤ◌, ◌≤ℤ◌, ◌<ℤ◌}
 use Rattle.std.proofs.lemmas.Int.{ints, by_lt_z}
 use Rattle.shape_terms.specs.Points.{Point, coordinate}
 use Rattle.shape_terms.specs.Vectors.{dot, difference}
@@ -10,7 +10,7 @@ use Rattle.shape_terms.specs.Refutations.{point_at}
 use Rattle.shape_terms.specs.Turns.{other_axis}
 use Rattle.shape_terms.proofs.Linear.{dot-difference}
 use Rattle.shape_line.specs.Segments.{Seg, rest, IsTaken, IsSegment}
-use Rattle.shape_line.specs.Frames.{IsSense, along, height, IsRunOf, place_from, StandsAt}
+use Rattle.shape_line.specs.Frames.{IsSense, along, IsRunOf, place_from, StandsAt}
 use Rattle.shape_terms.proofs.Products.{rings}
 use Rattle.shape_line.proofs.Frames.{which, folded, stands}
 use Rattle.shape_line.proofs.Growing.{bezout, u_taken, k_taken, l_taken, v_taken}

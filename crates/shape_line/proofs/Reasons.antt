@@ -8,13 +8,12 @@ use Rattle.std.proofs.Math.ListN.{get_or-append}
 use Rattle.std.proofs.Math.Seq.{get_or-append_seam}
 use Rattle.shape_space.specs.declared.point.P2.{P2}
 use Rattle.shape_terms.specs.Points.{Point, coordinate}
-use Rattle.shape_terms.specs.Refutations.{point_at, Refutes}
+use Rattle.shape_terms.specs.Refutations.{point_at}
 use Rattle.shape_terms.specs.Turns.{IsTurn, change_at, other_axis}
 use Rattle.shape_refute.specs.declared.naive.Naive.{Naive}
 use Rattle.shape_refute.specs.Terms.{flat_point}
-use Rattle.shape_terms.proofs.Products.{rings}
-use Rattle.shape_line.specs.Segments.{Seg, IsSegment}
-use Rattle.shape_line.specs.Frames.{IsSense, along, height, IsRunOf, line_points, place_from, end_point}
+use Rattle.shape_line.specs.Segments.{Seg}
+use Rattle.shape_line.specs.Frames.{IsSense, along, IsRunOf, line_points, end_point}
 use Rattle.shape_line.specs.Grown.{segment_of, IsGrown}
 use Rattle.shape_line.proofs.Frames.{which, signed_up, signed_down, same_point, taken_one}
 use Rattle.shape_line.proofs.Steps.{run_is}

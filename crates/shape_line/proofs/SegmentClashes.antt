@@ -1,7 +1,7 @@
 -- A point that is refused, as weights that refute the run with it.
 -- The arithmetic of the clash stands in `Refusing`.
-use Rattle.std.proofs.Common.{◌≡◌, ℕ, ◌+◌, ◌-◌, ◌<◌, ◌≤◌, List, [], ◌∷◌, ◌++◌, length, ap, refl, sym, subst, ◌∙◌, arith}
-use Rattle.std.specs.Prelude.{ℤ, pos, ◌+ℤ◌, ◌-ℤ◌, ◌*ℤ◌, neg_ℤ, ◌≤ℤ◌, ◌<ℤ◌, nat_abs}
+use Rattle.std.proofs.Common.{◌≡◌, ℕ, ◌+◌, ◌-◌, ◌<◌, ◌≤◌, List, [], ◌∷◌, length, ap, refl, sym, subst, ◌∙◌, arith}
+use Rattle.std.specs.Prelude.{ℤ, pos, ◌+ℤ◌, ◌-ℤ◌, ◌*ℤ◌, neg_ℤ, ◌≤ℤ◌, ◌<ℤ◌}
 use Rattle.std.proofs.lemmas.Int.{ints}
 use Rattle.std.proofs.lemmas.List.{length-append}
 use Rattle.std.proofs.Math.ListN.{get_or-append}
@@ -10,10 +10,10 @@ use Rattle.shape_space.specs.declared.point.P2.{P2}
 use Rattle.shape_terms.specs.Points.{Point}
 use Rattle.shape_terms.specs.Refutations.{point_at, Refutes}
 use Rattle.shape_refute.specs.Terms.{flat_point}
-use Rattle.shape_line.specs.Slopes.{Span, levels, gap, lower_of, upper_of, IsSpan, span_refutation}
+use Rattle.shape_line.specs.Slopes.{Span, levels, gap, IsSpan, span_refutation}
 use Rattle.shape_terms.proofs.Products.{rings}
 use Rattle.shape_line.proofs.SpanRefutes.{spans_refute}
-use Rattle.shape_line.specs.Segments.{Seg, IsTaken, IsSegment}
+use Rattle.shape_line.specs.Segments.{IsTaken, IsSegment}
 use Rattle.shape_line.specs.Frames.{along, height, IsRunOf, place_from, StandsAt}
 use Rattle.shape_line.specs.declared.segment.Segment.{Segment}
 use Rattle.shape_line.specs.declared.clash.Crossing.{Crossing}

@@ -1,4 +1,4 @@
-use Rattle.std.proofs.Common.{rules, arith, ◌+◌, ◌++◌, [], ◌∷◌, length, FitsSigned, w64}
+use Rattle.std.proofs.Common.{rules, arith, [], ◌∷◌, FitsSigned, w64}
 use Rattle.std.specs.Int.{w8}
 use Rattle.std.proofs.lemmas.Int.{to_z-of_z}
 use Rattle.std.proofs.lemmas.List.{length-append}
@@ -37,4 +37,4 @@ returns c =
     let many = c.count-n.ensures.value in
     let small = c.room-up.ensures.small in
     crosses s.axis s.sense _ (points_with s c.args.p) s.grown.axis (whole_flat s c.args.p r.next) (whole_place s c.args.p r.next) _ _ _ _ _ _ _ _ r.at_a.stands r.at_b.stands r.at_c.stands r.at_d.stands r.lower r.upper _
-        c.place.ensures.value c.place-2.ensures.value c.place-3.ensures.value c.place-4.ensures.value up (omega (arith, small)) (omega (arith, few, many, length-append (points_of s) (flat_point c.args.p ∷ [])))
+    c.place.ensures.value c.place-2.ensures.value c.place-3.ensures.value c.place-4.ensures.value up (omega (arith, small)) (omega (arith, few, many, length-append (points_of s) (flat_point c.args.p ∷ [])))

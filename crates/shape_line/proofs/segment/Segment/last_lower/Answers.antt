@@ -1,4 +1,4 @@
-use Rattle.std.proofs.Common.{rules, arith}
+use Rattle.std.proofs.Common.{rules}
 use Rattle.shape_line.proofs.Staying.{lower_new, lower_old}
 use Rattle.shape_line.proofs.segment.Segment.last_lower.Goals as goal
 
