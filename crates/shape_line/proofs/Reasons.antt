@@ -76,17 +76,14 @@ module _ (t : ℕ) (s : ℤ) (line : Naive) (first last : P2) (upper lower : Lis
   abbrev run : List Point
   run = line_points t s (segment_of t s line first last upper lower)
 
+  counts : (n : ℕ) (x0 x1 : ℤ) → pos n ≡ x1 -ℤ x0 +ℤ pos 1 → (x0 ≤ℤ x1 → 1 ≤ n) × (x0 <ℤ x1 → 2 ≤ n)
+  counts n x0 x1 e = (λ h. omega (arith, ints), λ h. omega (arith, ints))
+
   pub run_some : 1 ≤ length run
-  run_some = let h = run_is t s line first last upper lower g in some _ _ _ h.count g.order
-    where
-      some : (n : ℕ) (x0 x1 : ℤ) → pos n ≡ x1 -ℤ x0 +ℤ pos 1 → x0 ≤ℤ x1 → 1 ≤ n
-      some n x0 x1 e h = omega (arith, ints)
+  run_some = (counts _ _ _ (run_is t s line first last upper lower g).count).0 g.order
 
   pub run_two : seg.x0 <ℤ seg.x1 → 2 ≤ length run
-  run_two l = let h = run_is t s line first last upper lower g in two _ _ _ h.count l
-    where
-      two : (n : ℕ) (x0 x1 : ℤ) → pos n ≡ x1 -ℤ x0 +ℤ pos 1 → x0 <ℤ x1 → 2 ≤ n
-      two n x0 x1 e h = omega (arith, ints)
+  run_two l = (counts _ _ _ (run_is t s line first last upper lower g).count).1 l
 
   -- the run ends with the last point
   pub ends_with : end_point run ≡ flat_point last
