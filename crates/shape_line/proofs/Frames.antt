@@ -16,9 +16,10 @@ use Rattle.shape_terms.specs.Turns.{other_axis}
 use Rattle.shape_terms.specs.Straight.{KeepsSense}
 use Rattle.shape_terms.proofs.Products.{rings}
 use Rattle.shape_terms.proofs.Order.{mul-le_ℤ}
+use Rattle.shape_least.proofs.LeastLines.{value_on}
 use Rattle.shape_line.proofs.OneWay.{two_coordinates}
 use Rattle.shape_line.specs.Segments.{Seg, rest, IsTaken, IsLonger}
-use Rattle.shape_line.specs.Frames.{IsSense, along, height, IsRunOf}
+use Rattle.shape_line.specs.Frames.{IsSense, along, height, IsRunOf, place_from, StandsAt}
 
 -- ---- senses
 
@@ -83,6 +84,20 @@ module _ (t : ℕ) (s : ℤ) (l : t < 2) (sense : IsSense s) where
     where
       counts : (m n : ℕ) → pos m ≡ pos n → m ≡ n
       counts m n e = omega (arith, ints)
+
+  -- a point of the segment stands at its place
+  pub stands : (seg : Seg) (run : List Point) → pos 0 <ℤ seg.b → IsRunOf t s seg run → (x y : ℤ) → IsTaken seg x y → StandsAt t s seg.x0 run x y
+  stands seg run some h x y k =
+      let i = place_from seg.x0 x in
+      let m : i < length run = within (length run) seg.x0 seg.x1 x h.count k.from k.to in
+      let f : along t s (point_at run i) ≡ x = h.place i m ∙ back seg.x0 x k.from in
+      record { inside = m; far = f; high = taken_one seg _ _ _ _ some f (h.taken i m) k }
+    where
+      within : (n : ℕ) (x0 x1 x : ℤ) → pos n ≡ x1 -ℤ x0 +ℤ pos 1 → x0 ≤ℤ x → x ≤ℤ x1 → nat_abs (x -ℤ x0) < n
+      within n x0 x1 x e f g = omega (arith, ints)
+
+      back : (x0 x : ℤ) → x0 ≤ℤ x → x0 +ℤ pos (nat_abs (x -ℤ x0)) ≡ x
+      back x0 x f = omega (arith, ints)
 
   -- a run that grows by a point is the run of the longer segment
   pub runs_longer : (seg r : Seg) (run : List Point) (p : Point) → IsRunOf t s seg run → IsLonger seg (along t s p) (height t p) r → along t s p ≡ seg.x1 +ℤ pos 1 → length p ≡ 2 → IsRunOf t s r (run ++ p ∷ [])
@@ -149,44 +164,28 @@ proper t s seg n l sense h some low high = record {
     others (suc zero) (suc (suc u)) a l d e h m = past a u (coordinate a 1) e m
     others (suc (suc t)) u a l d e h m = absurd (omega arith)
 
+-- a number in a sense is itself or its opposite
+pub signed_up : (s a : ℤ) → s ≡ pos 1 → s *ℤ a ≡ a
+signed_up s a e = let x = ap (λ (z : ℤ). z *ℤ a) e in omega (arith, ints, x)
+
+pub signed_down : (s a : ℤ) → s ≡ negsuc 0 → s *ℤ a ≡ neg_ℤ a
+signed_down s a e = let x = ap (λ (z : ℤ). z *ℤ a) e in omega (arith, ints, x)
+
 -- the remainder is the value of the line
-product : (t : ℕ) (a p : List ℤ) → t < 2 → length a ≡ 2 → length p ≡ 2 → dot a p ≡ coordinate a (other_axis t) *ℤ coordinate p (other_axis t) +ℤ coordinate a t *ℤ coordinate p t
-product t [] p l e f = absurd (omega arith)
-product t (x ∷ []) p l e f = absurd (omega arith)
-product t (x ∷ y ∷ z ∷ a) p l e f = absurd (omega arith)
-product t (x ∷ y ∷ []) [] l e f = absurd (omega arith)
-product t (x ∷ y ∷ []) (v ∷ []) l e f = absurd (omega arith)
-product t (x ∷ y ∷ []) (v ∷ w ∷ u ∷ p) l e f = absurd (omega arith)
-product zero (x ∷ y ∷ []) (v ∷ w ∷ []) l e f = omega (arith, ints, rings)
-product (suc zero) (x ∷ y ∷ []) (v ∷ w ∷ []) l e f = omega (arith, ints, rings)
-product (suc (suc t)) (x ∷ y ∷ []) (v ∷ w ∷ []) l e f = absurd (omega arith)
-
-folded : (s a u b v : ℤ) → Either s → rest (s *ℤ a) b (s *ℤ u) (neg_ℤ v) ≡ a *ℤ u +ℤ b *ℤ v
-folded s a u b v (inl e) = subst (λ (s : ℤ). rest (s *ℤ a) b (s *ℤ u) (neg_ℤ v) ≡ a *ℤ u +ℤ b *ℤ v) (sym e) (forward a u b v)
+pub folded : (s a u b v : ℤ) → Either s → rest (s *ℤ a) b (s *ℤ u) (neg_ℤ v) ≡ a *ℤ u +ℤ b *ℤ v
+folded s a u b v (inl e) = (λ i. rest (signed_up s a e i) b (signed_up s u e i) (neg_ℤ v)) ∙ plain a u b v
   where
-    forward : (a u b v : ℤ) → rest (pos 1 *ℤ a) b (pos 1 *ℤ u) (neg_ℤ v) ≡ a *ℤ u +ℤ b *ℤ v
-    forward a u b v = (λ i. rest (once a i) b (once u i) (neg_ℤ v)) ∙ plain a u b v
-      where
-        once : (a : ℤ) → pos 1 *ℤ a ≡ a
-        once a = omega (arith, ints)
-
-        plain : (a u b v : ℤ) → rest a b u (neg_ℤ v) ≡ a *ℤ u +ℤ b *ℤ v
-        plain a u b v = omega (arith, ints, rings)
-folded s a u b v (inr e) = subst (λ (s : ℤ). rest (s *ℤ a) b (s *ℤ u) (neg_ℤ v) ≡ a *ℤ u +ℤ b *ℤ v) (sym e) (backward a u b v)
+    plain : (a u b v : ℤ) → rest a b u (neg_ℤ v) ≡ a *ℤ u +ℤ b *ℤ v
+    plain a u b v = omega (arith, ints, rings)
+folded s a u b v (inr e) = (λ i. rest (signed_down s a e i) b (signed_down s u e i) (neg_ℤ v)) ∙ plain a u b v
   where
-    backward : (a u b v : ℤ) → rest (negsuc 0 *ℤ a) b (negsuc 0 *ℤ u) (neg_ℤ v) ≡ a *ℤ u +ℤ b *ℤ v
-    backward a u b v = (λ i. rest (once a i) b (once u i) (neg_ℤ v)) ∙ plain a u b v
-      where
-        once : (a : ℤ) → negsuc 0 *ℤ a ≡ neg_ℤ a
-        once a = omega (arith, ints)
-
-        plain : (a u b v : ℤ) → rest (neg_ℤ a) b (neg_ℤ u) (neg_ℤ v) ≡ a *ℤ u +ℤ b *ℤ v
-        plain a u b v = omega (arith, ints, rings)
+    plain : (a u b v : ℤ) → rest (neg_ℤ a) b (neg_ℤ u) (neg_ℤ v) ≡ a *ℤ u +ℤ b *ℤ v
+    plain a u b v = omega (arith, ints, rings)
 
 pub rest_is_value : (t : ℕ) (s : ℤ) (seg : Seg) (n : Naive) (p : Point) → t < 2 → IsSense s → IsLineOf t s seg n → length p ≡ 2 → rest seg.a seg.b (along t s p) (height t p) ≡ dot n.a p
 rest_is_value t s seg n p l sense h flat =
     let x : rest seg.a seg.b (along t s p) (height t p) ≡ rest (s *ℤ coordinate n.a (other_axis t)) (coordinate n.a t) (along t s p) (height t p) = (λ i. rest (h.side i) (h.main i) (along t s p) (height t p)) in
-    x ∙ (folded s (coordinate n.a (other_axis t)) (coordinate p (other_axis t)) (coordinate n.a t) (coordinate p t) (which s sense) ∙ sym (product t n.a p l h.two flat))
+    x ∙ (folded s (coordinate n.a (other_axis t)) (coordinate p (other_axis t)) (coordinate n.a t) (coordinate p t) (which s sense) ∙ sym (value_on t n.a p l flat))
 
 pub line_holds : (t : ℕ) (s : ℤ) (seg : Seg) (n : Naive) (run : List Point) → t < 2 → IsSense s → IsLineOf t s seg n → pos 0 <ℤ seg.b → neg_ℤ seg.b ≤ℤ seg.a → seg.a ≤ℤ seg.b → IsRunOf t s seg run → IsNaiveFor t run n
 line_holds t s seg n run l sense h some low high r = record {

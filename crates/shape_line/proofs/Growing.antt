@@ -88,10 +88,30 @@ apart a b mu ux uy lx ly px py qx qy r c hb hu hl hp hq lt =
     let m = (qy -ℤ py) +ℤ c in
     least_multiple b n (k *ℤ n -ℤ d *ℤ m) hb (divides a b d k n m e f) (omega (arith, ints))
 
+-- leaning points are taken
+module _ (s : Seg) (is : IsSegment s) where
+  upper_taken : (x y : ℤ) → s.x0 ≤ℤ x → x ≤ℤ s.x1 → rest s.a s.b x y ≡ s.mu → IsTaken s x y
+  upper_taken x y f g e = let b = is.b_pos in record { from = f; to = g; low = omega (arith, ints, e); high = omega (arith, ints, e, b) }
+
+  lower_taken : (x y : ℤ) → s.x0 ≤ℤ x → x ≤ℤ s.x1 → rest s.a s.b x y ≡ s.mu +ℤ s.b -ℤ pos 1 → IsTaken s x y
+  lower_taken x y f g e = let b = is.b_pos in record { from = f; to = g; low = omega (arith, ints, e, b); high = omega (arith, ints, e) }
+
+  pub u_taken : IsTaken s s.ux s.uy
+  u_taken = let a = is.u_k in let b = is.k_to in upper_taken s.ux s.uy is.u_from (omega (arith, ints, a, b)) is.u_is
+
+  pub k_taken : IsTaken s s.kx s.ky
+  k_taken = let a = is.u_k in let b = is.u_from in lower_taken s.kx s.ky (omega (arith, ints, a, b)) is.k_to is.k_is
+
+  pub l_taken : IsTaken s s.lx s.ly
+  l_taken = let a = is.l_v in let b = is.v_to in lower_taken s.lx s.ly is.l_from (omega (arith, ints, a, b)) is.l_is
+
+  pub v_taken : IsTaken s s.vx s.vy
+  v_taken = let a = is.l_v in let b = is.l_from in upper_taken s.vx s.vy (omega (arith, ints, a, b)) is.v_to is.v_is
+
 -- ---- the point is on the line
 module _ (s : Seg) (is : IsSegment s) (mx my : ℤ) (next : mx ≡ s.x1 +ℤ pos 1) (low : s.mu ≤ℤ rest s.a s.b mx my) (high : rest s.a s.b mx my <ℤ (s.mu +ℤ s.b)) where
   -- where M does not lean above, the last upper leaning point stays near
-  v_near : (s.mu <ℤ rest s.a s.b mx my) → (mx -ℤ s.vx) <ℤ s.b
+  pub v_near : (s.mu <ℤ rest s.a s.b mx my) → (mx -ℤ s.vx) <ℤ s.b
   v_near l = by_lt_z (mx -ℤ s.vx) s.b (λ (h : (mx -ℤ s.vx) <ℤ s.b). h) (λ (h : s.b ≤ℤ (mx -ℤ s.vx)).
       let n = rest s.a s.b mx my -ℤ s.mu in
       let d : mx -ℤ s.vx ≡ s.b = omega (arith, ints, h, is.v_last, next) in
@@ -102,7 +122,7 @@ module _ (s : Seg) (is : IsSegment s) (mx my : ℤ) (next : mx ≡ s.x1 +ℤ pos
       first : (a b mu mx my vx vy : ℤ) → rest a b vx vy ≡ mu → mx -ℤ vx ≡ b → rest a b mx my -ℤ mu ≡ b *ℤ (a -ℤ (my -ℤ vy))
       first a b mu mx my vx vy h d = let k = ap (λ (z : ℤ). a *ℤ z) d in omega (arith, ints, rings, h, k)
 
-  k_near : (rest s.a s.b mx my <ℤ (s.mu +ℤ s.b -ℤ pos 1)) → (mx -ℤ s.kx) <ℤ s.b
+  pub k_near : (rest s.a s.b mx my <ℤ (s.mu +ℤ s.b -ℤ pos 1)) → (mx -ℤ s.kx) <ℤ s.b
   k_near l = by_lt_z (mx -ℤ s.kx) s.b (λ (h : (mx -ℤ s.kx) <ℤ s.b). h) (λ (h : s.b ≤ℤ (mx -ℤ s.kx)).
       let n = (s.mu +ℤ s.b -ℤ pos 1) -ℤ rest s.a s.b mx my in
       let d : mx -ℤ s.kx ≡ s.b = omega (arith, ints, h, is.k_last, next) in
@@ -114,7 +134,7 @@ module _ (s : Seg) (is : IsSegment s) (mx my : ℤ) (next : mx ≡ s.x1 +ℤ pos
       first a b mu mx my vx vy h d = let k = ap (λ (z : ℤ). a *ℤ z) d in omega (arith, ints, rings, h, k)
 
   -- the last leaning points are these
-  with_last : (vx vy kx ky : ℤ) → rest s.a s.b vx vy ≡ s.mu → rest s.a s.b kx ky ≡ s.mu +ℤ s.b -ℤ pos 1 → s.vx ≤ℤ vx → vx ≤ℤ mx → (mx -ℤ vx) <ℤ s.b → s.kx ≤ℤ kx → kx ≤ℤ mx → (mx -ℤ kx) <ℤ s.b → IsLonger s mx my (longer s mx vx vy kx ky)
+  pub with_last : (vx vy kx ky : ℤ) → rest s.a s.b vx vy ≡ s.mu → rest s.a s.b kx ky ≡ s.mu +ℤ s.b -ℤ pos 1 → s.vx ≤ℤ vx → vx ≤ℤ mx → (mx -ℤ vx) <ℤ s.b → s.kx ≤ℤ kx → kx ≤ℤ mx → (mx -ℤ kx) <ℤ s.b → IsLonger s mx my (longer s mx vx vy kx ky)
   with_last vx vy kx ky hv hk v1 v2 v3 k1 k2 k3 = record {
     is = record {
       b_pos = is.b_pos;
@@ -141,19 +161,6 @@ module _ (s : Seg) (is : IsSegment s) (mx my : ℤ) (next : mx ≡ s.x1 +ℤ pos
     old = λ x y t. record { from = t.from; to = (let h = t.to in omega (arith, ints, h, next)); low = t.low; high = t.high };
     new = record { from = (let h = is.u_from in let k = is.u_k in let l = is.k_to in omega (arith, ints, h, k, l, next)); to = omega (arith, ints); low = low; high = high };
   }
-
-  -- the four cases: it leans above, below, on both sides or on none
-  pub stays_between : s.mu <ℤ rest s.a s.b mx my → rest s.a s.b mx my <ℤ (s.mu +ℤ s.b -ℤ pos 1) → IsLonger s mx my (longer s mx s.vx s.vy s.kx s.ky)
-  stays_between u k = with_last s.vx s.vy s.kx s.ky is.v_is is.k_is (omega (arith, ints)) (let h = is.v_to in omega (arith, ints, h, next)) (v_near u) (omega (arith, ints)) (let h = is.k_to in omega (arith, ints, h, next)) (k_near k)
-
-  pub stays_lower : s.mu <ℤ rest s.a s.b mx my → (s.mu +ℤ s.b -ℤ pos 1) ≤ℤ rest s.a s.b mx my → IsLonger s mx my (longer s mx s.vx s.vy mx my)
-  stays_lower u k = with_last s.vx s.vy mx my is.v_is (omega (arith, ints, k, high)) (omega (arith, ints)) (let h = is.v_to in omega (arith, ints, h, next)) (v_near u) (let h = is.k_to in omega (arith, ints, h, next)) (omega (arith, ints)) (let b = is.b_pos in omega (arith, ints, b))
-
-  pub stays_upper : rest s.a s.b mx my ≤ℤ s.mu → rest s.a s.b mx my <ℤ (s.mu +ℤ s.b -ℤ pos 1) → IsLonger s mx my (longer s mx mx my s.kx s.ky)
-  stays_upper u k = with_last mx my s.kx s.ky (omega (arith, ints, u, low)) is.k_is (let h = is.v_to in omega (arith, ints, h, next)) (omega (arith, ints)) (let b = is.b_pos in omega (arith, ints, b)) (omega (arith, ints)) (let h = is.k_to in omega (arith, ints, h, next)) (k_near k)
-
-  pub stays_both : rest s.a s.b mx my ≤ℤ s.mu → (s.mu +ℤ s.b -ℤ pos 1) ≤ℤ rest s.a s.b mx my → IsLonger s mx my (longer s mx mx my mx my)
-  stays_both u k = with_last mx my mx my (omega (arith, ints, u, low)) (omega (arith, ints, k, high)) (let h = is.v_to in omega (arith, ints, h, next)) (omega (arith, ints)) (let b = is.b_pos in omega (arith, ints, b)) (let h = is.k_to in omega (arith, ints, h, next)) (omega (arith, ints)) (let b = is.b_pos in omega (arith, ints, b))
 
 -- ---- the point has the remainder mu - 1
 

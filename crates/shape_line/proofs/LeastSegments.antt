@@ -1,7 +1,7 @@
 -- The line of a segment is least: its leaning points give two pairs of which its slope is a neighbour.
 -- Told of segments in their frame; how they grow belongs elsewhere.
-use Rattle.std.proofs.Common.{◌≡◌, ℕ, ◌<◌, ◌≤◌, ◌⊎◌, inl, inr, List, length, refl, sym, subst, ◌∙◌, arith}
-use Rattle.std.specs.Prelude.{ℤ, pos, negsuc, ◌+ℤ◌, ◌-ℤ◌, ◌*ℤ◌, neg_ℤ, ◌≤ℤ◌, ◌<ℤ◌, nat_abs}
+use Rattle.std.proofs.Common.{◌≡◌, ℕ, ◌<◌, ◌≤◌, List, length, refl, sym, subst, ◌∙◌, arith}
+use Rattle.std.specs.Prelude.{ℤ, pos, ◌+ℤ◌, ◌-ℤ◌, ◌*ℤ◌, ◌≤ℤ◌, ◌<ℤ◌}
 use Rattle.std.proofs.lemmas.Int.{ints, by_lt_z}
 use Rattle.shape_terms.specs.Points.{Point, coordinate}
 use Rattle.shape_terms.specs.Vectors.{dot, difference}
@@ -10,10 +10,10 @@ use Rattle.shape_terms.specs.Refutations.{point_at}
 use Rattle.shape_terms.specs.Turns.{other_axis}
 use Rattle.shape_terms.proofs.Linear.{dot-difference}
 use Rattle.shape_line.specs.Segments.{Seg, rest, IsTaken, IsSegment}
-use Rattle.shape_line.specs.Frames.{IsSense, along, height, IsRunOf, place_from}
+use Rattle.shape_line.specs.Frames.{IsSense, along, IsRunOf, place_from, StandsAt}
 use Rattle.shape_terms.proofs.Products.{rings}
-use Rattle.shape_line.proofs.Frames.{which, taken_one}
-use Rattle.shape_line.proofs.Growing.{bezout}
+use Rattle.shape_line.proofs.Frames.{which, folded, stands}
+use Rattle.shape_line.proofs.Growing.{bezout, u_taken, k_taken, l_taken, v_taken}
 use Rattle.shape_line.proofs.Outcomes.{run_of_segment, segment_straight, naive_holds}
 use Rattle.shape_refute.specs.Terms.{flat_point, naive_of}
 use Rattle.shape_line.specs.declared.segment.Segment.{Segment}
@@ -21,29 +21,6 @@ use Rattle.shape_line.specs.SegmentTerms.{seg_of, points_of}
 use Rattle.shape_least.specs.Least.{Pairs, Meets, ShowsLeast, IsLeastLine}
 use Rattle.shape_least.proofs.Farey.{least}
 use Rattle.shape_least.proofs.LeastLines.{value_on, shows_least}
-
--- the value of a line is that of its coefficients in the frame
-in_frame : (s c u b v : ℤ) → (s ≡ pos 1) ⊎ (s ≡ negsuc 0) → c *ℤ u +ℤ b *ℤ v ≡ rest (s *ℤ c) b (s *ℤ u) (neg_ℤ v)
-in_frame s c u b v (inl e) = subst (λ (z : ℤ). c *ℤ u +ℤ b *ℤ v ≡ rest (z *ℤ c) b (z *ℤ u) (neg_ℤ v)) (sym e) (straight c u b v)
-  where
-    one : (a : ℤ) → pos 1 *ℤ a ≡ a
-    one a = omega (arith, ints)
-
-    even : (c u b v : ℤ) → c *ℤ u +ℤ b *ℤ v ≡ rest c b u (neg_ℤ v)
-    even c u b v = omega (arith, ints, rings)
-
-    straight : (c u b v : ℤ) → c *ℤ u +ℤ b *ℤ v ≡ rest (pos 1 *ℤ c) b (pos 1 *ℤ u) (neg_ℤ v)
-    straight c u b v = even c u b v ∙ sym (λ i. rest (one c i) b (one u i) (neg_ℤ v))
-in_frame s c u b v (inr e) = subst (λ (z : ℤ). c *ℤ u +ℤ b *ℤ v ≡ rest (z *ℤ c) b (z *ℤ u) (neg_ℤ v)) (sym e) (plain c u b v)
-  where
-    once : (a : ℤ) → negsuc 0 *ℤ a ≡ neg_ℤ a
-    once a = omega (arith, ints)
-
-    turned : (c u b v : ℤ) → c *ℤ u +ℤ b *ℤ v ≡ rest (neg_ℤ c) b (neg_ℤ u) (neg_ℤ v)
-    turned c u b v = omega (arith, ints, rings)
-
-    plain : (c u b v : ℤ) → c *ℤ u +ℤ b *ℤ v ≡ rest (negsuc 0 *ℤ c) b (negsuc 0 *ℤ u) (neg_ℤ v)
-    plain c u b v = turned c u b v ∙ sym (λ i. rest (once c i) b (once u i) (neg_ℤ v))
 
 -- what a pair of points asks, in the frame
 asks : (c b x y z w v p q : ℤ) → v ≡ q -ℤ p → p ≡ rest c b x y → q ≡ rest c b z w → v <ℤ b → (c *ℤ (z -ℤ x)) <ℤ (b *ℤ ((w -ℤ y) +ℤ pos 1))
@@ -60,50 +37,19 @@ abbrev pub pairs_in : Seg → Pairs
 pairs_in seg = record { low1 = place_from seg.x0 seg.ux; high1 = place_from seg.x0 seg.kx; low2 = place_from seg.x0 seg.vx; high2 = place_from seg.x0 seg.lx }
 
 module _ (t : ℕ) (s : ℤ) (l : t < 2) (sense : IsSense s) (seg : Seg) (is : IsSegment seg) (run : List Point) (h : IsRunOf t s seg run) where
-  -- a point of the segment stands at its place
-  record StandsAt (x y : ℤ) : Type 0 where
-    inside : place_from seg.x0 x < length run
-    far : along t s (point_at run (place_from seg.x0 x)) ≡ x
-    high : height t (point_at run (place_from seg.x0 x)) ≡ y
+  abbrev Stands : ℤ → ℤ → Type 0
+  Stands x y = StandsAt t s seg.x0 run x y
 
-  stands : (x y : ℤ) → IsTaken seg x y → StandsAt x y
-  stands x y k =
-      let i = place_from seg.x0 x in
-      let m : i < length run = within (length run) seg.x0 seg.x1 x h.count k.from k.to in
-      let f : along t s (point_at run i) ≡ x = h.place i m ∙ back seg.x0 x k.from in
-      record { inside = m; far = f; high = taken_one seg _ _ _ _ is.b_pos f (h.taken i m) k }
-    where
-      within : (n : ℕ) (x0 x1 x : ℤ) → pos n ≡ x1 -ℤ x0 +ℤ pos 1 → x0 ≤ℤ x → x ≤ℤ x1 → nat_abs (x -ℤ x0) < n
-      within n x0 x1 x e f g = omega (arith, ints)
-
-      back : (x0 x : ℤ) → x0 ≤ℤ x → x0 +ℤ pos (nat_abs (x -ℤ x0)) ≡ x
-      back x0 x f = omega (arith, ints)
-
-  upper_taken : (x y : ℤ) → seg.x0 ≤ℤ x → x ≤ℤ seg.x1 → rest seg.a seg.b x y ≡ seg.mu → IsTaken seg x y
-  upper_taken x y f g e = let b = is.b_pos in record { from = f; to = g; low = omega (arith, ints, e); high = omega (arith, ints, e, b) }
-
-  lower_taken : (x y : ℤ) → seg.x0 ≤ℤ x → x ≤ℤ seg.x1 → rest seg.a seg.b x y ≡ seg.mu +ℤ seg.b -ℤ pos 1 → IsTaken seg x y
-  lower_taken x y f g e = let b = is.b_pos in record { from = f; to = g; low = omega (arith, ints, e, b); high = omega (arith, ints, e) }
-
-  u_stands : StandsAt seg.ux seg.uy
-  u_stands = let a = is.u_k in let b = is.k_to in stands seg.ux seg.uy (upper_taken seg.ux seg.uy is.u_from (omega (arith, ints, a, b)) is.u_is)
-
-  k_stands : StandsAt seg.kx seg.ky
-  k_stands = let a = is.u_k in let b = is.u_from in stands seg.kx seg.ky (lower_taken seg.kx seg.ky (omega (arith, ints, a, b)) is.k_to is.k_is)
-
-  l_stands : StandsAt seg.lx seg.ly
-  l_stands = let a = is.l_v in let b = is.v_to in stands seg.lx seg.ly (lower_taken seg.lx seg.ly is.l_from (omega (arith, ints, a, b)) is.l_is)
-
-  v_stands : StandsAt seg.vx seg.vy
-  v_stands = let a = is.l_v in let b = is.l_from in stands seg.vx seg.vy (upper_taken seg.vx seg.vy (omega (arith, ints, a, b)) is.v_to is.v_is)
+  at : (x y : ℤ) → IsTaken seg x y → Stands x y
+  at = stands t s l sense seg run is.b_pos h
 
   -- the value of a line at a point of the segment
-  value_at : (n : Naive) (x y : ℤ) → StandsAt x y → dot n.a (point_at run (place_from seg.x0 x)) ≡ rest (s *ℤ coordinate n.a (other_axis t)) (coordinate n.a t) x y
+  value_at : (n : Naive) (x y : ℤ) → Stands x y → dot n.a (point_at run (place_from seg.x0 x)) ≡ rest (s *ℤ coordinate n.a (other_axis t)) (coordinate n.a t) x y
   value_at n x y k =
       let p = point_at run (place_from seg.x0 x) in
-      value_on t n.a p l (h.flat (place_from seg.x0 x) k.inside) ∙ (in_frame s (coordinate n.a (other_axis t)) (coordinate p (other_axis t)) (coordinate n.a t) (coordinate p t) (which s sense) ∙ (λ i. rest (s *ℤ coordinate n.a (other_axis t)) (coordinate n.a t) (k.far i) (k.high i)))
+      value_on t n.a p l (h.flat (place_from seg.x0 x) k.inside) ∙ (sym (folded s (coordinate n.a (other_axis t)) (coordinate p (other_axis t)) (coordinate n.a t) (coordinate p t) (which s sense)) ∙ (λ i. rest (s *ℤ coordinate n.a (other_axis t)) (coordinate n.a t) (k.far i) (k.high i)))
 
-  meets_in : (n : Naive) (x y z w : ℤ) → StandsAt x y → StandsAt z w → Meets t run n (place_from seg.x0 x) (place_from seg.x0 z) → ((s *ℤ coordinate n.a (other_axis t)) *ℤ (z -ℤ x)) <ℤ (coordinate n.a t *ℤ ((w -ℤ y) +ℤ pos 1))
+  meets_in : (n : Naive) (x y z w : ℤ) → Stands x y → Stands z w → Meets t run n (place_from seg.x0 x) (place_from seg.x0 z) → ((s *ℤ coordinate n.a (other_axis t)) *ℤ (z -ℤ x)) <ℤ (coordinate n.a t *ℤ ((w -ℤ y) +ℤ pos 1))
   meets_in n x y z w j k m =
       let p = point_at run (place_from seg.x0 x) in
       let q = point_at run (place_from seg.x0 z) in
@@ -117,15 +63,15 @@ module _ (t : ℕ) (s : ℤ) (l : t < 2) (sense : IsSense s) (seg : Seg) (is : I
       least ((seg.ky -ℤ seg.uy) +ℤ pos 1) (seg.kx -ℤ seg.ux) ((seg.vy -ℤ seg.ly) -ℤ pos 1) (seg.vx -ℤ seg.lx) seg.a seg.b (s *ℤ coordinate n.a (other_axis t)) (coordinate n.a t)
       is.b_pos (omega (arith, ints, u_k)) (omega (arith, ints, l_v))
       (sym (bezout seg.a seg.b seg.mu seg.ux seg.uy seg.kx seg.ky is.u_is is.k_is)) (bezout_back seg.a seg.b seg.mu seg.vx seg.vy seg.lx seg.ly is.v_is is.l_is)
-      (meets_in n seg.ux seg.uy seg.kx seg.ky u_stands k_stands m1) (mirrored (s *ℤ coordinate n.a (other_axis t)) (coordinate n.a t) seg.lx seg.ly seg.vx seg.vy (meets_in n seg.vx seg.vy seg.lx seg.ly v_stands l_stands m2))
+      (meets_in n seg.ux seg.uy seg.kx seg.ky (at _ _ (u_taken seg is)) (at _ _ (k_taken seg is)) m1) (mirrored (s *ℤ coordinate n.a (other_axis t)) (coordinate n.a t) seg.lx seg.ly seg.vx seg.vy (meets_in n seg.vx seg.vy seg.lx seg.ly (at _ _ (v_taken seg is)) (at _ _ (l_taken seg is)) m2))
 
   -- so the leaning points show the line to be least
   pub segment_shows : ShowsLeast t run seg.b (pairs_in seg)
   segment_shows = record {
-    first_low = u_stands.inside;
-    first_high = k_stands.inside;
-    second_low = v_stands.inside;
-    second_high = l_stands.inside;
+    first_low = (at _ _ (u_taken seg is)).inside;
+    first_high = (at _ _ (k_taken seg is)).inside;
+    second_low = (at _ _ (v_taken seg is)).inside;
+    second_high = (at _ _ (l_taken seg is)).inside;
     none = λ n proper less m1 m2. (let k = no_less n proper m1 m2 in absurd (omega (arith, ints, k, less)));
   }
 

@@ -9,7 +9,6 @@ pub mod Frames
 pub mod Views
 pub mod SegmentClashes
 pub mod Steps
-pub mod Rooms
 pub mod Reasons
 pub mod Staying
 pub mod Outcomes
@@ -18,5 +17,4 @@ pub mod CloseRuns
 pub mod LowestLines
 pub mod LeastSegments
 pub mod GrownRuns
-pub mod Fronts
 pub mod RunVerdicts

@@ -1,46 +1,38 @@
 -- A point that is refused: the turn or the weights that the program names.
 -- The arithmetic stands in `Clashes`.
 use Rattle.std.proofs.Common.{◌≡◌, ℕ, ◌+◌, ◌-◌, ◌<◌, ◌≤◌, List, [], ◌∷◌, ◌++◌, length, refl, ap, sym, subst, ◌∙◌, arith, ◌⊎◌, inl, inr}
-use Rattle.std.specs.Prelude.{ℤ, pos, negsuc, ◌+ℤ◌, ◌-ℤ◌, ◌*ℤ◌, ◌≤ℤ◌, ◌<ℤ◌}
+use Rattle.std.specs.Prelude.{ℤ, pos, negsuc, ◌+ℤ◌, ◌-ℤ◌, ◌*ℤ◌, neg_ℤ, ◌≤ℤ◌, ◌<ℤ◌}
 use Rattle.std.proofs.lemmas.Int.{ints}
 use Rattle.std.proofs.lemmas.List.{length-append}
 use Rattle.std.proofs.Math.ListN.{get_or-append}
 use Rattle.std.proofs.Math.Seq.{get_or-append_seam}
 use Rattle.shape_space.specs.declared.point.P2.{P2}
 use Rattle.shape_terms.specs.Points.{Point, coordinate}
-use Rattle.shape_terms.specs.Refutations.{point_at, Refutes}
+use Rattle.shape_terms.specs.Refutations.{point_at}
 use Rattle.shape_terms.specs.Turns.{IsTurn, change_at, other_axis}
 use Rattle.shape_refute.specs.declared.naive.Naive.{Naive}
 use Rattle.shape_refute.specs.Terms.{flat_point}
-use Rattle.shape_line.specs.Slopes.{Span, IsSpan, span_refutation}
-use Rattle.shape_terms.proofs.Products.{rings}
-use Rattle.shape_line.specs.Segments.{Seg, IsSegment}
-use Rattle.shape_line.specs.Frames.{IsSense, along, height, IsRunOf, line_points, place_from, end_point}
+use Rattle.shape_line.specs.Segments.{Seg}
+use Rattle.shape_line.specs.Frames.{IsSense, along, IsRunOf, line_points, end_point}
 use Rattle.shape_line.specs.Grown.{segment_of, IsGrown}
-use Rattle.shape_line.specs.declared.clash.Crossing.{Crossing}
-use Rattle.shape_line.specs.Clashes.{span, IsCrossing}
-use Rattle.shape_line.proofs.Frames.{which, same_point, taken_one}
+use Rattle.shape_line.proofs.Frames.{which, signed_up, signed_down, same_point, taken_one}
 use Rattle.shape_line.proofs.Steps.{run_is}
-use Rattle.shape_line.proofs.SegmentClashes.{low_spans, low_refutes, high_spans, high_refutes}
 
 -- ---- turns
 
 -- a point that is not one further along makes a turn with the first change
 turn_by : (s : ℤ) (a b c d : ℤ) → (s ≡ pos 1) ⊎ (s ≡ negsuc 0) → s *ℤ b -ℤ s *ℤ a ≡ pos 1 → (s *ℤ d -ℤ s *ℤ c ≡ pos 1 → ⊥) → ((b -ℤ a ≡ pos 1) × (d -ℤ c ≡ pos 1) → ⊥) × ((b -ℤ a ≡ negsuc 0) × (d -ℤ c ≡ negsuc 0) → ⊥)
-turn_by s a b c d (inl e) h k = ((λ u. k (forward s c d e u.1)), λ u. backward s a b e h u.0)
+turn_by s a b c d (inl e) h k = ((λ u. k ((λ i. signed_up s d e i -ℤ signed_up s c e i) ∙ u.1)), λ u. off _ (sym (λ i. signed_up s b e i -ℤ signed_up s a e i) ∙ h) u.0)
   where
-    forward : (s c d : ℤ) → s ≡ pos 1 → d -ℤ c ≡ pos 1 → s *ℤ d -ℤ s *ℤ c ≡ pos 1
-    forward s c d e h = let x = ap (λ (z : ℤ). z *ℤ d) e in let y = ap (λ (z : ℤ). z *ℤ c) e in omega (arith, ints, rings, h, x, y)
-
-    backward : (s a b : ℤ) → s ≡ pos 1 → s *ℤ b -ℤ s *ℤ a ≡ pos 1 → b -ℤ a ≡ negsuc 0 → ⊥
-    backward s a b e h g = let x = ap (λ (z : ℤ). z *ℤ a) e in let y = ap (λ (z : ℤ). z *ℤ b) e in omega (arith, ints, rings, h, g, x, y)
-turn_by s a b c d (inr e) h k = ((λ u. forward s a b e h u.0), λ u. k (backward s c d e u.1))
+    off : (x : ℤ) → x ≡ pos 1 → x ≡ negsuc 0 → ⊥
+    off x h k = omega (arith, ints)
+turn_by s a b c d (inr e) h k = ((λ u. off a b (sym (λ i. signed_down s b e i -ℤ signed_down s a e i) ∙ h) u.0), λ u. k ((λ i. signed_down s d e i -ℤ signed_down s c e i) ∙ back c d u.1))
   where
-    backward : (s c d : ℤ) → s ≡ negsuc 0 → d -ℤ c ≡ negsuc 0 → s *ℤ d -ℤ s *ℤ c ≡ pos 1
-    backward s c d e h = let x = ap (λ (z : ℤ). z *ℤ d) e in let y = ap (λ (z : ℤ). z *ℤ c) e in omega (arith, ints, rings, h, x, y)
+    off : (a b : ℤ) → neg_ℤ b -ℤ neg_ℤ a ≡ pos 1 → b -ℤ a ≡ pos 1 → ⊥
+    off a b h k = omega (arith, ints)
 
-    forward : (s a b : ℤ) → s ≡ negsuc 0 → s *ℤ b -ℤ s *ℤ a ≡ pos 1 → b -ℤ a ≡ pos 1 → ⊥
-    forward s a b e h g = let x = ap (λ (z : ℤ). z *ℤ a) e in let y = ap (λ (z : ℤ). z *ℤ b) e in omega (arith, ints, rings, h, g, x, y)
+    back : (c d : ℤ) → d -ℤ c ≡ negsuc 0 → neg_ℤ d -ℤ neg_ℤ c ≡ pos 1
+    back c d h = omega (arith, ints)
 
 one_apart : (x y z : ℤ) → y ≡ x +ℤ pos 0 → z ≡ x +ℤ pos 1 → z -ℤ y ≡ pos 1
 one_apart x y z e f = omega (arith, ints)
@@ -84,17 +76,14 @@ module _ (t : ℕ) (s : ℤ) (line : Naive) (first last : P2) (upper lower : Lis
   abbrev run : List Point
   run = line_points t s (segment_of t s line first last upper lower)
 
+  counts : (n : ℕ) (x0 x1 : ℤ) → pos n ≡ x1 -ℤ x0 +ℤ pos 1 → (x0 ≤ℤ x1 → 1 ≤ n) × (x0 <ℤ x1 → 2 ≤ n)
+  counts n x0 x1 e = (λ h. omega (arith, ints), λ h. omega (arith, ints))
+
   pub run_some : 1 ≤ length run
-  run_some = let h = run_is t s line first last upper lower g in some _ _ _ h.count g.order
-    where
-      some : (n : ℕ) (x0 x1 : ℤ) → pos n ≡ x1 -ℤ x0 +ℤ pos 1 → x0 ≤ℤ x1 → 1 ≤ n
-      some n x0 x1 e h = omega (arith, ints)
+  run_some = (counts _ _ _ (run_is t s line first last upper lower g).count).0 g.order
 
   pub run_two : seg.x0 <ℤ seg.x1 → 2 ≤ length run
-  run_two l = let h = run_is t s line first last upper lower g in two _ _ _ h.count l
-    where
-      two : (n : ℕ) (x0 x1 : ℤ) → pos n ≡ x1 -ℤ x0 +ℤ pos 1 → x0 <ℤ x1 → 2 ≤ n
-      two n x0 x1 e h = omega (arith, ints)
+  run_two l = (counts _ _ _ (run_is t s line first last upper lower g).count).1 l
 
   -- the run ends with the last point
   pub ends_with : end_point run ≡ flat_point last
@@ -104,43 +93,3 @@ module _ (t : ℕ) (s : ℤ) (line : Naive) (first last : P2) (upper lower : Lis
       let l : length run - 1 < length run = omega (arith, n) in
       let e = at_last (length run) _ _ _ h.count n (h.place (length run - 1) l) in
       same_point t s (end_point run) (flat_point last) g.axis g.sense (h.flat (length run - 1) l) refl e (taken_one seg _ _ _ _ g.some e (h.taken (length run - 1) l) g.ends)
-
-  module _ (p : P2) (next : along t s (flat_point p) ≡ along t s (flat_point last) +ℤ pos 1) (is : IsSegment (segment_of t s line first last upper lower)) (few : length (line_points t s (segment_of t s line first last upper lower)) ≤ 8193) where
-    short : length (run ++ flat_point p ∷ []) ≤ 8194
-    short = omega (arith, few, length-append run (flat_point p ∷ []))
-
-    -- the remainder is too small
-    pub low_crossing : (c : Crossing) → c.lower.first ≡ place_from seg.x0 seg.ux → c.lower.last ≡ place_from seg.x0 seg.kx → c.upper.first ≡ place_from seg.x0 seg.kx → c.upper.last ≡ length run
-        → pos c.up ≡ ((height t (flat_point p) -ℤ seg.ky) -ℤ pos 1) *ℤ (seg.kx -ℤ seg.ux) -ℤ ((seg.ky -ℤ seg.uy) +ℤ pos 1) *ℤ (along t s (flat_point p) -ℤ seg.kx) → c.up ≤ 268435456
-        → IsCrossing t (line_points t s (segment_of t s line first last upper lower) ++ flat_point p ∷ []) c
-    low_crossing c e1 e2 e3 e4 up small =
-        let h = run_is t s line first last upper lower g in
-        let spans = low_spans t s g.axis g.sense seg is run h (flat_point p) refl next in
-        let r = low_refutes t s g.axis g.sense seg is run h (flat_point p) refl next c.up up in
-        let lo : record { first = place_from seg.x0 seg.ux; last = place_from seg.x0 seg.kx } ≡ span c.lower = (λ i. record { first = sym e1 i; last = sym e2 i }) in
-        let hi : record { first = place_from seg.x0 seg.kx; last = length run } ≡ span c.upper = (λ i. record { first = sym e3 i; last = sym e4 i }) in
-        record {
-          short = short;
-          lower = subst (λ (q : Span). IsSpan (length (run ++ flat_point p ∷ [])) q) lo spans.0;
-          upper = subst (λ (q : Span). IsSpan (length (run ++ flat_point p ∷ [])) q) hi spans.1;
-          small = small;
-          refutes = subst (λ (q : Span). Refutes 2 t (run ++ flat_point p ∷ []) (span_refutation q (span c.upper) c.up)) lo (subst (λ (q : Span). Refutes 2 t (run ++ flat_point p ∷ []) (span_refutation (record { first = place_from seg.x0 seg.ux; last = place_from seg.x0 seg.kx }) q c.up)) hi r);
-        }
-
-    -- it is too great
-    pub high_crossing : (c : Crossing) → c.lower.first ≡ place_from seg.x0 seg.vx → c.lower.last ≡ length run → c.upper.first ≡ place_from seg.x0 seg.lx → c.upper.last ≡ place_from seg.x0 seg.vx
-        → pos c.up ≡ ((seg.vy -ℤ seg.ly) -ℤ pos 1) *ℤ (along t s (flat_point p) -ℤ seg.vx) -ℤ ((height t (flat_point p) -ℤ seg.vy) +ℤ pos 1) *ℤ (seg.vx -ℤ seg.lx) → c.up ≤ 268435456
-        → IsCrossing t (line_points t s (segment_of t s line first last upper lower) ++ flat_point p ∷ []) c
-    high_crossing c e1 e2 e3 e4 up small =
-        let h = run_is t s line first last upper lower g in
-        let spans = high_spans t s g.axis g.sense seg is run h (flat_point p) refl next in
-        let r = high_refutes t s g.axis g.sense seg is run h (flat_point p) refl next c.up up in
-        let lo : record { first = place_from seg.x0 seg.vx; last = length run } ≡ span c.lower = (λ i. record { first = sym e1 i; last = sym e2 i }) in
-        let hi : record { first = place_from seg.x0 seg.lx; last = place_from seg.x0 seg.vx } ≡ span c.upper = (λ i. record { first = sym e3 i; last = sym e4 i }) in
-        record {
-          short = short;
-          lower = subst (λ (q : Span). IsSpan (length (run ++ flat_point p ∷ [])) q) lo spans.1;
-          upper = subst (λ (q : Span). IsSpan (length (run ++ flat_point p ∷ [])) q) hi spans.0;
-          small = small;
-          refutes = subst (λ (q : Span). Refutes 2 t (run ++ flat_point p ∷ []) (span_refutation q (span c.upper) c.up)) lo (subst (λ (q : Span). Refutes 2 t (run ++ flat_point p ∷ []) (span_refutation (record { first = place_from seg.x0 seg.vx; last = length run }) q c.up)) hi r);
-        }

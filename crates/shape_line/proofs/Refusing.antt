@@ -12,9 +12,6 @@ use Rattle.shape_line.specs.Segments.{Seg, rest, IsTaken, IsSegment, raised, low
 
 -- ---- the point has the remainder mu + b: by the mirror
 
-same_seg : (r q : Seg) → r.a ≡ q.a → r.b ≡ q.b → r.mu ≡ q.mu → r.x0 ≡ q.x0 → r.x1 ≡ q.x1 → r.ux ≡ q.ux → r.uy ≡ q.uy → r.vx ≡ q.vx → r.vy ≡ q.vy → r.lx ≡ q.lx → r.ly ≡ q.ly → r.kx ≡ q.kx → r.ky ≡ q.ky → r ≡ q
-same_seg r q h1 h2 h3 h4 h5 h6 h7 h8 h9 h10 h11 h12 h13 = λ i. record { a = h1 i; b = h2 i; mu = h3 i; x0 = h4 i; x1 = h5 i; ux = h6 i; uy = h7 i; vx = h8 i; vy = h9 i; lx = h10 i; ly = h11 i; kx = h12 i; ky = h13 i }
-
 twice : (y : ℤ) → neg_ℤ (neg_ℤ y) ≡ y
 twice y = omega (arith, ints)
 
@@ -25,8 +22,7 @@ mirrored_mu : (my ly b lx : ℤ) → pos 1 -ℤ rest (neg_ℤ my -ℤ neg_ℤ ly
 mirrored_mu my ly b lx = omega (arith, ints, rings)
 
 mirrored : (s : Seg) (mx my : ℤ) → flip (raised (flip s) mx (neg_ℤ my)) ≡ lowered s mx my
-mirrored s mx my = same_seg (flip (raised (flip s) mx (neg_ℤ my))) (lowered s mx my)
-    (less_twice my s.ly) refl (mirrored_mu my s.ly (mx -ℤ s.lx) s.lx) refl refl refl (twice s.vy) refl (twice s.vy) refl (twice s.ly) refl (twice my)
+mirrored s mx my = λ i. record { a = less_twice my s.ly i; b = mx -ℤ s.lx; mu = mirrored_mu my s.ly (mx -ℤ s.lx) s.lx i; x0 = s.x0; x1 = mx; ux = s.vx; uy = twice s.vy i; vx = s.vx; vy = twice s.vy i; lx = s.lx; ly = twice s.ly i; kx = mx; ky = twice my i }
 
 to_flip : (r : Seg) (x y : ℤ) → IsTaken r x (neg_ℤ y) → IsTaken (flip r) x y
 to_flip r x y h = subst (λ (z : ℤ). IsTaken (flip r) x z) (twice y) (flip_taken r x (neg_ℤ y) h)
