@@ -10,7 +10,7 @@ use Rattle.shape_terms.specs.Pictures.{Picture}
 use Rattle.shape_picture.specs.declared.fault.PictureFault.{PictureFault}
 use Rattle.shape_picture.specs.declared.fault.PictureFault.TheVariants as fault
 use Rattle.shape_picture.specs.Plain.{is_white, is_pixel, pixel_code, pixels_of, number_value, Plain, PlainFault, DecidesFault}
-use Rattle.shape_picture.proofs.Grammar.{pixels_of-pixel}
+use Rattle.shape_picture.proofs.Grammar.{some_pixels, times_one, pixels_of-pixel}
 use Rattle.shape_picture.proofs.Machine.{State, run, state_of, onward, run_full, run_stop, IsOpenState}
 use Rattle.shape_picture.proofs.FrontStates.{not_white_of_pixel, heading_run, in_raster_run, open_of, decided_step}
 
@@ -86,9 +86,6 @@ module _ (limit longest : ℕ) (bytes : List ℕ) where
     sides : X.sides ≡ w ∷ h ∷ []
     values : pixels ≡ map pixel_code X.values
 
-  times_one : (a b : ℕ) → a * (b * 1) ≡ a * b
-  times_one a b = grind arith
-
   whole_pixels : (X : Picture) (m : ℕ) (p : Plain limit longest bytes X m) → length (pixels_of p.raster) ≡ number_value p.width * number_value p.height
   whole_pixels X m p = ap length p.values ∙ length-map X.values pixel_code ∙ p.filled ∙ ap box_count p.sides ∙ times_one (number_value p.width) (number_value p.height)
 
@@ -130,9 +127,6 @@ module _ (limit longest : ℕ) (bytes : List ℕ) where
   last_part [] l = absurd (omega arith)
   last_part (x ∷ raster) l = last_of x raster
 
-  some_product : (a b : ℕ) → 1 ≤ a → 1 ≤ b → 0 < a * b
-  some_product a b l m = grind arith
-
   open_last : (X : Picture) (m : ℕ) (p : Plain limit longest bytes X m) → IsOpenState limit (state_of limit (take p.last.0 bytes))
   open_last X m p =
       let k = p.last.0 in
@@ -141,7 +135,7 @@ module _ (limit longest : ℕ) (bytes : List ℕ) where
       let w = number_value p.width in
       let h = number_value p.height in
       let e = whole_pixels X m p in
-      let some = some_product w h i.in_height.width_done.value.0 i.height_done.value.0 in
+      let some = some_pixels w h i.in_height.width_done.value.0 i.height_done.value.0 in
       let r = last_part p.raster (omega arith) in
       let head = i.before ++ i.gap ++ r.front in
       let km : k + 1 ≡ m = p.last.1 in
@@ -174,15 +168,11 @@ module _ (limit longest : ℕ) (bytes : List ℕ) where
       ∙ ap (λ (s : State). run limit (length (take i bytes) + 1) s rest) (decided_step limit (take i bytes) c f d) ∙ run_stop limit rest (length (take i bytes) + 1) f
 
   ends : (f : PictureFault) → PlainFault limit longest bytes f → Ends f
-  ends fault.NotPlain (i, c, l, g, d) = inl (decided_end i c fault.NotPlain l g d)
-  ends (fault.BadNumber n) (i, c, l, g, d) = inl (decided_end i c (fault.BadNumber n) l g d)
-  ends fault.ZeroSide (i, c, l, g, d) = inl (decided_end i c fault.ZeroSide l g d)
-  ends (fault.SideTooLarge n) (i, c, l, g, d) = inl (decided_end i c (fault.SideTooLarge n) l g d)
-  ends (fault.BadByte n) (i, c, l, g, d) = inl (decided_end i c (fault.BadByte n) l g d)
   ends (fault.Short n) (e, l, u) =
       let t : take longest bytes ≡ bytes = take_all longest bytes (omega arith) in
       inr (rw t (open_of limit bytes u), inl (omega arith, ap fault.Short e))
   ends fault.TooLong (l, u) = inr (open_of limit (take longest bytes) u, inr (l, refl))
+  ends f p = inl (decided_end p.0 p.1 f p.2 p.3 p.4)
 
   stop_not_open : (s : State) (f : PictureFault) → s ≡ State.AtFault f → IsOpenState limit s → ⊥
   stop_not_open s f e o = subst (IsOpenState limit) e o

@@ -50,13 +50,9 @@ module _ (limit longest : ℕ) where
       rw e (omega (arith, length-append front xs), rw t u)
 
   decided : (front rest : List ℕ) (c : ℕ) (f : PictureFault) → length front < longest → DecidesFault limit front c f → PlainFault limit longest (front ++ c ∷ rest) f
-  decided front rest c fault.NotPlain l d = (length front, c, l, byte_at front rest c, rw (take_at front (c ∷ rest) (length front) refl) d)
-  decided front rest c (fault.BadNumber i) l d = (length front, c, l, byte_at front rest c, rw (take_at front (c ∷ rest) (length front) refl) d)
-  decided front rest c fault.ZeroSide l d = (length front, c, l, byte_at front rest c, rw (take_at front (c ∷ rest) (length front) refl) d)
-  decided front rest c (fault.SideTooLarge v) l d = (length front, c, l, byte_at front rest c, rw (take_at front (c ∷ rest) (length front) refl) d)
-  decided front rest c (fault.BadByte i) l d = (length front, c, l, byte_at front rest c, rw (take_at front (c ∷ rest) (length front) refl) d)
   decided front rest c (fault.Short i) l d = absurd d
   decided front rest c fault.TooLong l d = absurd d
+  decided front rest c f l d = (length front, c, l, byte_at front rest c, rw (take_at front (c ∷ rest) (length front) refl) d)
 
   -- the byte just taken decides
   pub byte_fault : (all left : Option (List ℕ)) (front : List ℕ) (c : ℕ) (f : PictureFault) → Takes all left (front ++ c ∷ []) → length front < longest → DecidesFault limit front c f → IfTold all (λ bytes. PlainFault limit longest bytes f)
@@ -94,9 +90,8 @@ stops_long limit longest at all left ahead front before now h l u = record {
 
 -- an error of a later part is one of the whole
 pub stops_earlier : (limit longest : ℕ) (all left : Option (List ℕ)) (before mid now : ℕ) (e : PictureError) → before ≤ mid → ReadStopped limit longest all left mid now e → ReadStopped limit longest all left before now e
-stops_earlier limit longest all left before mid now (error.Bad f) l h = record { comes = h.comes; within = h.within }
 stops_earlier limit longest all left before mid now error.ReadFault l h = record { comes = rose_earlier before mid now l h.comes; within = h.within }
-stops_earlier limit longest all left before mid now error.NoMemory l h = record { comes = tt; within = h.within }
+stops_earlier limit longest all left before mid now e l h = record { comes = h.comes; within = h.within }
 
 -- an answer of a later part is one of the whole
 pub answer_earlier : (limit longest : ℕ) (all left : Option (List ℕ)) (before mid now : ℕ) (r : Result Picture PictureError) → before ≤ mid → PictureAnswer limit longest all left mid now r → PictureAnswer limit longest all left before now r

@@ -13,7 +13,7 @@ use Rattle.shape_picture.specs.declared.header.Coming.{Coming}
 use Rattle.shape_picture.specs.declared.header.Coming.TheVariants as coming
 use Rattle.shape_picture.specs.Plain.{is_white, is_line_end, is_pixel, is_stop, pixels_of, IsDigit, IsGap, IsSide, IsInHeight, IsInRaster, IsInSide, IsUnfinished, MayComment, number_value, DecidesFault, IsWrongMagic}
 use Rattle.shape_picture.specs.Header.{is_digit, before_side, after_side, digit_step}
-use Rattle.shape_picture.proofs.Grammar.{number_value-push}
+use Rattle.shape_picture.proofs.Grammar.{some_pixels, number_value-push}
 use Rattle.shape_picture.proofs.HeaderSteps.{digit_is}
 use Rattle.shape_picture.proofs.Machine.{State, state_step, run, state_of, side_state, OpensGap, onward, width_run, height_run, gap_run, side_to, magic_to, gap_to, raster_to, text_run, digit_yes, white_not_digit, IsOpenState}
 
@@ -61,15 +61,12 @@ module _ (limit : ℕ) where
   heading_run before width height gap raster i d g a l =
       let w = number_value width in
       let h = number_value height in
-      let some = some_product w h i.width_done.value.0 d.value.0 in
+      let some = some_pixels w h i.width_done.value.0 d.value.0 in
       onward limit (before ++ gap) raster
       ∙ ap (λ (s : State). run limit (length (before ++ gap)) s raster)
       (onward limit before gap ∙ ap (λ (s : State). run limit (length before) s gap) (height_run limit before width height i)
       ∙ gap_run limit (coming.Raster w h) (side_state limit (side.Height w) height) gap (length before) (raster_to limit w h some) (side_to limit (side.Height w) height d) g)
       ∙ raster_run w h (length (before ++ gap)) [] raster a (omega (arith, l))
-    where
-      some_product : (a b : ℕ) → 1 ≤ a → 1 ≤ b → 0 < a * b
-      some_product a b l m = grind arith
 
   pub in_raster_run : (front width height raster : List ℕ) → IsInRaster limit front width height raster → length (pixels_of raster) ≤ number_value width * number_value height → state_of limit front ≡ State.AtRaster false (number_value width) (number_value height) (pixels_of raster)
   in_raster_run front width height raster h l = rw h.front_is (heading_run h.before width height h.gap raster h.in_height h.height_done h.is_gap h.bytes l)

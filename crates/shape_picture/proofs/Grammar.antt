@@ -22,6 +22,15 @@ glue_byte front a b d c e = rw (e, append_assoc) refl
 glue_text : (front a d : List ℕ) (c : ℕ) → front ≡ a ++ 35 ∷ d → front ++ c ∷ [] ≡ a ++ 35 ∷ (d ++ c ∷ [])
 glue_text front a d c e = rw (e, append_assoc) refl
 
+-- ---- numbers
+
+-- a picture has pixels
+pub some_pixels : (w h : ℕ) → 1 ≤ w → 1 ≤ h → 0 < w * h
+some_pixels w h a b = grind arith
+
+pub times_one : (a b : ℕ) → a * (b * 1) ≡ a * b
+times_one a b = grind arith
+
 -- ---- gaps
 
 -- a gap goes on by a piece
@@ -99,10 +108,6 @@ module _ (limit : ℕ) where
       front_is = glue_open front piece;
     };
   }
-
-  -- a picture has pixels
-  some_pixels : (w h : ℕ) → 1 ≤ w → 1 ≤ h → 0 < w * h
-  some_pixels w h a b = grind arith
 
   pub none_yet : (front width height : List ℕ) → IsInRaster limit front width height [] → IsInPicture limit front []
   none_yet front width height h = (width, height, h, some_pixels (number_value width) (number_value height) h.in_height.width_done.value.0 h.height_done.value.0)

@@ -137,9 +137,5 @@ module _ (limit : ℕ) where
 
   -- the digits so far are within the limit
   pub small : (s : Header) (front : List ℕ) → HeaderReached limit s front → IsSmall limit s
-  small header.Start front h = tt
-  small header.Letter front h = tt
-  small header.Magic front h = tt
-  small (header.Gap s) front h = tt
-  small (header.Comment t) front h = tt
   small (header.Digits s v) front h = rw h.value at (small_digits s front h.digits h.within)
+  small _ front h = tt

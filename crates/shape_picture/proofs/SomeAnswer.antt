@@ -49,18 +49,18 @@ module _ (limit longest : ℕ) (bytes : List ℕ) where
       let Y : Picture = record { sides = X.sides; values = put_value X.values n b } in
       ⊎_elim (λ m. go Y false (n + 1) (front ++ c ∷ []) (pixel_next limit X Y comment n front b h c g refl refl m) (omega (arith, length_push front c)) e)
       (λ m.
-      let k : n + 1 ≡ number_value h.width * number_value h.height = omega (arith, h.within.fewer) in
+      let k : n + 1 ≡ number_value h.width * number_value h.height = omega (arith, h.fewer) in
       inl (Y, (length front + 1, subst (λ (x : List ℕ). Plain limit longest x Y (length front + 1)) (sym e) (spelled limit X Y comment n front b longest rest h c g refl refl k l))))
       (cases_lt (n + 1) (number_value h.width * number_value h.height))
 
   from_raster : (rest : List ℕ) → FromRaster rest
   from_raster [] X comment n front h l e =
-      let u = raster_unfinished limit n comment front h.width h.height h.raster h.within in
+      let u = raster_unfinished limit h in
       ⊎_elim (λ m. short_answer front e m u) (λ m. long_answer front [] e (omega arith) u) (cases_lt (length front) longest)
   from_raster (c ∷ rest) X comment n front h l e =
-      let u = raster_unfinished limit n comment front h.width h.height h.raster h.within in
+      let u = raster_unfinished limit h in
       let go = from_raster rest in
-      ⊎_elim (λ m. by_piece rest go X comment n front c h m (one_more front rest c e) (piece_of comment n (length front) c) (piece_answer limit (length front) n comment front c h.width h.height h.raster refl h.within))
+      ⊎_elim (λ m. by_piece rest go X comment n front c h m (one_more front rest c e) (piece_of comment n (length front) c) (piece_answer limit h (length front) c refl))
       (λ m. long_answer front (c ∷ rest) e (omega arith) u) (cases_lt (length front) longest)
 
   -- what the rest of the file gives from within the header

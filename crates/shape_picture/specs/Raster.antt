@@ -18,13 +18,6 @@ abbrev pub IsAtRaster : ℕ → Bool → List ℕ → List ℕ → List ℕ → 
 IsAtRaster limit false front width height raster = IsInRaster limit front width height raster
 IsAtRaster limit true front width height raster = (raster ≡ []) × CommentLeadsTo limit (λ f. IsInRaster limit f width height []) front
 
--- the front ends in this raster, which has n pixels and is not complete
-pub record HasPixels (limit : ℕ) (comment : Bool) (n : ℕ) (front width height raster : List ℕ) : Type 0 where
-  pub at : IsAtRaster limit comment front width height raster
-  pub none : n ≡ 0 → raster ≡ []
-  pub pixels : length (pixels_of raster) ≡ n
-  pub fewer : n < number_value width * number_value height
-
 -- how the raster goes on by a byte c that is this
 abbrev pub RasterGoesOn : ℕ → List ℕ → ℕ → List ℕ → List ℕ → List ℕ → Piece → Type 0
 RasterGoesOn limit front c width height raster piece.Gap = (more : List ℕ) × IsAtRaster limit false (front ++ c ∷ []) width height more × (pixels_of more ≡ pixels_of raster) × (raster ≡ [] → more ≡ [])
@@ -36,13 +29,15 @@ abbrev pub PieceAnswer : ℕ → List ℕ → ℕ → List ℕ → List ℕ → 
 PieceAnswer limit front c width height raster (Ok p) = RasterGoesOn limit front c width height raster p
 PieceAnswer limit front c width height raster (Err f) = DecidesFault limit front c f
 
--- the front ends in a raster whose pixels are the first n values of the picture; the other values are still background
+-- the front ends in a raster that is not complete, whose pixels are the first n values of the picture; the other values are still background
 pub record PictureSoFar (limit : ℕ) (X : Picture) (comment : Bool) (n : ℕ) (front : List ℕ) : Type 0 where
   pub width : List ℕ
   pub height : List ℕ
   pub raster : List ℕ
   pub known : List Bool
-  pub within : HasPixels limit comment n front width height raster
+  pub at : IsAtRaster limit comment front width height raster
+  pub none : n ≡ 0 → raster ≡ []
+  pub fewer : n < number_value width * number_value height
   pub sides : X.sides ≡ number_value width ∷ number_value height ∷ []
   pub pixels : pixels_of raster ≡ map pixel_code known
   pub count : length known ≡ n
