@@ -1,7 +1,7 @@
 -- A file spells at most one picture or has at most one fault, and not both: each answer is read off one state.
 -- The law's second half, which the machine of `Machine` decides.
 use Rattle.std.proofs.Common.{◌≡◌, ℕ, zero, suc, ◌+◌, ◌*◌, ◌<◌, ◌≤◌, Bool, true, false, List, [], ◌∷◌, ◌++◌, length, map, take, drop, Some, All, refl, sym, ap, ◌∙◌, subst, inl, inr, ⊎_elim, arith}
-use Rattle.std.specs.Prelude.{◌||◌, ◌⊎◌, IsTrue, slice_get}
+use Rattle.std.specs.Prelude.{◌||◌, ◌==◌, ◌⊎◌, IsTrue, slice_get}
 use Rattle.std.proofs.lemmas.Bool.{cases_lt}
 use Rattle.std.proofs.lemmas.List.{append_assoc, length-map, length-take-le, length_push, take-append-drop, take-take, take_all, take_at}
 use Rattle.std.proofs.lemmas.List.Elements.{All-take, All-same}
@@ -47,21 +47,13 @@ got_within [] k c e = absurd (cc)
 got_within (x ∷ xs) zero c e = omega arith
 got_within (x ∷ xs) (suc k) c e = let l = got_within xs k c e in omega arith
 
-code_injective : (a b : Bool) → pixel_code a ≡ pixel_code b → a ≡ b
-code_injective true true e = refl
-code_injective false false e = refl
-code_injective true false e = absurd (omega arith)
-code_injective false true e = absurd (omega arith)
+decoded : (xs : List Bool) → map (λ c. c == 49) (map pixel_code xs) ≡ xs
+decoded [] = refl
+decoded (true ∷ xs) = ap (λ (l : List Bool). true ∷ l) (decoded xs)
+decoded (false ∷ xs) = ap (λ (l : List Bool). false ∷ l) (decoded xs)
 
 codes_injective : (xs ys : List Bool) → map pixel_code xs ≡ map pixel_code ys → xs ≡ ys
-codes_injective [] [] e = refl
-codes_injective [] (y ∷ ys) e = absurd (cc)
-codes_injective (x ∷ xs) [] e = absurd (cc)
-codes_injective (x ∷ xs) (y ∷ ys) e =
-    let h : pixel_code x ≡ pixel_code y = cc in
-    let t : map pixel_code xs ≡ map pixel_code ys = cc in
-    let a = code_injective x y h in
-    let b = codes_injective xs ys t in cc
+codes_injective xs ys e = sym (decoded xs) ∙ ap (map (λ c. c == 49)) e ∙ decoded ys
 
 same_by_parts : {R : Type 0} (f : List ℕ → List Bool → R) (a c : List ℕ) (b d : List Bool) → a ≡ c → b ≡ d → f a b ≡ f c d
 same_by_parts f a c b d x y = cc

@@ -34,9 +34,6 @@ byte_at [] rest c = refl
 byte_at (x ∷ front) rest c = byte_at front rest c
 
 module _ (limit longest : ℕ) where
-  short_bytes : (front : List ℕ) (at : ℕ) → length front ≡ at → at < longest → IsUnfinished limit front → PlainFault limit longest front (fault.Short at)
-  short_bytes front at e l u = (sym e, l, u)
-
   -- the file ends too early
   pub short_fault : (all left : Option (List ℕ)) (front : List ℕ) (at : ℕ) → Takes all left front → IsEnd left → length front ≡ at → at < longest → IsUnfinished limit front → IfTold all (λ bytes. PlainFault limit longest bytes (fault.Short at))
   short_fault all None front at e z l m u = rw e tt

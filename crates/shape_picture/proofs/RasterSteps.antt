@@ -79,12 +79,17 @@ module _ (limit : ℕ) where
 abbrev pub put_value : List Bool → ℕ → Bool → List Bool
 put_value values n b = cond b (set values n true) values
 
-pub values_next : (known values : List Bool) (n k : ℕ) (b : Bool) → values ≡ known ++ false ∷ replicate k false → length known ≡ n → put_value values n b ≡ (known ++ b ∷ []) ++ replicate k false
-values_next known values n k true e l = rw (e, set_at known false (replicate k false) true n l, append_assoc known (true ∷ []) (replicate k false)) refl
-values_next known values n k false e l = e ∙ sym (append_assoc known (false ∷ []) (replicate k false))
+values_next : (known values : List Bool) (n t : ℕ) (b : Bool) → values ≡ known ++ replicate (t - n) false → length known ≡ n → n < t → put_value values n b ≡ (known ++ b ∷ []) ++ replicate (t - (n + 1)) false
+values_next known values n t b e l m =
+    let k : t - n ≡ suc (t - (n + 1)) = omega arith in
+    by_value b (e ∙ ap (λ (i : ℕ). known ++ replicate i false) k)
+  where
+    rest : List Bool
+    rest = replicate (t - (n + 1)) false
 
-pub replicate_less : (k n t : ℕ) → n < t → k ≡ t - (n + 1) → replicate (t - n) false ≡ false ∷ replicate k false
-replicate_less k n t l e = let m : t - n ≡ suc k = omega arith in rw m refl
+    by_value : (b : Bool) → values ≡ known ++ false ∷ rest → put_value values n b ≡ (known ++ b ∷ []) ++ rest
+    by_value true e = rw (e, set_at known false rest true n l, append_assoc known (true ∷ []) rest) refl
+    by_value false e = e ∙ sym (append_assoc known (false ∷ []) rest)
 
 pixels_next : (raster : List ℕ) (values : List Bool) (c : ℕ) (b : Bool) → pixels_of raster ≡ map pixel_code values → c ≡ pixel_code b → pixels_of (raster ++ c ∷ []) ≡ map pixel_code (values ++ b ∷ [])
 pixels_next raster values c b e k =
@@ -107,7 +112,7 @@ module _ (limit : ℕ) (X Y : Picture) (comment : Bool) (n : ℕ) (front : List 
         sides = s ∙ h.sides;
         pixels = p;
         count = length_push h.known b ∙ ap (λ (i : ℕ). i + 1) h.count;
-        values = e ∙ values_next h.known X.values n (t - (n + 1)) b (h.values ∙ ap (λ (l : List Bool). h.known ++ l) (replicate_less (t - (n + 1)) n t h.fewer refl)) h.count;
+        values = e ∙ values_next h.known X.values n t b h.values h.count h.fewer;
       }
 
   -- the last pixel was read
@@ -117,7 +122,7 @@ module _ (limit : ℕ) (X Y : Picture) (comment : Bool) (n : ℕ) (front : List 
       let p = pixels_next h.raster h.known c b h.pixels g.1 in
       let z : t - (n + 1) ≡ 0 = omega arith in
       let filled : Y.values ≡ h.known ++ b ∷ [] =
-      e ∙ values_next h.known X.values n (t - (n + 1)) b (h.values ∙ ap (λ (l : List Bool). h.known ++ l) (replicate_less (t - (n + 1)) n t h.fewer refl)) h.count
+      e ∙ values_next h.known X.values n t b h.values h.count h.fewer
       ∙ ap (λ (i : ℕ). (h.known ++ b ∷ []) ++ replicate i false) z ∙ append-nil (h.known ++ b ∷ []) in
       let k : length (front ++ c ∷ []) ≡ length front + 1 = length_push front c in
       let many : length Y.values ≡ t = ap length filled ∙ length_push h.known b ∙ ap (λ (i : ℕ). i + 1) h.count ∙ l in

@@ -29,12 +29,14 @@ module _ (limit longest : ℕ) (bytes : List ℕ) where
   one_more : (front rest : List ℕ) (c : ℕ) → bytes ≡ front ++ c ∷ rest → bytes ≡ (front ++ c ∷ []) ++ rest
   one_more front rest c e = e ∙ sym (append_assoc front (c ∷ []) rest)
 
-  -- where the bytes that are looked at end
-  long_answer : (front rest : List ℕ) → bytes ≡ front ++ rest → longest ≡ length front → IsUnfinished limit front → HasAnswer
-  long_answer front rest e l u = inr (fault.TooLong, long_fault limit longest (Some bytes) (Some rest) front (ap Some e) (sym l) u)
+  -- the bytes that are looked at end behind the front, or go on
+  or_long : (front rest : List ℕ) → bytes ≡ front ++ rest → length front ≤ longest → IsUnfinished limit front → (length front < longest → HasAnswer) → HasAnswer
+  or_long front rest e l u go =
+      ⊎_elim go (λ m. inr (fault.TooLong, long_fault limit longest (Some bytes) (Some rest) front (ap Some e) (omega arith) u)) (cases_lt (length front) longest)
 
-  short_answer : (front : List ℕ) → bytes ≡ front ++ [] → length front < longest → IsUnfinished limit front → HasAnswer
-  short_answer front e l u = inr (fault.Short (length front), short_fault limit longest (Some bytes) (Some []) front (length front) (ap Some e) refl refl l u)
+  ended : (front : List ℕ) → bytes ≡ front ++ [] → length front ≤ longest → IsUnfinished limit front → HasAnswer
+  ended front e l u =
+      or_long front [] e l u (λ m. inr (fault.Short (length front), short_fault limit longest (Some bytes) (Some []) front (length front) (ap Some e) refl refl m u))
 
   -- what the rest of the raster gives
   abbrev FromRaster : List ℕ → Type 0
@@ -54,14 +56,10 @@ module _ (limit longest : ℕ) (bytes : List ℕ) where
       (cases_lt (n + 1) (number_value h.width * number_value h.height))
 
   from_raster : (rest : List ℕ) → FromRaster rest
-  from_raster [] X comment n front h l e =
-      let u = raster_unfinished limit h in
-      ⊎_elim (λ m. short_answer front e m u) (λ m. long_answer front [] e (omega arith) u) (cases_lt (length front) longest)
+  from_raster [] X comment n front h l e = ended front e l (raster_unfinished limit h)
   from_raster (c ∷ rest) X comment n front h l e =
-      let u = raster_unfinished limit h in
       let go = from_raster rest in
-      ⊎_elim (λ m. by_piece rest go X comment n front c h m (one_more front rest c e) (piece_of comment n (length front) c) (piece_answer limit h (length front) c refl))
-      (λ m. long_answer front (c ∷ rest) e (omega arith) u) (cases_lt (length front) longest)
+      or_long front (c ∷ rest) e l (raster_unfinished limit h) (λ m. by_piece rest go X comment n front c h m (one_more front rest c e) (piece_of comment n (length front) c) (piece_answer limit h (length front) c refl))
 
   -- what the rest of the file gives from within the header
   abbrev FromHeader : List ℕ → Type 0
@@ -75,14 +73,10 @@ module _ (limit longest : ℕ) (bytes : List ℕ) where
       from_raster rest (blank n) false 0 (front ++ c ∷ []) (pixels_start limit w h (blank n) n (front ++ c ∷ []) k refl refl) (omega (arith, length_push front c)) e
 
   from_header : (rest : List ℕ) → FromHeader rest
-  from_header [] s front h l e =
-      let u = unfinished limit s front h in
-      ⊎_elim (λ m. short_answer front e m u) (λ m. long_answer front [] e (omega arith) u) (cases_lt (length front) longest)
+  from_header [] s front h l e = ended front e l (unfinished limit s front h)
   from_header (c ∷ rest) s front h l e =
-      let u = unfinished limit s front h in
       let go = from_header rest in
-      ⊎_elim (λ m. by_step rest go front c m (one_more front rest c e) (header_step limit (length front) s c) (step_answer limit (length front) s front c refl h))
-      (λ m. long_answer front (c ∷ rest) e (omega arith) u) (cases_lt (length front) longest)
+      or_long front (c ∷ rest) e l (unfinished limit s front h) (λ m. by_step rest go front c m (one_more front rest c e) (header_step limit (length front) s c) (step_answer limit (length front) s front c refl h))
 
   pub some_answer : HasAnswer
   some_answer = from_header bytes header.Start [] refl (omega arith) refl
