@@ -3,6 +3,7 @@
 use Rattle.std.proofs.Common.{◌≡◌, ℕ, zero, suc, ◌+◌, ◌*◌, ◌<◌, ◌≤◌, Bool, true, false, List, [], ◌∷◌, ◌++◌, length, map, take, drop, Some, All, refl, sym, ap, ◌∙◌, subst, inl, inr, ⊎_elim, arith}
 use Rattle.std.specs.Prelude.{◌||◌, ◌==◌, ◌⊎◌, IsTrue, slice_get}
 use Rattle.std.proofs.lemmas.Bool.{cases_lt}
+use Rattle.std.proofs.lemmas.Option.{slice_get_within}
 use Rattle.std.proofs.lemmas.List.{append_assoc, length-map, length-take-le, length_push, take-append-drop, take-take, take_all, take_at}
 use Rattle.std.proofs.lemmas.List.Elements.{All-take, All-same}
 use Rattle.shape_terms.specs.Points.{box_count}
@@ -41,11 +42,6 @@ got_taken xs k zero l = absurd (omega arith)
 got_taken [] k (suc m) l = refl
 got_taken (x ∷ xs) zero (suc m) l = refl
 got_taken (x ∷ xs) (suc k) (suc m) l = got_taken xs k m (omega arith)
-
-got_within : (xs : List ℕ) (k c : ℕ) → slice_get xs k ≡ Some c → k < length xs
-got_within [] k c e = absurd (cc)
-got_within (x ∷ xs) zero c e = omega arith
-got_within (x ∷ xs) (suc k) c e = let l = got_within xs k c e in omega arith
 
 decoded : (xs : List Bool) → map (λ c. c == 49) (map pixel_code xs) ≡ xs
 decoded [] = refl
@@ -132,7 +128,7 @@ module _ (limit longest : ℕ) (bytes : List ℕ) where
       let head = i.before ++ i.gap ++ r.front in
       let km : k + 1 ≡ m = p.last.1 in
       let split : take m bytes ≡ head ++ r.last ∷ [] = i.front_is ∙ ap (λ (x : List ℕ). i.before ++ i.gap ++ x) r.is ∙ sym (append_assoc (i.before ++ i.gap) r.front (r.last ∷ [])) in
-      let within : k < length bytes = got_within bytes k c p.last.2.1 in
+      let within : k < length bytes = slice_get_within bytes k c p.last.2.1 in
       let full : length (take m bytes) ≡ m = length-take-le m bytes (omega arith) in
       let len : length head ≡ k = omega (arith, ap length split, length_push head r.last) in
       let got : slice_get (head ++ r.last ∷ []) k ≡ Some c = ap (λ (x : List ℕ). slice_get x k) (sym split) ∙ got_taken bytes k m (omega arith) ∙ p.last.2.1 in

@@ -2,7 +2,7 @@
 -- The steps are those of the code; the meanings are those of `Plain`.
 use Rattle.std.proofs.Common.{◌≡◌, ◌≢◌, ℕ, suc, ◌+◌, ◌-◌, ◌*◌, ◌<◌, ◌≤◌, Bool, true, false, cond, List, [], ◌∷◌, ◌++◌, length, set, map, replicate, Option, None, Some, Ok, Err, refl, sym, ap, ◌∙◌, inl, inr, ⊎_elim, arith}
 use Rattle.std.specs.Prelude.{◌&&◌, ◌==◌, slice_get}
-use Rattle.std.proofs.lemmas.Bool.{eqb-true, eqb-false, and_parts, and_cases, or_from, or_left, or_right, or_cases, cond_both}
+use Rattle.std.proofs.lemmas.Bool.{cases_Bool, eqb-true, eqb-false, and_parts, and_cases, or_from, or_left, or_right, or_cases, cond_both}
 use Rattle.std.proofs.lemmas.List.{append_assoc, append-nil, length-map, length_push, map_push, take_at, set_at}
 use Rattle.shape_terms.specs.Points.{box_count}
 use Rattle.shape_terms.specs.Pictures.{Picture, blank}
@@ -13,7 +13,7 @@ use Rattle.shape_picture.specs.declared.raster.Piece.TheVariants as piece
 use Rattle.shape_picture.specs.Plain.{is_white, is_line_end, is_pixel, pixel_code, pixels_of, number_value, IsInRaster, IsUnfinished, DecidesFault, Plain}
 use Rattle.shape_picture.specs.declared.header.Coming.TheVariants as coming
 use Rattle.shape_picture.specs.Header.{IsInGap}
-use Rattle.shape_picture.specs.Raster.{piece_of, IsAtRaster, RasterGoesOn, PieceAnswer, PictureSoFar}
+use Rattle.shape_picture.specs.Raster.{piece_of, RasterGoesOn, PieceAnswer, PictureSoFar}
 use Rattle.shape_picture.specs.Answers.{PictureRead, SpellsPicture}
 use Rattle.shape_picture.specs.Parts.{BytesTaken}
 use Rattle.shape_picture.proofs.Grammar.{some_pixels, times_one, raster_opens, open_white, open_comment, comment_more, comment_done, raster_byte, pixels_of-white, pixels_of-pixel}
@@ -32,13 +32,13 @@ code_pixel true = refl
 code_pixel false = refl
 
 module _ (limit : ℕ) where
-  white_goes : (front : List ℕ) (c : ℕ) (width height raster : List ℕ) → IsInRaster limit front width height raster → is_white c ≡ true → RasterGoesOn limit front c width height raster piece.Gap
+  white_goes : (front : List ℕ) (c : ℕ) (width height raster : List ℕ) → IsInRaster limit front width height raster → is_white c ≡ true → RasterGoesOn limit front c width height raster (piece.Gap false)
   white_goes front c width height [] h w = ([], open_white limit (λ f. IsInRaster limit f width height []) front c (raster_opens limit front width height h) w, refl, λ _. refl)
   white_goes front c width height (x ∷ raster) h w =
       (x ∷ raster ++ c ∷ [], raster_byte limit front width height (x ∷ raster) c h (or_right (is_pixel c) (is_white c) w) (λ e. absurd (cc)), pixels_of-white (x ∷ raster) c w, λ e. absurd (cc))
 
-  comment_goes : (front : List ℕ) (c : ℕ) (width height raster : List ℕ) → IsInRaster limit front width height raster → raster ≡ [] → c ≡ 35 → RasterGoesOn limit front c width height raster piece.Comment
-  comment_goes front c width height [] h e k = (refl, (refl, open_comment limit (λ f. IsInRaster limit f width height []) front c (raster_opens limit front width height h) k))
+  comment_goes : (front : List ℕ) (c : ℕ) (width height raster : List ℕ) → IsInRaster limit front width height raster → raster ≡ [] → c ≡ 35 → RasterGoesOn limit front c width height raster (piece.Gap true)
+  comment_goes front c width height [] h e k = ([], (refl, open_comment limit (λ f. IsInRaster limit f width height []) front c (raster_opens limit front width height h) k), refl, λ _. refl)
   comment_goes front c width height (x ∷ raster) h e k = absurd (cc)
 
   -- how many pixels there are so far, fewer than in the picture
@@ -54,14 +54,13 @@ module _ (limit : ℕ) where
   -- a byte more, within a comment or not
   pub piece_answer : {X : Picture} {comment : Bool} {n : ℕ} {front : List ℕ} → (h : PictureSoFar limit X comment n front) (at c : ℕ) → at ≡ length front → PieceAnswer limit front c h.width h.height h.raster (piece_of comment n at c)
   piece_answer {comment = true} {front} h at c e =
-      cond_both (is_line_end c) (Ok piece.Gap) (Ok piece.Comment) (PieceAnswer limit front c h.width h.height h.raster)
-      (λ l. ([], comment_done limit (λ f. IsInRaster limit f h.width h.height []) front c h.at.1 l, rw h.at.0 refl, λ _. refl))
-      (λ l. (h.at.0, (h.at.0, comment_more limit (λ f. IsInRaster limit f h.width h.height []) front c h.at.1 l)))
+      ⊎_elim (λ l. rw l ([], comment_done limit (λ f. IsInRaster limit f h.width h.height []) front c h.at.1 l, rw h.at.0 refl, λ _. refl))
+      (λ l. rw l (h.raster, (h.at.0, comment_more limit (λ f. IsInRaster limit f h.width h.height []) front c h.at.1 l), refl, λ e. e)) (cases_Bool (is_line_end c))
   piece_answer {comment = false} {n} {front} h at c e =
       let P = PieceAnswer limit front c h.width h.height h.raster in
-      cond_both (is_white c) (Ok piece.Gap) _ P
+      cond_both (is_white c) (Ok (piece.Gap false)) _ P
       (λ w. white_goes front c h.width h.height h.raster h.at w)
-      (λ w. cond_both ((n == 0) && (c == 35)) (Ok piece.Comment) _ P
+      (λ w. cond_both ((n == 0) && (c == 35)) (Ok (piece.Gap true)) _ P
       (λ k. let q = and_parts (n == 0) (c == 35) k in comment_goes front c h.width h.height h.raster h.at (h.none (eqb-true n 0 q.0)) (eqb-true c 35 q.1))
       (λ k. cond_both (is_pixel c) (Ok (piece.Pixel (c == 49))) (Err (fault.BadByte at)) P
       (λ p. (raster_byte limit front h.width h.height h.raster c h.at (or_left (is_pixel c) (is_white c) p) (λ _. p), pixel_is c p))
@@ -153,28 +152,20 @@ module _ (limit : ℕ) (X Y : Picture) (comment : Bool) (n : ℕ) (front : List 
       told all (Some xs) k = rw k (length front + 1, spelled longest xs h c g s e l m)
 
 -- a byte that adds no pixel
-no_pixel : (limit : ℕ) (X : Picture) (comment next : Bool) (n : ℕ) (front raster : List ℕ) (h : PictureSoFar limit X comment n front) (c : ℕ) → IsAtRaster limit next (front ++ c ∷ []) h.width h.height raster → pixels_of raster ≡ pixels_of h.raster → (h.raster ≡ [] → raster ≡ []) → PictureSoFar limit X next n (front ++ c ∷ [])
-no_pixel limit X comment next n front raster h c a e f = record {
+pub gap_next : (limit : ℕ) (X : Picture) (comment next : Bool) (n : ℕ) (front : List ℕ) (h : PictureSoFar limit X comment n front) (c : ℕ) → RasterGoesOn limit front c h.width h.height h.raster (piece.Gap next) → PictureSoFar limit X next n (front ++ c ∷ [])
+gap_next limit X comment next n front h c g = record {
   width = h.width;
   height = h.height;
-  raster = raster;
+  raster = g.0;
   known = h.known;
-  at = a;
-  none = λ z. f (h.none z);
+  at = g.1;
+  none = λ z. g.3 (h.none z);
   fewer = h.fewer;
   sides = h.sides;
-  pixels = e ∙ h.pixels;
+  pixels = g.2 ∙ h.pixels;
   count = h.count;
   values = h.values;
 }
-
--- white space, or the end of a comment
-pub gap_next : (limit : ℕ) (X : Picture) (comment : Bool) (n : ℕ) (front : List ℕ) (h : PictureSoFar limit X comment n front) (c : ℕ) → RasterGoesOn limit front c h.width h.height h.raster piece.Gap → PictureSoFar limit X false n (front ++ c ∷ [])
-gap_next limit X comment n front h c g = no_pixel limit X comment false n front g.0 h c g.1 g.2 g.3
-
--- a byte of a comment
-pub comment_next : (limit : ℕ) (X : Picture) (comment : Bool) (n : ℕ) (front : List ℕ) (h : PictureSoFar limit X comment n front) (c : ℕ) → RasterGoesOn limit front c h.width h.height h.raster piece.Comment → PictureSoFar limit X true n (front ++ c ∷ [])
-comment_next limit X comment n front h c g = no_pixel limit X comment true n front h.raster h c g.1 refl (λ e. e)
 
 -- how many pixels there are in all
 pub total_is : (limit : ℕ) (X : Picture) (comment : Bool) (n : ℕ) (front : List ℕ) (h : PictureSoFar limit X comment n front) → box_count X.sides ≡ number_value h.width * number_value h.height

@@ -19,7 +19,7 @@ use Rattle.shape_picture.specs.Raster.{PictureSoFar, PieceAnswer, piece_of}
 use Rattle.shape_picture.specs.Answers.{SpellsSome, HasFault}
 use Rattle.shape_picture.proofs.HeaderSteps.{step_answer, unfinished}
 use Rattle.shape_picture.proofs.ByteSteps.{short_fault, long_fault, byte_fault}
-use Rattle.shape_picture.proofs.RasterSteps.{piece_answer, raster_unfinished, gap_next, comment_next, pixel_next, put_value, spelled, pixels_start}
+use Rattle.shape_picture.proofs.RasterSteps.{piece_answer, raster_unfinished, gap_next, pixel_next, put_value, spelled, pixels_start}
 
 module _ (limit longest : ℕ) (bytes : List ℕ) where
   -- the bytes have an answer
@@ -45,8 +45,7 @@ module _ (limit longest : ℕ) (bytes : List ℕ) where
   by_piece : (rest : List ℕ) → FromRaster rest → (X : Picture) (comment : Bool) (n : ℕ) (front : List ℕ) (c : ℕ) (h : PictureSoFar limit X comment n front) → length front < longest → bytes ≡ (front ++ c ∷ []) ++ rest
       → (r : Result Piece PictureFault) → PieceAnswer limit front c h.width h.height h.raster r → HasAnswer
   by_piece rest go X comment n front c h l e (Err f) d = inr (f, byte_fault limit longest (Some bytes) (Some rest) front c f (ap Some e) l d)
-  by_piece rest go X comment n front c h l e (Ok piece.Gap) g = go X false n (front ++ c ∷ []) (gap_next limit X comment n front h c g) (omega (arith, length_push front c)) e
-  by_piece rest go X comment n front c h l e (Ok piece.Comment) g = go X true n (front ++ c ∷ []) (comment_next limit X comment n front h c g) (omega (arith, length_push front c)) e
+  by_piece rest go X comment n front c h l e (Ok (piece.Gap k)) g = go X k n (front ++ c ∷ []) (gap_next limit X comment k n front h c g) (omega (arith, length_push front c)) e
   by_piece rest go X comment n front c h l e (Ok (piece.Pixel b)) g =
       let Y : Picture = record { sides = X.sides; values = put_value X.values n b } in
       ⊎_elim (λ m. go Y false (n + 1) (front ++ c ∷ []) (pixel_next limit X Y comment n front b h c g refl refl m) (omega (arith, length_push front c)) e)

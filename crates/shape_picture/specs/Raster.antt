@@ -1,5 +1,5 @@
 -- The raster of a plain PBM as a machine, one byte after another, and what is known of the bytes read.
-use Rattle.std.specs.Prelude.{◌≡◌, ℕ, ◌-◌, ◌*◌, ◌<◌, ◌==◌, ◌&&◌, Bool, true, false, if◌then◌else◌, List, [], ◌∷◌, ◌++◌, length, map, replicate, Result, Ok, Err}
+use Rattle.std.specs.Prelude.{◌≡◌, ℕ, ◌-◌, ◌*◌, ◌<◌, ◌==◌, ◌&&◌, Bool, true, false, not, if◌then◌else◌, List, [], ◌∷◌, ◌++◌, length, map, replicate, Result, Ok, Err}
 use Rattle.shape_terms.specs.Pictures.{Picture}
 use Rattle.shape_picture.specs.declared.fault.PictureFault.{PictureFault}
 use Rattle.shape_picture.specs.declared.fault.PictureFault.TheVariants as fault
@@ -10,8 +10,8 @@ use Rattle.shape_picture.specs.Header.{CommentLeadsTo}
 
 -- what a byte is, within a comment or not, after so many pixels
 abbrev pub piece_of : Bool → ℕ → ℕ → ℕ → Result Piece PictureFault
-piece_of true n at c = if is_line_end c then Ok piece.Gap else Ok piece.Comment
-piece_of false n at c = if is_white c then Ok piece.Gap else if (n == 0) && (c == 35) then Ok piece.Comment else if is_pixel c then Ok (piece.Pixel (c == 49)) else Err (fault.BadByte at)
+piece_of true n at c = Ok (piece.Gap (not (is_line_end c)))
+piece_of false n at c = if is_white c then Ok (piece.Gap false) else if (n == 0) && (c == 35) then Ok (piece.Gap true) else if is_pixel c then Ok (piece.Pixel (c == 49)) else Err (fault.BadByte at)
 
 -- the front ends within the raster, or within a comment before it
 abbrev pub IsAtRaster : ℕ → Bool → List ℕ → List ℕ → List ℕ → List ℕ → Type 0
@@ -20,8 +20,7 @@ IsAtRaster limit true front width height raster = (raster ≡ []) × CommentLead
 
 -- how the raster goes on by a byte c that is this
 abbrev pub RasterGoesOn : ℕ → List ℕ → ℕ → List ℕ → List ℕ → List ℕ → Piece → Type 0
-RasterGoesOn limit front c width height raster piece.Gap = (more : List ℕ) × IsAtRaster limit false (front ++ c ∷ []) width height more × (pixels_of more ≡ pixels_of raster) × (raster ≡ [] → more ≡ [])
-RasterGoesOn limit front c width height raster piece.Comment = (raster ≡ []) × IsAtRaster limit true (front ++ c ∷ []) width height raster
+RasterGoesOn limit front c width height raster (piece.Gap k) = (more : List ℕ) × IsAtRaster limit k (front ++ c ∷ []) width height more × (pixels_of more ≡ pixels_of raster) × (raster ≡ [] → more ≡ [])
 RasterGoesOn limit front c width height raster (piece.Pixel b) = IsAtRaster limit false (front ++ c ∷ []) width height (raster ++ c ∷ []) × (c ≡ pixel_code b)
 
 -- what a byte says of the front before it

@@ -124,12 +124,8 @@ fn read_raster<D: Desk>(
         };
         match piece_at(comment, count, at, c) {
             Err(fault) => return Err(PictureError::Bad(fault)),
-            Ok(Piece::Gap) => {
-                comment = false;
-                at += 1;
-            }
-            Ok(Piece::Comment) => {
-                comment = true;
+            Ok(Piece::Gap(within)) => {
+                comment = within;
                 at += 1;
             }
             Ok(Piece::Pixel(object)) => {

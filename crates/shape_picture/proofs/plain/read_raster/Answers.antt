@@ -5,7 +5,7 @@ use Rattle.shape_picture.specs.Answers.{most_side, most_bytes}
 use Rattle.shape_picture.specs.Plain.{number_value}
 use Rattle.shape_picture.specs.Raster.{PieceAnswer}
 use Rattle.shape_desk.proofs.Writes.{OnlyReadsAt-more}
-use Rattle.shape_picture.proofs.RasterSteps.{piece_answer, gap_next, comment_next, pixel_next, pixel_last, total_is, raster_unfinished}
+use Rattle.shape_picture.proofs.RasterSteps.{piece_answer, gap_next, pixel_next, pixel_last, total_is, raster_unfinished}
 use Rattle.shape_picture.proofs.ByteSteps.{stops_long, stops_bad, stops_earlier}
 use Rattle.shape_picture.proofs.plain.read_raster.Goals as goal
 
@@ -32,22 +32,7 @@ loop-at-preserved-in-Ok-Gap g c = (
       let t = c.in-Ok.ensures.answer all r.front r.taken (raster_unfinished most_side p) in
       let e = rw c.in-Ok-Gap.field-0-is at c.in-Ok-Gap.ensures in
       let k = subst (λ x. PieceAnswer most_side r.front c.in-Ok.c p.width p.height p.raster x) (sym e) (piece_answer most_side p c.loop-at.at c.in-Ok.c (sym r.taken.many)) in
-      record { front = _; pixels = gap_next most_side c.loop-at.grid c.loop-at.comment c.loop-at.count r.front p c.in-Ok.c k; taken = t },
-  c.loop-at.invariant.1,
-  c.loop-at.invariant.2,
-  c.loop-at.invariant.3,
-  OnlyReadsAt-more c.loop-at.invariant.4 c.in-Ok.ensures.reads,
-)
-
-pub loop-at-preserved-in-Ok-Comment : goal.loop-at-preserved-in-Ok-Comment
-loop-at-preserved-in-Ok-Comment g c = (
-  λ all h.
-      let r = c.loop-at.invariant.0 all h in
-      let p = r.pixels in
-      let t = c.in-Ok.ensures.answer all r.front r.taken (raster_unfinished most_side p) in
-      let e = rw c.in-Ok-Comment.field-0-is at c.in-Ok-Comment.ensures in
-      let k = subst (λ x. PieceAnswer most_side r.front c.in-Ok.c p.width p.height p.raster x) (sym e) (piece_answer most_side p c.loop-at.at c.in-Ok.c (sym r.taken.many)) in
-      record { front = _; pixels = comment_next most_side c.loop-at.grid c.loop-at.comment c.loop-at.count r.front p c.in-Ok.c k; taken = t },
+      record { front = _; pixels = rw c.in-Ok-Gap.within-is (gap_next most_side c.loop-at.grid c.loop-at.comment c.in-Ok-Gap.within c.loop-at.count r.front p c.in-Ok.c k); taken = t },
   c.loop-at.invariant.1,
   c.loop-at.invariant.2,
   c.loop-at.invariant.3,
