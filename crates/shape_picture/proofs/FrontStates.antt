@@ -32,22 +32,19 @@ module _ (limit : ℕ) where
   white_step : (at w h : ℕ) (px : List ℕ) (c : ℕ) → is_white c ≡ true → state_step limit at (State.AtRaster false w h px) c ≡ State.AtRaster false w h px
   white_step at w h px c e = ⊎_elim (λ l. rw (lt-ltb (length px) (w * h) l, e) refl) (λ l. full_step limit at c w h false px l) (cases_lt (length px) (w * h))
 
-  raster_more : (w h at : ℕ) (px raster : List ℕ) (c : ℕ) (b : Bool) → is_white c ≡ b → (is_pixel c || is_white c) ≡ true → length px + length (pixels_of (c ∷ raster)) ≤ w * h
-      → ((px : List ℕ) → length px + length (pixels_of raster) ≤ w * h → run limit (at + 1) (State.AtRaster false w h px) raster ≡ State.AtRaster false w h (px ++ pixels_of raster))
-      → run limit at (State.AtRaster false w h px) (c ∷ raster) ≡ State.AtRaster false w h (px ++ pixels_of (c ∷ raster))
-  raster_more w h at px raster c true e k l rest =
-      let less : length px + length (pixels_of raster) ≤ w * h = rw e at l in rw (white_step at w h px c e, e) (rest px less)
-  raster_more w h at px raster c false e k l rest =
-      let p : is_pixel c ≡ true = ⊎_elim (λ x. x) (λ x. absurd (false≢true (sym e ∙ x))) (or_cases (is_pixel c) (is_white c) k) in
-      let less : length px + length (c ∷ pixels_of raster) ≤ w * h = rw e at l in
-      rw (pixel_step at w h px c (omega arith) p, e)
-      (rest (px ++ c ∷ []) (omega (arith, length-append px (c ∷ []))) ∙ ap (λ (p : List ℕ). State.AtRaster false w h p) (append_assoc px (c ∷ []) (pixels_of raster)))
-
   raster_run : (w h at : ℕ) (px raster : List ℕ) → All (λ c. IsTrue (is_pixel c || is_white c)) raster → length px + length (pixels_of raster) ≤ w * h → run limit at (State.AtRaster false w h px) raster ≡ State.AtRaster false w h (px ++ pixels_of raster)
   raster_run w h at px [] a l = ap (λ (p : List ℕ). State.AtRaster false w h p) (sym (append-nil px))
   raster_run w h at px (c ∷ raster) a l =
-      let tail = All-tail (λ c. IsTrue (is_pixel c || is_white c)) c raster a in
-      raster_more w h at px raster c (is_white c) refl (All-head (λ c. IsTrue (is_pixel c || is_white c)) c raster a) l (λ px l. raster_run w h (at + 1) px raster tail l)
+      let P = λ (c : ℕ). IsTrue (is_pixel c || is_white c) in
+      let tail = All-tail P c raster a in
+      ⊎_elim
+      (λ e. let less : length px + length (pixels_of raster) ≤ w * h = rw e at l in rw (white_step at w h px c e, e) (raster_run w h (at + 1) px raster tail less))
+      (λ e.
+      let p : is_pixel c ≡ true = ⊎_elim (λ x. x) (λ x. absurd (false≢true (sym e ∙ x))) (or_cases (is_pixel c) (is_white c) (All-head P c raster a)) in
+      let less : length px + length (c ∷ pixels_of raster) ≤ w * h = rw e at l in
+      rw (pixel_step at w h px c (omega arith) p, e)
+      (raster_run w h (at + 1) (px ++ c ∷ []) raster tail (omega (arith, length-append px (c ∷ []))) ∙ ap (λ (p : List ℕ). State.AtRaster false w h p) (append_assoc px (c ∷ []) (pixels_of raster))))
+      (cases_Bool (is_white c))
 
   -- a header, a gap and some bytes of the raster
   pub heading_run : (before width height gap raster : List ℕ) → IsInHeight limit before width height → IsSide limit height → IsGap gap → All (λ c. IsTrue (is_pixel c || is_white c)) raster → length (pixels_of raster) ≤ number_value width * number_value height → state_of limit (before ++ gap ++ raster) ≡ State.AtRaster false (number_value width) (number_value height) (pixels_of raster)
