@@ -12,8 +12,9 @@ use Rattle.shape_picture.specs.declared.fault.PictureFault.{PictureFault}
 use Rattle.shape_picture.specs.declared.fault.PictureFault.TheVariants as fault
 use Rattle.shape_picture.specs.Plain.{is_white, is_pixel, pixel_code, pixels_of, number_value, Plain, PlainFault, DecidesFault}
 use Rattle.shape_picture.proofs.Grammar.{some_pixels, times_one, pixels_of-pixel}
+use Rattle.shape_picture.proofs.ByteSteps.{byte_at}
 use Rattle.shape_picture.proofs.Machine.{State, run, state_of, onward, run_full, run_stop, IsOpenState}
-use Rattle.shape_picture.proofs.FrontStates.{not_white_of_pixel, heading_run, in_raster_run, open_of, decided_step}
+use Rattle.shape_picture.proofs.FrontStates.{of_pixel, heading_run, in_raster_run, open_of, decided_step}
 
 -- ---- lists
 
@@ -32,10 +33,7 @@ last_of x [] = record { front = []; last = x; is = refl }
 last_of x (y ∷ xs) = let r = last_of y xs in record { front = x ∷ r.front; last = r.last; is = ap (λ (l : List ℕ). x ∷ l) r.is }
 
 got_last : (xs : List ℕ) (d k c : ℕ) → length xs ≡ k → slice_get (xs ++ d ∷ []) k ≡ Some c → d ≡ c
-got_last [] d zero c e g = cc
-got_last [] d (suc k) c e g = absurd (omega arith)
-got_last (x ∷ xs) d zero c e g = absurd (omega arith)
-got_last (x ∷ xs) d (suc k) c e g = got_last xs d k c (omega arith) g
+got_last xs d k c e g = let s : Some d ≡ Some c = sym (byte_at xs [] d) ∙ ap (λ (i : ℕ). slice_get (xs ++ d ∷ []) i) e ∙ g in cc
 
 got_taken : (xs : List ℕ) (k m : ℕ) → k < m → slice_get (take m xs) k ≡ slice_get xs k
 got_taken xs k zero l = absurd (omega arith)
@@ -135,7 +133,7 @@ module _ (limit longest : ℕ) (bytes : List ℕ) where
       let same : r.last ≡ c = got_last head r.last k c len got in
       let pixel : is_pixel r.last ≡ true = rw same p.last.2.2 in
       let before : take k bytes ≡ head = sym (take-take k m bytes (omega arith)) ∙ ap (take k) split ∙ take_at head (r.last ∷ []) k len in
-      let pixels : pixels_of p.raster ≡ pixels_of r.front ++ r.last ∷ [] = ap pixels_of r.is ∙ pixels_of-pixel r.front r.last (not_white_of_pixel r.last pixel) in
+      let pixels : pixels_of p.raster ≡ pixels_of r.front ++ r.last ∷ [] = ap pixels_of r.is ∙ pixels_of-pixel r.front r.last (of_pixel r.last pixel).0 in
       let one_less : length (pixels_of r.front) + 1 ≡ w * h = sym (length_push (pixels_of r.front) r.last) ∙ sym (ap length pixels) ∙ e in
       let all : All (λ c. IsTrue (is_pixel c || is_white c)) r.front = All-same (λ c. IsTrue (is_pixel c || is_white c)) r.front (take (length r.front) p.raster) (sym (ap (take (length r.front)) r.is ∙ take_at r.front (r.last ∷ []) (length r.front) refl)) (All-take (λ c. IsTrue (is_pixel c || is_white c)) (length r.front) p.raster i.bytes) in
       let state : state_of limit (take k bytes) ≡ State.AtRaster false w h (pixels_of r.front) = ap (state_of limit) before ∙ heading_run limit i.before p.width p.height i.gap r.front i.in_height i.height_done i.is_gap all (omega (arith, one_less)) in

@@ -29,7 +29,7 @@ taken_within longest at all left ahead front h = record {
 }
 
 -- the byte behind a front
-byte_at : (front rest : List ℕ) (c : ℕ) → slice_get (front ++ c ∷ rest) (length front) ≡ Some c
+pub byte_at : (front rest : List ℕ) (c : ℕ) → slice_get (front ++ c ∷ rest) (length front) ≡ Some c
 byte_at [] rest c = refl
 byte_at (x ∷ front) rest c = byte_at front rest c
 

@@ -17,17 +17,13 @@ use Rattle.shape_picture.proofs.Grammar.{some_pixels, number_value-push}
 use Rattle.shape_picture.proofs.HeaderSteps.{digit_is}
 use Rattle.shape_picture.proofs.Machine.{State, state_step, full_step, run, state_of, side_state, OpensGap, onward, width_run, height_run, gap_run, side_to, magic_to, gap_to, raster_to, text_run, digit_yes, white_not_digit, IsOpenState}
 
-pub not_white_of_pixel : (c : ℕ) → is_pixel c ≡ true → is_white c ≡ false
-not_white_of_pixel c e =
-    ⊎_elim (λ a. let f : c ≡ 48 = eqb-true c 48 a in rw f refl) (λ a. let f : c ≡ 49 = eqb-true c 49 a in rw f refl) (or_cases (c == 48) (c == 49) e)
-
-not_hash_of_pixel : (c : ℕ) → is_pixel c ≡ true → eqb c 35 ≡ false
-not_hash_of_pixel c e =
-    ⊎_elim (λ a. let f : c ≡ 48 = eqb-true c 48 a in rw f refl) (λ a. let f : c ≡ 49 = eqb-true c 49 a in rw f refl) (or_cases (c == 48) (c == 49) e)
+pub of_pixel : (c : ℕ) → is_pixel c ≡ true → (is_white c ≡ false) × (eqb c 35 ≡ false)
+of_pixel c e =
+    ⊎_elim (λ a. let f : c ≡ 48 = eqb-true c 48 a in rw f (refl, refl)) (λ a. let f : c ≡ 49 = eqb-true c 49 a in rw f (refl, refl)) (or_cases (c == 48) (c == 49) e)
 
 module _ (limit : ℕ) where
   pixel_step : (at w h : ℕ) (px : List ℕ) (c : ℕ) → length px < w * h → is_pixel c ≡ true → state_step limit at (State.AtRaster false w h px) c ≡ State.AtRaster false w h (px ++ c ∷ [])
-  pixel_step at w h px c l p = rw (lt-ltb (length px) (w * h) l, not_white_of_pixel c p, and_right (eqb (length px) 0) (eqb c 35) (not_hash_of_pixel c p), p) refl
+  pixel_step at w h px c l p = rw (lt-ltb (length px) (w * h) l, (of_pixel c p).0, and_right (eqb (length px) 0) (eqb c 35) (of_pixel c p).1, p) refl
 
   white_step : (at w h : ℕ) (px : List ℕ) (c : ℕ) → is_white c ≡ true → state_step limit at (State.AtRaster false w h px) c ≡ State.AtRaster false w h px
   white_step at w h px c e = ⊎_elim (λ l. rw (lt-ltb (length px) (w * h) l, e) refl) (λ l. full_step limit at c w h false px l) (cases_lt (length px) (w * h))
@@ -133,7 +129,7 @@ module _ (limit : ℕ) where
   none_yet : (raster : List ℕ) → ((c : ℕ) → slice_get raster 0 ≡ Some c → IsTrue (is_pixel c)) → length (pixels_of raster) ≡ 0 → raster ≡ []
   none_yet [] b e = refl
   none_yet (x ∷ raster) b e =
-      let k : is_white x ≡ false = not_white_of_pixel x (b x refl) in
+      let k : is_white x ≡ false = (of_pixel x (b x refl)).0 in
       let n : suc (length (pixels_of raster)) ≡ 0 = rw k at e in absurd (omega arith)
 
   byte_step : (at c : ℕ) (w h : ℕ) (raster : List ℕ) → ((c : ℕ) → slice_get raster 0 ≡ Some c → IsTrue (is_pixel c)) → length (pixels_of raster) < w * h → (raster ≡ [] → c ≢ 35) → (is_pixel c || is_white c) ≡ false → state_step limit at (State.AtRaster false w h (pixels_of raster)) c ≡ State.AtFault (fault.BadByte at)

@@ -17,19 +17,15 @@ use Rattle.shape_picture.specs.Raster.{piece_of, RasterGoesOn, PieceAnswer, Pict
 use Rattle.shape_picture.specs.Answers.{PictureRead, SpellsPicture}
 use Rattle.shape_picture.specs.Parts.{BytesTaken}
 use Rattle.shape_picture.proofs.Grammar.{some_pixels, times_one, raster_opens, open_white, open_comment, comment_more, comment_done, raster_byte, pixels_of-white, pixels_of-pixel}
-use Rattle.shape_picture.proofs.ByteSteps.{taken_within}
+use Rattle.shape_picture.proofs.ByteSteps.{byte_at, taken_within}
 
 pixel_is : (c : ℕ) → is_pixel c ≡ true → c ≡ pixel_code (c == 49)
 pixel_is c e =
     ⊎_elim (λ a. let f : c ≡ 48 = eqb-true c 48 a in rw f refl) (λ a. let f : c ≡ 49 = eqb-true c 49 a in rw f refl) (or_cases (c == 48) (c == 49) e)
 
-code_not_white : (b : Bool) → is_white (pixel_code b) ≡ false
-code_not_white true = refl
-code_not_white false = refl
-
-code_pixel : (b : Bool) → is_pixel (pixel_code b) ≡ true
-code_pixel true = refl
-code_pixel false = refl
+code_is : (b : Bool) → (is_white (pixel_code b) ≡ false) × (is_pixel (pixel_code b) ≡ true)
+code_is true = (refl, refl)
+code_is false = (refl, refl)
 
 module _ (limit : ℕ) where
   white_goes : (front : List ℕ) (c : ℕ) (width height raster : List ℕ) → IsInRaster limit front width height raster → is_white c ≡ true → RasterGoesOn limit front c width height raster (piece.Gap false)
@@ -92,7 +88,7 @@ values_next known values n t b e l m =
 
 pixels_next : (raster : List ℕ) (values : List Bool) (c : ℕ) (b : Bool) → pixels_of raster ≡ map pixel_code values → c ≡ pixel_code b → pixels_of (raster ++ c ∷ []) ≡ map pixel_code (values ++ b ∷ [])
 pixels_next raster values c b e k =
-    pixels_of-pixel raster c (rw k (code_not_white b)) ∙ rw (e, k) (sym (map_push pixel_code values b))
+    pixels_of-pixel raster c (rw k (code_is b).0) ∙ rw (e, k) (sym (map_push pixel_code values b))
 
 module _ (limit : ℕ) (X Y : Picture) (comment : Bool) (n : ℕ) (front : List ℕ) (b : Bool) where
   -- a pixel that is not the last
@@ -134,13 +130,9 @@ module _ (limit : ℕ) (X Y : Picture) (comment : Bool) (n : ℕ) (front : List 
         sides = s ∙ h.sides;
         values = rw filled p;
         filled = many ∙ sym box;
-        last = (length front, refl, (c, byte_then front rest c, rw g.1 (code_pixel b)));
+        last = (length front, refl, (c, rw append_assoc (byte_at front rest c), rw g.1 (code_is b).1));
         short = omega arith;
       }
-    where
-      byte_then : (front rest : List ℕ) (c : ℕ) → slice_get ((front ++ c ∷ []) ++ rest) (length front) ≡ Some c
-      byte_then [] rest c = refl
-      byte_then (x ∷ front) rest c = byte_then front rest c
 
   -- the last pixel, on a desk
   pub pixel_last : (longest at : ℕ) (all left : Option (List ℕ)) (ahead : List ℕ) (h : PictureSoFar limit X comment n front) (c : ℕ) → RasterGoesOn limit front c h.width h.height h.raster (piece.Pixel b) → Y.sides ≡ X.sides → Y.values ≡ put_value X.values n b → n + 1 ≡ number_value h.width * number_value h.height → length front < longest → BytesTaken longest at all left ahead (front ++ c ∷ []) → PictureRead limit longest all left Y
