@@ -3,7 +3,8 @@
 use Rattle.std.proofs.Common.{◌≡◌, ℕ, zero, suc, ◌+◌, ◌*◌, ◌<◌, ◌≤◌, Bool, true, false, List, [], ◌∷◌, ◌++◌, length, map, take, drop, Some, All, refl, sym, ap, ◌∙◌, subst, inl, inr, ⊎_elim, arith}
 use Rattle.std.specs.Prelude.{◌||◌, ◌==◌, ◌⊎◌, IsTrue, slice_get}
 use Rattle.std.proofs.lemmas.Bool.{cases_lt}
-use Rattle.std.proofs.lemmas.Option.{slice_get_within}
+use Rattle.std.proofs.lemmas.Option.{slice_get_within, get_or_from_slice_get}
+use Rattle.std.proofs.Math.Seq.{split_at}
 use Rattle.std.proofs.lemmas.List.{append_assoc, length-map, length-take-le, length_push, take-append-drop, take-take, take_all, take_at}
 use Rattle.std.proofs.lemmas.List.Elements.{All-take, All-same}
 use Rattle.shape_terms.specs.Points.{box_count}
@@ -18,10 +19,8 @@ use Rattle.shape_picture.proofs.FrontStates.{of_pixel, heading_run, in_raster_ru
 
 -- ---- lists
 
-split_got : (xs : List ℕ) (i c : ℕ) → slice_get xs i ≡ Some c → (xs ≡ take i xs ++ c ∷ drop (suc i) xs) × (length (take i xs) ≡ i)
-split_got [] i c e = absurd (cc)
-split_got (x ∷ xs) zero c e = let k : x ≡ c = cc in (ap (λ (y : ℕ). y ∷ xs) k, refl)
-split_got (x ∷ xs) (suc i) c e = let r = split_got xs i c e in (ap (λ (l : List ℕ). x ∷ l) r.0, ap suc r.1)
+split_got : (xs : List ℕ) (i c : ℕ) → slice_get xs i ≡ Some c → xs ≡ take i xs ++ c ∷ drop (suc i) xs
+split_got xs i c e = split_at xs i c (slice_get_within xs i c e) ∙ ap (λ (x : ℕ). take i xs ++ x ∷ drop (suc i) xs) (get_or_from_slice_get xs i c c e)
 
 record Last (xs : List ℕ) : Type 0 where
   front : List ℕ
@@ -97,9 +96,6 @@ module _ (limit longest : ℕ) (bytes : List ℕ) where
   whole_not_open : (X : Picture) (s : State) → IsWholePicture X s → IsOpenState limit s → ⊥
   whole_not_open X s h o = let l = subst (IsOpenState limit) h.is o in omega (arith, h.full)
 
-  whole_not_stop : (X : Picture) (s : State) (f : PictureFault) → IsWholePicture X s → s ≡ State.AtFault f → ⊥
-  whole_not_stop X s f h e = let k : State.AtRaster false h.w h.h h.pixels ≡ State.AtFault f = sym h.is ∙ e in cc
-
   same_whole : (X Y : Picture) (s : State) → IsWholePicture X s → IsWholePicture Y s → X ≡ Y
   same_whole X Y s a b =
       let e : State.AtRaster false a.w a.h a.pixels ≡ State.AtRaster false b.w b.h b.pixels = sym a.is ∙ b.is in
@@ -150,7 +146,7 @@ module _ (limit longest : ℕ) (bytes : List ℕ) where
       let r = split_got (take longest bytes) i c (got_taken bytes i longest l ∙ g) in
       let t : take i (take longest bytes) ≡ take i bytes = take-take i longest bytes (omega arith) in
       let rest = drop (suc i) (take longest bytes) in
-      ap (state_of limit) (r.0 ∙ ap (λ (x : List ℕ). x ++ c ∷ rest) t) ∙ onward limit (take i bytes) (c ∷ rest)
+      ap (state_of limit) (r ∙ ap (λ (x : List ℕ). x ++ c ∷ rest) t) ∙ onward limit (take i bytes) (c ∷ rest)
       ∙ ap (λ (s : State). run limit (length (take i bytes) + 1) s rest) (decided_step limit (take i bytes) c f d) ∙ run_stop limit rest (length (take i bytes) + 1) f
 
   ends : (f : PictureFault) → PlainFault limit longest bytes f → Ends f
@@ -159,9 +155,6 @@ module _ (limit longest : ℕ) (bytes : List ℕ) where
       inr (rw t (open_of limit bytes u), inl (omega arith, ap fault.Short e))
   ends fault.TooLong (l, u) = inr (open_of limit (take longest bytes) u, inr (l, refl))
   ends f p = inl (decided_end p.0 p.1 f p.2 p.3 p.4)
-
-  stop_not_open : (s : State) (f : PictureFault) → s ≡ State.AtFault f → IsOpenState limit s → ⊥
-  stop_not_open s f e o = subst (IsOpenState limit) e o
 
   -- ---- the laws
 
@@ -180,12 +173,12 @@ module _ (limit longest : ℕ) (bytes : List ℕ) where
   pub not_both : (X : Picture) (m : ℕ) (f : PictureFault) → Plain limit longest bytes X m → PlainFault limit longest bytes f → ⊥
   not_both X m f p g =
       let w = whole_from X m longest p p.short in
-      ⊎_elim (λ e. whole_not_stop X end_state f w e) (λ o. whole_not_open X end_state w o.0) (ends f g)
+      ⊎_elim (λ e. let k : State.AtRaster false w.w w.h w.pixels ≡ State.AtFault f = sym w.is ∙ e in cc) (λ o. whole_not_open X end_state w o.0) (ends f g)
 
   same_fault : (f g : PictureFault) → Ends f → Ends g → f ≡ g
   same_fault f g (inl a) (inl b) = let e : State.AtFault f ≡ State.AtFault g = sym a ∙ b in cc
-  same_fault f g (inl a) (inr b) = absurd (stop_not_open end_state f a b.0)
-  same_fault f g (inr a) (inl b) = absurd (stop_not_open end_state g b a.0)
+  same_fault f g (inl a) (inr b) = absurd (subst (IsOpenState limit) a b.0)
+  same_fault f g (inr a) (inl b) = absurd (subst (IsOpenState limit) b a.0)
   same_fault f g (inr (o, inl a)) (inr (p, inl b)) = a.1 ∙ sym b.1
   same_fault f g (inr (o, inl a)) (inr (p, inr b)) = absurd (omega (arith, a.0, b.0))
   same_fault f g (inr (o, inr a)) (inr (p, inl b)) = absurd (omega (arith, a.0, b.0))

@@ -16,10 +16,6 @@ use Rattle.shape_terms.specs.Pictures.{Picture}
 use Rattle.shape_picture.specs.Parts.{BytesTaken}
 use Rattle.shape_picture.proofs.Ahead.{taken_ahead}
 
--- a count that rose in a later part rose in the whole
-pub rose_earlier : (a b c : ℕ) → a ≤ b → Rose b c → Rose a c
-rose_earlier a b c l r = omega arith
-
 -- what is taken and ahead is not more than so many bytes
 pub taken_within : (longest at : ℕ) (all left : Option (List ℕ)) (ahead front : List ℕ) → BytesTaken longest at all left ahead front → TakesAtMost longest all left
 taken_within longest at all left ahead front h = record {
@@ -87,7 +83,7 @@ stops_long limit longest at all left ahead front before now h l u = record {
 
 -- an error of a later part is one of the whole
 pub stops_earlier : (limit longest : ℕ) (all left : Option (List ℕ)) (before mid now : ℕ) (e : PictureError) → before ≤ mid → ReadStopped limit longest all left mid now e → ReadStopped limit longest all left before now e
-stops_earlier limit longest all left before mid now error.ReadFault l h = record { comes = rose_earlier before mid now l h.comes; within = h.within }
+stops_earlier limit longest all left before mid now error.ReadFault l h = record { comes = (let r = h.comes in omega arith); within = h.within }
 stops_earlier limit longest all left before mid now e l h = record { comes = h.comes; within = h.within }
 
 -- an answer of a later part is one of the whole

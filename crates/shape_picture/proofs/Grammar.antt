@@ -1,9 +1,9 @@
 -- How a front of a plain PBM goes on by one byte.
 -- Facts of the grammar alone: no machine occurs here.
-use Rattle.std.proofs.Common.{◌≡◌, ℕ, ◌+◌, ◌-◌, ◌*◌, ◌<◌, ◌≤◌, true, false, List, [], ◌∷◌, ◌++◌, refl, sym, ap, inl, inr, arith, Some, cond}
-use Rattle.std.specs.Prelude.{◌||◌, codes, IsTrue, slice_get, filter, not}
+use Rattle.std.proofs.Common.{◌≡◌, ℕ, ◌+◌, ◌-◌, ◌*◌, ◌<◌, ◌≤◌, true, false, List, [], ◌∷◌, ◌++◌, refl, sym, ap, inl, inr, arith, Some}
+use Rattle.std.specs.Prelude.{◌||◌, codes, IsTrue, slice_get, not}
 use Rattle.std.proofs.lemmas.List.{append_assoc, append-nil}
-use Rattle.std.proofs.lemmas.List.Elements.{All-nil, All-push}
+use Rattle.std.proofs.lemmas.List.Elements.{All-nil, All-push, filter-append}
 use Rattle.std.proofs.lemmas.Grind.{fold-append}
 use Rattle.shape_picture.specs.Plain.{is_white, is_line_end, is_pixel, IsDigit, IsGap, IsGapPiece, IsSide, IsInWidth, IsInHeight, IsInRaster, IsInPicture, number_value, pixels_of}
 use Rattle.shape_picture.specs.Header.{GapLeadsTo, CommentLeadsTo}
@@ -166,19 +166,10 @@ module _ (limit : ℕ) where
     front_is = glue_byte front h.before h.gap raster c h.front_is;
   }
 
--- the last element is kept or dropped by itself
-filter_push : (p : ℕ → _) (xs : List ℕ) (c : ℕ) → filter p (xs ++ c ∷ []) ≡ filter p xs ++ cond (p c) (c ∷ []) []
-filter_push p [] c = refl
-filter_push p (x ∷ xs) c = cases (p x) (filter_push p xs c)
-  where
-    cases : (b : _) → filter p (xs ++ c ∷ []) ≡ filter p xs ++ cond (p c) (c ∷ []) [] → cond b (x ∷ filter p (xs ++ c ∷ [])) (filter p (xs ++ c ∷ [])) ≡ cond b (x ∷ filter p xs) (filter p xs) ++ cond (p c) (c ∷ []) []
-    cases true e = ap (λ (l : List ℕ). x ∷ l) e
-    cases false e = e
-
 -- white space adds no pixel
 pub pixels_of-white : (raster : List ℕ) (c : ℕ) → is_white c ≡ true → pixels_of (raster ++ c ∷ []) ≡ pixels_of raster
-pixels_of-white raster c e = rw (filter_push (λ c. not (is_white c)) raster c, e, append-nil) refl
+pixels_of-white raster c e = rw (filter-append (λ c. not (is_white c)) raster (c ∷ []), e, append-nil) refl
 
 -- another byte adds itself
 pub pixels_of-pixel : (raster : List ℕ) (c : ℕ) → is_white c ≡ false → pixels_of (raster ++ c ∷ []) ≡ pixels_of raster ++ c ∷ []
-pixels_of-pixel raster c e = rw (filter_push (λ c. not (is_white c)) raster c, e) refl
+pixels_of-pixel raster c e = rw (filter-append (λ c. not (is_white c)) raster (c ∷ []), e) refl

@@ -1,7 +1,7 @@
 -- Each step of the raster's machine keeps what is known of the pixels, or finds the fault that the byte decides.
 -- The steps are those of the code; the meanings are those of `Plain`.
-use Rattle.std.proofs.Common.{◌≡◌, ◌≢◌, ℕ, suc, ◌+◌, ◌-◌, ◌*◌, ◌<◌, ◌≤◌, Bool, true, false, cond, List, [], ◌∷◌, ◌++◌, length, set, map, replicate, Option, None, Some, Ok, Err, refl, sym, ap, ◌∙◌, inl, inr, ⊎_elim, arith}
-use Rattle.std.specs.Prelude.{◌&&◌, ◌==◌, slice_get}
+use Rattle.std.proofs.Common.{◌≡◌, ◌≢◌, ℕ, suc, ◌+◌, ◌-◌, ◌*◌, ◌<◌, Bool, true, false, cond, List, [], ◌∷◌, ◌++◌, length, set, map, replicate, Option, None, Some, Ok, Err, refl, sym, ap, ◌∙◌, inl, inr, ⊎_elim, arith}
+use Rattle.std.specs.Prelude.{◌&&◌, ◌==◌}
 use Rattle.std.proofs.lemmas.Bool.{cases_Bool, eqb-true, eqb-false, and_parts, and_cases, or_from, or_left, or_right, or_cases, cond_both}
 use Rattle.std.proofs.lemmas.List.{append_assoc, append-nil, length-map, length_push, map_push, take_at, set_at}
 use Rattle.shape_terms.specs.Points.{box_count}
@@ -179,8 +179,5 @@ pixels_start limit w h X n front (width, height, a, b, r) e s =
       sides = ap (λ (X : Picture). X.sides) e ∙ sides;
       pixels = refl;
       count = refl;
-      values = ap (λ (X : Picture). X.values) e ∙ ap (λ (i : ℕ). replicate i false) (ap box_count sides ∙ one_less (number_value width) (number_value height));
+      values = ap (λ (X : Picture). X.values) e ∙ ap (λ (i : ℕ). replicate i false) (ap box_count sides ∙ (let q : number_value width * (number_value height * 1) ≡ number_value width * number_value height - 0 = grind arith in q));
     }
-  where
-    one_less : (a b : ℕ) → a * (b * 1) ≡ a * b - 0
-    one_less a b = grind arith

@@ -33,8 +33,7 @@ returns-in-Ok-Done-clause-answer g c =
 pub loop-at-preserved : goal.loop-at-preserved
 loop-at-preserved g c =
     let i = c.loop-at.invariant.0 in
-    let e = rw c.in-Ok-More.field-0-is at c.in-Ok-More.ensures in
-    (
+    let e = rw c.in-Ok-More.field-0-is at c.in-Ok-More.ensures in (
       record {
         front = _;
         reached = subst (λ x. StepAnswer most_side i.front c.in-Ok.c x) (sym e) (step_answer most_side c.loop-at.at c.loop-at.header i.front c.in-Ok.c (sym i.taken.many) i.reached);
