@@ -9,8 +9,9 @@ ghost use Rattle.shape_check.specs.Checks.{Answer, Checks};
 ghost use Rattle.shape_check.specs.declared.answer.CheckFault.TheVariants.{NoMemory};
 ghost use Rattle.shape_check.specs.declared.answer.Judgement.TheVariants.{Yes};
 
-/// A report that holds of a picture shows what it says: the counts of the picture, and a nearest
-/// background point of the whole space for each object point, in raster order.
+/// A report that holds of a picture shows what it says: the counts of the picture; a nearest
+/// background point of the whole space for each object point, in raster order; and, where the picture
+/// is flat, its contours, each from its least crack and with its points, its segments and its gaps.
 #[tactic(auto, using(report_terms::proofs::HoldsShows::holds_shows))]
 pub fn holding_shows()
     ensures { (X : Picture) (text : List ℕ) → Holds X text → TextShows X text }

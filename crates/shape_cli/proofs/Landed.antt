@@ -6,7 +6,7 @@ use Rattle.shape_desk.specs.Desk.{DeskState, Rose, Puts, PutsFront}
 use Rattle.shape_picture.specs.declared.fault.PictureFault.{PictureFault}
 use Rattle.shape_check.specs.declared.answer.Judgement.TheVariants as judgement
 use Rattle.shape_cli.specs.Commands.{Source, Asked, IsInRange, Asks, words_of, source_of}
-use Rattle.shape_cli.specs.Runs.{Answers, Lacks, CutShort, IsFaultOf, Ran}
+use Rattle.shape_cli.specs.Runs.{Answers, Lacks, CutShort, TookFew, IsFaultOf, Ran}
 use Rattle.shape_cli.specs.Complete.{IsAnswer, HasRun}
 use Rattle.shape_cli.specs.Landed.{Analyses, Checks, WroteFor, CutFor, GaveVerdict, CutVerdict, LacksPicture, LacksFile, IsBeforeWrites, IsRefused, IsAnalysed, IsJudged, SaysOutcome, ComesOut}
 use Rattle.shape_cli.specs.declared.outcome.Outcome.{Outcome}
@@ -27,24 +27,24 @@ module _ (words : List (List ℕ)) (old new : DeskState) where
 
   yes_of : (c : Asked) → words ≡ words_of c → Ran c old new outcome.Yes → Checks words (λ file report. GaveVerdict file report old new judgement.Yes)
   yes_of (Asked.Analyse (Source.Pbm file) rule) w r = absurd r.right
-  yes_of (Asked.Check (Source.Pbm file) report) w r = let a = r.right in (file, report, w, record { picture = a.1.0; spells = a.1.1; right = a.1.2; puts = subst (λ t. Puts old.written new.written t) a.0 r.puts })
+  yes_of (Asked.Check (Source.Pbm file) report) w r = let a = r.right in (file, report, w, record { picture = a.1.0; spells = a.1.1; right = a.1.2; puts = subst (λ t. Puts old.written new.written t) a.0 r.puts; taken = r.taken })
 
   no_of : (k : ℕ) (c : Asked) → words ≡ words_of c → Ran c old new (outcome.No k) → Checks words (λ file report. GaveVerdict file report old new (judgement.No k))
   no_of k (Asked.Analyse (Source.Pbm file) rule) w r = absurd r.right
-  no_of k (Asked.Check (Source.Pbm file) report) w r = let a = r.right in (file, report, w, record { picture = a.1.0; spells = a.1.1; right = a.1.2; puts = subst (λ t. Puts old.written new.written t) a.0 r.puts })
+  no_of k (Asked.Check (Source.Pbm file) report) w r = let a = r.right in (file, report, w, record { picture = a.1.0; spells = a.1.1; right = a.1.2; puts = subst (λ t. Puts old.written new.written t) a.0 r.puts; taken = r.taken })
 
   cut_report : (file rule text : List ℕ) (o : Outcome) → Answers (Asked.Analyse (Source.Pbm file) rule) old.files o text → PutsFront old.written new.written text → Rose old.write_faults new.write_faults → CutFor file old new
   cut_report file rule text outcome.Done a p f = record { picture = a.0; spells = a.1; text = text; right = a.2; puts = p; cause = f }
   cut_report file rule text _ a p f = absurd a
 
-  cut_verdict : (file report text : List ℕ) (o : Outcome) → Answers (Asked.Check (Source.Pbm file) report) old.files o text → PutsFront old.written new.written text → Rose old.write_faults new.write_faults → CutVerdict file report old new
-  cut_verdict file report text outcome.Yes a p f = record { verdict = judgement.Yes; picture = a.1.0; spells = a.1.1; right = a.1.2; puts = subst (λ t. PutsFront old.written new.written t) a.0 p; cause = f }
-  cut_verdict file report text (outcome.No k) a p f = record { verdict = judgement.No k; picture = a.1.0; spells = a.1.1; right = a.1.2; puts = subst (λ t. PutsFront old.written new.written t) a.0 p; cause = f }
-  cut_verdict file report text _ a p f = absurd a
+  cut_verdict : (file report text : List ℕ) (o : Outcome) → Answers (Asked.Check (Source.Pbm file) report) old.files o text → PutsFront old.written new.written text → Rose old.write_faults new.write_faults → TookFew (Asked.Check (Source.Pbm file) report) old new → CutVerdict file report old new
+  cut_verdict file report text outcome.Yes a p f t = record { verdict = judgement.Yes; picture = a.1.0; spells = a.1.1; right = a.1.2; puts = subst (λ w. PutsFront old.written new.written w) a.0 p; cause = f; taken = t }
+  cut_verdict file report text (outcome.No k) a p f t = record { verdict = judgement.No k; picture = a.1.0; spells = a.1.1; right = a.1.2; puts = subst (λ w. PutsFront old.written new.written w) a.0 p; cause = f; taken = t }
+  cut_verdict file report text _ a p f t = absurd a
 
   cut_of : (c : Asked) → IsInRange c → words ≡ words_of c → CutShort c old new → Analyses words (λ file. CutFor file old new) ⊎ Checks words (λ file report. CutVerdict file report old new)
   cut_of (Asked.Analyse (Source.Pbm file) rule) i w r = inl (file, with_none file rule i w, cut_report file rule r.text r.outcome r.right r.puts r.cause)
-  cut_of (Asked.Check (Source.Pbm file) report) i w r = inr (file, report, w, cut_verdict file report r.text r.outcome r.right r.puts r.cause)
+  cut_of (Asked.Check (Source.Pbm file) report) i w r = inr (file, report, w, cut_verdict file report r.text r.outcome r.right r.puts r.cause r.taken)
 
   fault_of : (f : PictureFault) (c : Asked) → IsInRange c → words ≡ words_of c → IsFaultOf old.files (source_of c) f → Analyses words (λ file. IsFaultOf old.files (Source.Pbm file) f) ⊎ Checks words (λ file report. IsFaultOf old.files (Source.Pbm file) f)
   fault_of f (Asked.Analyse (Source.Pbm file) rule) i w r = inl (file, with_none file rule i w, r)

@@ -9,7 +9,7 @@ use Rattle.shape_check.specs.declared.answer.Judgement.{Judgement}
 use Rattle.shape_check.specs.declared.answer.Judgement.TheVariants as judgement
 use Rattle.shape_cli.specs.Commands.{Source, Asked, words_of}
 use Rattle.shape_cli.specs.Parts.{verdict_text, IsRight}
-use Rattle.shape_cli.specs.Runs.{OfFile, IsPictureOf, IsFaultOf}
+use Rattle.shape_cli.specs.Runs.{OfFile, IsPictureOf, IsFaultOf, TookFew}
 use Rattle.shape_cli.specs.Complete.{FileIs, FindsSome, FindsFault}
 use Rattle.shape_cli.specs.declared.outcome.Outcome.{Outcome}
 use Rattle.shape_cli.specs.declared.outcome.Outcome.TheVariants as outcome
@@ -45,6 +45,7 @@ pub record GaveVerdict (file report : List ℕ) (old new : DeskState) (v : Judge
   pub spells : IsPictureOf old.files (Source.Pbm file) picture
   pub right : OfFile old.files report (IsRight picture v)
   pub puts : Puts old.written new.written (verdict_text v)
+  pub taken : TookFew (Asked.Check (Source.Pbm file) report) old new
 
 -- a write failed, and a front of the right verdict was written
 pub record CutVerdict (file report : List ℕ) (old new : DeskState) : Type 0 where
@@ -54,6 +55,7 @@ pub record CutVerdict (file report : List ℕ) (old new : DeskState) : Type 0 wh
   pub right : OfFile old.files report (IsRight picture verdict)
   pub puts : PutsFront old.written new.written (verdict_text verdict)
   pub cause : Rose old.write_faults new.write_faults
+  pub taken : TookFew (Asked.Check (Source.Pbm file) report) old new
 
 -- a read failed, or the picture's file is missing
 abbrev pub LacksPicture : List ℕ → DeskState → DeskState → Type 0

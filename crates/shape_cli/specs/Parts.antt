@@ -4,9 +4,10 @@ use Rattle.std.specs.Prelude.{◌⊎◌, ℕ, List, ⊤, Result, Ok, Err}
 use Rattle.shape_terms.specs.Pictures.{Picture}
 use Rattle.report_terms.specs.Holds.{FirstBad}
 use Rattle.shape_desk.specs.Desk.{DeskState, Rose, IsMissing}
+use Rattle.shape_desk.specs.declared.desk.Place.TheVariants.{Report}
 use Rattle.shape_picture.specs.declared.fault.PictureError.{PictureError}
 use Rattle.shape_picture.specs.declared.fault.PictureError.TheVariants as error
-use Rattle.shape_check.specs.Checks.{IsLineNumber}
+use Rattle.shape_check.specs.Checks.{IsLineNumber, TakesFew}
 use Rattle.shape_check.specs.declared.answer.Judgement.{Judgement}
 use Rattle.shape_check.specs.declared.answer.Judgement.TheVariants as judgement
 use Rattle.shape_check.specs.declared.answer.CheckFault.{CheckFault}
@@ -38,6 +39,6 @@ IsCounted (judgement.No k) = IsLineNumber k
 
 -- what the judging of a report's file gives
 abbrev pub Judged : Picture → List ℕ → DeskState → DeskState → Result Judgement CheckFault → Type 0
-Judged X report old new (Ok v) = IsCounted v × OfFile old.files report (IsRight X v)
+Judged X report old new (Ok v) = IsCounted v × OfFile old.files report (IsRight X v) × OfFile old.files report (λ bytes. TakesFew X bytes (new.left Report))
 Judged X report old new (Err check.ReadFault) = Rose old.read_faults new.read_faults ⊎ IsMissing old.files report
 Judged X report old new (Err check.NoMemory) = ⊤

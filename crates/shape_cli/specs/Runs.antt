@@ -6,9 +6,11 @@ use Rattle.shape_terms.specs.Pictures.{Picture}
 use Rattle.report_terms.specs.Holds.{Holds, FirstBad}
 use Rattle.report_terms.specs.Shows.{TextShows}
 use Rattle.shape_desk.specs.Desk.{Files, DeskState, Rose, IsMissing, Puts, PutsFront}
+use Rattle.shape_desk.specs.declared.desk.Place.TheVariants.{Report}
 use Rattle.shape_picture.specs.Plain.{PlainFault}
 use Rattle.shape_picture.specs.Answers.{most_side, most_bytes, SpellsPicture}
 use Rattle.shape_picture.specs.declared.fault.PictureFault.{PictureFault}
+use Rattle.shape_check.specs.Checks.{TakesFew}
 use Rattle.shape_cli.specs.Commands.{Source, Asked, file_of, source_of}
 use Rattle.shape_cli.specs.declared.outcome.Outcome.{Outcome}
 use Rattle.shape_cli.specs.declared.outcome.Outcome.TheVariants as outcome
@@ -67,11 +69,17 @@ Lacks (Asked.Check source report) files = IsMissing files (file_of source) ⊎ (
 
 -- ---- runs
 
+-- of a report, good lines for the picture and at most 2048 bytes more were taken, and the rest is left at its place
+abbrev pub TookFew : Asked → DeskState → DeskState → Type 0
+TookFew (Asked.Analyse source rule) old new = ⊤
+TookFew (Asked.Check source report) old new = OfPicture old.files source (λ X. OfFile old.files report (λ bytes. TakesFew X bytes (new.left Report)))
+
 -- the whole answer was written
 pub record Answered (c : Asked) (old new : DeskState) (o : Outcome) : Type 0 where
   pub text : List ℕ
   pub right : Answers c old.files o text
   pub puts : Puts old.written new.written text
+  pub taken : TookFew c old new
 
 -- a write failed, and a front of a right answer was written
 pub record CutShort (c : Asked) (old new : DeskState) : Type 0 where
@@ -80,6 +88,7 @@ pub record CutShort (c : Asked) (old new : DeskState) : Type 0 where
   pub right : Answers c old.files outcome text
   pub puts : PutsFront old.written new.written text
   pub cause : Rose old.write_faults new.write_faults
+  pub taken : TookFew c old new
 
 -- nothing was written
 abbrev pub IsSilent : DeskState → DeskState → Type 0

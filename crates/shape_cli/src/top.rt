@@ -15,6 +15,7 @@ use std::alloc::Global;
 ///
 /// The words are judged first, without memory and without the desk; then the picture is read; then, for a check, the
 /// report; then the output is written. Want of memory may be answered at any time after the words.
+/// Of a report that got its verdict, the bytes of its good lines were taken, and at most 2048 more.
 pub fn run<D: Desk>(alloc: Global, words: &[Vec<u8>], desk: &mut D) -> Outcome
     ensures usage { (result ≡ Outcome.Usage) ↔ IsNoForm (texts words.now) }
     ensures untouched { result ≡ Outcome.Usage → desk.new ≡ desk.old }

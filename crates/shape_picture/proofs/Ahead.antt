@@ -5,11 +5,6 @@ use Rattle.std.proofs.lemmas.List.{append_assoc, drop_more}
 use Rattle.shape_desk.specs.Desk.{Takes}
 use Rattle.shape_desk.specs.Line.{ahead_of}
 
--- taking no byte
-pub Takes-none : (a : Option (List ℕ)) → Takes a a []
-Takes-none None = refl
-Takes-none (Some xs) = refl
-
 -- taking some bytes and then others
 pub Takes-more : (a b c : Option (List ℕ)) (xs ys : List ℕ) → Takes a b xs → Takes b c ys → Takes a c (xs ++ ys)
 Takes-more a b None xs ys p q = rw q at p

@@ -1,8 +1,10 @@
 -- A file spells at most one picture or has at most one fault, and not both: each answer is read off one state.
 -- The law's second half, which the machine of `Machine` decides.
 use Rattle.std.proofs.Common.{◌≡◌, ℕ, zero, suc, ◌+◌, ◌*◌, ◌<◌, ◌≤◌, Bool, true, false, List, [], ◌∷◌, ◌++◌, length, map, take, drop, Some, All, refl, sym, ap, ◌∙◌, subst, inl, inr, ⊎_elim, arith}
-use Rattle.std.specs.Prelude.{◌||◌, ◌⊎◌, IsTrue, slice_get}
+use Rattle.std.specs.Prelude.{◌||◌, ◌==◌, ◌⊎◌, IsTrue, slice_get}
 use Rattle.std.proofs.lemmas.Bool.{cases_lt}
+use Rattle.std.proofs.lemmas.Option.{slice_get_within, get_or_from_slice_get}
+use Rattle.std.proofs.Math.Seq.{split_at}
 use Rattle.std.proofs.lemmas.List.{append_assoc, length-map, length-take-le, length_push, take-append-drop, take-take, take_all, take_at}
 use Rattle.std.proofs.lemmas.List.Elements.{All-take, All-same}
 use Rattle.shape_terms.specs.Points.{box_count}
@@ -10,16 +12,15 @@ use Rattle.shape_terms.specs.Pictures.{Picture}
 use Rattle.shape_picture.specs.declared.fault.PictureFault.{PictureFault}
 use Rattle.shape_picture.specs.declared.fault.PictureFault.TheVariants as fault
 use Rattle.shape_picture.specs.Plain.{is_white, is_pixel, pixel_code, pixels_of, number_value, Plain, PlainFault, DecidesFault}
-use Rattle.shape_picture.proofs.Grammar.{pixels_of-pixel}
+use Rattle.shape_picture.proofs.Grammar.{some_pixels, times_one, pixels_of-pixel}
+use Rattle.shape_picture.proofs.ByteSteps.{byte_at}
 use Rattle.shape_picture.proofs.Machine.{State, run, state_of, onward, run_full, run_stop, IsOpenState}
-use Rattle.shape_picture.proofs.FrontStates.{not_white_of_pixel, heading_run, in_raster_run, open_of, decided_step}
+use Rattle.shape_picture.proofs.FrontStates.{of_pixel, heading_run, in_raster_run, open_of, decided_step}
 
 -- ---- lists
 
-split_got : (xs : List ℕ) (i c : ℕ) → slice_get xs i ≡ Some c → (xs ≡ take i xs ++ c ∷ drop (suc i) xs) × (length (take i xs) ≡ i)
-split_got [] i c e = absurd (cc)
-split_got (x ∷ xs) zero c e = let k : x ≡ c = cc in (ap (λ (y : ℕ). y ∷ xs) k, refl)
-split_got (x ∷ xs) (suc i) c e = let r = split_got xs i c e in (ap (λ (l : List ℕ). x ∷ l) r.0, ap suc r.1)
+split_got : (xs : List ℕ) (i c : ℕ) → slice_get xs i ≡ Some c → xs ≡ take i xs ++ c ∷ drop (suc i) xs
+split_got xs i c e = split_at xs i c (slice_get_within xs i c e) ∙ ap (λ (x : ℕ). take i xs ++ x ∷ drop (suc i) xs) (get_or_from_slice_get xs i c c e)
 
 record Last (xs : List ℕ) : Type 0 where
   front : List ℕ
@@ -31,10 +32,7 @@ last_of x [] = record { front = []; last = x; is = refl }
 last_of x (y ∷ xs) = let r = last_of y xs in record { front = x ∷ r.front; last = r.last; is = ap (λ (l : List ℕ). x ∷ l) r.is }
 
 got_last : (xs : List ℕ) (d k c : ℕ) → length xs ≡ k → slice_get (xs ++ d ∷ []) k ≡ Some c → d ≡ c
-got_last [] d zero c e g = cc
-got_last [] d (suc k) c e g = absurd (omega arith)
-got_last (x ∷ xs) d zero c e g = absurd (omega arith)
-got_last (x ∷ xs) d (suc k) c e g = got_last xs d k c (omega arith) g
+got_last xs d k c e g = let s : Some d ≡ Some c = sym (byte_at xs [] d) ∙ ap (λ (i : ℕ). slice_get (xs ++ d ∷ []) i) e ∙ g in cc
 
 got_taken : (xs : List ℕ) (k m : ℕ) → k < m → slice_get (take m xs) k ≡ slice_get xs k
 got_taken xs k zero l = absurd (omega arith)
@@ -42,26 +40,13 @@ got_taken [] k (suc m) l = refl
 got_taken (x ∷ xs) zero (suc m) l = refl
 got_taken (x ∷ xs) (suc k) (suc m) l = got_taken xs k m (omega arith)
 
-got_within : (xs : List ℕ) (k c : ℕ) → slice_get xs k ≡ Some c → k < length xs
-got_within [] k c e = absurd (cc)
-got_within (x ∷ xs) zero c e = omega arith
-got_within (x ∷ xs) (suc k) c e = let l = got_within xs k c e in omega arith
-
-code_injective : (a b : Bool) → pixel_code a ≡ pixel_code b → a ≡ b
-code_injective true true e = refl
-code_injective false false e = refl
-code_injective true false e = absurd (omega arith)
-code_injective false true e = absurd (omega arith)
+decoded : (xs : List Bool) → map (λ c. c == 49) (map pixel_code xs) ≡ xs
+decoded [] = refl
+decoded (true ∷ xs) = ap (λ (l : List Bool). true ∷ l) (decoded xs)
+decoded (false ∷ xs) = ap (λ (l : List Bool). false ∷ l) (decoded xs)
 
 codes_injective : (xs ys : List Bool) → map pixel_code xs ≡ map pixel_code ys → xs ≡ ys
-codes_injective [] [] e = refl
-codes_injective [] (y ∷ ys) e = absurd (cc)
-codes_injective (x ∷ xs) [] e = absurd (cc)
-codes_injective (x ∷ xs) (y ∷ ys) e =
-    let h : pixel_code x ≡ pixel_code y = cc in
-    let t : map pixel_code xs ≡ map pixel_code ys = cc in
-    let a = code_injective x y h in
-    let b = codes_injective xs ys t in cc
+codes_injective xs ys e = sym (decoded xs) ∙ ap (map (λ c. c == 49)) e ∙ decoded ys
 
 same_by_parts : {R : Type 0} (f : List ℕ → List Bool → R) (a c : List ℕ) (b d : List Bool) → a ≡ c → b ≡ d → f a b ≡ f c d
 same_by_parts f a c b d x y = cc
@@ -85,9 +70,6 @@ module _ (limit longest : ℕ) (bytes : List ℕ) where
     full : w * h ≤ length pixels
     sides : X.sides ≡ w ∷ h ∷ []
     values : pixels ≡ map pixel_code X.values
-
-  times_one : (a b : ℕ) → a * (b * 1) ≡ a * b
-  times_one a b = grind arith
 
   whole_pixels : (X : Picture) (m : ℕ) (p : Plain limit longest bytes X m) → length (pixels_of p.raster) ≡ number_value p.width * number_value p.height
   whole_pixels X m p = ap length p.values ∙ length-map X.values pixel_code ∙ p.filled ∙ ap box_count p.sides ∙ times_one (number_value p.width) (number_value p.height)
@@ -114,9 +96,6 @@ module _ (limit longest : ℕ) (bytes : List ℕ) where
   whole_not_open : (X : Picture) (s : State) → IsWholePicture X s → IsOpenState limit s → ⊥
   whole_not_open X s h o = let l = subst (IsOpenState limit) h.is o in omega (arith, h.full)
 
-  whole_not_stop : (X : Picture) (s : State) (f : PictureFault) → IsWholePicture X s → s ≡ State.AtFault f → ⊥
-  whole_not_stop X s f h e = let k : State.AtRaster false h.w h.h h.pixels ≡ State.AtFault f = sym h.is ∙ e in cc
-
   same_whole : (X Y : Picture) (s : State) → IsWholePicture X s → IsWholePicture Y s → X ≡ Y
   same_whole X Y s a b =
       let e : State.AtRaster false a.w a.h a.pixels ≡ State.AtRaster false b.w b.h b.pixels = sym a.is ∙ b.is in
@@ -130,9 +109,6 @@ module _ (limit longest : ℕ) (bytes : List ℕ) where
   last_part [] l = absurd (omega arith)
   last_part (x ∷ raster) l = last_of x raster
 
-  some_product : (a b : ℕ) → 1 ≤ a → 1 ≤ b → 0 < a * b
-  some_product a b l m = grind arith
-
   open_last : (X : Picture) (m : ℕ) (p : Plain limit longest bytes X m) → IsOpenState limit (state_of limit (take p.last.0 bytes))
   open_last X m p =
       let k = p.last.0 in
@@ -141,19 +117,19 @@ module _ (limit longest : ℕ) (bytes : List ℕ) where
       let w = number_value p.width in
       let h = number_value p.height in
       let e = whole_pixels X m p in
-      let some = some_product w h i.in_height.width_done.value.0 i.height_done.value.0 in
+      let some = some_pixels w h i.in_height.width_done.value.0 i.height_done.value.0 in
       let r = last_part p.raster (omega arith) in
       let head = i.before ++ i.gap ++ r.front in
       let km : k + 1 ≡ m = p.last.1 in
       let split : take m bytes ≡ head ++ r.last ∷ [] = i.front_is ∙ ap (λ (x : List ℕ). i.before ++ i.gap ++ x) r.is ∙ sym (append_assoc (i.before ++ i.gap) r.front (r.last ∷ [])) in
-      let within : k < length bytes = got_within bytes k c p.last.2.1 in
+      let within : k < length bytes = slice_get_within bytes k c p.last.2.1 in
       let full : length (take m bytes) ≡ m = length-take-le m bytes (omega arith) in
       let len : length head ≡ k = omega (arith, ap length split, length_push head r.last) in
       let got : slice_get (head ++ r.last ∷ []) k ≡ Some c = ap (λ (x : List ℕ). slice_get x k) (sym split) ∙ got_taken bytes k m (omega arith) ∙ p.last.2.1 in
       let same : r.last ≡ c = got_last head r.last k c len got in
       let pixel : is_pixel r.last ≡ true = rw same p.last.2.2 in
       let before : take k bytes ≡ head = sym (take-take k m bytes (omega arith)) ∙ ap (take k) split ∙ take_at head (r.last ∷ []) k len in
-      let pixels : pixels_of p.raster ≡ pixels_of r.front ++ r.last ∷ [] = ap pixels_of r.is ∙ pixels_of-pixel r.front r.last (not_white_of_pixel r.last pixel) in
+      let pixels : pixels_of p.raster ≡ pixels_of r.front ++ r.last ∷ [] = ap pixels_of r.is ∙ pixels_of-pixel r.front r.last (of_pixel r.last pixel).0 in
       let one_less : length (pixels_of r.front) + 1 ≡ w * h = sym (length_push (pixels_of r.front) r.last) ∙ sym (ap length pixels) ∙ e in
       let all : All (λ c. IsTrue (is_pixel c || is_white c)) r.front = All-same (λ c. IsTrue (is_pixel c || is_white c)) r.front (take (length r.front) p.raster) (sym (ap (take (length r.front)) r.is ∙ take_at r.front (r.last ∷ []) (length r.front) refl)) (All-take (λ c. IsTrue (is_pixel c || is_white c)) (length r.front) p.raster i.bytes) in
       let state : state_of limit (take k bytes) ≡ State.AtRaster false w h (pixels_of r.front) = ap (state_of limit) before ∙ heading_run limit i.before p.width p.height i.gap r.front i.in_height i.height_done i.is_gap all (omega (arith, one_less)) in
@@ -170,22 +146,15 @@ module _ (limit longest : ℕ) (bytes : List ℕ) where
       let r = split_got (take longest bytes) i c (got_taken bytes i longest l ∙ g) in
       let t : take i (take longest bytes) ≡ take i bytes = take-take i longest bytes (omega arith) in
       let rest = drop (suc i) (take longest bytes) in
-      ap (state_of limit) (r.0 ∙ ap (λ (x : List ℕ). x ++ c ∷ rest) t) ∙ onward limit (take i bytes) (c ∷ rest)
+      ap (state_of limit) (r ∙ ap (λ (x : List ℕ). x ++ c ∷ rest) t) ∙ onward limit (take i bytes) (c ∷ rest)
       ∙ ap (λ (s : State). run limit (length (take i bytes) + 1) s rest) (decided_step limit (take i bytes) c f d) ∙ run_stop limit rest (length (take i bytes) + 1) f
 
   ends : (f : PictureFault) → PlainFault limit longest bytes f → Ends f
-  ends fault.NotPlain (i, c, l, g, d) = inl (decided_end i c fault.NotPlain l g d)
-  ends (fault.BadNumber n) (i, c, l, g, d) = inl (decided_end i c (fault.BadNumber n) l g d)
-  ends fault.ZeroSide (i, c, l, g, d) = inl (decided_end i c fault.ZeroSide l g d)
-  ends (fault.SideTooLarge n) (i, c, l, g, d) = inl (decided_end i c (fault.SideTooLarge n) l g d)
-  ends (fault.BadByte n) (i, c, l, g, d) = inl (decided_end i c (fault.BadByte n) l g d)
   ends (fault.Short n) (e, l, u) =
       let t : take longest bytes ≡ bytes = take_all longest bytes (omega arith) in
       inr (rw t (open_of limit bytes u), inl (omega arith, ap fault.Short e))
   ends fault.TooLong (l, u) = inr (open_of limit (take longest bytes) u, inr (l, refl))
-
-  stop_not_open : (s : State) (f : PictureFault) → s ≡ State.AtFault f → IsOpenState limit s → ⊥
-  stop_not_open s f e o = subst (IsOpenState limit) e o
+  ends f p = inl (decided_end p.0 p.1 f p.2 p.3 p.4)
 
   -- ---- the laws
 
@@ -204,12 +173,12 @@ module _ (limit longest : ℕ) (bytes : List ℕ) where
   pub not_both : (X : Picture) (m : ℕ) (f : PictureFault) → Plain limit longest bytes X m → PlainFault limit longest bytes f → ⊥
   not_both X m f p g =
       let w = whole_from X m longest p p.short in
-      ⊎_elim (λ e. whole_not_stop X end_state f w e) (λ o. whole_not_open X end_state w o.0) (ends f g)
+      ⊎_elim (λ e. let k : State.AtRaster false w.w w.h w.pixels ≡ State.AtFault f = sym w.is ∙ e in cc) (λ o. whole_not_open X end_state w o.0) (ends f g)
 
   same_fault : (f g : PictureFault) → Ends f → Ends g → f ≡ g
   same_fault f g (inl a) (inl b) = let e : State.AtFault f ≡ State.AtFault g = sym a ∙ b in cc
-  same_fault f g (inl a) (inr b) = absurd (stop_not_open end_state f a b.0)
-  same_fault f g (inr a) (inl b) = absurd (stop_not_open end_state g b a.0)
+  same_fault f g (inl a) (inr b) = absurd (subst (IsOpenState limit) a b.0)
+  same_fault f g (inr a) (inl b) = absurd (subst (IsOpenState limit) b a.0)
   same_fault f g (inr (o, inl a)) (inr (p, inl b)) = a.1 ∙ sym b.1
   same_fault f g (inr (o, inl a)) (inr (p, inr b)) = absurd (omega (arith, a.0, b.0))
   same_fault f g (inr (o, inr a)) (inr (p, inl b)) = absurd (omega (arith, a.0, b.0))

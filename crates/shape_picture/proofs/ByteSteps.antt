@@ -16,10 +16,6 @@ use Rattle.shape_terms.specs.Pictures.{Picture}
 use Rattle.shape_picture.specs.Parts.{BytesTaken}
 use Rattle.shape_picture.proofs.Ahead.{taken_ahead}
 
--- a count that rose in a later part rose in the whole
-pub rose_earlier : (a b c : ℕ) → a ≤ b → Rose b c → Rose a c
-rose_earlier a b c l r = omega arith
-
 -- what is taken and ahead is not more than so many bytes
 pub taken_within : (longest at : ℕ) (all left : Option (List ℕ)) (ahead front : List ℕ) → BytesTaken longest at all left ahead front → TakesAtMost longest all left
 taken_within longest at all left ahead front h = record {
@@ -29,14 +25,11 @@ taken_within longest at all left ahead front h = record {
 }
 
 -- the byte behind a front
-byte_at : (front rest : List ℕ) (c : ℕ) → slice_get (front ++ c ∷ rest) (length front) ≡ Some c
+pub byte_at : (front rest : List ℕ) (c : ℕ) → slice_get (front ++ c ∷ rest) (length front) ≡ Some c
 byte_at [] rest c = refl
 byte_at (x ∷ front) rest c = byte_at front rest c
 
 module _ (limit longest : ℕ) where
-  short_bytes : (front : List ℕ) (at : ℕ) → length front ≡ at → at < longest → IsUnfinished limit front → PlainFault limit longest front (fault.Short at)
-  short_bytes front at e l u = (sym e, l, u)
-
   -- the file ends too early
   pub short_fault : (all left : Option (List ℕ)) (front : List ℕ) (at : ℕ) → Takes all left front → IsEnd left → length front ≡ at → at < longest → IsUnfinished limit front → IfTold all (λ bytes. PlainFault limit longest bytes (fault.Short at))
   short_fault all None front at e z l m u = rw e tt
@@ -50,13 +43,9 @@ module _ (limit longest : ℕ) where
       rw e (omega (arith, length-append front xs), rw t u)
 
   decided : (front rest : List ℕ) (c : ℕ) (f : PictureFault) → length front < longest → DecidesFault limit front c f → PlainFault limit longest (front ++ c ∷ rest) f
-  decided front rest c fault.NotPlain l d = (length front, c, l, byte_at front rest c, rw (take_at front (c ∷ rest) (length front) refl) d)
-  decided front rest c (fault.BadNumber i) l d = (length front, c, l, byte_at front rest c, rw (take_at front (c ∷ rest) (length front) refl) d)
-  decided front rest c fault.ZeroSide l d = (length front, c, l, byte_at front rest c, rw (take_at front (c ∷ rest) (length front) refl) d)
-  decided front rest c (fault.SideTooLarge v) l d = (length front, c, l, byte_at front rest c, rw (take_at front (c ∷ rest) (length front) refl) d)
-  decided front rest c (fault.BadByte i) l d = (length front, c, l, byte_at front rest c, rw (take_at front (c ∷ rest) (length front) refl) d)
   decided front rest c (fault.Short i) l d = absurd d
   decided front rest c fault.TooLong l d = absurd d
+  decided front rest c f l d = (length front, c, l, byte_at front rest c, rw (take_at front (c ∷ rest) (length front) refl) d)
 
   -- the byte just taken decides
   pub byte_fault : (all left : Option (List ℕ)) (front : List ℕ) (c : ℕ) (f : PictureFault) → Takes all left (front ++ c ∷ []) → length front < longest → DecidesFault limit front c f → IfTold all (λ bytes. PlainFault limit longest bytes f)
@@ -94,9 +83,8 @@ stops_long limit longest at all left ahead front before now h l u = record {
 
 -- an error of a later part is one of the whole
 pub stops_earlier : (limit longest : ℕ) (all left : Option (List ℕ)) (before mid now : ℕ) (e : PictureError) → before ≤ mid → ReadStopped limit longest all left mid now e → ReadStopped limit longest all left before now e
-stops_earlier limit longest all left before mid now (error.Bad f) l h = record { comes = h.comes; within = h.within }
-stops_earlier limit longest all left before mid now error.ReadFault l h = record { comes = rose_earlier before mid now l h.comes; within = h.within }
-stops_earlier limit longest all left before mid now error.NoMemory l h = record { comes = tt; within = h.within }
+stops_earlier limit longest all left before mid now error.ReadFault l h = record { comes = (let r = h.comes in omega arith); within = h.within }
+stops_earlier limit longest all left before mid now e l h = record { comes = h.comes; within = h.within }
 
 -- an answer of a later part is one of the whole
 pub answer_earlier : (limit longest : ℕ) (all left : Option (List ℕ)) (before mid now : ℕ) (r : Result Picture PictureError) → before ≤ mid → PictureAnswer limit longest all left mid now r → PictureAnswer limit longest all left before now r

@@ -1,8 +1,8 @@
 -- The state that each front of the grammar leads to, and the fault that each byte that decides leads to.
 -- Used by the law alone.
-use Rattle.std.proofs.Common.{◌≡◌, ◌≢◌, ℕ, zero, suc, ◌+◌, ◌-◌, ◌*◌, ◌<◌, ◌≤◌, Bool, true, false, eqb, ltb, List, [], ◌∷◌, ◌++◌, length, take, Some, Err, All, refl, sym, ap, ◌∙◌, subst, inl, inr, ⊎_elim, arith}
+use Rattle.std.proofs.Common.{◌≡◌, ◌≢◌, ℕ, zero, suc, ◌+◌, ◌-◌, ◌*◌, ◌<◌, ◌≤◌, true, false, eqb, List, [], ◌∷◌, ◌++◌, length, take, Some, Err, All, refl, sym, ap, ◌∙◌, subst, inl, inr, ⊎_elim, arith}
 use Rattle.std.specs.Prelude.{◌||◌, ◌&&◌, ◌==◌, IsTrue, codes, slice_get}
-use Rattle.std.proofs.lemmas.Bool.{cases_Bool, eqb-true, ne_eqb, or_cases, or_parts, lt-ltb, and_from, and_left, and_right, false≢true, eq-eqb}
+use Rattle.std.proofs.lemmas.Bool.{cases_Bool, cases_lt, eqb-true, ne_eqb, or_cases, or_parts, lt-ltb, and_from, and_left, and_right, false≢true, eq-eqb}
 use Rattle.std.proofs.lemmas.List.{append_assoc, append-nil, length-append}
 use Rattle.std.proofs.lemmas.List.Elements.{All-head, All-tail}
 use Rattle.shape_picture.specs.declared.fault.PictureFault.{PictureFault}
@@ -13,63 +13,46 @@ use Rattle.shape_picture.specs.declared.header.Coming.{Coming}
 use Rattle.shape_picture.specs.declared.header.Coming.TheVariants as coming
 use Rattle.shape_picture.specs.Plain.{is_white, is_line_end, is_pixel, is_stop, pixels_of, IsDigit, IsGap, IsSide, IsInHeight, IsInRaster, IsInSide, IsUnfinished, MayComment, number_value, DecidesFault, IsWrongMagic}
 use Rattle.shape_picture.specs.Header.{is_digit, before_side, after_side, digit_step}
-use Rattle.shape_picture.proofs.Grammar.{number_value-push}
+use Rattle.shape_picture.proofs.Grammar.{some_pixels, number_value-push}
 use Rattle.shape_picture.proofs.HeaderSteps.{digit_is}
-use Rattle.shape_picture.proofs.Machine.{State, state_step, run, state_of, side_state, OpensGap, onward, width_run, height_run, gap_run, side_to, magic_to, gap_to, raster_to, text_run, digit_yes, white_not_digit, IsOpenState}
+use Rattle.shape_picture.proofs.Machine.{State, state_step, full_step, run, state_of, side_state, OpensGap, onward, width_run, height_run, gap_run, side_to, magic_to, gap_to, raster_to, text_run, digit_yes, white_not_digit, IsOpenState}
 
-pub not_white_of_pixel : (c : ℕ) → is_pixel c ≡ true → is_white c ≡ false
-not_white_of_pixel c e =
-    ⊎_elim (λ a. let f : c ≡ 48 = eqb-true c 48 a in rw f refl) (λ a. let f : c ≡ 49 = eqb-true c 49 a in rw f refl) (or_cases (c == 48) (c == 49) e)
-
-not_hash_of_pixel : (c : ℕ) → is_pixel c ≡ true → eqb c 35 ≡ false
-not_hash_of_pixel c e =
-    ⊎_elim (λ a. let f : c ≡ 48 = eqb-true c 48 a in rw f refl) (λ a. let f : c ≡ 49 = eqb-true c 49 a in rw f refl) (or_cases (c == 48) (c == 49) e)
-
-length_more : (px : List ℕ) (c : ℕ) (rest : List ℕ) → (px ++ c ∷ []) ++ rest ≡ px ++ c ∷ rest
-length_more px c rest = append_assoc px (c ∷ []) rest
+pub of_pixel : (c : ℕ) → is_pixel c ≡ true → (is_white c ≡ false) × (eqb c 35 ≡ false)
+of_pixel c e =
+    ⊎_elim (λ a. let f : c ≡ 48 = eqb-true c 48 a in rw f (refl, refl)) (λ a. let f : c ≡ 49 = eqb-true c 49 a in rw f (refl, refl)) (or_cases (c == 48) (c == 49) e)
 
 module _ (limit : ℕ) where
   pixel_step : (at w h : ℕ) (px : List ℕ) (c : ℕ) → length px < w * h → is_pixel c ≡ true → state_step limit at (State.AtRaster false w h px) c ≡ State.AtRaster false w h (px ++ c ∷ [])
-  pixel_step at w h px c l p = rw (lt-ltb (length px) (w * h) l, not_white_of_pixel c p, and_right (eqb (length px) 0) (eqb c 35) (not_hash_of_pixel c p), p) refl
+  pixel_step at w h px c l p = rw (lt-ltb (length px) (w * h) l, (of_pixel c p).0, and_right (eqb (length px) 0) (eqb c 35) (of_pixel c p).1, p) refl
 
   white_step : (at w h : ℕ) (px : List ℕ) (c : ℕ) → is_white c ≡ true → state_step limit at (State.AtRaster false w h px) c ≡ State.AtRaster false w h px
-  white_step at w h px c e = cases (ltb (length px) (w * h)) refl
-    where
-      cases : (b : Bool) → ltb (length px) (w * h) ≡ b → state_step limit at (State.AtRaster false w h px) c ≡ State.AtRaster false w h px
-      cases true l = rw (l, e) refl
-      cases false l = rw l refl
-
-  raster_more : (w h at : ℕ) (px raster : List ℕ) (c : ℕ) (b : Bool) → is_white c ≡ b → (is_pixel c || is_white c) ≡ true → length px + length (pixels_of (c ∷ raster)) ≤ w * h
-      → ((px : List ℕ) → length px + length (pixels_of raster) ≤ w * h → run limit (at + 1) (State.AtRaster false w h px) raster ≡ State.AtRaster false w h (px ++ pixels_of raster))
-      → run limit at (State.AtRaster false w h px) (c ∷ raster) ≡ State.AtRaster false w h (px ++ pixels_of (c ∷ raster))
-  raster_more w h at px raster c true e k l rest =
-      let less : length px + length (pixels_of raster) ≤ w * h = rw e at l in rw (white_step at w h px c e, e) (rest px less)
-  raster_more w h at px raster c false e k l rest =
-      let p : is_pixel c ≡ true = ⊎_elim (λ x. x) (λ x. absurd (false≢true (sym e ∙ x))) (or_cases (is_pixel c) (is_white c) k) in
-      let less : length px + length (c ∷ pixels_of raster) ≤ w * h = rw e at l in
-      rw (pixel_step at w h px c (omega arith) p, e)
-      (rest (px ++ c ∷ []) (omega (arith, length-append px (c ∷ []))) ∙ ap (λ (p : List ℕ). State.AtRaster false w h p) (length_more px c (pixels_of raster)))
+  white_step at w h px c e = ⊎_elim (λ l. rw (lt-ltb (length px) (w * h) l, e) refl) (λ l. full_step limit at c w h false px l) (cases_lt (length px) (w * h))
 
   raster_run : (w h at : ℕ) (px raster : List ℕ) → All (λ c. IsTrue (is_pixel c || is_white c)) raster → length px + length (pixels_of raster) ≤ w * h → run limit at (State.AtRaster false w h px) raster ≡ State.AtRaster false w h (px ++ pixels_of raster)
   raster_run w h at px [] a l = ap (λ (p : List ℕ). State.AtRaster false w h p) (sym (append-nil px))
   raster_run w h at px (c ∷ raster) a l =
-      let tail = All-tail (λ c. IsTrue (is_pixel c || is_white c)) c raster a in
-      raster_more w h at px raster c (is_white c) refl (All-head (λ c. IsTrue (is_pixel c || is_white c)) c raster a) l (λ px l. raster_run w h (at + 1) px raster tail l)
+      let P = λ (c : ℕ). IsTrue (is_pixel c || is_white c) in
+      let tail = All-tail P c raster a in
+      ⊎_elim
+      (λ e. let less : length px + length (pixels_of raster) ≤ w * h = rw e at l in rw (white_step at w h px c e, e) (raster_run w h (at + 1) px raster tail less))
+      (λ e.
+      let p : is_pixel c ≡ true = ⊎_elim (λ x. x) (λ x. absurd (false≢true (sym e ∙ x))) (or_cases (is_pixel c) (is_white c) (All-head P c raster a)) in
+      let less : length px + length (c ∷ pixels_of raster) ≤ w * h = rw e at l in
+      rw (pixel_step at w h px c (omega arith) p, e)
+      (raster_run w h (at + 1) (px ++ c ∷ []) raster tail (omega (arith, length-append px (c ∷ []))) ∙ ap (λ (p : List ℕ). State.AtRaster false w h p) (append_assoc px (c ∷ []) (pixels_of raster))))
+      (cases_Bool (is_white c))
 
   -- a header, a gap and some bytes of the raster
   pub heading_run : (before width height gap raster : List ℕ) → IsInHeight limit before width height → IsSide limit height → IsGap gap → All (λ c. IsTrue (is_pixel c || is_white c)) raster → length (pixels_of raster) ≤ number_value width * number_value height → state_of limit (before ++ gap ++ raster) ≡ State.AtRaster false (number_value width) (number_value height) (pixels_of raster)
   heading_run before width height gap raster i d g a l =
       let w = number_value width in
       let h = number_value height in
-      let some = some_product w h i.width_done.value.0 d.value.0 in
+      let some = some_pixels w h i.width_done.value.0 d.value.0 in
       onward limit (before ++ gap) raster
       ∙ ap (λ (s : State). run limit (length (before ++ gap)) s raster)
       (onward limit before gap ∙ ap (λ (s : State). run limit (length before) s gap) (height_run limit before width height i)
       ∙ gap_run limit (coming.Raster w h) (side_state limit (side.Height w) height) gap (length before) (raster_to limit w h some) (side_to limit (side.Height w) height d) g)
       ∙ raster_run w h (length (before ++ gap)) [] raster a (omega (arith, l))
-    where
-      some_product : (a b : ℕ) → 1 ≤ a → 1 ≤ b → 0 < a * b
-      some_product a b l m = grind arith
 
   pub in_raster_run : (front width height raster : List ℕ) → IsInRaster limit front width height raster → length (pixels_of raster) ≤ number_value width * number_value height → state_of limit front ≡ State.AtRaster false (number_value width) (number_value height) (pixels_of raster)
   in_raster_run front width height raster h l = rw h.front_is (heading_run h.before width height h.gap raster h.in_height h.height_done h.is_gap h.bytes l)
@@ -146,7 +129,7 @@ module _ (limit : ℕ) where
   none_yet : (raster : List ℕ) → ((c : ℕ) → slice_get raster 0 ≡ Some c → IsTrue (is_pixel c)) → length (pixels_of raster) ≡ 0 → raster ≡ []
   none_yet [] b e = refl
   none_yet (x ∷ raster) b e =
-      let k : is_white x ≡ false = not_white_of_pixel x (b x refl) in
+      let k : is_white x ≡ false = (of_pixel x (b x refl)).0 in
       let n : suc (length (pixels_of raster)) ≡ 0 = rw k at e in absurd (omega arith)
 
   byte_step : (at c : ℕ) (w h : ℕ) (raster : List ℕ) → ((c : ℕ) → slice_get raster 0 ≡ Some c → IsTrue (is_pixel c)) → length (pixels_of raster) < w * h → (raster ≡ [] → c ≢ 35) → (is_pixel c || is_white c) ≡ false → state_step limit at (State.AtRaster false w h (pixels_of raster)) c ≡ State.AtFault (fault.BadByte at)
@@ -166,14 +149,11 @@ module _ (limit : ℕ) where
       let p = or_parts (is_white c) (c == 35) w in rw (k, j, p.0, p.1) refl
   magic_step (x ∷ y ∷ z ∷ zs) c e w = absurd w
 
-  at_place : (i n : ℕ) → i ≡ n → State.AtFault (fault.BadNumber n) ≡ State.AtFault (fault.BadNumber i)
-  at_place i n e = ap (λ (k : ℕ). State.AtFault (fault.BadNumber k)) (sym e)
-
   pub decided_step : (front : List ℕ) (c : ℕ) (f : PictureFault) → DecidesFault limit front c f → state_step limit (length front) (state_of limit front) c ≡ State.AtFault f
   decided_step front c fault.NotPlain d = magic_step front c d.0 d.1
   decided_step front c (fault.BadNumber i) (e, (digits, h), t, n) =
       let r = in_side_run front digits h in
-      ap (λ (s : State). state_step limit (length front) s c) r.1 ∙ bad_step r.0 digits (length front) c (digit_no c n) t ∙ at_place i (length front) e
+      ap (λ (s : State). state_step limit (length front) s c) r.1 ∙ bad_step r.0 digits (length front) c (digit_no c n) t ∙ ap (λ (k : ℕ). State.AtFault (fault.BadNumber k)) (sym e)
   decided_step front c fault.ZeroSide (digits, h, l, z, t) =
       let r = in_side_run front digits h in
       ap (λ (s : State). state_step limit (length front) s c) r.1 ∙ zero_step r.0 digits (length front) c l z t

@@ -1,9 +1,9 @@
 -- How a front of a plain PBM goes on by one byte.
 -- Facts of the grammar alone: no machine occurs here.
-use Rattle.std.proofs.Common.{◌≡◌, ℕ, ◌+◌, ◌-◌, ◌*◌, ◌<◌, ◌≤◌, true, false, List, [], ◌∷◌, ◌++◌, refl, sym, ap, inl, inr, arith, Some, cond}
-use Rattle.std.specs.Prelude.{◌||◌, codes, IsTrue, slice_get, filter, not}
+use Rattle.std.proofs.Common.{◌≡◌, ℕ, ◌+◌, ◌-◌, ◌*◌, ◌<◌, ◌≤◌, true, false, List, [], ◌∷◌, ◌++◌, refl, sym, ap, inl, inr, arith, Some}
+use Rattle.std.specs.Prelude.{◌||◌, codes, IsTrue, slice_get, not}
 use Rattle.std.proofs.lemmas.List.{append_assoc, append-nil}
-use Rattle.std.proofs.lemmas.List.Elements.{All-nil, All-push}
+use Rattle.std.proofs.lemmas.List.Elements.{All-nil, All-push, filter-append}
 use Rattle.std.proofs.lemmas.Grind.{fold-append}
 use Rattle.shape_picture.specs.Plain.{is_white, is_line_end, is_pixel, IsDigit, IsGap, IsGapPiece, IsSide, IsInWidth, IsInHeight, IsInRaster, IsInPicture, number_value, pixels_of}
 use Rattle.shape_picture.specs.Header.{GapLeadsTo, CommentLeadsTo}
@@ -22,6 +22,15 @@ glue_byte front a b d c e = rw (e, append_assoc) refl
 glue_text : (front a d : List ℕ) (c : ℕ) → front ≡ a ++ 35 ∷ d → front ++ c ∷ [] ≡ a ++ 35 ∷ (d ++ c ∷ [])
 glue_text front a d c e = rw (e, append_assoc) refl
 
+-- ---- numbers
+
+-- a picture has pixels
+pub some_pixels : (w h : ℕ) → 1 ≤ w → 1 ≤ h → 0 < w * h
+some_pixels w h a b = grind arith
+
+pub times_one : (a b : ℕ) → a * (b * 1) ≡ a * b
+times_one a b = grind arith
+
 -- ---- gaps
 
 -- a gap goes on by a piece
@@ -30,79 +39,49 @@ gap_push {piece} (IsGap.one {piece = p} h) q = IsGap.more p piece h (IsGap.one q
 gap_push {piece} (IsGap.more p gap h g) q = rw append_assoc (IsGap.more p (gap ++ piece) h (gap_push g q))
 
 module _ (limit : ℕ) where
+  -- a gap and nothing after it
+  in_width : {front : List ℕ} (gap : List ℕ) → IsGap gap → front ≡ codes "P1" ++ gap ++ [] → IsInWidth limit front []
+  in_width gap g e = record { gap = gap; is_gap = g; digits_only = All-nil IsDigit; within = omega arith; front_is = e }
+
+  in_height : {front width : List ℕ} (before gap : List ℕ) → IsInWidth limit before width → IsSide limit width → IsGap gap → front ≡ before ++ gap ++ [] → IsInHeight limit front width []
+  in_height before gap i d g e = record { before = before; gap = gap; in_width = i; width_done = d; is_gap = g; digits_only = All-nil IsDigit; within = omega arith; front_is = e }
+
+  in_raster : {front width height : List ℕ} (before gap : List ℕ) → IsInHeight limit before width height → IsSide limit height → IsGap gap → front ≡ before ++ gap ++ [] → IsInRaster limit front width height []
+  in_raster before gap i d g e = record {
+    before = before;
+    gap = gap;
+    in_height = i;
+    height_done = d;
+    is_gap = g;
+    begins = λ c e. absurd (cc);
+    bytes = All-nil (λ c. IsTrue (is_pixel c || is_white c));
+    front_is = e;
+  }
+
   -- the six places where a gap may begin or go on, and what it leads to
   pub magic_opens : (front : List ℕ) → front ≡ codes "P1" → GapLeadsTo limit (λ f. IsInWidth limit f []) front
-  magic_opens front e = record {
-    may = inl e;
-    onward = λ piece p. record {
-      gap = piece;
-      is_gap = IsGap.one p;
-      digits_only = All-nil IsDigit;
-      within = omega arith;
-      front_is = rw e (glue_open (codes "P1") piece);
-    };
-  }
+  magic_opens front e = record { may = inl e; onward = λ piece p. in_width piece (IsGap.one p) (rw e (glue_open (codes "P1") piece)) }
 
   pub width_opens : (front : List ℕ) → IsInWidth limit front [] → GapLeadsTo limit (λ f. IsInWidth limit f []) front
   width_opens front h = record {
     may = inr (inl ([], inl h, inl refl));
-    onward = λ piece p. record {
-      gap = h.gap ++ piece;
-      is_gap = gap_push h.is_gap p;
-      digits_only = All-nil IsDigit;
-      within = omega arith;
-      front_is = glue_gap front (codes "P1") h.gap piece h.front_is;
-    };
+    onward = λ piece p. in_width (h.gap ++ piece) (gap_push h.is_gap p) (glue_gap front (codes "P1") h.gap piece h.front_is);
   }
 
   pub width_done_opens : (front digits : List ℕ) → IsInWidth limit front digits → IsSide limit digits → GapLeadsTo limit (λ f. IsInHeight limit f digits []) front
-  width_done_opens front digits h s = record {
-    may = inr (inl (digits, inl h, inr s));
-    onward = λ piece p. record {
-      before = front;
-      gap = piece;
-      in_width = h;
-      width_done = s;
-      is_gap = IsGap.one p;
-      digits_only = All-nil IsDigit;
-      within = omega arith;
-      front_is = glue_open front piece;
-    };
-  }
+  width_done_opens front digits h s = record { may = inr (inl (digits, inl h, inr s)); onward = λ piece p. in_height front piece h s (IsGap.one p) (glue_open front piece) }
 
   pub height_opens : (front width : List ℕ) → IsInHeight limit front width [] → GapLeadsTo limit (λ f. IsInHeight limit f width []) front
   height_opens front width h = record {
     may = inr (inl ([], inr (width, h), inl refl));
-    onward = λ piece p. record {
-      before = h.before;
-      gap = h.gap ++ piece;
-      in_width = h.in_width;
-      width_done = h.width_done;
-      is_gap = gap_push h.is_gap p;
-      digits_only = All-nil IsDigit;
-      within = omega arith;
-      front_is = glue_gap front h.before h.gap piece h.front_is;
-    };
+    onward = λ piece p. in_height h.before (h.gap ++ piece) h.in_width h.width_done (gap_push h.is_gap p) (glue_gap front h.before h.gap piece h.front_is);
   }
 
   pub height_done_opens : (front width digits : List ℕ) → IsInHeight limit front width digits → IsSide limit digits → GapLeadsTo limit (λ f. IsInRaster limit f width digits []) front
   height_done_opens front width digits h s = record {
     may = inr (inl (digits, inr (width, h), inr s));
-    onward = λ piece p. record {
-      before = front;
-      gap = piece;
-      in_height = h;
-      height_done = s;
-      is_gap = IsGap.one p;
-      begins = λ c e. absurd (cc);
-      bytes = All-nil (λ c. IsTrue (is_pixel c || is_white c));
-      front_is = glue_open front piece;
-    };
+    onward = λ piece p. in_raster front piece h s (IsGap.one p) (glue_open front piece);
   }
-
-  -- a picture has pixels
-  some_pixels : (w h : ℕ) → 1 ≤ w → 1 ≤ h → 0 < w * h
-  some_pixels w h a b = grind arith
 
   pub none_yet : (front width height : List ℕ) → IsInRaster limit front width height [] → IsInPicture limit front []
   none_yet front width height h = (width, height, h, some_pixels (number_value width) (number_value height) h.in_height.width_done.value.0 h.height_done.value.0)
@@ -110,16 +89,7 @@ module _ (limit : ℕ) where
   pub raster_opens : (front width height : List ℕ) → IsInRaster limit front width height [] → GapLeadsTo limit (λ f. IsInRaster limit f width height []) front
   raster_opens front width height h = record {
     may = inr (inr (none_yet front width height h));
-    onward = λ piece p. record {
-      before = h.before;
-      gap = h.gap ++ piece;
-      in_height = h.in_height;
-      height_done = h.height_done;
-      is_gap = gap_push h.is_gap p;
-      begins = h.begins;
-      bytes = h.bytes;
-      front_is = glue_gap front h.before h.gap piece h.front_is;
-    };
+    onward = λ piece p. in_raster h.before (h.gap ++ piece) h.in_height h.height_done (gap_push h.is_gap p) (glue_gap front h.before h.gap piece h.front_is);
   }
 
   -- ---- a byte more in a gap or a comment
@@ -196,19 +166,10 @@ module _ (limit : ℕ) where
     front_is = glue_byte front h.before h.gap raster c h.front_is;
   }
 
--- the last element is kept or dropped by itself
-filter_push : (p : ℕ → _) (xs : List ℕ) (c : ℕ) → filter p (xs ++ c ∷ []) ≡ filter p xs ++ cond (p c) (c ∷ []) []
-filter_push p [] c = refl
-filter_push p (x ∷ xs) c = cases (p x) (filter_push p xs c)
-  where
-    cases : (b : _) → filter p (xs ++ c ∷ []) ≡ filter p xs ++ cond (p c) (c ∷ []) [] → cond b (x ∷ filter p (xs ++ c ∷ [])) (filter p (xs ++ c ∷ [])) ≡ cond b (x ∷ filter p xs) (filter p xs) ++ cond (p c) (c ∷ []) []
-    cases true e = ap (λ (l : List ℕ). x ∷ l) e
-    cases false e = e
-
 -- white space adds no pixel
 pub pixels_of-white : (raster : List ℕ) (c : ℕ) → is_white c ≡ true → pixels_of (raster ++ c ∷ []) ≡ pixels_of raster
-pixels_of-white raster c e = rw (filter_push (λ c. not (is_white c)) raster c, e, append-nil) refl
+pixels_of-white raster c e = rw (filter-append (λ c. not (is_white c)) raster (c ∷ []), e, append-nil) refl
 
 -- another byte adds itself
 pub pixels_of-pixel : (raster : List ℕ) (c : ℕ) → is_white c ≡ false → pixels_of (raster ++ c ∷ []) ≡ pixels_of raster ++ c ∷ []
-pixels_of-pixel raster c e = rw (filter_push (λ c. not (is_white c)) raster c, e) refl
+pixels_of-pixel raster c e = rw (filter-append (λ c. not (is_white c)) raster (c ∷ []), e) refl

@@ -26,8 +26,7 @@ not_digit c e d = false≢true (sym e ∙ and_from (leb 48 c) (leb c 57) (le-leb
 module _ (limit : ℕ) where
   gap_comes : (t : Coming) (front : List ℕ) → IsInGap limit t front → ProgressReached limit (gap_of t) front
   gap_comes coming.Width front h = h
-  gap_comes (coming.Height w) front h = h
-  gap_comes (coming.Raster w h) front i = i
+  gap_comes _ front h = h
 
   -- a byte where a gap may begin or go on
   opened_answer : (t : Coming) (front : List ℕ) (c : ℕ) (other : PictureFault) → GapLeadsTo limit (IsInGap limit t) front → (is_stop c ≡ false → DecidesFault limit front c other) → StepAnswer limit front c (opened t c other)
@@ -137,9 +136,5 @@ module _ (limit : ℕ) where
 
   -- the digits so far are within the limit
   pub small : (s : Header) (front : List ℕ) → HeaderReached limit s front → IsSmall limit s
-  small header.Start front h = tt
-  small header.Letter front h = tt
-  small header.Magic front h = tt
-  small (header.Gap s) front h = tt
-  small (header.Comment t) front h = tt
   small (header.Digits s v) front h = rw h.value at (small_digits s front h.digits h.within)
+  small _ front h = tt

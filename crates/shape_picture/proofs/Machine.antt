@@ -31,8 +31,7 @@ after_progress (Ok (progress.Done w h)) = State.AtRaster false w h []
 after_progress (Err f) = State.AtFault f
 
 abbrev pub after_piece : ℕ → ℕ → List ℕ → ℕ → Result Piece PictureFault → State
-after_piece w h px c (Ok piece.Gap) = State.AtRaster false w h px
-after_piece w h px c (Ok piece.Comment) = State.AtRaster true w h px
+after_piece w h px c (Ok (piece.Gap k)) = State.AtRaster k w h px
 after_piece w h px c (Ok (piece.Pixel b)) = State.AtRaster false w h (px ++ c ∷ [])
 after_piece w h px c (Err f) = State.AtFault f
 

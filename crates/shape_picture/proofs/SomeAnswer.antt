@@ -1,6 +1,6 @@
 -- A file spells a picture or has a fault: the machines are run over it, and each state's meaning is kept.
 -- The law's first half; the second is `AtMostOne`.
-use Rattle.std.proofs.Common.{◌≡◌, ℕ, ◌+◌, ◌*◌, ◌<◌, ◌≤◌, Bool, true, false, List, [], ◌∷◌, ◌++◌, length, Some, Ok, Err, Result, refl, sym, ap, ◌∙◌, subst, inl, inr, ⊎_elim, arith}
+use Rattle.std.proofs.Common.{◌≡◌, ℕ, ◌+◌, ◌*◌, ◌<◌, ◌≤◌, Bool, false, List, [], ◌∷◌, ◌++◌, length, Some, Ok, Err, Result, refl, sym, ap, ◌∙◌, subst, inl, inr, ⊎_elim, arith}
 use Rattle.std.specs.Prelude.{◌⊎◌}
 use Rattle.std.proofs.lemmas.Bool.{cases_lt}
 use Rattle.std.proofs.lemmas.List.{append_assoc, length_push}
@@ -19,7 +19,7 @@ use Rattle.shape_picture.specs.Raster.{PictureSoFar, PieceAnswer, piece_of}
 use Rattle.shape_picture.specs.Answers.{SpellsSome, HasFault}
 use Rattle.shape_picture.proofs.HeaderSteps.{step_answer, unfinished}
 use Rattle.shape_picture.proofs.ByteSteps.{short_fault, long_fault, byte_fault}
-use Rattle.shape_picture.proofs.RasterSteps.{piece_answer, raster_unfinished, gap_next, comment_next, pixel_next, put_value, spelled, pixels_start}
+use Rattle.shape_picture.proofs.RasterSteps.{piece_answer, raster_unfinished, gap_next, pixel_next, put_value, spelled, pixels_start}
 
 module _ (limit longest : ℕ) (bytes : List ℕ) where
   -- the bytes have an answer
@@ -29,12 +29,14 @@ module _ (limit longest : ℕ) (bytes : List ℕ) where
   one_more : (front rest : List ℕ) (c : ℕ) → bytes ≡ front ++ c ∷ rest → bytes ≡ (front ++ c ∷ []) ++ rest
   one_more front rest c e = e ∙ sym (append_assoc front (c ∷ []) rest)
 
-  -- where the bytes that are looked at end
-  long_answer : (front rest : List ℕ) → bytes ≡ front ++ rest → longest ≡ length front → IsUnfinished limit front → HasAnswer
-  long_answer front rest e l u = inr (fault.TooLong, long_fault limit longest (Some bytes) (Some rest) front (ap Some e) (sym l) u)
+  -- the bytes that are looked at end behind the front, or go on
+  or_long : (front rest : List ℕ) → bytes ≡ front ++ rest → length front ≤ longest → IsUnfinished limit front → (length front < longest → HasAnswer) → HasAnswer
+  or_long front rest e l u go =
+      ⊎_elim go (λ m. inr (fault.TooLong, long_fault limit longest (Some bytes) (Some rest) front (ap Some e) (omega arith) u)) (cases_lt (length front) longest)
 
-  short_answer : (front : List ℕ) → bytes ≡ front ++ [] → length front < longest → IsUnfinished limit front → HasAnswer
-  short_answer front e l u = inr (fault.Short (length front), short_fault limit longest (Some bytes) (Some []) front (length front) (ap Some e) refl refl l u)
+  ended : (front : List ℕ) → bytes ≡ front ++ [] → length front ≤ longest → IsUnfinished limit front → HasAnswer
+  ended front e l u =
+      or_long front [] e l u (λ m. inr (fault.Short (length front), short_fault limit longest (Some bytes) (Some []) front (length front) (ap Some e) refl refl m u))
 
   -- what the rest of the raster gives
   abbrev FromRaster : List ℕ → Type 0
@@ -43,25 +45,20 @@ module _ (limit longest : ℕ) (bytes : List ℕ) where
   by_piece : (rest : List ℕ) → FromRaster rest → (X : Picture) (comment : Bool) (n : ℕ) (front : List ℕ) (c : ℕ) (h : PictureSoFar limit X comment n front) → length front < longest → bytes ≡ (front ++ c ∷ []) ++ rest
       → (r : Result Piece PictureFault) → PieceAnswer limit front c h.width h.height h.raster r → HasAnswer
   by_piece rest go X comment n front c h l e (Err f) d = inr (f, byte_fault limit longest (Some bytes) (Some rest) front c f (ap Some e) l d)
-  by_piece rest go X comment n front c h l e (Ok piece.Gap) g = go X false n (front ++ c ∷ []) (gap_next limit X comment n front h c g) (omega (arith, length_push front c)) e
-  by_piece rest go X comment n front c h l e (Ok piece.Comment) g = go X true n (front ++ c ∷ []) (comment_next limit X comment n front h c g) (omega (arith, length_push front c)) e
+  by_piece rest go X comment n front c h l e (Ok (piece.Gap k)) g = go X k n (front ++ c ∷ []) (gap_next limit X comment k n front h c g) (omega (arith, length_push front c)) e
   by_piece rest go X comment n front c h l e (Ok (piece.Pixel b)) g =
       let Y : Picture = record { sides = X.sides; values = put_value X.values n b } in
       ⊎_elim (λ m. go Y false (n + 1) (front ++ c ∷ []) (pixel_next limit X Y comment n front b h c g refl refl m) (omega (arith, length_push front c)) e)
       (λ m.
-      let k : n + 1 ≡ number_value h.width * number_value h.height = omega (arith, h.within.fewer) in
+      let k : n + 1 ≡ number_value h.width * number_value h.height = omega (arith, h.fewer) in
       inl (Y, (length front + 1, subst (λ (x : List ℕ). Plain limit longest x Y (length front + 1)) (sym e) (spelled limit X Y comment n front b longest rest h c g refl refl k l))))
       (cases_lt (n + 1) (number_value h.width * number_value h.height))
 
   from_raster : (rest : List ℕ) → FromRaster rest
-  from_raster [] X comment n front h l e =
-      let u = raster_unfinished limit n comment front h.width h.height h.raster h.within in
-      ⊎_elim (λ m. short_answer front e m u) (λ m. long_answer front [] e (omega arith) u) (cases_lt (length front) longest)
+  from_raster [] X comment n front h l e = ended front e l (raster_unfinished limit h)
   from_raster (c ∷ rest) X comment n front h l e =
-      let u = raster_unfinished limit n comment front h.width h.height h.raster h.within in
       let go = from_raster rest in
-      ⊎_elim (λ m. by_piece rest go X comment n front c h m (one_more front rest c e) (piece_of comment n (length front) c) (piece_answer limit (length front) n comment front c h.width h.height h.raster refl h.within))
-      (λ m. long_answer front (c ∷ rest) e (omega arith) u) (cases_lt (length front) longest)
+      or_long front (c ∷ rest) e l (raster_unfinished limit h) (λ m. by_piece rest go X comment n front c h m (one_more front rest c e) (piece_of comment n (length front) c) (piece_answer limit h (length front) c refl))
 
   -- what the rest of the file gives from within the header
   abbrev FromHeader : List ℕ → Type 0
@@ -75,14 +72,10 @@ module _ (limit longest : ℕ) (bytes : List ℕ) where
       from_raster rest (blank n) false 0 (front ++ c ∷ []) (pixels_start limit w h (blank n) n (front ++ c ∷ []) k refl refl) (omega (arith, length_push front c)) e
 
   from_header : (rest : List ℕ) → FromHeader rest
-  from_header [] s front h l e =
-      let u = unfinished limit s front h in
-      ⊎_elim (λ m. short_answer front e m u) (λ m. long_answer front [] e (omega arith) u) (cases_lt (length front) longest)
+  from_header [] s front h l e = ended front e l (unfinished limit s front h)
   from_header (c ∷ rest) s front h l e =
-      let u = unfinished limit s front h in
       let go = from_header rest in
-      ⊎_elim (λ m. by_step rest go front c m (one_more front rest c e) (header_step limit (length front) s c) (step_answer limit (length front) s front c refl h))
-      (λ m. long_answer front (c ∷ rest) e (omega arith) u) (cases_lt (length front) longest)
+      or_long front (c ∷ rest) e l (unfinished limit s front h) (λ m. by_step rest go front c m (one_more front rest c e) (header_step limit (length front) s c) (step_answer limit (length front) s front c refl h))
 
   pub some_answer : HasAnswer
   some_answer = from_header bytes header.Start [] refl (omega arith) refl

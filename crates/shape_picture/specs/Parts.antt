@@ -5,14 +5,12 @@ use Rattle.shape_terms.specs.Pictures.{Picture}
 use Rattle.shape_desk.specs.Desk.{Takes}
 use Rattle.shape_desk.specs.Line.{ahead_of}
 use Rattle.shape_picture.specs.declared.plain.Heading.{Heading}
-use Rattle.shape_picture.specs.declared.raster.Piece.{Piece}
 use Rattle.shape_picture.specs.declared.header.Header.{Header}
-use Rattle.shape_picture.specs.declared.header.Progress.{Progress}
 use Rattle.shape_picture.specs.declared.header.Coming.TheVariants as coming
 use Rattle.shape_picture.specs.declared.fault.PictureError.{PictureError}
 use Rattle.shape_picture.specs.Answers.{ReadStopped}
-use Rattle.shape_picture.specs.Header.{HeaderReached, ProgressReached, IsInGap}
-use Rattle.shape_picture.specs.Raster.{RasterGoesOn, PictureSoFar}
+use Rattle.shape_picture.specs.Header.{HeaderReached, IsInGap}
+use Rattle.shape_picture.specs.Raster.{PictureSoFar}
 
 -- the first `at` of all bytes were taken, and some that follow were read ahead
 pub record BytesTaken (longest at : ℕ) (all left : Option (List ℕ)) (ahead front : List ℕ) : Type 0 where
@@ -31,17 +29,6 @@ pub record HeaderSoFar (limit longest at : ℕ) (header : Header) (all left : Op
   pub reached : HeaderReached limit header front
   pub taken : BytesTaken longest at all left ahead front
 
--- one byte more of the header was taken
-pub record StepTaken (limit longest at : ℕ) (p : Progress) (all left : Option (List ℕ)) (ahead : List ℕ) : Type 0 where
-  pub front : List ℕ
-  pub comes : ProgressReached limit p front
-  pub taken : BytesTaken longest at all left ahead front
-
--- the header went on by a byte, or the reading stopped
-abbrev pub NextHeaderAnswer : ℕ → ℕ → ℕ → Option (List ℕ) → Option (List ℕ) → List ℕ → ℕ → ℕ → Result Progress PictureError → Type 0
-NextHeaderAnswer limit longest at all left ahead before now (Ok p) = StepTaken limit longest (at + 1) p all left ahead
-NextHeaderAnswer limit longest at all left ahead before now (Err e) = ReadStopped limit longest all left before now e
-
 -- the whole header and the first piece of the gap after it
 pub record HeaderTaken (limit longest : ℕ) (h : Heading) (all left : Option (List ℕ)) (ahead : List ℕ) : Type 0 where
   pub front : List ℕ
@@ -52,17 +39,6 @@ pub record HeaderTaken (limit longest : ℕ) (h : Heading) (all left : Option (L
 abbrev pub HeaderAnswer : ℕ → ℕ → Option (List ℕ) → Option (List ℕ) → List ℕ → ℕ → ℕ → Result Heading PictureError → Type 0
 HeaderAnswer limit longest all left ahead before now (Ok h) = HeaderTaken limit longest h all left ahead
 HeaderAnswer limit longest all left ahead before now (Err e) = ReadStopped limit longest all left before now e
-
--- one piece of the raster was taken
-pub record PieceTaken (limit longest at : ℕ) (all left : Option (List ℕ)) (ahead front width height raster : List ℕ) (p : Piece) : Type 0 where
-  pub byte : ℕ
-  pub goes : RasterGoesOn limit front byte width height raster p
-  pub taken : BytesTaken longest (at + 1) all left ahead (front ++ byte ∷ [])
-
--- the raster went on by a byte, or the reading stopped
-abbrev pub NextPieceAnswer : ℕ → ℕ → ℕ → Option (List ℕ) → Option (List ℕ) → List ℕ → List ℕ → List ℕ → List ℕ → List ℕ → ℕ → ℕ → Result Piece PictureError → Type 0
-NextPieceAnswer limit longest at all left ahead front width height raster before now (Ok p) = PieceTaken limit longest at all left ahead front width height raster p
-NextPieceAnswer limit longest at all left ahead front width height raster before now (Err e) = ReadStopped limit longest all left before now e
 
 -- the raster's pixels so far
 pub record RasterSoFar (limit longest at : ℕ) (X : Picture) (comment : Bool) (n : ℕ) (all left : Option (List ℕ)) (ahead : List ℕ) : Type 0 where

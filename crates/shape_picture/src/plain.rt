@@ -6,9 +6,7 @@ ghost use Rattle.shape_desk.specs.Desk.{OnlyReadsAt};
 ghost use Rattle.shape_desk.specs.declared.desk.Place.TheVariants.{Picture};
 ghost use Rattle.shape_picture.specs.Answers.{most_side, most_bytes, PictureAnswer};
 ghost use Rattle.shape_picture.specs.Plain.{IsUnfinished};
-ghost use Rattle.shape_picture.specs.Header.{IsSmall, HeaderReached};
-ghost use Rattle.shape_picture.specs.Raster.{HasPixels};
-ghost use Rattle.shape_picture.specs.Parts.{BytesTaken, NextByteAnswer, NextHeaderAnswer, HeaderAnswer, NextPieceAnswer, RasterSoFar};
+ghost use Rattle.shape_picture.specs.Parts.{BytesTaken, NextByteAnswer, HeaderAnswer, RasterSoFar};
 
 use crate::bytes::ByteReader;
 use crate::fault::{PictureError, PictureFault};
@@ -43,59 +41,6 @@ fn next_byte<D: Desk>(at: u64, bytes: &mut ByteReader, desk: &mut D) -> Result<u
     }
 }
 
-// Takes one byte of the header.
-fn next_header<D: Desk>(
-    at: u64,
-    header: Header,
-    bytes: &mut ByteReader,
-    desk: &mut D,
-) -> Result<Progress, PictureError>
-    requires small { IsSmall most_side header }
-    requires more { at < most_bytes }
-    requires begun { (D.state desk.old).begun Picture ≡ true }
-    ensures answer { (all : Option (List ℕ)) (front : List ℕ)
-        → BytesTaken most_bytes at all ((D.state desk.old).left Picture) bytes.old front
-        → HeaderReached most_side header front
-        → NextHeaderAnswer most_side most_bytes at all ((D.state desk.new).left Picture) bytes.new
-        (D.state desk.old).read_faults (D.state desk.new).read_faults result }
-    ensures reads { OnlyReadsAt Picture (D.state desk.old) (D.state desk.new) }
-{
-    match next_byte(at, bytes, desk) {
-        Ok(c) => match step(MOST_SIDE, at, header, c) {
-            Ok(progress) => Ok(progress),
-            Err(fault) => Err(PictureError::Bad(fault)),
-        },
-        Err(error) => Err(error),
-    }
-}
-
-// Takes one byte of the raster, within a comment or not, after so many pixels.
-fn next_piece<D: Desk>(
-    at: u64,
-    comment: bool,
-    count: u32,
-    bytes: &mut ByteReader,
-    desk: &mut D,
-) -> Result<Piece, PictureError>
-    requires more { at < most_bytes }
-    requires begun { (D.state desk.old).begun Picture ≡ true }
-    ensures answer { (all : Option (List ℕ)) (front width height raster : List ℕ)
-        → BytesTaken most_bytes at all ((D.state desk.old).left Picture) bytes.old front
-        → HasPixels most_side comment count front width height raster
-        → NextPieceAnswer most_side most_bytes at all ((D.state desk.new).left Picture) bytes.new
-        front width height raster
-        (D.state desk.old).read_faults (D.state desk.new).read_faults result }
-    ensures reads { OnlyReadsAt Picture (D.state desk.old) (D.state desk.new) }
-{
-    match next_byte(at, bytes, desk) {
-        Ok(c) => match piece_at(comment, count, at, c) {
-            Ok(piece) => Ok(piece),
-            Err(fault) => Err(PictureError::Bad(fault)),
-        },
-        Err(error) => Err(error),
-    }
-}
-
 // The sides of a picture and how many bytes its header and the gap after it have so far.
 #[derive(Clone, Copy)]
 struct Heading {
@@ -116,8 +61,12 @@ fn read_header<D: Desk>(bytes: &mut ByteReader, desk: &mut D) -> Result<Heading,
     let mut header = Header::Start;
     let mut at: u64 = 0;
     while at < MOST_BYTES {
-        match next_header(at, header, bytes, desk) {
+        let c = match next_byte(at, bytes, desk) {
+            Ok(c) => c,
             Err(error) => return Err(error),
+        };
+        match step(MOST_SIDE, at, header, c) {
+            Err(fault) => return Err(PictureError::Bad(fault)),
             Ok(Progress::Done(width, height)) => return Ok(Heading {
                 width,
                 height,
@@ -169,14 +118,14 @@ fn read_raster<D: Desk>(
     let mut comment = false;
     let mut count: u32 = 0;
     while at < MOST_BYTES {
-        match next_piece(at, comment, count, bytes, desk) {
+        let c = match next_byte(at, bytes, desk) {
+            Ok(c) => c,
             Err(error) => return Err(error),
-            Ok(Piece::Gap) => {
-                comment = false;
-                at += 1;
-            }
-            Ok(Piece::Comment) => {
-                comment = true;
+        };
+        match piece_at(comment, count, at, c) {
+            Err(fault) => return Err(PictureError::Bad(fault)),
+            Ok(Piece::Gap(within)) => {
+                comment = within;
                 at += 1;
             }
             Ok(Piece::Pixel(object)) => {
@@ -208,10 +157,7 @@ pub fn read_plain<D: Desk>(alloc: Global, desk: &mut D) -> Result<Grid<P2>, Pict
         Ok(bytes) => bytes,
         Err(_) => return Err(PictureError::NoMemory),
     };
-    let heading = match read_header(&mut bytes, desk) {
-        Ok(heading) => heading,
-        Err(error) => return Err(error),
-    };
+    let heading = read_header(&mut bytes, desk)?;
     match Grid::new(alloc, box_of(heading.width, heading.height)) {
         Ok(grid) => read_raster(heading.at, grid, &mut bytes, desk),
         Err(_) => Err(PictureError::NoMemory),

@@ -12,8 +12,8 @@ use shape_space::Point;
 /// What a byte is where the pixels are read.
 #[derive(Clone, Copy, Debug, PartialEq, Eq)]
 pub enum Piece {
-    Gap,
-    Comment,
+    /// No pixel; whether what follows is within a comment.
+    Gap(bool),
     Pixel(bool),
 }
 
@@ -22,15 +22,11 @@ pub fn piece_at(comment: bool, count: u32, at: u64, c: u8) -> Result<Piece, Pict
     ensures { result ≡ piece_of comment count at c }
 {
     if comment {
-        if is_line_end(c) {
-            Ok(Piece::Gap)
-        } else {
-            Ok(Piece::Comment)
-        }
+        Ok(Piece::Gap(!is_line_end(c)))
     } else if is_white(c) {
-        Ok(Piece::Gap)
+        Ok(Piece::Gap(false))
     } else if count == 0 && c == b'#' {
-        Ok(Piece::Comment)
+        Ok(Piece::Gap(true))
     } else if c == b'0' || c == b'1' {
         Ok(Piece::Pixel(c == b'1'))
     } else {

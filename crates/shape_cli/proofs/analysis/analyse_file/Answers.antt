@@ -6,4 +6,4 @@ pub returns-clause-ran : goal.returns-clause-ran
 returns-clause-ran g c =
     let s = g.D.Desk.state in
     let w = c.in-Err-write_report.ensures in
-    cut_short _ (s c.args.desk.now) (s c.open_picture.new.desk) (s c.write_report.new.desk) Done (c.in-Ok-analyse_flat.report) c.in-Ok.ensures.only (c.in-Ok.grid, c.in-Ok.ensures.opened, c.in-Ok-analyse_flat.ensures) w.text.err w.failed
+    cut_short _ (s c.args.desk.now) (s c.open_picture.new.desk) (s c.write_report.new.desk) Done (c.in-Ok-analyse_flat.report) c.in-Ok.ensures.only (c.in-Ok.grid, c.in-Ok.ensures.opened, c.in-Ok-analyse_flat.ensures) w.text.err w.failed tt

@@ -5,4 +5,4 @@ pub returns-in-Ok-clause-judged : goal.returns-in-Ok-clause-judged
 returns-in-Ok-clause-judged g c =
     let s = g.D.Desk.state in
     let b = c.in-Ok.ensures.answer in
-    judged c.args.grid.now c.args.report.now (s c.args.desk.now) (s c.begin.new.self) (s c.check_flat.new.desk) c.check_flat.result b.at_front b.only.later c.check_flat.ensures.answer
+    judged c.args.grid.now c.args.report.now (s c.args.desk.now) (s c.begin.new.self) (s c.check_flat.new.desk) c.check_flat.result b.at_front b.only.later c.check_flat.ensures.answer c.check_flat.ensures.taken

@@ -1,21 +1,46 @@
+use Rattle.std.proofs.Common.{sym, subst, arith}
 use Rattle.shape_desk.specs.declared.desk.Place.TheVariants.{Picture}
 use Rattle.shape_desk.proofs.Writes.{OnlyReadsAt-more}
 use Rattle.shape_picture.specs.Answers.{most_side, most_bytes}
-use Rattle.shape_picture.proofs.HeaderSteps.{unfinished}
-use Rattle.shape_picture.proofs.ByteSteps.{stops_long}
+use Rattle.shape_picture.specs.Header.{StepAnswer}
+use Rattle.shape_picture.proofs.HeaderSteps.{step_answer, unfinished}
+use Rattle.shape_picture.proofs.ByteSteps.{stops_long, stops_bad, stops_earlier}
 use Rattle.shape_picture.proofs.plain.read_header.Goals as goal
+
+pub returns-in-Err-clause-answer : goal.returns-in-Err-clause-answer
+returns-in-Err-clause-answer g c =
+    let i = c.loop-at.invariant.0 in
+    stops_earlier most_side most_bytes _ _ _ _ _ _ c.loop-at.invariant.1.only.later (c.in-Err.ensures.answer ((g.D.Desk.state c.args.desk.now).left Picture) i.front i.taken (unfinished most_side c.loop-at.header i.front i.reached))
+
+pub returns-in-Err-step-clause-answer : goal.returns-in-Err-step-clause-answer
+returns-in-Err-step-clause-answer g c =
+    let i = c.loop-at.invariant.0 in
+    let all = (g.D.Desk.state c.args.desk.now).left Picture in
+    let t = c.in-Ok.ensures.answer all i.front i.taken (unfinished most_side c.loop-at.header i.front i.reached) in
+    stops_bad most_side most_bytes c.loop-at.at all _ _ i.front c.in-Ok.c _ _ c.in-Err-step.fault t (omega (arith, i.taken.many, c.loop-at-test.true))
+    (subst (λ x. StepAnswer most_side i.front c.in-Ok.c x) (sym c.in-Err-step.ensures) (step_answer most_side c.loop-at.at c.loop-at.header i.front c.in-Ok.c (sym i.taken.many) i.reached))
 
 pub returns-in-Ok-Done-clause-answer : goal.returns-in-Ok-Done-clause-answer
 returns-in-Ok-Done-clause-answer g c =
     let i = c.loop-at.invariant.0 in
-    let h = rw c.in-Ok-Done.field-0-is at (c.in-Ok-Done.ensures.answer ((g.D.Desk.state c.args.desk.now).left Picture) i.front i.taken i.reached) in
-    record { front = h.front; in_gap = h.comes; taken = h.taken }
+    let e = rw c.in-Ok-Done.field-0-is at c.in-Ok-Done.ensures in
+    record {
+      front = _;
+      in_gap = subst (λ x. StepAnswer most_side i.front c.in-Ok.c x) (sym e) (step_answer most_side c.loop-at.at c.loop-at.header i.front c.in-Ok.c (sym i.taken.many) i.reached);
+      taken = c.in-Ok.ensures.answer ((g.D.Desk.state c.args.desk.now).left Picture) i.front i.taken (unfinished most_side c.loop-at.header i.front i.reached);
+    }
 
 pub loop-at-preserved : goal.loop-at-preserved
 loop-at-preserved g c =
     let i = c.loop-at.invariant.0 in
-    let h = rw c.in-Ok-More.field-0-is at (c.in-Ok-More.ensures.answer ((g.D.Desk.state c.args.desk.now).left Picture) i.front i.taken i.reached) in
-    (record { front = h.front; reached = h.comes; taken = h.taken }, OnlyReadsAt-more c.loop-at.invariant.1 c.in-Ok-More.ensures.reads)
+    let e = rw c.in-Ok-More.field-0-is at c.in-Ok-More.ensures in (
+      record {
+        front = _;
+        reached = subst (λ x. StepAnswer most_side i.front c.in-Ok.c x) (sym e) (step_answer most_side c.loop-at.at c.loop-at.header i.front c.in-Ok.c (sym i.taken.many) i.reached);
+        taken = c.in-Ok.ensures.answer ((g.D.Desk.state c.args.desk.now).left Picture) i.front i.taken (unfinished most_side c.loop-at.header i.front i.reached);
+      },
+      OnlyReadsAt-more c.loop-at.invariant.1 c.in-Ok.ensures.reads,
+    )
 
 pub returns-clause-answer : goal.returns-clause-answer
 returns-clause-answer g c =

@@ -1,72 +1,74 @@
-use Rattle.std.proofs.Common.{◌≡◌, ◌+◌, ◌*◌, ◌<◌, length, sym, ap, ◌∙◌, arith}
+use Rattle.std.proofs.Common.{◌≡◌, ◌+◌, ◌*◌, ◌<◌, length, sym, subst, ap, ◌∙◌, arith}
 use Rattle.shape_terms.specs.Points.{box_count}
 use Rattle.shape_desk.specs.declared.desk.Place.TheVariants.{Picture}
 use Rattle.shape_picture.specs.Answers.{most_side, most_bytes}
 use Rattle.shape_picture.specs.Plain.{number_value}
+use Rattle.shape_picture.specs.Raster.{PieceAnswer}
 use Rattle.shape_desk.proofs.Writes.{OnlyReadsAt-more}
-use Rattle.shape_picture.proofs.RasterSteps.{gap_next, comment_next, pixel_next, pixel_last, total_is, raster_unfinished}
-use Rattle.shape_picture.proofs.ByteSteps.{stops_long, stops_earlier}
+use Rattle.shape_picture.proofs.RasterSteps.{piece_answer, gap_next, pixel_next, pixel_last, total_is, raster_unfinished}
+use Rattle.shape_picture.proofs.ByteSteps.{stops_long, stops_bad, stops_earlier}
 use Rattle.shape_picture.proofs.plain.read_raster.Goals as goal
 
 pub returns-in-Err-clause-answer : goal.returns-in-Err-clause-answer
 returns-in-Err-clause-answer g c = λ all h.
     let r = c.loop-at.invariant.0 all h in
     let p = r.pixels in
-    stops_earlier most_side most_bytes all ((g.D.Desk.state c.next_piece.new.desk).left Picture) (g.D.Desk.state c.args.desk.now).read_faults (g.D.Desk.state c.loop-at.desk).read_faults (g.D.Desk.state c.next_piece.new.desk).read_faults c.in-Err.error c.loop-at.invariant.4.only.later
-    (c.in-Err.ensures.answer all r.front p.width p.height p.raster r.taken p.within)
+    stops_earlier most_side most_bytes all _ _ _ _ _ c.loop-at.invariant.4.only.later
+    (c.in-Err.ensures.answer all r.front r.taken (raster_unfinished most_side p))
+
+pub returns-in-Err-piece_at-clause-answer : goal.returns-in-Err-piece_at-clause-answer
+returns-in-Err-piece_at-clause-answer g c = λ all h.
+    let r = c.loop-at.invariant.0 all h in
+    let p = r.pixels in
+    let t = c.in-Ok.ensures.answer all r.front r.taken (raster_unfinished most_side p) in
+    stops_bad most_side most_bytes c.loop-at.at all _ _ r.front c.in-Ok.c _ _ c.in-Err-piece_at.fault t (omega (arith, r.taken.many, c.loop-at-test.true))
+    (subst (λ x. PieceAnswer most_side r.front c.in-Ok.c p.width p.height p.raster x) (sym c.in-Err-piece_at.ensures) (piece_answer most_side p c.loop-at.at c.in-Ok.c (sym r.taken.many)))
 
 pub loop-at-preserved-in-Ok-Gap : goal.loop-at-preserved-in-Ok-Gap
 loop-at-preserved-in-Ok-Gap g c = (
   λ all h.
       let r = c.loop-at.invariant.0 all h in
       let p = r.pixels in
-      let k = rw c.in-Ok-Gap.field-0-is at (c.in-Ok-Gap.ensures.answer all r.front p.width p.height p.raster r.taken p.within) in
-      record { front = _; pixels = gap_next most_side c.loop-at.grid c.loop-at.comment c.loop-at.count r.front p k.byte k.goes; taken = k.taken },
+      let t = c.in-Ok.ensures.answer all r.front r.taken (raster_unfinished most_side p) in
+      let e = rw c.in-Ok-Gap.field-0-is at c.in-Ok-Gap.ensures in
+      let k = subst (λ x. PieceAnswer most_side r.front c.in-Ok.c p.width p.height p.raster x) (sym e) (piece_answer most_side p c.loop-at.at c.in-Ok.c (sym r.taken.many)) in
+      record { front = _; pixels = rw c.in-Ok-Gap.within-is (gap_next most_side c.loop-at.grid c.loop-at.comment c.in-Ok-Gap.within c.loop-at.count r.front p c.in-Ok.c k); taken = t },
   c.loop-at.invariant.1,
   c.loop-at.invariant.2,
   c.loop-at.invariant.3,
-  OnlyReadsAt-more c.loop-at.invariant.4 c.in-Ok-Gap.ensures.reads,
-)
-
-pub loop-at-preserved-in-Ok-Comment : goal.loop-at-preserved-in-Ok-Comment
-loop-at-preserved-in-Ok-Comment g c = (
-  λ all h.
-      let r = c.loop-at.invariant.0 all h in
-      let p = r.pixels in
-      let k = rw c.in-Ok-Comment.field-0-is at (c.in-Ok-Comment.ensures.answer all r.front p.width p.height p.raster r.taken p.within) in
-      record { front = _; pixels = comment_next most_side c.loop-at.grid c.loop-at.comment c.loop-at.count r.front p k.byte k.goes; taken = k.taken },
-  c.loop-at.invariant.1,
-  c.loop-at.invariant.2,
-  c.loop-at.invariant.3,
-  OnlyReadsAt-more c.loop-at.invariant.4 c.in-Ok-Comment.ensures.reads,
+  OnlyReadsAt-more c.loop-at.invariant.4 c.in-Ok.ensures.reads,
 )
 
 pub returns-then-count-total-clause-answer : goal.returns-then-count-total-clause-answer
 returns-then-count-total-clause-answer g c = λ all h.
     let r = c.loop-at.invariant.0 all h in
     let p = r.pixels in
-    let k = rw c.in-Ok-Pixel.field-0-is at (c.in-Ok-Pixel.ensures.answer all r.front p.width p.height p.raster r.taken p.within) in
-    let t : c.loop-at.count + 1 ≡ number_value p.width * number_value p.height = c.if-count-total.true ∙ c.loop-at.invariant.2 ∙ sym (ap box_count c.loop-at.invariant.1) ∙ total_is most_side c.loop-at.grid c.loop-at.comment c.loop-at.count r.front p in
+    let t = c.in-Ok.ensures.answer all r.front r.taken (raster_unfinished most_side p) in
+    let e = rw c.in-Ok-Pixel.field-0-is at c.in-Ok-Pixel.ensures in
+    let k = subst (λ x. PieceAnswer most_side r.front c.in-Ok.c p.width p.height p.raster x) (sym e) (piece_answer most_side p c.loop-at.at c.in-Ok.c (sym r.taken.many)) in
+    let n : c.loop-at.count + 1 ≡ number_value p.width * number_value p.height = c.if-count-total.true ∙ c.loop-at.invariant.2 ∙ sym (ap box_count c.loop-at.invariant.1) ∙ total_is most_side c.loop-at.grid c.loop-at.comment c.loop-at.count r.front p in
     let few : length r.front < most_bytes = omega (arith, r.taken.many, c.loop-at-test.true) in
-    pixel_last most_side c.loop-at.grid c.put.new.grid c.loop-at.comment c.loop-at.count r.front c.in-Ok-Pixel.object most_bytes (c.loop-at.at + 1) all ((g.D.Desk.state c.next_piece.new.desk).left Picture) c.next_piece.new.bytes p k.byte k.goes c.put.ensures.sides (rw c.in-Ok-Pixel.object-is at c.put.ensures.values) t few k.taken
+    pixel_last most_side c.loop-at.grid c.put.new.grid c.loop-at.comment c.loop-at.count r.front c.in-Ok-Pixel.object most_bytes (c.loop-at.at + 1) all ((g.D.Desk.state c.next_byte.new.desk).left Picture) c.next_byte.new.bytes p c.in-Ok.c k c.put.ensures.sides (rw c.in-Ok-Pixel.object-is at c.put.ensures.values) n few t
 
 pub loop-at-preserved : goal.loop-at-preserved
 loop-at-preserved g c = (
   λ all h.
       let r = c.loop-at.invariant.0 all h in
       let p = r.pixels in
-      let k = rw c.in-Ok-Pixel.field-0-is at (c.in-Ok-Pixel.ensures.answer all r.front p.width p.height p.raster r.taken p.within) in
-      let t : number_value p.width * number_value p.height ≡ c.count-total.result = sym (c.loop-at.invariant.2 ∙ sym (ap box_count c.loop-at.invariant.1) ∙ total_is most_side c.loop-at.grid c.loop-at.comment c.loop-at.count r.front p) in
-      let m : c.loop-at.count + 1 < number_value p.width * number_value p.height = omega (arith, t, c.loop-at.invariant.3, c.if-count-total.false) in
-      record { front = _; pixels = pixel_next most_side c.loop-at.grid c.put.new.grid c.loop-at.comment c.loop-at.count r.front c.in-Ok-Pixel.object p k.byte k.goes c.put.ensures.sides (rw c.in-Ok-Pixel.object-is at c.put.ensures.values) m; taken = k.taken },
+      let t = c.in-Ok.ensures.answer all r.front r.taken (raster_unfinished most_side p) in
+      let e = rw c.in-Ok-Pixel.field-0-is at c.in-Ok-Pixel.ensures in
+      let k = subst (λ x. PieceAnswer most_side r.front c.in-Ok.c p.width p.height p.raster x) (sym e) (piece_answer most_side p c.loop-at.at c.in-Ok.c (sym r.taken.many)) in
+      let n : number_value p.width * number_value p.height ≡ c.count-total.result = sym (c.loop-at.invariant.2 ∙ sym (ap box_count c.loop-at.invariant.1) ∙ total_is most_side c.loop-at.grid c.loop-at.comment c.loop-at.count r.front p) in
+      let m : c.loop-at.count + 1 < number_value p.width * number_value p.height = omega (arith, n, c.loop-at.invariant.3, c.if-count-total.false) in
+      record { front = _; pixels = pixel_next most_side c.loop-at.grid c.put.new.grid c.loop-at.comment c.loop-at.count r.front c.in-Ok-Pixel.object p c.in-Ok.c k c.put.ensures.sides (rw c.in-Ok-Pixel.object-is at c.put.ensures.values) m; taken = t },
   c.put.ensures.sides ∙ c.loop-at.invariant.1,
   c.loop-at.invariant.2,
   omega (arith, c.loop-at.invariant.3, c.if-count-total.false),
-  OnlyReadsAt-more c.loop-at.invariant.4 c.in-Ok-Pixel.ensures.reads,
+  OnlyReadsAt-more c.loop-at.invariant.4 c.in-Ok.ensures.reads,
 )
 
 pub returns-clause-answer : goal.returns-clause-answer
 returns-clause-answer g c = λ all h.
     let r = c.loop-at.invariant.0 all h in
     let p = r.pixels in
-    stops_long most_side most_bytes c.loop-at.at all ((g.D.Desk.state c.loop-at.desk).left Picture) c.loop-at.bytes r.front (g.D.Desk.state c.args.desk.now).read_faults (g.D.Desk.state c.loop-at.desk).read_faults r.taken c.loop-at-test.false (raster_unfinished most_side c.loop-at.count c.loop-at.comment r.front p.width p.height p.raster p.within)
+    stops_long most_side most_bytes c.loop-at.at all ((g.D.Desk.state c.loop-at.desk).left Picture) c.loop-at.bytes r.front (g.D.Desk.state c.args.desk.now).read_faults (g.D.Desk.state c.loop-at.desk).read_faults r.taken c.loop-at-test.false (raster_unfinished most_side p)
