@@ -2,6 +2,8 @@
 //! A further drawing is a variant and its pixels. Without a word it does nothing, so that a run prints the same everywhere.
 #![tactic(auto)]
 
+ghost use Rattle.std.specs.Prelude.{◌≡◌, ◌<ℤ◌, pos, true};
+
 use shape_cover::cover;
 use shape_crack::{Contours, contours};
 use shape_grid::Grid;
@@ -22,7 +24,10 @@ enum Drawing {
 }
 
 // Whether a pixel of the drawing is black.
-fn is_black(drawing: Drawing, p: P2) -> bool {
+fn is_black(drawing: Drawing, p: P2) -> bool
+    ensures full { drawing ≡ Drawing.Full → result ≡ true }
+    ensures back { drawing ≡ Drawing.Comb → p.y <ℤ pos 2 → result ≡ true }
+{
     match drawing {
         Drawing::Full => true,
         Drawing::Disc => {
