@@ -69,15 +69,11 @@ impl CoverJudge {
         ensures stands { IfOk result (λ j. StandsFor grid.now j []) }
         ensures room { IfOk result (λ j. room_of j < 2 ^ 60) }
     {
-        let _sides = grid.sides();
+        grid.is_picture();
         let contours = contours(alloc, grid)?;
         let greatest = greatest(&contours) as usize;
-        let Ok(segments) = Vec::with_capacity(alloc, greatest) else {
-            return Err(NoMemory);
-        };
-        let Ok(round) = Vec::with_capacity(alloc, 2 * greatest) else {
-            return Err(NoMemory);
-        };
+        let segments = Vec::with_capacity(alloc, greatest)?;
+        let round = Vec::with_capacity(alloc, 2 * greatest)?;
         Ok(CoverJudge {
             contours,
             begun: 0,
@@ -162,7 +158,7 @@ impl CoverJudge {
         ensures value { map point_of result.now ≡ arc (open_points self.now) first last }
         ensures few { length result.now < 2 ^ 31 }
     {
-        let _n = self.open().len();
+        self.open().is_closed_path();
         part(self.round.as_slice(), first, last)
     }
 
@@ -211,7 +207,7 @@ impl CoverJudge {
             ≡ (slice_index_or self.now.standing.stretches k (record { first = 0; last = 0 })).last + 1 }
         ensures within { result < 2 * length (open_points self.now) }
     {
-        let _n = self.open().len();
+        self.open().is_closed_path();
         self.segments[k].last + 1
     }
 

@@ -61,15 +61,11 @@ fn ways_back(alloc: Global, squares: &[u32], side: u32) -> Result<Vec<u32>, NoMe
         → IsWay (λ g. slice_index squares.now (i - g)) (i % side) (slice_index v.items i)) }
 {
     let n = squares.len() as u32;
-    let Ok(mut ways) = Vec::with_capacity(alloc, n as usize) else {
-        return Err(NoMemory);
-    };
+    let mut ways = Vec::with_capacity(alloc, n as usize)?;
     let mut way = NONE;
     for i in 0..n {
         way = way_at(squares[i as usize], i % side, way);
-        if ways.push(way).is_err() {
-            return Err(NoMemory);
-        }
+        ways.push(way)?;
     }
     Ok(ways)
 }
@@ -109,11 +105,7 @@ pub fn scan_first(alloc: Global, squares: &[u32], side: u32) -> Result<Vec<u32>,
         → IsScannedAt 1 side squares.now i (slice_index v.items i)) }
     ensures small { IfOk result (λ v. (i : ℕ) → slice_index v.items i ≤ 2 ^ 26) }
 {
-    match ways_back(alloc, squares, side) {
-        Ok(mut ways) => {
-            both_ways(&mut ways, squares, side);
-            Ok(ways)
-        }
-        Err(NoMemory) => Err(NoMemory),
-    }
+    let mut ways = ways_back(alloc, squares, side)?;
+    both_ways(&mut ways, squares, side);
+    Ok(ways)
 }

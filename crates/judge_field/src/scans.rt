@@ -57,13 +57,9 @@ fn first_squares<P: Point>(alloc: Global, grid: &Grid<P>) -> Result<Vec<u32>, No
     ensures two { IfOk result (λ v. HasTwo v.items) }
 {
     let n = grid.sides().framed_count();
-    let Ok(mut squares) = Vec::with_capacity(alloc, n as usize) else {
-        return Err(NoMemory);
-    };
+    let mut squares = Vec::with_capacity(alloc, n as usize)?;
     for i in 0..n {
-        if squares.push(first_square(grid, i)).is_err() {
-            return Err(NoMemory);
-        }
+        squares.push(first_square(grid, i))?;
     }
     Ok(squares)
 }
@@ -99,13 +95,9 @@ fn scan_axis(alloc: Global, squares: &[u32], before: u32, side: u32) -> Result<V
     ensures small { IfOk result (λ v. (i : ℕ) → slice_index v.items i ≤ 2 ^ 26) }
 {
     let n = squares.len() as u32;
-    let Ok(mut next) = Vec::with_capacity(alloc, n as usize) else {
-        return Err(NoMemory);
-    };
+    let mut next = Vec::with_capacity(alloc, n as usize)?;
     for i in 0..n {
-        if next.push(scan_at(squares, i, before, side)).is_err() {
-            return Err(NoMemory);
-        }
+        next.push(scan_at(squares, i, before, side))?;
     }
     Ok(next)
 }
@@ -138,15 +130,11 @@ fn all_squares<P: Point>(alloc: Global, grid: &Grid<P>) -> Result<Vec<u32>, NoMe
         (box_count (framed_sides grid.now.sides)) v.items) }
 {
     let sides = grid.sides();
-    let Ok(mut squares) = first_squares(alloc, grid) else {
-        return Err(NoMemory);
-    };
+    let mut squares = first_squares(alloc, grid)?;
     let mut before: u32 = 1;
     for k in 0..P::DIM {
         let side = sides.framed_side(k);
-        let Ok(next) = scan_more(alloc, &squares, before, side) else {
-            return Err(NoMemory);
-        };
+        let next = scan_more(alloc, &squares, before, side)?;
         squares = next;
         before *= side;
     }
@@ -158,16 +146,9 @@ impl<P: Point> Scans<P> {
     pub fn new(alloc: Global, grid: &Grid<P>) -> Result<Scans<P>, NoMemory>
         ensures { IfOk result (λ s. s ≡ grid.now) }
     {
-        let Ok(squares) = all_squares(alloc, grid) else {
-            return Err(NoMemory);
-        };
-        match grid.copy(alloc) {
-            Ok(copy) => Ok(Scans {
-                grid: copy,
-                squares,
-            }),
-            Err(NoMemory) => Err(NoMemory),
-        }
+        let squares = all_squares(alloc, grid)?;
+        let grid = grid.copy(alloc)?;
+        Ok(Scans { grid, squares })
     }
 
     /// The picture.

@@ -17,10 +17,8 @@ use std::alloc::Global;
 fn component_count<N: Net>(alloc: Global, net: &N) -> Result<u32, NoMemory>
     ensures { IfOk result (λ n. HasParts (N.Adjacent net.now) (N.Holds net.now) n) }
 {
-    match label_components(alloc, net) {
-        Ok(components) => Ok(components.count),
-        Err(_) => Err(NoMemory),
-    }
+    let components = label_components(alloc, net)?;
+    Ok(components.count)
 }
 
 /// Counts the components of the object in the box and of the background in the framed box.
@@ -41,8 +39,6 @@ pub fn parts<P: Pairing>(alloc: Global, grid: &Grid<P>) -> Result<Parts, NoMemor
 pub fn labels<P: Pairing>(alloc: Global, grid: &Grid<P>) -> Result<Labels, NoMemory>
     ensures { IfOk result (LabelsObject grid.now) }
 {
-    match label_components(alloc, &Object { grid }) {
-        Ok(components) => Ok(Labels::of(components.labels)),
-        Err(_) => Err(NoMemory),
-    }
+    let components = label_components(alloc, &Object { grid })?;
+    Ok(Labels::of(components.labels))
 }

@@ -39,7 +39,7 @@ impl<'a, P: Pairing> Net for Object<'a, P> {
     }
 
     fn links(&self) -> usize {
-        let _ = self.grid.sides();
+        self.grid.is_picture();
         P::NEAR_COUNT
     }
 
@@ -83,7 +83,7 @@ impl<'a, P: Pairing> Net for Background<'a, P> {
     }
 
     fn links(&self) -> usize {
-        let _ = self.grid.sides();
+        self.grid.is_picture();
         P::SIDE_COUNT
     }
 

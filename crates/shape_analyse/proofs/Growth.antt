@@ -39,13 +39,6 @@ text_as f h = record { lines = h.lines; is = h.is; so = f h.lines h.so }
 
 -- ---- the first two lines
 
-sides_are : (greatest : ℤ) (n : Point) → AreSides greatest n → n ≡ map pos (sides_of n)
-sides_are g [] h = refl
-sides_are g (x ∷ n) h =
-    let e : x ≡ pos (nat_abs x) = sym (abs_is x (let f = (h 0 (omega arith)).0 in omega (arith, ints))) in
-    let r = sides_are g n (λ k l. h (suc k) (omega arith)) in
-    λ i. e i ∷ r i
-
 sides_fit : (greatest : ℤ) (n : Point) → AreSides greatest n → greatest ≤ℤ pos 2048 → All (FitsSigned w32) n
 sides_fit g n h m = All-from_get_or (FitsSigned w32) n (pos 0) (λ k l. let c = h k l in fits (coordinate n k) c.0 (omega (arith, ints, c.1)))
   where
@@ -76,7 +69,7 @@ pub growing_none : (greatest : ℤ) (X : Picture) (sides : Point) (rule : List �
 growing_none g X sides rule n o b h e three first r second counts =
     let l = Line.Shape sides rule in
     let m = Line.Parts n o b in
-    let claim : sides ≡ map pos X.sides = sides_are g sides h ∙ ap (map pos) e in
+    let claim : sides ≡ map pos X.sides = sym (sides_back g sides h) ∙ ap (map pos) e in
     let come = come_past X Section.Heading Section.Counted (l ∷ []) refl (come_more X Section.Heading [] l (come_none X) refl) refl in
     let good : GoodAfter X [] l = good_at X Section.Heading [] l (come_none X) refl (refl, (claim, r)) in
     let next : GoodAfter X (l ∷ []) m = good_at X Section.Counted (l ∷ []) m come refl (refl, counts) in

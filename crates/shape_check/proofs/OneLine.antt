@@ -9,16 +9,8 @@ use Rattle.shape_terms.specs.Adjacency.{Near, Side}
 use Rattle.shape_terms.specs.Parts.{Counts, Object, FramedBackground}
 use Rattle.report_terms.specs.Lines.{Line}
 use Rattle.report_terms.specs.Sections.{Section, SectionClaim}
-use Rattle.shape_terms.proofs.Boxes.{abs_is}
 use Rattle.shape_terms.proofs.PartCount.{one_count}
-
-sides_back : (greatest : ℤ) (n : Point) → AreSides greatest n → map pos (sides_of n) ≡ n
-sides_back g [] h = refl
-sides_back g (x ∷ n) h =
-    let one = (h 0 (omega arith)).0 in
-    let e = abs_is x (omega (arith, ints)) in
-    let r = sides_back g n (λ k l. h (suc k) (omega arith)) in
-    λ i. e i ∷ r i
+use Rattle.shape_grid.proofs.SideLists.{sides_back}
 
 -- the heading gives the sides of the box, so the rule decides
 pub same_sides : (X : Picture) (greatest : ℤ) (box sides : Point) (rule : List ℕ) (lines : List Line) (b : Bool) → AreSides greatest box → sides_of box ≡ X.sides → sides ≡ box → lines ≡ [] → (IsTrue b ↔ (rule ≡ codes "none")) → (IsTrue b ↔ SectionClaim X Section.Heading lines (Line.Shape sides rule))

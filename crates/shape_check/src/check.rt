@@ -67,7 +67,7 @@ fn check<P: Point, R: Row<P>, D: Desk>(
         (λ text. TakesFew grid.now text ((D.state desk.new).left Report)) }
     ensures reads { OnlyReadsAt Report (D.state desk.old) (D.state desk.new) }
 {
-    let _ = grid.sides();
+    grid.is_picture();
     let Ok(row) = R::begin(alloc, grid) else {
         return Err(CheckFault::NoMemory);
     };

@@ -1,10 +1,9 @@
 -- A walk along the cracks that came back to its start: the contour that it gives, and the cycle that it marked.
 -- Stated of the pixels that were put down on the way; how they are kept belongs elsewhere.
 use Rattle.std.proofs.Common.{Bool, ◌≡◌, ◌<◌, ◌≤◌, ◌^◌, ℕ, suc, pos, refl, ap, sym, ◌∙◌, subst, arith, List, [], ◌∷◌, ◌++◌, length, map}
-use Rattle.std.specs.Prelude.{nat_abs}
 use Rattle.std.proofs.lemmas.Int.{ints}
 use Rattle.shape_space.specs.declared.point.P2.{P2}
-use Rattle.shape_terms.specs.Points.{Point, AreSides, sides_of, box_count}
+use Rattle.shape_terms.specs.Points.{Point, AreSides, box_count}
 use Rattle.shape_terms.specs.Pictures.{Picture}
 use Rattle.shape_terms.specs.Contours.{Crack, IsCrack, contour_points}
 use Rattle.shape_terms.specs.Traces.{IsClosedPath, IsContourFrom}
@@ -45,11 +44,17 @@ module _ (X : Picture) (axes : length X.sides ≡ 2) (start c : Crack) (steps : 
     contour = (let f = first-walk X start steps r.some in λ i. record { start = sym f i; points = e i });
   }
 
-  pub path_from : (greatest : ℕ) (n : P2) → AreSides (pos greatest) (point_of n) → greatest ≤ 2048 → sides_of (point_of n) ≡ X.sides → (points : List Point) → points ≡ contour_points X (walk X start steps) → IsClosedPath greatest points
-  path_from greatest n s g e points f =
-      let x = s 0 (omega arith) in
-      let y = s 1 (omega arith) in
-      subst (IsClosedPath greatest) (sym f) (closed_path X (nat_abs n.x) (nat_abs n.y) greatest (sym e) (omega (arith, ints)) (omega (arith, ints)) g start c steps k r same)
+  pub path_from : (greatest : ℕ) → AreSides (pos greatest) (map pos X.sides) → greatest ≤ 2048 → (points : List Point) → points ≡ contour_points X (walk X start steps) → IsClosedPath greatest points
+  path_from greatest s g points f = subst (IsClosedPath greatest) (sym f) (of_sides X.sides refl axes s)
+    where
+      of_sides : (l : List ℕ) → X.sides ≡ l → length l ≡ 2 → AreSides (pos greatest) (map pos l) → IsClosedPath greatest (contour_points X (walk X start steps))
+      of_sides [] e two s = absurd (omega arith)
+      of_sides (w ∷ []) e two s = absurd (omega arith)
+      of_sides (w ∷ h ∷ []) e two s =
+          let x = s 0 (omega arith) in
+          let y = s 1 (omega arith) in
+          closed_path X w h greatest e (omega (arith, ints)) (omega (arith, ints)) g start c steps k r same
+      of_sides (w ∷ h ∷ d ∷ l) e two s = absurd (omega arith)
 
   pub cycle_marked : (old new : ℕ → Bool) → Marking X start c steps old new → IsCycleMarked X start old new
   cycle_marked old new m = record {

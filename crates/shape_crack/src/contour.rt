@@ -52,6 +52,13 @@ impl Contour {
         self.points.len() as u32
     }
 
+    /// The points are those of a closed path of near pixels, at most four for each pixel of the greatest picture.
+    pub fn is_closed_path(&self)
+        ensures { IsClosedPath GREATEST_SIDE self.now.points }
+    {
+        let _ = &self.points;
+    }
+
     /// The point at a place, from 0 on.
     pub fn point(&self, i: u32) -> P2
         requires { i < length self.now.points }
@@ -68,10 +75,10 @@ fn advance(points: &mut Vec<P2>, grid: &Grid<P2>, c: Crack) -> Result<Crack, NoM
     ensures points { OnOk result (map point_of points.new.items
         ≡ map point_of points.old.items ++ (if stays grid.now (crack_of c) then [] else point_of c.p ∷ [])) }
 {
-    let _sides = grid.sides();
+    grid.is_picture();
     let next = successor(grid, c);
-    if next.p != c.p && points.push(c.p).is_err() {
-        return Err(NoMemory);
+    if next.p != c.p {
+        points.push(c.p)?;
     }
     Ok(next)
 }
@@ -83,7 +90,7 @@ pub fn trace(alloc: Global, grid: &Grid<P2>, start: Crack) -> Result<Contour, No
     requires { IsCrack grid.now (crack_of start) }
     ensures { IfOk result (IsContourFrom grid.now (crack_of start)) }
 {
-    let _sides = grid.sides();
+    grid.is_picture();
     let mut points = Vec::new(alloc);
     let mut c = advance(&mut points, grid, start)?;
     // No crack comes twice before the first one, so the steps are at most as many as there are cracks.
@@ -92,8 +99,8 @@ pub fn trace(alloc: Global, grid: &Grid<P2>, start: Crack) -> Result<Contour, No
         c = advance(&mut points, grid, c)?;
         steps += 1;
     }
-    if points.is_empty() && points.push(start.p).is_err() {
-        return Err(NoMemory);
+    if points.is_empty() {
+        points.push(start.p)?;
     }
     Ok(Contour { start, points })
 }

@@ -38,7 +38,7 @@ fn neighbour(p: P2, side: u8) -> P2
 pub fn is_crack(grid: &Grid<P2>, c: Crack) -> bool
     ensures { IsTrue result ↔ IsCrack grid.now (crack_of c) }
 {
-    let _sides = grid.sides();
+    grid.is_picture();
     c.side < 4 && grid.has(c.p) && !grid.has(neighbour(c.p, c.side))
 }
 
@@ -49,7 +49,7 @@ pub fn successor(grid: &Grid<P2>, c: Crack) -> Crack
     requires { IsCrack grid.now (crack_of c) }
     ensures { crack_of result ≡ successor_of grid.now (crack_of c) }
 {
-    let _sides = grid.sides();
+    grid.is_picture();
     let right = (c.side + 1) % 4;
     let ahead = neighbour(c.p, right);
     let across = neighbour(neighbour(c.p, c.side), right);

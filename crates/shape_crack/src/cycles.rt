@@ -45,7 +45,7 @@ fn mark_cycle(grid: &Grid<P2>, start: Crack, marks: &mut CrackMarks)
         (is_marked marks.new.bytes.items) }
     ensures len { vec_len marks.new.bytes ≡ vec_len marks.old.bytes }
 {
-    let _sides = grid.sides();
+    grid.is_picture();
     marks.mark(number(grid, start));
     let mut c = successor(grid, start);
     // No crack comes twice before the first one, so the steps are at most as many as there are cracks.
@@ -72,9 +72,7 @@ pub fn contours(alloc: Global, grid: &Grid<P2>) -> Result<Contours, NoMemory>
         if !marks.has(i) && is_crack(grid, c) {
             let contour = trace(alloc, grid, c)?;
             mark_cycle(grid, c, &mut marks);
-            if list.push(contour).is_err() {
-                return Err(NoMemory);
-            }
+            list.push(contour)?;
         }
     }
     Ok(Contours::from_list(list))

@@ -19,10 +19,8 @@ impl CrackMarks {
         ensures none { IfOk result (λ m. (n : ℕ) → is_marked m.bytes.items n ≡ false) }
         ensures len { IfOk result (λ m. vec_len m.bytes ≡ pixels) }
     {
-        match vec![in alloc; 0u8; pixels] {
-            Ok(bytes) => Ok(CrackMarks { bytes }),
-            Err(_) => Err(NoMemory),
-        }
+        let bytes = vec![in alloc; 0u8; pixels]?;
+        Ok(CrackMarks { bytes })
     }
 
     /// Whether the crack with this number is marked.

@@ -1,19 +1,15 @@
 -- Before the first axis and behind the last one.
 -- Laws over pictures, cells and numbers alone.
-use Rattle.std.proofs.Common.{◌≡◌, inl, inr, ℕ, ◌+◌, ◌*◌, ◌/◌, ◌<◌, ◌≤◌, true, false, Bool, List, [], ◌∷◌, ◌++◌, length, refl, sym, ap, ◌∙◌, subst, arith}
-use Rattle.std.specs.Prelude.{Option, Some, None, MatchOption, IsTrue, pos, negsuc, ◌≤ℤ◌, nat_abs}
-use Rattle.std.proofs.lemmas.Int.{ints}
+use Rattle.std.proofs.Common.{◌≡◌, inl, inr, ℕ, ◌/◌, ◌<◌, ◌≤◌, false, List, length, refl, sym, ap, ◌∙◌, subst, arith}
+use Rattle.std.specs.Prelude.{Option, None, IsTrue}
 use Rattle.std.proofs.lemmas.Bool.{cases_Bool}
-use Rattle.std.proofs.Math.Nat.{div-eq_of_lt}
 use Rattle.shape_terms.specs.Points.{Point, box_count, in_box, squared_distance}
-use Rattle.shape_terms.specs.Pictures.{Picture, at, IsBackground, Least}
+use Rattle.shape_terms.specs.Pictures.{Picture, at, Least}
 use Rattle.shape_terms.specs.FramedBox.{framed_sides, framed_point}
-use Rattle.shape_terms.specs.Places.{in_frame, framed_number}
-use Rattle.shape_terms.proofs.Boxes.{in_box_first, abs_is}
+use Rattle.shape_terms.specs.Places.{framed_number}
 use Rattle.shape_terms.proofs.FramedBoxes.{length-framed_point}
-use Rattle.shape_terms.proofs.FramedNumbers.{in_frame_more, framed_number_below, framed_point-framed_number}
+use Rattle.shape_terms.proofs.FramedNumbers.{framed_number_below, framed_point-framed_number}
 use Rattle.shape_terms.proofs.NearestFound.{least_found, corner_background}
-use Rattle.shape_terms.specs.AxisLines.{apart, IsBare}
 use Rattle.shape_terms.proofs.FramedLines.{distance_same}
 use Rattle.shape_terms.proofs.FramedEnds.{level_all, in_box_in_frame}
 use Rattle.shape_dist.specs.declared.found.Found.{Found}

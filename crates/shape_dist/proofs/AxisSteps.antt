@@ -2,16 +2,16 @@
 -- Laws over pictures, cells and numbers alone; how a line spreads belongs elsewhere.
 use Rattle.std.proofs.Common.{◌≡◌, ◌≢◌, ℕ, ◌+◌, ◌*◌, ◌/◌, ◌^◌, ◌<◌, ◌≤◌, inl, inr, List, length, set, get_or, refl, sym, ap, ◌∙◌, subst, below_more, get_or-set_same, get_or-set_other, arith}
 use Rattle.std.proofs.lemmas.Nat.{mul-le}
-use Rattle.std.specs.Prelude.{Option, Some, None, MatchOption, Result, Ok, Err, IfOk, ℤ, pos}
+use Rattle.std.specs.Prelude.{Option, Some, None, Result, Ok, Err, IfOk, ℤ, pos}
 use Rattle.std.proofs.lemmas.Bool.{cases_lt}
 use Rattle.std.proofs.lemmas.List.{get_or_past}
 use Rattle.std.proofs.lemmas.Option.{same_Some}
 use Rattle.shape_terms.specs.Rows.{cell, IsLowest}
 use Rattle.shape_terms.specs.Points.{box_count}
-use Rattle.shape_terms.specs.Pictures.{Picture, at}
-use Rattle.shape_terms.specs.FramedBox.{framed_sides, framed_point}
+use Rattle.shape_terms.specs.Pictures.{Picture}
+use Rattle.shape_terms.specs.FramedBox.{framed_sides}
 use Rattle.shape_terms.specs.AxisLines.{place, gap, apart, IsBare}
-use Rattle.shape_terms.proofs.AxisPlaces.{HasPlace, place_of, place_line, place_high, place_below, same_digits}
+use Rattle.shape_terms.proofs.AxisPlaces.{place_of, place_line, place_high, place_below, same_digits}
 use Rattle.shape_dist.specs.declared.found.Found.{Found}
 use Rattle.shape_dist.specs.Spreads.{found, IsLeastOfLine, IsSpreadAt, HasSpread, IsNearestOn, HasNearestOn, AreNearestOn, moved, square_in, AreSmall}
 

@@ -1,9 +1,9 @@
 -- What was found of the points of a framed box on the first axes, and how it spreads along one more.
 -- A cell belongs to the framed point with its number; an empty one has found nothing.
-use Rattle.std.specs.Prelude.{◌≡◌, ℕ, ◌+◌, ◌*◌, ◌/◌, ◌^◌, ◌<◌, ◌≤◌, false, List, slice_index_or, Option, Some, None, MatchOption}
+use Rattle.std.specs.Prelude.{◌≡◌, ℕ, ◌+◌, ◌*◌, ◌/◌, ◌^◌, ◌<◌, ◌≤◌, List, slice_index_or, Option, Some, None, MatchOption}
 use Rattle.shape_terms.specs.Points.{box_count}
-use Rattle.shape_terms.specs.Pictures.{Picture, at}
-use Rattle.shape_terms.specs.FramedBox.{framed_sides, framed_point}
+use Rattle.shape_terms.specs.Pictures.{Picture}
+use Rattle.shape_terms.specs.FramedBox.{framed_sides}
 use Rattle.shape_terms.specs.AxisLines.{place, gap, apart, IsBare}
 use Rattle.shape_dist.specs.declared.found.Found.{Found}
 

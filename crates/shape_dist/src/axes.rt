@@ -29,13 +29,9 @@ fn opening<P: Point>(alloc: Global, grid: &Grid<P>) -> Result<Vec<Option<Found>>
     ensures near { IfOk result (λ v. AreNearestOn grid.now 1 v.items) }
 {
     let n = grid.sides().framed_count();
-    let Ok(mut cells) = Vec::with_capacity(alloc, n as usize) else {
-        return Err(NoMemory);
-    };
+    let mut cells = Vec::with_capacity(alloc, n as usize)?;
     for i in 0..n {
-        if cells.push(first_found(grid, i)).is_err() {
-            return Err(NoMemory);
-        }
+        cells.push(first_found(grid, i))?;
     }
     Ok(cells)
 }
@@ -58,10 +54,8 @@ fn spread_all<P: Point, L: Ledger>(
     for k in 0..P::DIM {
         let side = sides.framed_side(k);
         behind /= side;
-        match spread(alloc, cells, before, side, behind, steps) {
-            Ok(()) => before *= side,
-            Err(NoMemory) => return Err(NoMemory),
-        }
+        spread(alloc, cells, before, side, behind, steps)?;
+        before *= side;
     }
     Ok(())
 }
@@ -76,11 +70,7 @@ pub fn all_found<P: Point, L: Ledger>(
     ensures near { IfOk result (λ v. AreNearestOn grid.now
         (box_count (framed_sides grid.now.sides)) v.items) }
 {
-    match opening(alloc, grid) {
-        Ok(mut cells) => match spread_all(alloc, grid, &mut cells, steps) {
-            Ok(()) => Ok(cells),
-            Err(NoMemory) => Err(NoMemory),
-        },
-        Err(NoMemory) => Err(NoMemory),
-    }
+    let mut cells = opening(alloc, grid)?;
+    spread_all(alloc, grid, &mut cells, steps)?;
+    Ok(cells)
 }

@@ -76,13 +76,9 @@ fn collected<P: Point>(
     ensures field { IfOk result (IsField grid.now) }
     ensures framed { IfOk result (All IsFramed) }
 {
-    let Ok(mut entries) = Vec::with_capacity(alloc, grid.count() as usize) else {
-        return Err(NoMemory);
-    };
+    let mut entries = Vec::with_capacity(alloc, grid.count() as usize)?;
     for p in grid.objects() {
-        if entries.push(near_of(grid, cells, p)).is_err() {
-            return Err(NoMemory);
-        }
+        entries.push(near_of(grid, cells, p))?;
     }
     Ok(Field { entries })
 }
@@ -100,10 +96,8 @@ fn counted<P: Point, L: Ledger>(
     ensures framed { IfOk result (All IsFramed) }
 {
     let mut steps = Steps::<L>::new(blank);
-    match all_found(alloc, grid, &mut steps) {
-        Ok(cells) => collected(alloc, grid, &cells),
-        Err(NoMemory) => Err(NoMemory),
-    }
+    let cells = all_found(alloc, grid, &mut steps)?;
+    collected(alloc, grid, &cells)
 }
 
 /// A nearest background point for each object point.

@@ -141,12 +141,8 @@ pub fn envelope<L: Ledger>(
     ensures count { steps.new ≤ steps.old + 4 * length row.now }
 {
     let n = row.len() as usize;
-    let Ok(mut places) = vec![in alloc; 0u32; n] else {
-        return Err(NoMemory);
-    };
-    let Ok(mut starts) = vec![in alloc; 0u32; n] else {
-        return Err(NoMemory);
-    };
+    let mut places = vec![in alloc; 0u32; n]?;
+    let mut starts = vec![in alloc; 0u32; n]?;
     let m = build(row, &mut places, &mut starts, steps);
     if m == 0 {
         return Ok(false);

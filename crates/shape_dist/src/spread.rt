@@ -24,13 +24,9 @@ fn line_of(
     ensures same { IfOk result (λ v. (y : ℕ) → y < n
         → found v.items y ≡ found cells.now (base + y * step)) }
 {
-    let Ok(mut line) = Vec::with_capacity(alloc, n as usize) else {
-        return Err(NoMemory);
-    };
+    let mut line = Vec::with_capacity(alloc, n as usize)?;
     for y in 0..n {
-        if line.push(cells[base + y as usize * step]).is_err() {
-            return Err(NoMemory);
-        }
+        line.push(cells[base + y as usize * step])?;
     }
     Ok(line)
 }
@@ -55,15 +51,11 @@ fn row_of(alloc: Global, line: &[Option<Found>]) -> Result<Row, NoMemory>
         → cell r y ≡ square_in (found line.now y)) }
 {
     let n = line.len() as u32;
-    match Row::new(alloc, n) {
-        Ok(mut row) => {
-            for y in 0..n {
-                row.set(y, square(line[y as usize]));
-            }
-            Ok(row)
-        }
-        Err(NoMemory) => Err(NoMemory),
+    let mut row = Row::new(alloc, n)?;
+    for y in 0..n {
+        row.set(y, square(line[y as usize]));
     }
+    Ok(row)
 }
 
 // What a cell gives another one: the square of the way is added.
@@ -127,20 +119,13 @@ fn spread_copy<L: Ledger>(
         → ((x : ℕ) → x < length line.now → i ≡ base + x * step → ⊥)
         → found cells.new i ≡ found cells.old i) }
 {
-    let Ok(row) = row_of(alloc, line) else {
-        return Err(NoMemory);
-    };
-    let Ok(mut out) = vec![in alloc; 0u32; line.len()] else {
-        return Err(NoMemory);
-    };
-    match envelope(alloc, &row, &mut out, steps) {
-        Ok(true) => {
-            store(cells, base, step, line, &out);
-            Ok(())
-        }
-        Ok(false) => Ok(()),
-        Err(NoMemory) => Err(NoMemory),
+    let row = row_of(alloc, line)?;
+    let mut out = vec![in alloc; 0u32; line.len()]?;
+    if !envelope(alloc, &row, &mut out, steps)? {
+        return Ok(());
     }
+    store(cells, base, step, line, &out);
+    Ok(())
 }
 
 // Lets the cells of one line spread along it.
@@ -165,10 +150,8 @@ fn spread_line<L: Ledger>(
     ensures others { IfOk result (λ _. (i : ℕ) → ((x : ℕ) → x < n → i ≡ base + x * step → ⊥)
         → found cells.new i ≡ found cells.old i) }
 {
-    match line_of(alloc, cells, base, step, n) {
-        Ok(line) => spread_copy(alloc, cells, base, step, &line, steps),
-        Err(NoMemory) => Err(NoMemory),
-    }
+    let line = line_of(alloc, cells, base, step, n)?;
+    spread_copy(alloc, cells, base, step, &line, steps)
 }
 
 // The number of the first cell of a line.
@@ -209,10 +192,7 @@ pub fn spread<L: Ledger>(
 {
     for t in 0..lines(before, side, behind) {
         let base = first_of(t, before, side, behind) as usize;
-        match spread_line(alloc, cells, base, before as usize, side, steps) {
-            Ok(()) => {}
-            Err(NoMemory) => return Err(NoMemory),
-        }
+        spread_line(alloc, cells, base, before as usize, side, steps)?;
     }
     Ok(())
 }

@@ -1,1 +1,2 @@
 pub mod ValueReads
+pub mod SideLists

@@ -1,6 +1,6 @@
 //! The grid: one truth value a point, in raster order, and the number of those that are true.
 //! Another way of keeping the values changes nothing outside this file.
-ghost use Rattle.std.specs.Prelude.{◌≡◌, ◌+◌, ◌<◌, ◌≤◌, ◌^◌, [], ◌∷◌, IfOk, IfSome, MatchOption, IsTrue, All, true, false, length, slice_set};
+ghost use Rattle.std.specs.Prelude.{◌≡◌, ◌+◌, ◌<◌, ◌≤◌, ◌^◌, [], ◌∷◌, IfOk, IfSome, MatchOption, IsTrue, All, true, false, length, map, pos, slice_set};
 ghost use Rattle.std.specs.Iterator.{YieldsFirstBy, item_count};
 ghost use Rattle.shape_terms.specs.Points.{AreSides, sides_of, in_box, box_count, raster_point};
 ghost use Rattle.shape_terms.specs.Pictures.{IsPicture, at, blank, with_value, object_points, objects_from};
@@ -37,28 +37,24 @@ impl<P: Point> Grid<P> {
         ensures { IfOk result (λ g. g ≡ blank (sides_of (P.coords sides.lengths))) }
     {
         let count = sides.count() as usize;
-        match vec![in alloc; false; count] {
-            Ok(values) => Ok(Grid {
-                sides,
-                values,
-                objects: 0,
-            }),
-            Err(_) => Err(NoMemory),
-        }
+        let values = vec![in alloc; false; count]?;
+        Ok(Grid {
+            sides,
+            values,
+            objects: 0,
+        })
     }
 
     /// A grid of its own with the same picture.
     pub fn copy(&self, alloc: Global) -> Result<Grid<P>, NoMemory>
         ensures { IfOk result (λ g. g ≡ self.now) }
     {
-        match self.values.as_slice().to_vec(alloc) {
-            Ok(values) => Ok(Grid {
-                sides: self.sides,
-                values,
-                objects: self.objects,
-            }),
-            Err(_) => Err(NoMemory),
-        }
+        let values = self.values.as_slice().to_vec(alloc)?;
+        Ok(Grid {
+            sides: self.sides,
+            values,
+            objects: self.objects,
+        })
     }
 
     /// The sides of the box.
@@ -67,6 +63,15 @@ impl<P: Point> Grid<P> {
         ensures picture { IsPicture P.DIM self.now }
     {
         self.sides
+    }
+
+    /// A grid is a picture: it has as many sides as the space has axes, each from 1 to `P::MAX_SIDE`, and one value for each point.
+    pub fn is_picture(&self)
+        ensures picture { IsPicture P.DIM self.now }
+        ensures in_range { AreSides P.MAX_SIDE (map pos self.now.sides) }
+        ensures few { box_count self.now.sides ≤ 2 ^ 23 }
+    {
+        let _ = &self.sides;
     }
 
     /// Whether the point is an object point.
@@ -140,7 +145,7 @@ impl<P: Point> Grid<P> {
         ensures rest { objects_from result.grid.now result.next ≡ object_points self.now }
         ensures object { All (λ p. IsTrue (at self.now p)) (object_points self.now) }
     {
-        let _ = self.sides();
+        self.is_picture();
         Objects {
             grid: self,
             next: 0,

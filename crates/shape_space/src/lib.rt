@@ -6,6 +6,7 @@ mod counter;
 mod crossing;
 mod frac;
 mod frame;
+mod memory;
 mod point;
 mod row;
 mod sides;
@@ -14,14 +15,11 @@ mod vector;
 pub use counter::Steps;
 pub use frac::Frac;
 pub use frame::squared_distance;
+pub use memory::NoMemory;
 pub use point::{P2, Point};
 pub use row::Row;
 pub use sides::{Sides, raster_order};
 pub use vector::dot;
-
-/// Memory was wanted and there was none.
-#[derive(Clone, Copy, Debug, PartialEq, Eq)]
-pub struct NoMemory;
 
 #[cfg(test)]
 mod tests;

@@ -33,10 +33,8 @@ impl Row {
         requires few { n ≤ 4096 }
         ensures { IfOk result (λ r. r ≡ replicate n None) }
     {
-        match vec![in alloc; None; n as usize] {
-            Ok(cells) => Ok(Row { cells }),
-            Err(_) => Err(NoMemory),
-        }
+        let cells = vec![in alloc; None; n as usize]?;
+        Ok(Row { cells })
     }
 
     /// Fills a cell, or empties it.

@@ -62,12 +62,12 @@ loop-k-preserved g c =
     let total : box_count (framed_sides X.sides) ≡ c.loop-k.before * (side * rows) = ap (λ s. box_count (framed_sides s)) is ∙ whole_count ns k c.loop-k.before side rows l i.before w refl in
     let same = c.deref.ensures.value in
     let long : length c.deref.result.now ≡ box_count (framed_sides X.sides) = ap length same ∙ i.long in
-    let scan = scanned c.loop-k.before side rows (length c.deref.result.now) c.deref.result.now c.in-Ok-scan_more.next.items (long ∙ total) c.in-Ok-scan_more.ensures.scanned in
+    let scan = scanned c.loop-k.before side rows (length c.deref.result.now) c.deref.result.now c.in_ok-next.next.items (long ∙ total) c.in_ok-next.ensures.scanned in
     record {
       before = before_step ns k c.loop-k.before side l w i.before;
-      long = c.in-Ok-scan_more.ensures.long ∙ long;
-      squares = scan_more X c.loop-k.before side rows total (λ low low2 x y high p q h j m. apart_on_axis X.sides ns k c.loop-k.before side low low2 x y high is l i.before w p q h j) c.loop-k.squares.items i.squares c.in-Ok-scan_more.next.items (rw same at scan);
-      small = c.in-Ok-scan_more.ensures.small;
+      long = c.in_ok-next.ensures.long ∙ long;
+      squares = scan_more X c.loop-k.before side rows total (λ low low2 x y high p q h j m. apart_on_axis X.sides ns k c.loop-k.before side low low2 x y high is l i.before w p q h j) c.loop-k.squares.items i.squares c.in_ok-next.next.items (rw same at scan);
+      small = c.in_ok-next.ensures.small;
       two = λ e. absurd (
           let s : 1 ≤ c.loop-k.before = omega (arith, i.before, some_framed (sides_of (take k ns))) in
           let m = mul-le 1 2 c.loop-k.before side s (omega (arith, w)) in

@@ -1,5 +1,4 @@
-use Rattle.std.proofs.Common.{rules, arith, ◌≡◌, ◌≤◌, ◌++◌, ◌∷◌, [], refl, ap, map, length, subst, List, ℕ, ◌^◌}
-use Rattle.shape_terms.specs.Points.{box_count}
+use Rattle.std.proofs.Common.{rules, arith, ◌≡◌, ◌≤◌, refl, ap, map, length}
 use Rattle.shape_terms.specs.Contours.{contour_points}
 use Rattle.shape_terms.proofs.Walks.{walk}
 use Rattle.shape_terms.proofs.Tracing.{reached_crack, traced_more}
@@ -8,58 +7,45 @@ use Rattle.shape_crack.specs.Terms.{point_of, crack_of}
 use Rattle.shape_crack.proofs.CrackValues.{cracks_equal, cracks_differ}
 use Rattle.shape_crack.proofs.Rounds.{few_steps, some_points, one_point, contour_from, path_from}
 use Rattle.shape_crack.proofs.contour.trace.Goals as goal
-use Rattle.shape_crack.proofs.contour.trace.Goals.{else-is_empty-via-then-is_empty+else-is_err, else-is_empty-via-else-is_empty}
+use Rattle.shape_crack.proofs.contour.trace.Goals.{Joined-is_empty, then-is_empty+in_ok-push, else-is_empty}
 
 pub advance-requires-in-loop-c : goal.advance-requires-in-loop-c
-advance-requires-in-loop-c c = reached_crack c.args.grid.now c.sides-sides.ensures.picture.axes (crack_of c.args.start) (crack_of c.loop-c.c) c.loop-c.steps c.requires c.loop-c.invariant.reached
+advance-requires-in-loop-c c = reached_crack c.args.grid.now c.is_picture.ensures.picture.axes (crack_of c.args.start) (crack_of c.loop-c.c) c.loop-c.steps c.requires c.loop-c.invariant.reached
 
 pub overflow_add-steps : goal.overflow_add-steps
 overflow_add-steps c =
     let away = cracks_differ c.loop-c.c c.args.start c.ne.result c.ne.ensures c.loop-c-test.true in
-    let few = subst (λ (l : List ℕ). box_count l ≤ 2 ^ 23) c.sides-sides.ensures.value c.sides-sides.result.few in
-    let l = few_steps c.args.grid.now c.sides-sides.ensures.picture.axes few (crack_of c.args.start) (crack_of c.loop-c.c) c.loop-c.steps c.requires c.loop-c.invariant.reached away in
+    let l = few_steps c.args.grid.now c.is_picture.ensures.picture.axes c.is_picture.ensures.few (crack_of c.args.start) (crack_of c.loop-c.c) c.loop-c.steps c.requires c.loop-c.invariant.reached away in
     omega arith
 
 pub loop-c-smaller : goal.loop-c-smaller
 loop-c-smaller c =
     let away = cracks_differ c.loop-c.c c.args.start c.ne.result c.ne.ensures c.loop-c-test.true in
-    let few = subst (λ (l : List ℕ). box_count l ≤ 2 ^ 23) c.sides-sides.ensures.value c.sides-sides.result.few in
-    let l = few_steps c.args.grid.now c.sides-sides.ensures.picture.axes few (crack_of c.args.start) (crack_of c.loop-c.c) c.loop-c.steps c.requires c.loop-c.invariant.reached away in
+    let l = few_steps c.args.grid.now c.is_picture.ensures.picture.axes c.is_picture.ensures.few (crack_of c.args.start) (crack_of c.loop-c.c) c.loop-c.steps c.requires c.loop-c.invariant.reached away in
     omega arith
 
 pub loop-c-preserved : goal.loop-c-preserved
 loop-c-preserved c =
     let away = cracks_differ c.loop-c.c c.args.start c.ne.result c.ne.ensures c.loop-c-test.true in
     rw (c.in_ok-c-2.ensures.next, c.in_ok-c-2.ensures.points)
-    (traced_more c.args.grid.now c.sides-sides.ensures.picture.axes (crack_of c.args.start) (crack_of c.loop-c.c) c.loop-c.steps (map point_of c.loop-c.points.items) c.requires c.loop-c.invariant away)
+    (traced_more c.args.grid.now c.is_picture.ensures.picture.axes (crack_of c.args.start) (crack_of c.loop-c.c) c.loop-c.steps (map point_of c.loop-c.points.items) c.requires c.loop-c.invariant away)
+
+points_are : (c : Joined-is_empty) → map point_of c.if-is_empty.points.items ≡ contour_points c.args.grid.now (walk c.args.grid.now (crack_of c.args.start) c.loop-c.steps)
+points_are c = elim c.if-is_empty.branch [
+  | then-is_empty+in_ok-push w ↦
+      (let none : length c.loop-c.points.items ≡ 0 = search rules in
+      rw (w.points-is, w.in_ok-push.ensures.items) (one_point c.args.grid.now (crack_of c.args.start) (crack_of c.loop-c.c) c.loop-c.steps c.loop-c.points.items c.args.start.p c.loop-c.invariant none refl))
+  | else-is_empty w ↦
+      (let some : 1 ≤ length c.loop-c.points.items = search rules in
+      rw w.points-is (some_points c.args.grid.now (crack_of c.args.start) (crack_of c.loop-c.c) c.loop-c.steps c.loop-c.points.items c.loop-c.invariant some))
+]
 
 pub invariant_of-result : goal.invariant_of-result
 invariant_of-result c =
-    let X = c.args.grid.now in
     let same = ap crack_of (cracks_equal c.loop-c.c c.args.start c.ne.result c.ne.ensures c.loop-c-test.false) in
-    let s = c.sides-sides.result in
-    let points : map point_of c.else-is_empty.points.items ≡ contour_points c.args.grid.now (walk c.args.grid.now (crack_of c.args.start) c.loop-c.steps) = elim c.else-is_empty.branch [
-      | else-is_empty-via-then-is_empty+else-is_err w ↦
-          (let none : length c.loop-c.points.items ≡ 0 = search rules in
-          let items : w.push.new.self.items ≡ c.loop-c.points.items ++ c.args.start.p ∷ [] = search rules in
-          rw (w.points-is, items) (one_point c.args.grid.now (crack_of c.args.start) (crack_of c.loop-c.c) c.loop-c.steps c.loop-c.points.items c.args.start.p c.loop-c.invariant none refl))
-      | else-is_empty-via-else-is_empty w ↦
-          (let some : 1 ≤ length c.loop-c.points.items = search rules in
-          rw w.points-is (some_points c.args.grid.now (crack_of c.args.start) (crack_of c.loop-c.c) c.loop-c.steps c.loop-c.points.items c.loop-c.invariant some))
-    ] in
-    path_from X c.sides-sides.ensures.picture.axes (crack_of c.args.start) (crack_of c.loop-c.c) c.loop-c.steps c.requires c.loop-c.invariant.reached same GREATEST_SIDE s.lengths s.in_range (omega arith) c.sides-sides.ensures.value (map point_of c.else-is_empty.points.items) points
+    path_from c.args.grid.now c.is_picture.ensures.picture.axes (crack_of c.args.start) (crack_of c.loop-c.c) c.loop-c.steps c.requires c.loop-c.invariant.reached same GREATEST_SIDE c.is_picture.ensures.in_range (omega arith) (map point_of c.if-is_empty.points.items) (points_are c)
 
 pub returns : goal.returns
 returns c =
-    let X = c.args.grid.now in
     let same = ap crack_of (cracks_equal c.loop-c.c c.args.start c.ne.result c.ne.ensures c.loop-c-test.false) in
-    let points : map point_of c.else-is_empty.points.items ≡ contour_points c.args.grid.now (walk c.args.grid.now (crack_of c.args.start) c.loop-c.steps) = elim c.else-is_empty.branch [
-      | else-is_empty-via-then-is_empty+else-is_err w ↦
-          (let none : length c.loop-c.points.items ≡ 0 = search rules in
-          let items : w.push.new.self.items ≡ c.loop-c.points.items ++ c.args.start.p ∷ [] = search rules in
-          rw (w.points-is, items) (one_point c.args.grid.now (crack_of c.args.start) (crack_of c.loop-c.c) c.loop-c.steps c.loop-c.points.items c.args.start.p c.loop-c.invariant none refl))
-      | else-is_empty-via-else-is_empty w ↦
-          (let some : 1 ≤ length c.loop-c.points.items = search rules in
-          rw w.points-is (some_points c.args.grid.now (crack_of c.args.start) (crack_of c.loop-c.c) c.loop-c.steps c.loop-c.points.items c.loop-c.invariant some))
-    ] in
-    contour_from X c.sides-sides.ensures.picture.axes (crack_of c.args.start) (crack_of c.loop-c.c) c.loop-c.steps c.requires c.loop-c.invariant.reached same (map point_of c.else-is_empty.points.items) points
+    contour_from c.args.grid.now c.is_picture.ensures.picture.axes (crack_of c.args.start) (crack_of c.loop-c.c) c.loop-c.steps c.requires c.loop-c.invariant.reached same (map point_of c.if-is_empty.points.items) (points_are c)

@@ -8,6 +8,5 @@ use Rattle.shape_crack.proofs.crack.is_crack.Goals as goal
 
 pub neighbour-requires : goal.neighbour-requires
 neighbour-requires c =
-    let s = c.sides-sides.result in
     let object : at c.args.grid.now (point_of c.args.c.p) ≡ true = search rules in
-    room c.args.c.p (object_within (pos GREATEST_SIDE) c.args.grid.now s.lengths c.args.c.p s.in_range (omega (arith, ints)) c.sides-sides.ensures.value object)
+    room c.args.c.p (object_within (pos GREATEST_SIDE) c.args.grid.now c.args.c.p c.is_picture.ensures.in_range (omega (arith, ints)) object)

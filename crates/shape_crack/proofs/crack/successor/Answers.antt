@@ -6,15 +6,12 @@ use Rattle.shape_crack.proofs.crack.successor.Goals as goal
 
 pub neighbour-ahead-requires : goal.neighbour-ahead-requires
 neighbour-ahead-requires c =
-    let s = c.sides-sides.result in
-    room c.args.c.p (object_within (pos GREATEST_SIDE) c.args.grid.now s.lengths c.args.c.p s.in_range (omega (arith, ints)) c.sides-sides.ensures.value c.requires.pixel)
+    room c.args.c.p (object_within (pos GREATEST_SIDE) c.args.grid.now c.args.c.p c.is_picture.ensures.in_range (omega (arith, ints)) c.requires.pixel)
 
 pub neighbour-requires : goal.neighbour-requires
 neighbour-requires c =
-    let s = c.sides-sides.result in
-    room c.args.c.p (object_within (pos GREATEST_SIDE) c.args.grid.now s.lengths c.args.c.p s.in_range (omega (arith, ints)) c.sides-sides.ensures.value c.requires.pixel)
+    room c.args.c.p (object_within (pos GREATEST_SIDE) c.args.grid.now c.args.c.p c.is_picture.ensures.in_range (omega (arith, ints)) c.requires.pixel)
 
 pub neighbour-across-requires : goal.neighbour-across-requires
 neighbour-across-requires c =
-    let s = c.sides-sides.result in
-    room_beside c.args.c.p c.neighbour.result (object_within (pos GREATEST_SIDE) c.args.grid.now s.lengths c.args.c.p s.in_range (omega (arith, ints)) c.sides-sides.ensures.value c.requires.pixel) c.neighbour.ensures.x_near c.neighbour.ensures.y_near
+    room_beside c.args.c.p c.neighbour.result (object_within (pos GREATEST_SIDE) c.args.grid.now c.args.c.p c.is_picture.ensures.in_range (omega (arith, ints)) c.requires.pixel) c.neighbour.ensures.x_near c.neighbour.ensures.y_near

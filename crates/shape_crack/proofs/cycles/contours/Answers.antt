@@ -1,4 +1,4 @@
-use Rattle.std.proofs.Common.{rules, arith, ◌≡◌, ◌<◌, ◌*◌, ◌++◌, ◌∷◌, [], subst, sym, ◌∙◌, ap, true, false, inl, inr, ◌⊎◌}
+use Rattle.std.proofs.Common.{rules, arith, ◌≡◌, ◌<◌, ◌*◌, subst, sym, ◌∙◌, ap, true, false, inl, inr, ◌⊎◌}
 use Rattle.shape_terms.specs.Points.{box_count}
 use Rattle.shape_terms.specs.Contours.{Crack, IsCrack}
 use Rattle.shape_terms.specs.Traces.{IsContourFrom}
@@ -7,7 +7,7 @@ use Rattle.shape_crack.specs.MarkBits.{is_marked}
 use Rattle.shape_crack.specs.Marked.{IsCycleMarked}
 use Rattle.shape_crack.proofs.Listing.{listing_none, listing_skip, listing_more, listing_all}
 use Rattle.shape_crack.proofs.cycles.contours.Goals as goal
-use Rattle.shape_crack.proofs.cycles.contours.Goals.{then-not-has+then-is_crack+in_ok-contour+else-is_err, else-not-has, else-not-has-via-then-not-has+else-is_crack, else-not-has-via-else-not-has}
+use Rattle.shape_crack.proofs.cycles.contours.Goals.{then-not-has+then-is_crack+in_ok-contour+in_ok-push, else-not-has, else-not-has-via-then-not-has+else-is_crack, else-not-has-via-else-not-has}
 
 pub loop-i-init : goal.loop-i-init
 loop-i-init c = record {
@@ -23,15 +23,14 @@ loop-i-preserved c =
     let all : c.count-count.result ≡ box_count X.sides = c.count-count.ensures.value ∙ ap box_count c.sides-sides.ensures.value in
     let below : c.loop-i.i < box_count X.sides * 4 = omega arith in
     elim c.if-not-has.branch [
-      | then-not-has+then-is_crack+in_ok-contour+else-is_err w ↦
+      | then-not-has+then-is_crack+in_ok-contour+in_ok-push w ↦
           (let is = subst (IsCrack X) t (w.is_crack.ensures.0 w.if-is_crack.true) in
           let new : is_marked c.loop-i.marks.bytes.items c.loop-i.i ≡ false = search rules in
-          let items : w.push.new.self.items ≡ c.loop-i.list.items ++ w.in_ok-contour.contour ∷ [] = search rules in
           let from = subst (λ (d : Crack). IsContourFrom X d w.in_ok-contour.contour) t w.in_ok-contour.ensures in
           let marked = subst (λ (d : Crack). IsCycleMarked X d (is_marked c.loop-i.marks.bytes.items) (is_marked w.mark_cycle.new.marks.bytes.items)) t w.mark_cycle.ensures.marked in
           record {
             listing =
-                rw (w.list-is, w.marks-is, items)
+                rw (w.list-is, w.marks-is, w.in_ok-push.ensures.items)
                 (listing_more X axes c.loop-i.i (is_marked c.loop-i.marks.bytes.items) (is_marked w.mark_cycle.new.marks.bytes.items) c.loop-i.list.items w.in_ok-contour.contour below c.loop-i.invariant.listing is new from marked);
             room = rw w.marks-is (w.mark_cycle.ensures.len ∙ c.loop-i.invariant.room);
           })

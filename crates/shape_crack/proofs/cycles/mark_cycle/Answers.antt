@@ -1,5 +1,4 @@
-use Rattle.std.proofs.Common.{arith, ◌≤◌, ◌∙◌, ◌^◌, ap, subst, List, ℕ}
-use Rattle.shape_terms.specs.Points.{box_count}
+use Rattle.std.proofs.Common.{arith, ◌∙◌, ap, subst, ℕ}
 use Rattle.shape_terms.specs.CrackNumbers.{IsMarkedBesides}
 use Rattle.shape_terms.proofs.Tracing.{reached_crack}
 use Rattle.shape_terms.proofs.Marking.{marking_first, marking_more}
@@ -17,23 +16,21 @@ loop-start-init c =
     record { marking = rw c.successor-c.ensures (marking_first c.args.grid.now (crack_of c.args.start) old new m); room = c.mark.ensures.len }
 
 pub number-requires-in-loop-start : goal.number-requires-in-loop-start
-number-requires-in-loop-start c = reached_crack c.args.grid.now c.sides-sides.ensures.picture.axes (crack_of c.args.start) (crack_of c.loop-start.c) c.loop-start.steps c.requires.crack c.loop-start.invariant.marking.reached
+number-requires-in-loop-start c = reached_crack c.args.grid.now c.is_picture.ensures.picture.axes (crack_of c.args.start) (crack_of c.loop-start.c) c.loop-start.steps c.requires.crack c.loop-start.invariant.marking.reached
 
 pub successor-c-requires-in-loop-start : goal.successor-c-requires-in-loop-start
-successor-c-requires-in-loop-start c = reached_crack c.args.grid.now c.sides-sides.ensures.picture.axes (crack_of c.args.start) (crack_of c.loop-start.c) c.loop-start.steps c.requires.crack c.loop-start.invariant.marking.reached
+successor-c-requires-in-loop-start c = reached_crack c.args.grid.now c.is_picture.ensures.picture.axes (crack_of c.args.start) (crack_of c.loop-start.c) c.loop-start.steps c.requires.crack c.loop-start.invariant.marking.reached
 
 pub overflow_add-steps : goal.overflow_add-steps
 overflow_add-steps c =
     let away = cracks_differ c.loop-start.c c.args.start c.ne.result c.ne.ensures c.loop-start-test.true in
-    let few = subst (λ (l : List ℕ). box_count l ≤ 2 ^ 23) c.sides-sides.ensures.value c.sides-sides.result.few in
-    let l = few_steps c.args.grid.now c.sides-sides.ensures.picture.axes few (crack_of c.args.start) (crack_of c.loop-start.c) c.loop-start.steps c.requires.crack c.loop-start.invariant.marking.reached away in
+    let l = few_steps c.args.grid.now c.is_picture.ensures.picture.axes c.is_picture.ensures.few (crack_of c.args.start) (crack_of c.loop-start.c) c.loop-start.steps c.requires.crack c.loop-start.invariant.marking.reached away in
     omega arith
 
 pub loop-start-smaller : goal.loop-start-smaller
 loop-start-smaller c =
     let away = cracks_differ c.loop-start.c c.args.start c.ne.result c.ne.ensures c.loop-start-test.true in
-    let few = subst (λ (l : List ℕ). box_count l ≤ 2 ^ 23) c.sides-sides.ensures.value c.sides-sides.result.few in
-    let l = few_steps c.args.grid.now c.sides-sides.ensures.picture.axes few (crack_of c.args.start) (crack_of c.loop-start.c) c.loop-start.steps c.requires.crack c.loop-start.invariant.marking.reached away in
+    let l = few_steps c.args.grid.now c.is_picture.ensures.picture.axes c.is_picture.ensures.few (crack_of c.args.start) (crack_of c.loop-start.c) c.loop-start.steps c.requires.crack c.loop-start.invariant.marking.reached away in
     omega arith
 
 pub loop-start-preserved : goal.loop-start-preserved
@@ -46,12 +43,12 @@ loop-start-preserved c =
     record {
       marking =
           rw c.successor-c-in-loop-start.ensures
-          (marking_more c.args.grid.now c.sides-sides.ensures.picture.axes (crack_of c.args.start) (crack_of c.loop-start.c) c.loop-start.steps old mid new c.requires.crack c.loop-start.invariant.marking away m);
+          (marking_more c.args.grid.now c.is_picture.ensures.picture.axes (crack_of c.args.start) (crack_of c.loop-start.c) c.loop-start.steps old mid new c.requires.crack c.loop-start.invariant.marking away m);
       room = c.mark-in-loop-start.ensures.len ∙ c.loop-start.invariant.room;
     }
 
 pub returns-clause-marked : goal.returns-clause-marked
 returns-clause-marked c =
     let same = ap crack_of (cracks_equal c.loop-start.c c.args.start c.ne.result c.ne.ensures c.loop-start-test.false) in
-    cycle_marked c.args.grid.now c.sides-sides.ensures.picture.axes (crack_of c.args.start) (crack_of c.loop-start.c) c.loop-start.steps c.requires.crack c.loop-start.invariant.marking.reached same
+    cycle_marked c.args.grid.now c.is_picture.ensures.picture.axes (crack_of c.args.start) (crack_of c.loop-start.c) c.loop-start.steps c.requires.crack c.loop-start.invariant.marking.reached same
     (is_marked c.args.marks.now.bytes.items) (is_marked c.loop-start.marks.bytes.items) c.loop-start.invariant.marking

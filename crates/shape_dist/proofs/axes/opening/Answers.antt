@@ -1,4 +1,4 @@
-use Rattle.std.proofs.Common.{◌≡◌, ◌<◌, ◌∙◌, ap, arith}
+use Rattle.std.proofs.Common.{◌≡◌, ◌∙◌, ap, arith}
 use Rattle.shape_terms.specs.Points.{box_count}
 use Rattle.shape_terms.specs.FramedBox.{framed_sides}
 use Rattle.shape_dist.proofs.AxisEnds.{opening}

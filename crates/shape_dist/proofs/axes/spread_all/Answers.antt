@@ -1,4 +1,4 @@
-use Rattle.std.proofs.Common.{◌≡◌, ◌<◌, ◌≤◌, ◌*◌, ◌/◌, ◌∙◌, inl, inr, ◌+◌, drop, length, ap, sym, arith}
+use Rattle.std.proofs.Common.{◌<◌, ◌/◌, ◌∙◌, ◌+◌, drop, length, ap, sym, arith}
 use Rattle.shape_terms.specs.Points.{box_count, sides_of}
 use Rattle.shape_terms.specs.FramedBox.{framed_sides}
 use Rattle.shape_terms.proofs.AxisCounts.{whole_count, behind_step, before_step, before_few}
@@ -49,5 +49,5 @@ loop-k-preserved g c =
     record {
       before = before_step ns k c.loop-k.before c.framed_side-side.result l w i.before;
       behind = rows;
-      near = axis_step X ns k c.loop-k.before c.framed_side-side.result (c.loop-k.behind / c.framed_side-side.result) c.loop-k.cells c.spread.new.cells (sym c.sides-sides.ensures.value) l i.before w rows i.near c.in-Ok.ensures;
+      near = axis_step X ns k c.loop-k.before c.framed_side-side.result (c.loop-k.behind / c.framed_side-side.result) c.loop-k.cells c.spread.new.cells (sym c.sides-sides.ensures.value) l i.before w rows i.near c.in_ok-spread.ensures;
     }

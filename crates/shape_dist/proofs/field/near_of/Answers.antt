@@ -1,6 +1,5 @@
-use Rattle.std.proofs.Common.{◌≡◌, ◌<◌, ◌∙◌, inl, inr, length, ap, subst, sym, arith, rules, None, Some}
+use Rattle.std.proofs.Common.{◌≡◌, ◌<◌, ◌∙◌, inl, inr, length, ap, subst, arith, rules, None, Some}
 use Rattle.shape_terms.specs.Points.{box_count}
-use Rattle.shape_terms.specs.Pictures.{Least}
 use Rattle.shape_terms.specs.FramedBox.{framed_sides, framed_point}
 use Rattle.shape_terms.specs.Places.{framed_number}
 use Rattle.shape_terms.proofs.FramedBoxes.{box_point_within}

@@ -1,5 +1,4 @@
-use Rattle.std.proofs.Common.{arith, sym, ◌∙◌}
-use Rattle.std.specs.Prelude.{IsSome}
+use Rattle.std.proofs.Common.{arith}
 use Rattle.shape_terms.specs.Rows.{cell}
 use Rattle.shape_dist.proofs.PartSteps.{built_more, built_empty, none_by}
 use Rattle.shape_dist.proofs.lowest.add_place.Goals as goal

@@ -1,4 +1,4 @@
-use Rattle.std.proofs.Common.{◌≡◌, ◌+◌, ◌-◌, ◌<◌, get_or, arith}
+use Rattle.std.proofs.Common.{◌≡◌, ◌+◌, ◌-◌, arith}
 use Rattle.shape_dist.proofs.PartSteps.{written_more}
 use Rattle.shape_dist.proofs.lowest.read_out.Goals as goal
 use Rattle.shape_dist.proofs.lowest.read_out.Goals.{else-starts-k-via-then-starts-k+else-k-gt0, else-starts-k-via-else-starts-k}

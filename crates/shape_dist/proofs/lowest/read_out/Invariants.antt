@@ -1,4 +1,4 @@
-use Rattle.std.proofs.Common.{◌≡◌, ℕ, ◌+◌, ◌<◌, ◌≤◌, length, get_or, pos}
+use Rattle.std.proofs.Common.{ℕ, ◌+◌, ◌<◌, ◌≤◌, length, get_or, pos}
 use Rattle.shape_terms.specs.Rows.{IsLowest}
 use Rattle.shape_dist.proofs.lowest.read_out.Given as goal
 

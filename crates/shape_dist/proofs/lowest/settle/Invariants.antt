@@ -1,4 +1,4 @@
-use Rattle.std.proofs.Common.{◌≡◌, ◌+◌, ◌≤◌, length}
+use Rattle.std.proofs.Common.{◌+◌, ◌≤◌, length}
 use Rattle.shape_dist.specs.Parts.{IsCut}
 use Rattle.shape_dist.proofs.lowest.settle.Given as goal
 

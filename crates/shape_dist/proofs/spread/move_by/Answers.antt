@@ -1,7 +1,5 @@
 use Rattle.std.proofs.Common.{◌≤◌, ◌^◌, arith}
 use Rattle.std.proofs.lemmas.Nat.{mul-le}
-use Rattle.std.specs.Prelude.{IfSome}
-use Rattle.shape_dist.specs.declared.found.Found.{Found}
 use Rattle.shape_dist.proofs.spread.move_by.Goals as goal
 
 pub overflow_add-result : goal.overflow_add-result

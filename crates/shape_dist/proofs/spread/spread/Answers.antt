@@ -1,4 +1,4 @@
-use Rattle.std.proofs.Common.{◌≡◌, ◌+◌, ◌*◌, ◌<◌, length, ap, ◌∙◌, sym, arith}
+use Rattle.std.proofs.Common.{◌+◌, ◌*◌, ◌<◌, ap, ◌∙◌, sym, arith}
 use Rattle.shape_dist.specs.Spreads.{found}
 use Rattle.shape_dist.proofs.LineSteps.{line_inside, line_place, line_low, line_high, number_of_line, spread_more}
 use Rattle.shape_dist.proofs.spread.spread.Goals as goal
@@ -20,5 +20,5 @@ spread_line-requires-clause-small g c =
 pub loop-t-preserved : goal.loop-t-preserved
 loop-t-preserved g c =
     let t : c.loop-t.t < c.args.before * c.args.behind = omega (arith, c.lines-t-end.ensures) in
-    let h = c.in-Ok.ensures in
+    let h = c.in_ok-spread_line.ensures in
     spread_more c.args.before c.args.side c.args.behind c.loop-t.t c.args.cells.now c.loop-t.cells c.spread_line.new.cells t c.loop-t.invariant (rw c.first_of-base.ensures at h.on_line) (rw c.first_of-base.ensures at h.others)

@@ -1,4 +1,4 @@
-use Rattle.std.proofs.Common.{◌≡◌, ◌+◌, ◌*◌, ◌∙◌, get_or-set_other, arith, None}
+use Rattle.std.proofs.Common.{◌+◌, ◌*◌, ◌∙◌, get_or-set_other, arith, None}
 use Rattle.shape_dist.proofs.AxisSteps.{line_more}
 use Rattle.shape_dist.proofs.spread.store.Goals as goal
 

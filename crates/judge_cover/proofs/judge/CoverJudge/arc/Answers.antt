@@ -23,5 +23,5 @@ returns-clause-few c =
     let i = c.self.inside in
     let s : Standing = record { begun = i.begun; points = i.points; declared = i.declared; stretches = map stretch_of i.segments.items; gaps = i.gaps } in
     let now = c.args.self.now in
-    let few : length (open_contour now.contours now.standing).points ≤ 2 ^ 24 = rw c.open.ensures at c.len-n.ensures.path.few in
+    let few : length (open_contour now.contours now.standing).points ≤ 2 ^ 24 = rw c.open.ensures at c.is_closed_path.ensures.few in
     arc_few point_of i.contours s now c.self.view_is i.round.items (vec_capacity i.round) (vec_capacity i.segments) c.self.invariant.1 c.requires.begun c.as_slice.result.now c.part.result.now c.args.first c.args.last c.as_slice.ensures.value c.requires.order c.requires.within c.part.ensures few

@@ -12,7 +12,7 @@ overflow_add-result c =
     let s : Standing = record { begun = i.begun; points = i.points; declared = i.declared; stretches = map stretch_of i.segments.items; gaps = i.gaps } in
     let now = c.args.self.now in
     let same = same_open i.contours s now c.self.view_is in
-    let few : length (open_contour now.contours now.standing).points ≤ 2 ^ 24 = rw c.open.ensures at c.len-n.ensures.path.few in
+    let few : length (open_contour now.contours now.standing).points ≤ 2 ^ 24 = rw c.open.ensures at c.is_closed_path.ensures.few in
     let listed : c.args.k < length i.segments.items = omega (arith, c.requires.place, ap (λ (t : CoverState). length t.standing.stretches) c.self.view_is, length-map i.segments.items stretch_of) in
     let a = around_at stretch_of i.segments.items c.args.k c.index.result.now (length (open_contour i.contours s).points) c.self.invariant.0.around listed c.index.ensures in
     omega (arith, a.begins, a.short, few, ap (λ k. length k.points) same)

@@ -6,5 +6,4 @@ use Rattle.judge_cover.proofs.judge.CoverJudge.new.Goals as goal
 pub returns-clause-room : goal.returns-clause-room
 returns-clause-room c =
     let X = c.args.grid.now in
-    let few : box_count X.sides ≤ 2 ^ 23 = rw (sym c.sides-sides.ensures.value) c.sides-sides.result.few in
-    rw c.in-Ok.ensures.items (few_lines X c.in_ok-contours.contours c.in_ok-contours.ensures few)
+    rw c.in_ok-round.ensures.items (few_lines X c.in_ok-contours.contours c.in_ok-contours.ensures c.is_picture.ensures.few)
