@@ -1,7 +1,7 @@
 -- A report grows by one good line at a time, up to its `near` lines.
 -- One law for each kind of line that is added; those of contours stand in `ContourGrowth`.
 use Rattle.std.proofs.Common.{◌≡◌, ◌+◌, ◌≤◌, ℕ, zero, suc, ℤ, pos, negsuc, ◌≤ℤ◌, List, [], ◌∷◌, ◌++◌, length, map, refl, sym, ap, ◌∙◌, subst, arith, Some}
-use Rattle.std.specs.Prelude.{All, FitsSigned, codes, slice_get, nat_abs}
+use Rattle.std.specs.Prelude.{All, FitsSigned, codes, slice_get}
 use Rattle.std.specs.Int.{w32}
 use Rattle.std.proofs.lemmas.Int.{ints}
 use Rattle.std.proofs.lemmas.List.{append-nil, length-append}
@@ -19,7 +19,7 @@ use Rattle.report_terms.proofs.Checking.{good_push}
 use Rattle.report_terms.proofs.SectionLaws.{come_none, come_more, come_past, good_at, lines_push}
 use Rattle.report_terms.proofs.FramedFields.{within_short, distance_fits}
 use Rattle.report_terms.proofs.Spelled.{short_line}
-use Rattle.shape_terms.proofs.Boxes.{abs_is}
+use Rattle.shape_grid.proofs.SideLists.{sides_back}
 use Rattle.shape_analyse.specs.Growing.{AreGood, IsGrowing, IsTextOf}
 
 -- ---- texts

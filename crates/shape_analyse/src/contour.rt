@@ -34,17 +34,11 @@ fn add_outline(contour: &Contour, segments: u32, report: &mut Report) -> Result<
         points: contour.len(),
         segments,
     };
-    match report.add(&head) {
-        Ok(()) => {}
-        Err(e) => return Err(e),
-    }
+    report.add(&head)?;
     for i in 0..contour.len() {
-        match report.add(&Line::At {
+        report.add(&Line::At {
             p: contour.point(i),
-        }) {
-            Ok(()) => {}
-            Err(e) => return Err(e),
-        }
+        })?;
     }
     Ok(())
 }
@@ -64,10 +58,7 @@ fn add_segments(cover: &Cover, report: &mut Report) -> Result<(), NoMemory>
             last: segment.last,
             line: segment.line,
         };
-        match report.add(&line) {
-            Ok(()) => {}
-            Err(e) => return Err(e),
-        }
+        report.add(&line)?;
     }
     Ok(())
 }
@@ -86,10 +77,7 @@ fn add_gap(axis: u8, refusal: Refusal, report: &mut Report) -> Result<(), NoMemo
         },
         Refusal::Cut(why) => Line::Cut { axis, why },
     };
-    match report.add(&line) {
-        Ok(()) => Ok(()),
-        Err(e) => Err(e),
-    }
+    report.add(&line)
 }
 
 // Adds the lines of the gaps of a contour, for each the one of the axis x and then the one of the axis y.
@@ -103,14 +91,8 @@ fn add_gaps(cover: &Cover, report: &mut Report) -> Result<(), NoMemory>
 {
     for j in 0..cover.len() {
         let gap = cover.gap(j);
-        match add_gap(0, gap.x, report) {
-            Ok(()) => {}
-            Err(e) => return Err(e),
-        }
-        match add_gap(1, gap.y, report) {
-            Ok(()) => {}
-            Err(e) => return Err(e),
-        }
+        add_gap(0, gap.x, report)?;
+        add_gap(1, gap.y, report)?;
     }
     Ok(())
 }
@@ -123,22 +105,11 @@ fn add_contour(alloc: Global, contour: &Contour, report: &mut Report) -> Result<
         → IsTextOf (HasOutlined X contours k) report.old
         → OnOk result (IsTextOf (HasOutlined X contours (k + 1)) report.new) }
 {
-    let cover = match cover(alloc, contour) {
-        Ok(cover) => cover,
-        Err(e) => return Err(e),
-    };
-    match add_outline(contour, cover.len(), report) {
-        Ok(()) => {}
-        Err(e) => return Err(e),
-    }
-    match add_segments(&cover, report) {
-        Ok(()) => {}
-        Err(e) => return Err(e),
-    }
-    match add_gaps(&cover, report) {
-        Ok(()) => Ok(()),
-        Err(e) => Err(e),
-    }
+    let cover = cover(alloc, contour)?;
+    add_outline(contour, cover.len(), report)?;
+    add_segments(&cover, report)?;
+    add_gaps(&cover, report)?;
+    Ok(())
 }
 
 // Adds the lines of each contour.
@@ -152,10 +123,7 @@ pub(crate) fn add_contours(
         → OnOk result (IsTextOf (HasOutlined X contours.now (length contours.now)) report.new) }
 {
     for k in 0..contours.len() {
-        match add_contour(alloc, contours.contour(k), report) {
-            Ok(()) => {}
-            Err(e) => return Err(e),
-        }
+        add_contour(alloc, contours.contour(k), report)?;
     }
     Ok(())
 }

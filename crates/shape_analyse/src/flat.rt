@@ -69,10 +69,7 @@ fn add_nears<P: Point>(
             q: near.q,
             s: near.s,
         };
-        match report.add(&line) {
-            Ok(()) => {}
-            Err(e) => return Err(e),
-        }
+        report.add(&line)?;
     }
     Ok(())
 }
@@ -84,10 +81,8 @@ fn begin<P: Pairing>(alloc: Global, grid: &Grid<P>) -> Result<Report, NoMemory>
 {
     let mut report = open(alloc, grid)?;
     let field = nearest(alloc, grid)?;
-    match add_nears(grid, &field, &mut report) {
-        Ok(()) => Ok(report),
-        Err(e) => Err(e),
-    }
+    add_nears(grid, &field, &mut report)?;
+    Ok(report)
 }
 
 /// The report of a flat picture, which holds of it.

@@ -47,14 +47,12 @@ impl ByteReader {
     pub fn new(alloc: Global) -> Result<ByteReader, NoMemory>
         ensures { IfOk result (λ r. r ≡ []) }
     {
-        match vec![in alloc; 0; 512] {
-            Ok(buf) => Ok(ByteReader {
-                buf,
-                start: 0,
-                end: 0,
-            }),
-            Err(_) => Err(NoMemory),
-        }
+        let buf = vec![in alloc; 0; 512]?;
+        Ok(ByteReader {
+            buf,
+            start: 0,
+            end: 0,
+        })
     }
 
     // Reads bytes ahead where there are none.

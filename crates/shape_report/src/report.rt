@@ -43,9 +43,7 @@ impl Report {
         ensures err { OnErr result (self.new ≡ self.old) }
     {
         let before = self.text.len();
-        if self.text.extend_from_slice(spelled(line).bytes()).is_err() {
-            return Err(NoMemory);
-        }
+        self.text.extend_from_slice(spelled(line).bytes())?;
         if self.text.push(b'\n').is_err() {
             self.text.truncate(before);
             return Err(NoMemory);

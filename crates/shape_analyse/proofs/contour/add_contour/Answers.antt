@@ -6,14 +6,14 @@ use Rattle.shape_analyse.proofs.Growth.{text_as}
 use Rattle.shape_analyse.proofs.ContourGrowth.{outlined_full}
 use Rattle.shape_analyse.proofs.contour.add_contour.Goals as goal
 
-pub returns-in-Ok-add_gaps : goal.returns-in-Ok-add_gaps
-returns-in-Ok-add_gaps c =
+pub returns : goal.returns
+returns c =
     let contour = c.args.contour.now in
-    let found = c.in-Ok.cover in
-    let cover = c.in-Ok.ensures in
+    let found = c.in_ok-cover.cover in
+    let cover = c.in_ok-cover.ensures in
     λ X contours k there h.
-    let outline = c.in-Ok-add_outline.ensures X contours k there h in
+    let outline = c.in_ok-add_outline.ensures X contours k there h in
     let declared = subst (λ m. Stands X contours (outlined k contour m) c.add_outline.new.report) c.len.ensures outline in
-    let segments = c.in-Ok-add_segments.ensures X contours k contour there cover declared in
-    let gaps = c.in-Ok-add_gaps.ensures X contours k contour there cover segments in
+    let segments = c.in_ok-add_segments.ensures X contours k contour there cover declared in
+    let gaps = c.in_ok-add_gaps.ensures X contours k contour there cover segments in
     text_as (λ lines o. outlined_full X contours k (length found) (stretches_of found) lines contour there (length-map found (λ (f : Found). f.stretch)) o) gaps

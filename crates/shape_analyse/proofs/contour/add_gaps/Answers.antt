@@ -44,11 +44,11 @@ loop-j-preserved c =
     let mid : 2 * j + 0 + 1 ≡ 2 * j + 1 = omega arith in
     let lines = h.lines ++ gap_line 0 (evidence_of gap.x) ∷ [] in
     let half = subst (λ g. IsOutlined X contours (covered k contour found g) lines) mid first in
-    let one = text_push _ _ h.lines (gap_line 0 (evidence_of gap.x)) h.is c.in-Ok.ensures in
+    let one = text_push _ _ h.lines (gap_line 0 (evidence_of gap.x)) h.is c.in_ok-add_gap.ensures in
     let second = found_gap X contours k contour found j 1 (evidence_of gap.y) lines half there l (omega arith) y_good y_fits in
     let last : 2 * j + 1 + 1 ≡ 2 * (j + 1) = omega arith in
     subst (λ g. Stands X contours (covered k contour found g) c.add_gap-in-loop-j.new.report) last
-    (text_more _ _ _ lines _ one c.in-Ok-add_gap.ensures second)
+    (text_more _ _ _ lines _ one c.in_ok-add_gap-2.ensures second)
 
 pub returns : goal.returns
 returns c =

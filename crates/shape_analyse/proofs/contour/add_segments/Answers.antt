@@ -31,7 +31,7 @@ loop-j-preserved c =
     let some = c.requires.1 in
     let same : Line.Seg s.first s.last s.line.axis (naive_of 2 s.line).a (naive_of 2 s.line).mu ≡ Line.Seg f.stretch.first f.stretch.last f.axis f.line.a f.line.mu = λ i. Line.Seg (is.places i).first (is.places i).last (is.axis i) (is.line i).a (is.line i).mu in
     let fields : IsLineOf 2 (Line.Seg f.stretch.first f.stretch.last f.axis f.line.a f.line.mu) = subst (IsLineOf 2) same (segment_fits s.first s.last s.line.axis (naive_of 2 s.line) b e (omega (arith, some.axis j l, is.axis)) (subst IsShortLine (sym is.line) (some.line j l))) in
-    let new = c.in-Ok.ensures.ok ∙ ap (λ m. c.loop-j.report ++ line_text m) same in
+    let new = c.in_ok-add.ensures.ok ∙ ap (λ m. c.loop-j.report ++ line_text m) same in
     λ X contours k contour there cover o.
     let h = c.loop-j.invariant X contours k contour there cover o in
     text_more _ _ _ h.lines _ h.is new (found_segment X contours k contour found j h.lines h.so there cover l fields)
