@@ -114,7 +114,7 @@ pub holds_shows : (X : Picture) (text : List ℕ) → Holds X text → TextShows
 holds_shows X text (lines, b) =
     let all = lines ++ Line.End ∷ [] in
     let come : HasCome X Section.End lines = subst (HasCome X Section.End) (take_front lines (Line.End ∷ [])) (b.good (length lines) Line.End (get_last lines Line.End)).come in
-    let complete : (s : Section) → rank s < 4 → IsComplete X s all = λ s h. complete_kept X lines Line.End s h (come.complete s h) in
+    let complete : (s : Section) → rank s < rank Section.End → IsComplete X s all = λ s h. complete_kept X lines Line.End s h (come.complete s h) in
     record {
       lines = all;
       fields = b.fields;

@@ -1,6 +1,6 @@
--- The laws of sections, by their ranks: no law has a clause for each kind of line.
--- A further section is one clause of `named`, `named_rank` and `rank_most`.
-use Rattle.std.proofs.Common.{◌≡◌, inl, inr, ℕ, zero, suc, ◌≤◌, ◌<◌, false, Option, Some, None, refl, ap, sym, ◌∙◌, subst, arith, List, [], ◌∷◌, ◌++◌, length, take}
+-- The laws of sections, by their ranks: no law has a clause for a kind of line or a section.
+-- What a section's lines claim is no matter here.
+use Rattle.std.proofs.Common.{◌≡◌, inl, inr, ℕ, suc, ◌≤◌, ◌<◌, false, Option, Some, None, refl, ap, sym, ◌∙◌, subst, arith, List, [], ◌∷◌, ◌++◌, length, take, get_or}
 use Rattle.std.specs.Prelude.{All, ◌==◌, filter_map, slice_get}
 use Rattle.std.proofs.lemmas.Bool.{cond-true, cond-false, eqb-true, eq-eqb, ne_eqb, cases_Bool, cases_lt}
 use Rattle.std.specs.List.{cons_option}
@@ -9,35 +9,26 @@ use Rattle.std.proofs.lemmas.List.Elements.{All-nil, All-push, All-head, All-tai
 use Rattle.shape_terms.specs.Pictures.{Picture}
 use Rattle.report_terms.specs.Lines.{Line}
 use Rattle.report_terms.proofs.SectionLines.{stood}
-use Rattle.report_terms.specs.Sections.{Section, rank, section_of, lines_of, SectionClaim, SectionComplete, IsComplete, HasCome, GoodAfter, GoodSoFar}
+use Rattle.report_terms.specs.Sections.{Section, sections, rank, section_of, lines_of, SectionClaim, SectionComplete, IsComplete, HasCome, GoodAfter, GoodSoFar}
 
 -- ---- ranks
 
+-- the section of a rank
 named : ℕ → Section
-named zero = Section.Heading
-named (suc zero) = Section.Counted
-named (suc (suc zero)) = Section.Nearest
-named (suc (suc (suc zero))) = Section.Contours
-named _ = Section.End
+named k = get_or sections k Section.End
 
 named_rank : (s : Section) → named (rank s) ≡ s
 unfolding named
 named_rank Section.Heading = refl
-named_rank Section.Counted = refl
-named_rank Section.Nearest = refl
-named_rank Section.Contours = refl
-named_rank Section.End = refl
+named_rank _ = refl
 
 -- a section is known from its rank
 pub rank_same : (s t : Section) → rank s ≡ rank t → s ≡ t
 rank_same s t e = sym (named_rank s) ∙ ap named e ∙ named_rank t
 
-pub rank_most : (s : Section) → rank s ≤ 4
+pub rank_most : (s : Section) → rank s ≤ rank Section.End
 rank_most Section.Heading = omega arith
-rank_most Section.Counted = omega arith
-rank_most Section.Nearest = omega arith
-rank_most Section.Contours = omega arith
-rank_most Section.End = omega arith
+rank_most _ = omega arith
 
 -- ---- the lines of a section, when one more line comes
 
@@ -90,13 +81,13 @@ order_last s [] l a = All-head (λ e. rank (section_of e) ≤ rank s) l [] a
 order_last s (m ∷ lines) l a = order_last s lines l (All-tail (λ e. rank (section_of e) ≤ rank s) m (lines ++ l ∷ []) a)
 
 -- lines that have come to an earlier section than the last do not end with `end`
-pub not_ended : (X : Picture) (s : Section) (lines : List Line) → rank s < 4 → HasCome X s (lines ++ Line.End ∷ []) → ⊥
-not_ended X s lines h c = let o : 4 ≤ rank s = order_last s lines Line.End c.order in omega (arith, o, h)
+pub not_ended : (X : Picture) (s : Section) (lines : List Line) → rank s < rank Section.End → HasCome X s (lines ++ Line.End ∷ []) → ⊥
+not_ended X s lines h c = let o : rank Section.End ≤ rank s = order_last s lines Line.End c.order in omega (arith, o, h)
 
 -- no line is good after `end`
 pub none_after_end : (X : Picture) (lines : List Line) (l : Line) → GoodAfter X (lines ++ Line.End ∷ []) l → ⊥
 none_after_end X lines l g =
-    let o : 4 ≤ rank (section_of l) = order_last (section_of l) lines Line.End g.come.order in
+    let o : rank Section.End ≤ rank (section_of l) = order_last (section_of l) lines Line.End g.come.order in
     let e : section_of l ≡ Section.End = rank_same (section_of l) Section.End (omega (arith, o, rank_most (section_of l))) in
     let c : lines_of Section.End (lines ++ Line.End ∷ []) ≡ [] = claim_at X Section.End (lines ++ Line.End ∷ []) l e g in
     let n = ap length (sym (lines_push Section.End lines Line.End refl) ∙ c) in

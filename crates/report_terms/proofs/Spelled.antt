@@ -1,26 +1,14 @@
 -- No two lines have the same spelling, no word of a line has a blank, and no line is too long.
--- Each follows from the laws of forms; a further kind of line is one clause of `joined`.
+-- Each follows from the laws of forms, and none has a clause for a kind.
 use Rattle.std.proofs.Common.{◌≡◌, ◌≤◌, ℕ, length, refl, ap, sym, subst, ◌∙◌}
 use Rattle.std.specs.List.{AllByRecursion, join_with_byte}
-use Rattle.report_terms.specs.Kinds.{Kind, Fields, Split, split_words}
-use Rattle.report_terms.specs.Lines.{Line, split, IsLineOf, line_words, spelling}
+use Rattle.report_terms.specs.Kinds.{Split, split_words}
+use Rattle.report_terms.specs.Lines.{Line, split, joined, IsLineOf, line_words, spelling}
 use Rattle.report_terms.proofs.WordLists.{IsWord, join_injective}
 use Rattle.report_terms.proofs.LineLaws.{split_injective, words_of_split, split_short}
 
--- the line of a kind with these fields
-joined : (k : Kind) → Fields k → Line
-joined Kind.Shape (sides, rule) = Line.Shape sides rule
-joined Kind.Parts (n, (o, b)) = Line.Parts n o b
-joined Kind.Near (p, (q, s)) = Line.Near p q s
-joined Kind.Contour (p, (side, (n, m))) = Line.Contour p side n m
-joined Kind.At p = Line.At p
-joined Kind.Seg (b, (e, (t, (a, mu)))) = Line.Seg b e t a mu
-joined Kind.Turn (t, (i, j)) = Line.Turn t i j
-joined Kind.Cut (t, why) = Line.Cut t why
-joined Kind.End _ = Line.End
-
+-- a line is known from its kind and its fields
 joined_split : (l : Line) → joined (split l).kind (split l).fields ≡ l
-unfolding joined
 joined_split (Line.Shape sides rule) = refl
 joined_split _ = refl
 

@@ -4,7 +4,7 @@ use Rattle.std.specs.Prelude.{ℕ, ℤ, List, [], ◌∷◌, ◌++◌, length, f
 use Rattle.std.specs.List.{join_with_byte}
 use Rattle.shape_terms.specs.Points.{Point}
 use Rattle.shape_terms.specs.Refutations.{Refutation}
-use Rattle.report_terms.specs.Kinds.{Kind, Split, IsSplitOf, split_words}
+use Rattle.report_terms.specs.Kinds.{Kind, Fields, Split, IsSplitOf, split_words}
 
 -- a line of a report. The sides stand as a point; a picture of two sides is a `pbm`, one of three a `raw`
 pub data Line : Type 0 where
@@ -29,6 +29,18 @@ split (Seg b e t a mu) = record { kind = Kind.Seg; fields = (b, (e, (t, (a, mu))
 split (Turn t i j) = record { kind = Kind.Turn; fields = (t, (i, j)) }
 split (Cut t why) = record { kind = Kind.Cut; fields = (t, why) }
 split End = record { kind = Kind.End; fields = tt }
+
+-- and the line of a kind with these fields
+abbrev pub joined : (k : Kind) → Fields k → Line
+joined Kind.Shape (sides, rule) = Shape sides rule
+joined Kind.Parts (n, (o, b)) = Parts n o b
+joined Kind.Near (p, (q, s)) = Near p q s
+joined Kind.Contour (p, (side, (n, m))) = Contour p side n m
+joined Kind.At p = At p
+joined Kind.Seg (b, (e, (t, (a, mu)))) = Seg b e t a mu
+joined Kind.Turn (t, (i, j)) = Turn t i j
+joined Kind.Cut (t, why) = Cut t why
+joined Kind.End _ = End
 
 -- the line is one of the reports of pictures with d axes, and its fields are in range
 abbrev pub IsLineOf : ℕ → Line → Type 0

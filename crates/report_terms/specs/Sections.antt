@@ -1,6 +1,6 @@
 -- The sections of a report, in their order, and when a line is good after the lines before it.
 -- Each claim speaks of the lines of its own section alone; what contours claim stands in `ContourLines`.
-use Rattle.std.specs.Prelude.{◌≡◌, ◌≢◌, ℕ, ◌<◌, ◌≤◌, ◌==◌, List, [], length, map, filter, take, slice_get, Some, codes, pos, All}
+use Rattle.std.specs.Prelude.{◌≡◌, ◌≢◌, ℕ, ◌<◌, ◌≤◌, ◌==◌, List, [], ◌∷◌, length, map, filter, take, slice_get, Some, codes, pos, All}
 use Rattle.shape_terms.specs.Pictures.{Picture, object_points, Least}
 use Rattle.shape_terms.specs.Parts.{Counts}
 use Rattle.report_terms.specs.Lines.{Line}
@@ -10,7 +10,11 @@ use Rattle.report_terms.specs.ContourLines.{ContourClaim, ContoursComplete}
 pub data Section : Type 0 where
   Heading Counted Nearest Contours End : Section
 
--- their order
+-- all sections, in their order
+abbrev pub sections : List Section
+sections = Section.Heading ∷ Section.Counted ∷ Section.Nearest ∷ Section.Contours ∷ Section.End ∷ []
+
+-- the place of a section among them
 abbrev pub rank : Section → ℕ
 rank Section.Heading = 0
 rank Section.Counted = 1
