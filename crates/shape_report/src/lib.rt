@@ -9,7 +9,6 @@ mod line;
 mod put_why;
 mod read;
 mod report;
-mod section;
 mod spell;
 mod text;
 mod why;

@@ -1,7 +1,11 @@
-//! The lines of reports: one variant for each kind of line.
-//! A further kind of line is a variant here, a constructor of the definitions' line, and a case of `line_of`.
+//! The lines of reports: one variant for each kind of line, and the rank of its section.
+//! A further kind of line is a variant and an arm here, a constructor of the definitions' line, and a case of `line_of`.
+ghost use Rattle.std.specs.Prelude.{◌≡◌};
+ghost use Rattle.report_terms.specs.Sections.{rank, section_of};
+
 use shape_refute::{Naive, Refutation};
 use shape_rules::Name;
+use shape_space::Point;
 
 /// A line of a report of a picture whose points are of type `P`.
 #[derive(Clone, Copy)]
@@ -58,4 +62,25 @@ pub enum Line<P> {
     },
     /// The last line.
     End,
+}
+
+impl<P: Point> Line<P> {
+    ghost use Rattle.shape_report.specs.LineOf.{line_of};
+
+    /// The number of the line's section in the order of a report, from 0 on.
+    pub fn rank(&self) -> u8
+        ensures { result ≡ rank (section_of (line_of P.coords self.now)) }
+    {
+        match self {
+            Line::Shape { .. } => 0,
+            Line::Parts { .. } => 1,
+            Line::Near { .. } => 2,
+            Line::Contour { .. } => 3,
+            Line::At { .. } => 3,
+            Line::Seg { .. } => 3,
+            Line::Turn { .. } => 3,
+            Line::Cut { .. } => 3,
+            Line::End => 4,
+        }
+    }
 }
