@@ -1,8 +1,7 @@
 -- When the line of a section of one line is good: the heading and the counts.
 -- Laws over pictures and lines.
-use Rattle.std.proofs.Common.{◌≡◌, suc, ℕ, refl, sym, ap, ◌∙◌, arith, List, [], ◌∷◌}
+use Rattle.std.proofs.Common.{◌≡◌, ℕ, sym, ap, ◌∙◌, List, []}
 use Rattle.std.specs.Prelude.{ℤ, pos, map, Bool, IsTrue, ◌↔◌, codes}
-use Rattle.std.proofs.lemmas.Int.{ints}
 use Rattle.shape_terms.specs.Points.{Point, AreSides, sides_of}
 use Rattle.shape_terms.specs.Pictures.{Picture}
 use Rattle.shape_terms.specs.Adjacency.{Near, Side}

@@ -1,4 +1,4 @@
-use Rattle.std.proofs.Common.{◌≡◌, false, rules, refl, ◌∙◌, arith, []}
+use Rattle.std.proofs.Common.{◌≡◌, false, rules, refl, arith, []}
 use Rattle.std.specs.Prelude.{IsTrue}
 use Rattle.std.proofs.lemmas.List.Elements.{All-nil}
 use Rattle.shape_desk.specs.declared.desk.Place.TheVariants.{Report}

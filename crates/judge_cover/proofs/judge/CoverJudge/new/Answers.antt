@@ -1,5 +1,3 @@
-use Rattle.std.proofs.Common.{◌≤◌, ◌^◌, sym}
-use Rattle.shape_terms.specs.Points.{box_count}
 use Rattle.judge_cover.proofs.Room.{few_lines}
 use Rattle.judge_cover.proofs.judge.CoverJudge.new.Goals as goal
 
