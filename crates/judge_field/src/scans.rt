@@ -36,7 +36,8 @@ impl<P: Point> Model for Scans<P> {
 
     ghost view = { λ s. s.grid };
 
-    ghost invariant = { λ s. (s.squares.len ≡ box_count (framed_sides s.grid.sides)) × AreSquaresOn s.grid (box_count (framed_sides s.grid.sides)) s.squares.items };
+    ghost invariant = { λ s. (s.squares.len ≡ box_count (framed_sides s.grid.sides))
+        × AreSquaresOn s.grid (box_count (framed_sides s.grid.sides)) s.squares.items };
 }
 
 // The square of a framed point before the first axis.

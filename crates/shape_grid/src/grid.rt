@@ -28,7 +28,8 @@ impl<P: Point> Model for Grid<P> {
 
     ghost view = { λ g. record { sides = sides_of (P.coords g.sides.lengths); values = g.values.items } };
 
-    ghost invariant = { λ g. (g.values.len ≡ box_count (sides_of (P.coords g.sides.lengths))) × (g.objects ≡ count_by (λ b. b) g.values.items) };
+    ghost invariant = { λ g. (g.values.len ≡ box_count (sides_of (P.coords g.sides.lengths)))
+        × (g.objects ≡ count_by (λ b. b) g.values.items) };
 }
 
 impl<P: Point> Grid<P> {
@@ -104,7 +105,8 @@ impl<P: Point> Grid<P> {
     /// Makes the point with a raster number an object point.
     pub fn set_number(&mut self, i: u32)
         requires { i < box_count self.old.sides }
-        ensures { self.new ≡ record { sides = self.old.sides; values = slice_set self.old.values i true } }
+        ensures { self.new
+            ≡ record { sides = self.old.sides; values = slice_set self.old.values i true } }
     {
         let i = i as usize;
         if !self.values[i] {

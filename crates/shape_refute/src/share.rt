@@ -51,7 +51,8 @@ impl Model for Shares {
 
     ghost view = { λ s. map share_of (take s.count s.entries) };
 
-    ghost invariant = { λ s. (s.count ≤ 4) × (length s.entries ≡ 4) × (drop s.count s.entries ≡ replicate (4 - s.count) no_share) };
+    ghost invariant = { λ s. (s.count ≤ 4) × (length s.entries ≡ 4)
+        × (drop s.count s.entries ≡ replicate (4 - s.count) no_share) };
 
     ghost inverse = { λ seen. record { entries = four_places kept_share no_share seen; count = length seen } };
 
@@ -116,7 +117,8 @@ impl Model for StepShares {
 
     ghost view = { λ s. map step_share_of (take s.count s.entries) };
 
-    ghost invariant = { λ s. (s.count ≤ 4) × (length s.entries ≡ 4) × (drop s.count s.entries ≡ replicate (4 - s.count) no_step_share) };
+    ghost invariant = { λ s. (s.count ≤ 4) × (length s.entries ≡ 4)
+        × (drop s.count s.entries ≡ replicate (4 - s.count) no_step_share) };
 
     ghost inverse = { λ seen. record { entries = four_places kept_step_share no_step_share seen; count = length seen } };
 
