@@ -1,10 +1,18 @@
-//! End rules of thinnings, by name.
-//! The rules themselves come with thinning; until then a report names the rule `none`.
+//! End rules of thinnings: what a rule is, the rules of the program, their names, and shelves of them.
+//! Rules are boxed objects that the caller makes; nothing here takes memory.
 #![tactic(auto)]
 
+mod boxed;
+mod ends;
 mod name;
+mod rule;
+mod shelf;
 
+pub use boxed::{ask, begin};
+pub use ends::{CurveEnds, FewEnds, NoEnds};
 pub use name::Name;
+pub use rule::{EndRule, Facts};
+pub use shelf::{Entry, Shelf};
 
 #[cfg(test)]
 mod tests;

@@ -1,0 +1,13 @@
+use Rattle.std.proofs.Common.{length, sym, ◌∙◌, ap}
+use Rattle.shape_terms.specs.Pictures.{Picture, object_points}
+use Rattle.thin_terms.specs.Thinning.{Stage}
+use Rattle.shape_queue.specs.Keys.{has}
+use Rattle.judge_thin.proofs.Followed.{same_stage}
+use Rattle.judge_thin.proofs.judge.ThinJudge.left.Goals as goal
+
+pub returns : goal.returns
+returns g c = λ by X events now h s t.
+    let j = c.args.self.now in
+    let is = same_stage by X events now j.left j.free j.distances.items (has j.keys) h s t in
+    let here = ap (λ (Y : Picture). length (object_points Y)) c.grid.ensures in
+    c.count.ensures ∙ here ∙ sym (ap (λ (s : Stage). length (object_points s.left)) is)

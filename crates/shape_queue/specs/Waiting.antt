@@ -1,0 +1,40 @@
+-- Which keys wait in the queue of a picture: those of the free points that are simple among the points left.
+-- Places may be named that are still to be looked at; of them the queue says nothing.
+use Rattle.std.specs.Prelude.{◌≡◌, ℕ, ◌<◌, ◌↔◌, Bool, true, cond, List, slice_index}
+use Rattle.shape_terms.specs.Points.{Point, box_count, raster_number, raster_point}
+use Rattle.shape_terms.specs.Pictures.{Picture}
+use Rattle.shape_terms.specs.Adjacency.{Near}
+use Rattle.shape_terms.specs.Parts.{Object}
+use Rattle.thin_terms.specs.Simple.{IsSimple}
+use Rattle.std.specs.BTreeMap.{is_at}
+use Rattle.shape_queue.specs.Keys.{key_cmp}
+use Rattle.shape_queue.specs.declared.key.Key.{Key}
+
+-- the key of a place
+abbrev pub key_at : List ℕ → ℕ → Key
+key_at distances i = record { distance = slice_index distances i; place = i }
+
+-- the point of the place is free and simple
+abbrev pub MayBeTaken : List ℕ → Picture → Picture → ℕ → Type 0
+MayBeTaken sides left free i = Object free (raster_point sides i) × IsSimple left (raster_point sides i)
+
+-- each key is that of a free place, and the key of a place that is not to be looked at later is there exactly where its point may be taken
+pub record Waits (sides : List ℕ) (left free : Picture) (distances : List ℕ) (later : ℕ → Type 0) (has : Key → Bool) : Type 0 where
+  pub proper : (k : Key) → has k ≡ true → (k.place < box_count sides) × Object free (raster_point sides k.place) × (k ≡ key_at distances k.place)
+  pub settled : (i : ℕ) → i < box_count sides → (later i → ⊥) → (has (key_at distances i) ≡ true) ↔ MayBeTaken sides left free i
+
+-- the queue of the points left: the keys are those of the free points that are simple
+abbrev pub IsQueue : Picture → Picture → List ℕ → (Key → Bool) → Type 0
+IsQueue left free distances has = Waits left.sides left free distances (λ i. ⊥) has
+
+-- the queue is right but for the near neighbours of p, which are still to be looked at
+abbrev pub IsQueueBut : Point → Picture → Picture → List ℕ → (Key → Bool) → Type 0
+IsQueueBut p left free distances has = Waits left.sides left free distances (λ i. Near p (raster_point left.sides i)) has
+
+-- the key is there or not, as b says, and all others as before
+abbrev pub Put : (Key → Bool) → (Key → Bool) → Key → Bool → Type 0
+Put old new key b = (k : Key) → new k ≡ cond (is_at (key_cmp key) k) b (old k)
+
+-- the key of q is there exactly where q is simple among the points left, and all others are as before
+abbrev pub IsLookedAt : Picture → List ℕ → Point → (Key → Bool) → (Key → Bool) → Type 0
+IsLookedAt left distances q old new = (b : Bool) × ((b ≡ true) ↔ IsSimple left q) × Put old new (key_at distances (raster_number left.sides q)) b

@@ -1,0 +1,13 @@
+pub mod Growing
+pub mod WholePart
+pub mod Counting
+pub mod Computed
+pub mod ShiftedSteps
+pub mod LinkTests
+pub mod Matching
+pub mod MaskBits
+pub mod MaskNumbers
+pub mod FlatTable
+pub mod Opposites
+pub mod MaskCount
+pub mod MaskSteps

@@ -1,0 +1,7 @@
+use Rattle.shape_terms.proofs.FramedBoxes.{box_point_within}
+use Rattle.shape_topo.proofs.masked.masks_of.Goals as goal
+
+pub mask_of-requires : goal.mask_of-requires
+mask_of-requires g c =
+    let s = c.sides-sides.result in
+    box_point_within g.P.Point.MAX_SIDE (g.P.Point.coords s.lengths) (g.P.Point.coords c.unraster-p.result) s.in_range g.met.P.Point.flat_side c.unraster-p.ensures.inside

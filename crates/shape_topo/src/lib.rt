@@ -1,0 +1,19 @@
+//! Topological numbers and simple points, by masks of near neighbours.
+//! Everything here is generic over the dimension; the grid that keeps masks takes memory, and nothing else.
+#![tactic(auto)]
+
+mod count;
+mod links;
+mod mask;
+mod masked;
+mod number;
+mod simple;
+mod table;
+
+pub use mask::mask_of;
+pub use masked::MaskedGrid;
+pub use number::{background_number, object_number};
+pub use simple::{SimpleMask, is_simple};
+
+#[cfg(test)]
+mod tests;

@@ -1,0 +1,131 @@
+//! Topological numbers and simple points, counted by hand.
+//! A further row is a mask, or a picture, and its numbers.
+ghost use Rattle.std.specs.Prelude.{◌≡◌, pos, negsuc};
+ghost use Rattle.shape_terms.specs.FramedBox.{IsWithin};
+
+use super::*;
+use crate::number::counts_one;
+use shape_grid::Grid;
+use shape_space::{P2, Sides, Steps};
+use std::alloc::{AllocError, Global};
+use std::marker::Brand;
+use std::sync::ledger::{Blank, Ledger};
+use std::test::Fail;
+
+// The full picture of 3 by 3 points.
+fn square(alloc: Global) -> Result<Grid<P2>, Fail> {
+    let Some(sides) = Sides::try_new(P2 { x: 3, y: 3 }) else {
+        return Err(Fail::from(AllocError));
+    };
+    let Ok(mut grid) = Grid::new(alloc, sides) else {
+        return Err(Fail::from(AllocError));
+    };
+    for i in 0..sides.count() {
+        let p = sides.unraster(i);
+        if grid.sides().inside(p) {
+            grid.set(p);
+        }
+    }
+    Ok(grid)
+}
+
+#[test]
+fn numbers_of_masks(rt: HostRuntime) {
+    // no near neighbour, all, one corner, two corners, two sides in a row, two sides round a corner
+    let masks = [0u32, 255, 1, 129, 24, 10];
+    let object = [0u8, 1, 1, 2, 2, 1];
+    let background = [1u8, 0, 1, 2, 2, 1];
+    for i in 0..6usize {
+        let mask = masks[i] % 256;
+        assert_eq!(rt; object_number::<P2>(mask), object[i]);
+        assert_eq!(rt; background_number::<P2>(mask), background[i]);
+    }
+}
+
+#[test]
+fn the_table_and_the_counts(rt: HostRuntime) {
+    let mut simple = 0u32;
+    for mask in 0..256u32 {
+        assert_eq!(rt; P2::simple_mask(mask), counts_one::<P2>(mask));
+        if P2::simple_mask(mask) {
+            simple = simple.saturating_add(1);
+        }
+    }
+    assert_eq!(rt; simple, 116);
+}
+
+// Whether the corner, the middle and the end of the first row of a grid are simple, where they are object.
+fn first_row<L: Ledger>(blank: Blank, grid: &Grid<P2>) -> [bool; 3]
+    requires name { blank.name ≡ L.name }
+    requires parts { blank.parts ≡ L.parts }
+    requires whole { blank.parts ≡ 1 }
+{
+    let mut steps = Steps::<L>::new(blank);
+    let mut row = [false; 3];
+    for x in 0..3usize {
+        let p = P2 { x: x as i32, y: 0 };
+        if grid.has(p) {
+            row[x] = is_simple(grid, p, &mut steps);
+        }
+    }
+    row
+}
+
+// The same of a grid with masks.
+fn first_masked<L: Ledger>(blank: Blank, grid: &MaskedGrid<P2>) -> [bool; 3]
+    requires name { blank.name ≡ L.name }
+    requires parts { blank.parts ≡ L.parts }
+    requires whole { blank.parts ≡ 1 }
+{
+    let mut steps = Steps::<L>::new(blank);
+    let mut row = [false; 3];
+    for x in 0..3usize {
+        let p = P2 { x: x as i32, y: 0 };
+        if grid.has(p) {
+            row[x] = grid.is_simple(p, &mut steps);
+        }
+    }
+    row
+}
+
+#[test]
+fn masks_of_a_square(rt: HostRuntime) -> Result<(), Fail> {
+    let grid = square(rt.alloc())?;
+    assert_eq!(rt; mask_of(&grid, P2 { x: 0, y: 0 }), 208);
+    assert_eq!(rt; mask_of(&grid, P2 { x: 1, y: 1 }), 255);
+    assert_eq!(rt; mask_of(&grid, P2 { x: 3, y: -1 }), 32);
+    assert_eq!(rt;
+        first_row::<Brand>(Blank::new(1), &grid),
+        [true, true, true]
+    );
+    Ok(())
+}
+
+#[test]
+fn masks_after_a_deletion(rt: HostRuntime) -> Result<(), Fail> {
+    let grid = square(rt.alloc())?;
+    let Ok(mut masked) = MaskedGrid::new(rt.alloc(), grid) else {
+        return Err(Fail::from(AllocError));
+    };
+    let centre = P2 { x: 1, y: 1 };
+    if masked.has(centre) {
+        assert_eq!(rt; masked.near_count(centre), 8);
+    }
+    let top = P2 { x: 1, y: 0 };
+    if masked.sides().inside(top) {
+        masked.clear(top);
+    }
+    if masked.has(centre) {
+        assert_eq!(rt; masked.mask(centre), 253);
+        assert_eq!(rt; masked.near_count(centre), 7);
+    }
+    assert!(rt; !masked.has(top));
+    assert_eq!(rt; masked.grid().count(), 8);
+    // the corners of the first row are ends now, and the square has a notch
+    assert_eq!(rt;
+        first_masked::<Brand>(Blank::new(1), &masked),
+        [true, false, true]
+    );
+    assert_eq!(rt; masked.into_grid().count(), 8);
+    Ok(())
+}

@@ -1,0 +1,4 @@
+pub mod Simple
+pub mod Thinning
+pub mod Shelves
+pub mod Following
