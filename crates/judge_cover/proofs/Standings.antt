@@ -17,13 +17,13 @@ use Rattle.std.proofs.lemmas.List.{length-append}
 use Rattle.shape_terms.specs.Traces.{Contour, AreContours}
 use Rattle.report_terms.specs.Lines.{Line}
 use Rattle.report_terms.specs.ContourLines.{Standing, standing, no_contour, open_contour, IsFull, IsContourHead, IsNextPoint, IsNextSegment, IsNextGap, OutlineClaim}
-use Rattle.report_terms.specs.Sections.{Section, SectionClaim, SectionComplete}
+use Rattle.report_terms.specs.Sections.{FlatClaim, AllContours}
 use Rattle.report_terms.proofs.ContourGroups.{declared_begun, standing_begun, standing_point, standing_segment, standing_turn, standing_cut}
 use Rattle.report_terms.proofs.ContoursShown.{contours_same}
 use Rattle.judge_cover.specs.CoverState.{CoverState, StandsFor, points_in, room_of}
 
 -- a line is good where its claim is true of the judge's contours
-pub claim_test : (X : Picture) (s : CoverState) (lines : List Line) (l : Line) (b : Bool) → StandsFor X s lines → (IsTrue b ↔ OutlineClaim s.contours s.standing l) → (IsTrue b ↔ SectionClaim X Section.Contours lines l)
+pub claim_test : (X : Picture) (s : CoverState) (lines : List Line) (l : Line) (b : Bool) → StandsFor X s lines → (IsTrue b ↔ OutlineClaim s.contours s.standing l) → (IsTrue b ↔ FlatClaim X lines l)
 claim_test X s lines l b f r = (
   λ t. (f.flat, (s.contours, f.are, subst (λ w. OutlineClaim s.contours w l) (sym f.stands) (r.0 t))),
   λ (flat, (contours, are, claim)).
@@ -32,7 +32,7 @@ claim_test X s lines l b f r = (
 )
 
 -- and all lines stand there where the judge went through its contours
-pub done_test : (X : Picture) (s : CoverState) (lines : List Line) (b : Bool) → StandsFor X s lines → (IsTrue b ↔ (IsFull s.contours s.standing × (s.standing.begun ≡ length s.contours))) → (IsTrue b ↔ SectionComplete X Section.Contours lines)
+pub done_test : (X : Picture) (s : CoverState) (lines : List Line) (b : Bool) → StandsFor X s lines → (IsTrue b ↔ (IsFull s.contours s.standing × (s.standing.begun ≡ length s.contours))) → (IsTrue b ↔ AllContours X lines)
 done_test X s lines b f r = (
   λ t.
       let h = r.0 t in
@@ -105,11 +105,11 @@ cut_stands X s s2 lines t why true f e r k = record {
 }
 
 -- all contours were begun, and b says whether the last has all its lines
-pub done_all : (X : Picture) (s : CoverState) (lines : List Line) (begun n : ℕ) (b : Bool) → StandsFor X s lines → begun ≡ s.standing.begun → n ≡ length s.contours → begun ≡ n → (IsTrue b ↔ IsFull s.contours s.standing) → (IsTrue b ↔ SectionComplete X Section.Contours lines)
+pub done_all : (X : Picture) (s : CoverState) (lines : List Line) (begun n : ℕ) (b : Bool) → StandsFor X s lines → begun ≡ s.standing.begun → n ≡ length s.contours → begun ≡ n → (IsTrue b ↔ IsFull s.contours s.standing) → (IsTrue b ↔ AllContours X lines)
 done_all X s lines begun n b f here len e r = done_test X s lines b f (λ t. (r.0 t, sym here ∙ e ∙ len), λ h. r.1 h.0)
 
 -- some contour is to come
-pub done_short : (X : Picture) (s : CoverState) (lines : List Line) (begun n : ℕ) → StandsFor X s lines → begun ≡ s.standing.begun → n ≡ length s.contours → (begun ≡ n → ⊥) → (IsTrue (nat_eq begun n) ↔ SectionComplete X Section.Contours lines)
+pub done_short : (X : Picture) (s : CoverState) (lines : List Line) (begun n : ℕ) → StandsFor X s lines → begun ≡ s.standing.begun → n ≡ length s.contours → (begun ≡ n → ⊥) → (IsTrue (nat_eq begun n) ↔ AllContours X lines)
 done_short X s lines begun n f here len other =
     done_test X s lines (nat_eq begun n) f (
       λ t. absurd (other (eqb-true begun n t)),

@@ -6,7 +6,7 @@ ghost use Rattle.shape_terms.specs.Pictures.{Picture};
 ghost use Rattle.shape_terms.specs.Covers.{IsEvidence, arc, next_first, gap_run};
 ghost use Rattle.report_terms.specs.Lines as Terms;
 ghost use Rattle.report_terms.specs.ContourLines.{open_contour, HasAllLines, IsFull, IsContourHead, IsNextPoint, IsNextSegment, IsNextGap};
-ghost use Rattle.report_terms.specs.Sections.{Section, SectionClaim, SectionComplete};
+ghost use Rattle.report_terms.specs.Sections.{FlatClaim, AllContours};
 ghost use Rattle.shape_report.specs.LineOf.{line_of};
 ghost use Rattle.shape_refute.specs.Terms.{naive_of};
 ghost use Rattle.shape_crack.specs.Terms.{point_of, crack_of};
@@ -251,7 +251,7 @@ impl CoverJudge {
     /// gap is not straight for the next axis. A line of another kind is not good here.
     pub fn take(&mut self, line: &Line<P2>) -> bool
         ensures answer { (X : Picture) (lines : List Terms.Line) → StandsFor X self.old lines
-            → (IsTrue result ↔ SectionClaim X Section.Contours lines (line_of point_of line.now)) }
+            → (IsTrue result ↔ FlatClaim X lines (line_of point_of line.now)) }
         ensures stands { (X : Picture) (lines : List Terms.Line) → StandsFor X self.old lines
             → OnTrue result (StandsFor X self.new (lines ++ line_of point_of line.now ∷ [])) }
         ensures room { OnTrue result (room_of self.new < room_of self.old) }
@@ -274,7 +274,7 @@ impl CoverJudge {
     /// Whether each contour of the picture has its lines.
     pub fn is_done(&self) -> bool
         ensures { (X : Picture) (lines : List Terms.Line) → StandsFor X self.now lines
-            → (IsTrue result ↔ SectionComplete X Section.Contours lines) }
+            → (IsTrue result ↔ AllContours X lines) }
     {
         self.begun == self.contours.len() && self.is_full()
     }

@@ -3,7 +3,7 @@
 ghost use Rattle.std.specs.Prelude.{◌≡◌, ◌<◌, ◌^◌, ◌↔◌, [], ◌∷◌, ◌++◌, List, IsTrue, IfOk};
 ghost use Rattle.std.specs.Bool.{OnTrue};
 ghost use Rattle.report_terms.specs.Lines as Terms;
-ghost use Rattle.report_terms.specs.Sections.{Section, NearClaim, SectionComplete};
+ghost use Rattle.report_terms.specs.Sections.{NearClaim, NearsComplete};
 ghost use Rattle.shape_report.specs.LineOf.{line_of};
 ghost use Rattle.judge_field.specs.FieldState.{StandsFor, room_of};
 
@@ -57,6 +57,13 @@ impl<P: Point> FieldJudge<P> {
         }
     }
 
+    /// The least squared distances that the judge compares with.
+    pub fn scans(&self) -> &Scans<P>
+        ensures { result.now ≡ self.now.picture }
+    {
+        &self.scans
+    }
+
     // Takes a `near` line of these points and this squared distance.
     fn take_near(&mut self, p: P, q: P, s: u64) -> bool
         ensures picture { self.new.picture ≡ self.old.picture }
@@ -105,7 +112,7 @@ impl<P: Point> FieldJudge<P> {
     /// Whether each object point has its line.
     pub fn is_done(&self) -> bool
         ensures { (lines : List Terms.Line) → StandsFor self.now lines
-            → (IsTrue result ↔ SectionComplete self.now.picture Section.Nearest lines) }
+            → (IsTrue result ↔ NearsComplete self.now.picture lines) }
     {
         self.taken == self.objects
     }

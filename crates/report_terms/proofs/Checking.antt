@@ -6,7 +6,7 @@ use Rattle.std.specs.List.{AllByRecursion}
 use Rattle.std.proofs.lemmas.Bool.{cases_lt}
 use Rattle.std.proofs.lemmas.List.{append_assoc, append-nil, length-append, length-take-le, get_or-take, take-append-drop}
 use Rattle.std.proofs.lemmas.List.Elements.{All-nil, All-push, All-take, All-from_get_or, recursion_from_All}
-use Rattle.shape_terms.specs.Pictures.{Picture}
+use Rattle.report_terms.specs.Subjects.{Subject}
 use Rattle.report_terms.specs.Lines.{Line, spelling, text_of, IsLineOf}
 use Rattle.report_terms.specs.Sections.{GoodAfter, GoodSoFar}
 use Rattle.report_terms.specs.Holds.{BeginsWith, LineIsGood, FirstBad}
@@ -17,7 +17,7 @@ use Rattle.report_terms.proofs.FirstBadOnce.{text_parts, good_front}
 
 -- ---- one more good line
 
-pub good_push : (X : Picture) (lines : List Line) (l : Line) → GoodSoFar X lines → GoodAfter X lines l → GoodSoFar X (lines ++ l ∷ [])
+pub good_push : (X : Subject) (lines : List Line) (l : Line) → GoodSoFar X lines → GoodAfter X lines l → GoodSoFar X (lines ++ l ∷ [])
 good_push X lines l good next k m e = elim (get_push lines l k m e) [
   | inl h ↦ subst (λ ls. GoodAfter X ls m) (sym h.1) (good k m h.0)
   | inr h ↦ subst (λ ls. GoodAfter X ls m) (sym h.1) (subst (GoodAfter X lines) h.0 next)
@@ -30,19 +30,19 @@ text_push (m ∷ lines) l rest =
     ∙ sym (append_assoc (spelling m ++ 10 ∷ []) (text_of lines) (spelling l ++ 10 ∷ rest))
 
 -- before the first line
-pub begins_none : (X : Picture) (text : List ℕ) → BeginsWith X text [] text
+pub begins_none : (X : Subject) (text : List ℕ) → BeginsWith X text [] text
 begins_none X text = record {
   split = refl;
-  fields = All-nil (IsLineOf (length X.sides));
+  fields = All-nil (IsLineOf (length X.picture.sides));
   short = All-nil (λ l. length (spelling l) ≤ 1024);
   good = λ k l e. cc;
 }
 
 -- the next line is good
-pub begins_next : (X : Picture) (text : List ℕ) (lines : List Line) (bytes : List ℕ) (l : Line) (rest : List ℕ) → BeginsWith X text lines bytes → StartsWithLine (length X.sides) bytes l rest → GoodAfter X lines l → BeginsWith X text (lines ++ l ∷ []) rest
+pub begins_next : (X : Subject) (text : List ℕ) (lines : List Line) (bytes : List ℕ) (l : Line) (rest : List ℕ) → BeginsWith X text lines bytes → StartsWithLine (length X.picture.sides) bytes l rest → GoodAfter X lines l → BeginsWith X text (lines ++ l ∷ []) rest
 begins_next X text lines bytes l rest b s g = record {
   split = b.split ∙ ap (λ t. text_of lines ++ t) s.split ∙ sym (text_push lines l rest);
-  fields = All-push (IsLineOf (length X.sides)) lines l b.fields s.fields;
+  fields = All-push (IsLineOf (length X.picture.sides)) lines l b.fields s.fields;
   short = All-push (λ m. length (spelling m) ≤ 1024) lines l b.short s.short;
   good = good_push X lines l b.good g;
 }
@@ -66,11 +66,11 @@ last_line (m ∷ k ∷ ms) (suc n) e =
     (r.0, record { is = ap (λ l. m ∷ l) r.1.is; there = r.1.there; here = r.1.here; count = ap suc r.1.count })
 
 -- where one more line is good, the bytes left begin with it, and it is good after the lines before
-next_line : (X : Picture) (text : List ℕ) (lines : List Line) (bytes : List ℕ) → BeginsWith X text lines bytes → LineIsGood X text (length lines + 1) → (l : Line) × (rest : List ℕ) × StartsWithLine (length X.sides) bytes l rest × GoodAfter X lines l
+next_line : (X : Subject) (text : List ℕ) (lines : List Line) (bytes : List ℕ) → BeginsWith X text lines bytes → LineIsGood X text (length lines + 1) → (l : Line) × (rest : List ℕ) × StartsWithLine (length X.picture.sides) bytes l rest × GoodAfter X lines l
 next_line X text lines bytes b (ms, rest, n, g) =
     let r = last_line ms (length lines) n in
     let front = take (length lines) ms in
-    let d = length X.sides in
+    let d = length X.picture.sides in
     let e : text ≡ text_of front ++ (spelling r.0 ++ 10 ∷ rest) = g.split ∙ ap (λ t. text_of t ++ rest) r.1.is ∙ text_push front r.0 rest in
     let u = lines_unique d lines front bytes (spelling r.0 ++ 10 ∷ rest) (recursion_from_All (IsLineOf d) lines b.fields) (recursion_from_All (IsLineOf d) front (All-take (IsLineOf d) (length lines) ms g.fields)) (sym r.1.count) (sym b.split ∙ e) in
     let inside : length lines < length ms = omega (arith, n) in (
@@ -91,16 +91,16 @@ nothing_more (l ∷ ls) bytes e =
     absurd (omega (arith, length-append (text_of (l ∷ ls)) bytes, length-append (spelling l ++ 10 ∷ []) (text_of ls), length-append (spelling l) (10 ∷ [])))
 
 -- a text that ends within or right after some good lines ends right after them
-whole_text : (X : Picture) (text : List ℕ) (lines : List Line) (bytes : List ℕ) (all : List Line) → BeginsWith X text lines bytes → BeginsWith X text all [] → length all ≤ length lines → (lines ≡ all) × (bytes ≡ [])
+whole_text : (X : Subject) (text : List ℕ) (lines : List Line) (bytes : List ℕ) (all : List Line) → BeginsWith X text lines bytes → BeginsWith X text all [] → length all ≤ length lines → (lines ≡ all) × (bytes ≡ [])
 whole_text X text lines bytes all b w h =
-    let d = length X.sides in
+    let d = length X.picture.sides in
     let n = length all in
     let u = lines_unique d all (take n lines) [] (text_of (drop n lines) ++ bytes) (recursion_from_All (IsLineOf d) all w.fields) (recursion_from_All (IsLineOf d) (take n lines) (All-take (IsLineOf d) n lines b.fields)) (sym (length-take-le n lines h)) (sym w.split ∙ b.split ∙ text_parts lines n bytes) in
     let z = nothing_more (drop n lines) bytes (sym u.1) in
     (sym (take-append-drop n lines) ∙ ap (λ t. take n lines ++ t) z.0 ∙ append-nil (take n lines) ∙ sym u.0, z.1)
 
 -- no line is good after these, and the text does not end right after a last line `end`
-pub first_bad : (X : Picture) (text : List ℕ) (lines : List Line) (bytes : List ℕ) → BeginsWith X text lines bytes → ((l : Line) (rest : List ℕ) → StartsWithLine (length X.sides) bytes l rest → GoodAfter X lines l → ⊥) → ((front : List Line) → lines ≡ front ++ Line.End ∷ [] → bytes ≡ [] → ⊥) → FirstBad X text (length lines + 1)
+pub first_bad : (X : Subject) (text : List ℕ) (lines : List Line) (bytes : List ℕ) → BeginsWith X text lines bytes → ((l : Line) (rest : List ℕ) → StartsWithLine (length X.picture.sides) bytes l rest → GoodAfter X lines l → ⊥) → ((front : List Line) → lines ≡ front ++ Line.End ∷ [] → bytes ≡ [] → ⊥) → FirstBad X text (length lines + 1)
 first_bad X text lines bytes b none goes_on =
     let bad : LineIsGood X text (length lines + 1) → ⊥ = λ g. let s = next_line X text lines bytes b g in none s.0 s.1 s.2 s.3 in
     record {

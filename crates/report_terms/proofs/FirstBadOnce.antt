@@ -4,7 +4,7 @@ use Rattle.std.proofs.Common.{◌≡◌, ℕ, zero, suc, ◌≤◌, ◌<◌, ref
 use Rattle.std.specs.Prelude.{slice_get}
 use Rattle.std.proofs.lemmas.List.Elements.{All-take}
 use Rattle.std.proofs.lemmas.List.{length-take}
-use Rattle.shape_terms.specs.Pictures.{Picture}
+use Rattle.report_terms.specs.Subjects.{Subject}
 use Rattle.report_terms.specs.Lines.{Line, spelling, text_of, IsLineOf}
 use Rattle.report_terms.specs.Sections.{GoodAfter}
 use Rattle.report_terms.specs.Holds.{BeginsWith, LineIsGood, FirstBad}
@@ -25,7 +25,7 @@ text_parts (l ∷ lines) (suc k) r =
     ∙ sym (append_assoc (spelling l ++ 10 ∷ []) (text_of (take k lines)) (text_of (drop k lines) ++ r))
 
 -- a front of good lines is one of fewer
-pub good_front : (X : Picture) (text : List ℕ) (lines : List Line) (rest : List ℕ) → BeginsWith X text lines rest → (k : ℕ) → k ≤ length lines → LineIsGood X text k
+pub good_front : (X : Subject) (text : List ℕ) (lines : List Line) (rest : List ℕ) → BeginsWith X text lines rest → (k : ℕ) → k ≤ length lines → LineIsGood X text k
 good_front X text lines rest b k h =
     let n : length (take k lines) ≡ k = simp length-take (omega arith) in (
       take k lines,
@@ -33,19 +33,19 @@ good_front X text lines rest b k h =
       n,
       record {
         split = b.split ∙ text_parts lines k rest;
-        fields = All-take (IsLineOf (length X.sides)) k lines b.fields;
+        fields = All-take (IsLineOf (length X.picture.sides)) k lines b.fields;
         short = All-take (λ l. length (spelling l) ≤ 1024) k lines b.short;
         good = λ j l e. let g = get_take lines k j l e in subst (λ ls. GoodAfter X ls l) (sym g.1) (b.good j l g.0);
       },
     )
 
-fewer_good : (X : Picture) (text : List ℕ) (m k : ℕ) → LineIsGood X text m → k ≤ m → LineIsGood X text k
+fewer_good : (X : Subject) (text : List ℕ) (m k : ℕ) → LineIsGood X text m → k ≤ m → LineIsGood X text k
 fewer_good X text m k (lines, rest, n, b) h = good_front X text lines rest b k (omega arith)
 
-not_below : (X : Picture) (text : List ℕ) (k m : ℕ) → FirstBad X text k → FirstBad X text m → k < m → ⊥
+not_below : (X : Subject) (text : List ℕ) (k m : ℕ) → FirstBad X text k → FirstBad X text m → k < m → ⊥
 not_below X text k m f g h = let e = g.before.1 in f.bad (fewer_good X text g.before.0 k g.before.2 (omega arith))
 
-pub first_bad_once : (X : Picture) (text : List ℕ) (k m : ℕ) → FirstBad X text k → FirstBad X text m → k ≡ m
+pub first_bad_once : (X : Subject) (text : List ℕ) (k m : ℕ) → FirstBad X text k → FirstBad X text m → k ≡ m
 first_bad_once X text k m f g =
     let a : k < m → ⊥ = not_below X text k m f g in
     let b : m < k → ⊥ = not_below X text m k g f in

@@ -10,13 +10,18 @@ use Rattle.shape_terms.specs.Points.{Point}
 use Rattle.shape_terms.specs.Pictures.{Picture, object_points, Least}
 use Rattle.shape_terms.specs.Parts.{Counts}
 use Rattle.shape_terms.specs.Distances.{NearFact, IsField}
+use Rattle.thin_terms.specs.Thinning.{Rule}
+use Rattle.report_terms.specs.Subjects.{Subject}
 use Rattle.report_terms.specs.Lines.{Line, text_of, IsLineOf}
-use Rattle.report_terms.specs.Sections.{Section, rank, section_of, lines_of, CountsClaim, NearClaim, IsComplete, HasCome, GoodSoFar}
+use Rattle.report_terms.specs.ThinningLines.{PartsFact, event_of, events_of, kept_fact, kept_facts}
+use Rattle.report_terms.specs.Sections.{Section, rank, section_of, lines_of, CountsClaim, NearClaim, NamesRule, IsComplete, HasCome, GoodSoFar}
 use Rattle.report_terms.specs.ContourLines.{ContourClaim}
 use Rattle.report_terms.specs.Holds.{Holds}
-use Rattle.report_terms.specs.Shows.{PartsFact, parts_fact, ShowsParts, near_fact, TextShows}
+use Rattle.report_terms.specs.Shows.{parts_fact, ShowsParts, near_fact, ThinningShows, TextShows}
 use Rattle.report_terms.proofs.SectionLines.{stood}
 use Rattle.report_terms.proofs.ContoursShown.{lines_contours}
+use Rattle.report_terms.proofs.ListPushes.{get_last, take_front}
+use Rattle.report_terms.proofs.ThinningShown.{thinning_shown}
 use Rattle.report_terms.proofs.SectionLaws.{complete_kept, facts_of_section, claims_of_section}
 
 -- ---- counts
@@ -37,11 +42,11 @@ no_counts (Line.Parts n o b) e = cc
 no_counts _ e = refl
 
 -- good lines with one line of counts say the counts of the picture once
-lines_parts : (X : Picture) (lines : List Line) → GoodSoFar X lines → IsComplete X Section.Counted lines → ShowsParts X (filter_map parts_fact lines)
-lines_parts X lines good e =
-    subst (ShowsParts X) (sym (facts_of_section Section.Counted parts_fact no_counts lines)) (shown (lines_of Section.Counted lines) e (λ l h. says_counts X l (claims_of_section X Section.Counted lines good 0 l h).1))
+lines_parts : (X : Subject) (lines : List Line) → GoodSoFar X lines → IsComplete X Section.Heading lines → IsComplete X Section.Counted lines → ShowsParts X.picture (filter_map parts_fact lines)
+lines_parts X lines good one e =
+    subst (ShowsParts X.picture) (sym (facts_of_section Section.Counted parts_fact no_counts lines)) (shown (lines_of Section.Counted lines) e (λ l h. says_counts X.picture l (claims_of_section X Section.Counted lines (omega arith) good one 0 l h).1))
   where
-    shown : (ls : List Line) → length ls ≡ 1 → ((l : Line) → slice_get ls 0 ≡ Some l → SaysCounts X l) → ShowsParts X (filter_map parts_fact ls)
+    shown : (ls : List Line) → length ls ≡ 1 → ((l : Line) → slice_get ls 0 ≡ Some l → SaysCounts X.picture l) → ShowsParts X.picture (filter_map parts_fact ls)
     shown [] e h = absurd (omega arith)
     shown (l ∷ m ∷ ls) e h = absurd (omega arith)
     shown (l ∷ []) e h =
@@ -86,42 +91,62 @@ length_below (m ∷ lines) zero l e = refl
 length_below (m ∷ lines) (suc j) l e = ap suc (length_below lines j l e)
 
 -- good lines in which each object point has its `near` line make the field
-lines_field : (X : Picture) (lines : List Line) → GoodSoFar X lines → IsComplete X Section.Nearest lines → IsField X (filter_map near_fact lines)
-lines_field X lines good e =
+lines_field : (X : Subject) (lines : List Line) → GoodSoFar X lines → IsComplete X Section.Heading lines → IsComplete X Section.Nearest lines → IsField X.picture (filter_map near_fact lines)
+lines_field X lines good one e =
     let nears = lines_of Section.Nearest lines in
-    let facts = near_facts X nears (object_points X) e (λ j l m. subst (λ k. SaysNear X (object_points X) k l) (length_below nears j l m) (says_near X (take j nears) l (claims_of_section X Section.Nearest lines good j l m))) in
-    subst (IsField X) (sym (facts_of_section Section.Nearest near_fact no_near lines)) (record { points = facts.0; least = facts.1 })
+    let points = object_points X.picture in
+    let facts = near_facts X.picture nears points e (λ j l m. subst (λ k. SaysNear X.picture points k l) (length_below nears j l m) (says_near X.picture (take j nears) l (claims_of_section X Section.Nearest lines (omega arith) good one j l m))) in
+    subst (IsField X.picture) (sym (facts_of_section Section.Nearest near_fact no_near lines)) (record { points = facts.0; least = facts.1 })
 
 -- ---- contours
 
 -- each line of a contour is good after the lines of contours before it
-contours_good : (X : Picture) (lines : List Line) → All (IsLineOf (length X.sides)) lines → GoodSoFar X lines → (j : ℕ) (l : Line) → slice_get (lines_of Section.Contours lines) j ≡ Some l → IsLineOf (length X.sides) l × ContourClaim X (take j (lines_of Section.Contours lines)) l
-contours_good X lines fields good j l e =
+contours_good : (X : Subject) (lines : List Line) → All (IsLineOf (length X.picture.sides)) lines → GoodSoFar X lines → IsComplete X Section.Heading lines → (j : ℕ) (l : Line) → slice_get (lines_of Section.Contours lines) j ≡ Some l
+    → IsLineOf (length X.picture.sides) l × ContourClaim X.picture (take j (lines_of Section.Contours lines)) l
+contours_good X lines fields good one j l e =
     let s = stood (λ m. rank (section_of m) == 3) lines j l e in
-    (subst (IsLineOf (length X.sides)) (get_or_from_slice_get lines s.place l l s.there) (fields s.place l (slice_get_within lines s.place l s.there)), (claims_of_section X Section.Contours lines good j l e).1)
+    (subst (IsLineOf (length X.picture.sides)) (get_or_from_slice_get lines s.place l l s.there) (fields s.place l (slice_get_within lines s.place l s.there)), (claims_of_section X Section.Contours lines (omega arith) good one j l e).1)
+
+-- ---- the thinning
+
+-- other lines give no event and no counts of points left
+no_event : (l : Line) → (rank (section_of l) == 4) ≡ false → event_of l ≡ None
+no_event (Line.Del p) e = cc
+no_event (Line.Tip p) e = cc
+no_event _ e = refl
+
+no_kept : (l : Line) → (rank (section_of l) == 4) ≡ false → kept_fact l ≡ None
+no_kept (Line.Kept n o b) e = cc
+no_kept _ e = refl
+
+-- good lines with one `kept` line show the thinning by the rule that the heading names
+lines_thinned : (X : Subject) (lines : List Line) → GoodSoFar X lines → IsComplete X Section.Heading lines → IsComplete X Section.Thinned lines
+    → (rule : Rule) × NamesRule X.shelf (lines_of Section.Heading lines) rule × ThinningShows X.picture rule (events_of lines) (kept_facts lines)
+lines_thinned X lines good one e =
+    let t = thinning_shown X (lines_of Section.Heading lines) (lines_of Section.Thinned lines) (claims_of_section X Section.Thinned lines (omega arith) good one) e in
+    let events = facts_of_section Section.Thinned event_of no_event lines in
+    let kept = facts_of_section Section.Thinned kept_fact no_kept lines in
+    (t.0, t.1, subst (λ es. ThinningShows X.picture t.0 es (kept_facts lines)) (sym events) (subst (ThinningShows X.picture t.0 (events_of (lines_of Section.Thinned lines))) (sym kept) t.2))
 
 -- ---- the whole report
 
-get_last : (lines : List Line) (l : Line) → slice_get (lines ++ l ∷ []) (length lines) ≡ Some l
-get_last [] l = refl
-get_last (m ∷ lines) l = get_last lines l
-
-take_front : (lines more : List Line) → take (length lines) (lines ++ more) ≡ lines
-take_front [] more = refl
-take_front (m ∷ lines) more = ap (λ l. m ∷ l) (take_front lines more)
-
-pub holds_shows : (X : Picture) (text : List ℕ) → Holds X text → TextShows X text
+pub holds_shows : (X : Subject) (text : List ℕ) → Holds X text → TextShows X text
 holds_shows X text (lines, b) =
     let all = lines ++ Line.End ∷ [] in
     let come : HasCome X Section.End lines = subst (HasCome X Section.End) (take_front lines (Line.End ∷ [])) (b.good (length lines) Line.End (get_last lines Line.End)).come in
     let complete : (s : Section) → rank s < rank Section.End → IsComplete X s all = λ s h. complete_kept X lines Line.End s h (come.complete s h) in
+    let one = complete Section.Heading (omega arith) in
+    let thinned = lines_thinned X all b.good one (complete Section.Thinned (omega arith)) in
     record {
       lines = all;
       fields = b.fields;
       text_is = b.split ∙ append-nil (text_of all);
+      rule = thinned.0;
+      names = thinned.1;
       shows = record {
-        parts = lines_parts X all b.good (complete Section.Counted (omega arith));
-        nears = lines_field X all b.good (complete Section.Nearest (omega arith));
-        contours = λ flat. lines_contours X (length X.sides) (lines_of Section.Contours all) (contours_good X all b.fields b.good) ((complete Section.Contours (omega arith)).flat flat);
+        parts = lines_parts X all b.good one (complete Section.Counted (omega arith));
+        nears = lines_field X all b.good one (complete Section.Nearest (omega arith));
+        contours = λ flat. lines_contours X.picture (length X.picture.sides) (lines_of Section.Contours all) (contours_good X all b.fields b.good one) ((complete Section.Contours (omega arith)).flat flat);
+        thinning = thinned.2;
       };
     }

@@ -4,7 +4,9 @@ pub mod ContourSaid
 pub mod ContoursShown
 pub mod FirstBadOnce
 pub mod SectionLaws
-pub mod LandedGood
+pub mod ThinningShown
+pub mod NamedRules
+pub mod HeadingFirst
 pub mod HoldsShows
 pub mod FormLaws
 pub mod FramedFields

@@ -74,6 +74,9 @@ is_form d Kind.At = axes_form 2 d _ (point_form 2)
 is_form d Kind.Seg = axes_form 2 d _ (both_form _ _ count_form (both_form _ _ count_form (both_form _ _ (letter_form 2) (both_form _ _ (row_form 2) long_form))))
 is_form d Kind.Turn = axes_form 2 d _ (both_form _ _ (letter_form 2) (both_form _ _ count_form count_form))
 is_form d Kind.Cut = axes_form 2 d _ (both_form _ _ (letter_form 2) (why_form 2))
+is_form d Kind.Del = point_form d
+is_form d Kind.Tip = point_form d
+is_form d Kind.Kept = both_form _ _ count_form (both_form _ _ count_form count_form)
 is_form d Kind.End = nothing_form
 
 -- the first word of a kind is that of no kind before it

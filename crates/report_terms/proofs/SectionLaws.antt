@@ -1,12 +1,12 @@
 -- The laws of sections, by their ranks: no law has a clause for a kind of line or a section.
 -- What a section's lines claim is no matter here.
-use Rattle.std.proofs.Common.{◌≡◌, inl, inr, ℕ, suc, ◌≤◌, ◌<◌, false, Option, Some, None, refl, ap, sym, ◌∙◌, subst, arith, List, [], ◌∷◌, ◌++◌, length, take, get_or}
+use Rattle.std.proofs.Common.{◌≡◌, inl, inr, ℕ, suc, ◌≤◌, ◌<◌, false, Option, Some, None, refl, ap, sym, ◌∙◌, subst, arith, List, [], ◌∷◌, ◌++◌, length, take, drop, get_or}
 use Rattle.std.specs.Prelude.{All, ◌==◌, filter_map, slice_get}
 use Rattle.std.proofs.lemmas.Bool.{cond-true, cond-false, eqb-true, eq-eqb, ne_eqb, cases_Bool, cases_lt}
 use Rattle.std.specs.List.{cons_option}
-use Rattle.std.proofs.lemmas.List.{append-nil, length-append}
+use Rattle.std.proofs.lemmas.List.{append-nil, length-append, take-append-drop}
 use Rattle.std.proofs.lemmas.List.Elements.{All-nil, All-push, All-head, All-tail, filter-append}
-use Rattle.shape_terms.specs.Pictures.{Picture}
+use Rattle.report_terms.specs.Subjects.{Subject}
 use Rattle.report_terms.specs.Lines.{Line}
 use Rattle.report_terms.proofs.SectionLines.{stood}
 use Rattle.report_terms.specs.Sections.{Section, sections, rank, section_of, lines_of, SectionClaim, SectionComplete, IsComplete, HasCome, GoodAfter, GoodSoFar}
@@ -41,16 +41,16 @@ lines_skip s lines l h =
     filter-append (λ m. rank (section_of m) == rank s) lines (l ∷ []) ∙ ap (λ ls. lines_of s lines ++ ls) (cond-false (rank (section_of l) == rank s) (l ∷ []) [] (ne_eqb _ _ (λ e. omega (arith, h, e)))) ∙ append-nil (lines_of s lines)
 
 -- an earlier section stays as it is
-pub complete_kept : (X : Picture) (lines : List Line) (l : Line) (s : Section) → rank s < rank (section_of l) → IsComplete X s lines → IsComplete X s (lines ++ l ∷ [])
+pub complete_kept : (X : Subject) (lines : List Line) (l : Line) (s : Section) → rank s < rank (section_of l) → IsComplete X s lines → IsComplete X s (lines ++ l ∷ [])
 complete_kept X lines l s h c = subst (SectionComplete X s) (sym (lines_skip s lines l h)) c
 
 -- ---- how far the lines have come
 
-pub come_none : (X : Picture) → HasCome X Section.Heading []
+pub come_none : (X : Subject) → HasCome X Section.Heading []
 come_none X = record { order = All-nil (λ e. rank (section_of e) ≤ 0); complete = λ t h. absurd (omega (arith, h)) }
 
 -- one more line of the section
-pub come_more : (X : Picture) (s : Section) (lines : List Line) (l : Line) → HasCome X s lines → section_of l ≡ s → HasCome X s (lines ++ l ∷ [])
+pub come_more : (X : Subject) (s : Section) (lines : List Line) (l : Line) → HasCome X s lines → section_of l ≡ s → HasCome X s (lines ++ l ∷ [])
 come_more X s lines l h e =
     let r : rank (section_of l) ≡ rank s = ap rank e in
     record {
@@ -59,19 +59,19 @@ come_more X s lines l h e =
     }
 
 -- the section is complete, so the next one may come
-pub come_past : (X : Picture) (s t : Section) (lines : List Line) → rank t ≡ suc (rank s) → HasCome X s lines → IsComplete X s lines → HasCome X t lines
+pub come_past : (X : Subject) (s t : Section) (lines : List Line) → rank t ≡ suc (rank s) → HasCome X s lines → IsComplete X s lines → HasCome X t lines
 come_past X s t lines e h c = record {
   order = λ i d m. let o = h.order i d m in omega (arith, o, e);
   complete = λ u m. elim (cases_lt (rank u) (rank s)) [ inl l ↦ h.complete u l | inr l ↦ subst (λ v. IsComplete X v lines) (rank_same s u (omega (arith, l, m, e))) c ];
 }
 
 -- a line of the section that the lines have come to is good where its claim is true
-pub good_at : (X : Picture) (s : Section) (lines : List Line) (l : Line) → HasCome X s lines → section_of l ≡ s → SectionClaim X s (lines_of s lines) l → GoodAfter X lines l
-good_at X s lines l h e c = record { come = subst (λ t. HasCome X t lines) (sym e) h; claim = subst (λ t. SectionClaim X t (lines_of t lines) l) (sym e) c }
+pub good_at : (X : Subject) (s : Section) (lines : List Line) (l : Line) → HasCome X s lines → section_of l ≡ s → SectionClaim X (lines_of Section.Heading lines) s (lines_of s lines) l → GoodAfter X lines l
+good_at X s lines l h e c = record { come = subst (λ t. HasCome X t lines) (sym e) h; claim = subst (λ t. SectionClaim X (lines_of Section.Heading lines) t (lines_of t lines) l) (sym e) c }
 
 -- and its claim is true where it is good
-pub claim_at : (X : Picture) (s : Section) (lines : List Line) (l : Line) → section_of l ≡ s → GoodAfter X lines l → SectionClaim X s (lines_of s lines) l
-claim_at X s lines l e g = subst (λ t. SectionClaim X t (lines_of t lines) l) e g.claim
+pub claim_at : (X : Subject) (s : Section) (lines : List Line) (l : Line) → section_of l ≡ s → GoodAfter X lines l → SectionClaim X (lines_of Section.Heading lines) s (lines_of s lines) l
+claim_at X s lines l e g = subst (λ t. SectionClaim X (lines_of Section.Heading lines) t (lines_of t lines) l) e g.claim
 
 -- ---- the last line
 
@@ -81,11 +81,11 @@ order_last s [] l a = All-head (λ e. rank (section_of e) ≤ rank s) l [] a
 order_last s (m ∷ lines) l a = order_last s lines l (All-tail (λ e. rank (section_of e) ≤ rank s) m (lines ++ l ∷ []) a)
 
 -- lines that have come to an earlier section than the last do not end with `end`
-pub not_ended : (X : Picture) (s : Section) (lines : List Line) → rank s < rank Section.End → HasCome X s (lines ++ Line.End ∷ []) → ⊥
+pub not_ended : (X : Subject) (s : Section) (lines : List Line) → rank s < rank Section.End → HasCome X s (lines ++ Line.End ∷ []) → ⊥
 not_ended X s lines h c = let o : rank Section.End ≤ rank s = order_last s lines Line.End c.order in omega (arith, o, h)
 
 -- no line is good after `end`
-pub none_after_end : (X : Picture) (lines : List Line) (l : Line) → GoodAfter X (lines ++ Line.End ∷ []) l → ⊥
+pub none_after_end : (X : Subject) (lines : List Line) (l : Line) → GoodAfter X (lines ++ Line.End ∷ []) l → ⊥
 none_after_end X lines l g =
     let o : rank Section.End ≤ rank (section_of l) = order_last (section_of l) lines Line.End g.come.order in
     let e : section_of l ≡ Section.End = rank_same (section_of l) Section.End (omega (arith, o, rank_most (section_of l))) in
@@ -109,12 +109,27 @@ facts_of_section s f h (l ∷ lines) = elim (cases_Bool (rank (section_of l) == 
     skip : {F : Type 0} (f : Line → Option F) (l : Line) (xs : List Line) → f l ≡ None → filter_map f (l ∷ xs) ≡ filter_map f xs
     skip f l xs e = ap (λ o. cons_option o (filter_map f xs)) e
 
--- each line of a section makes the section's claim after those of the section before it
-pub claims_of_section : (X : Picture) (s : Section) (lines : List Line) → GoodSoFar X lines → (j : ℕ) (l : Line) → slice_get (lines_of s lines) j ≡ Some l → SectionClaim X s (take j (lines_of s lines)) l
-claims_of_section X s lines good j l e =
+-- one line of a section alone stands at the front
+front_alone : (s : Section) (lines : List Line) (k : ℕ) → length (lines_of s (take k lines)) ≡ 1 → length (lines_of s lines) ≡ 1 → lines_of s (take k lines) ≡ lines_of s lines
+front_alone s lines k e f =
+    let parts : lines_of s lines ≡ lines_of s (take k lines) ++ lines_of s (drop k lines) = ap (lines_of s) (sym (take-append-drop k lines)) ∙ filter-append (λ m. rank (section_of m) == rank s) (take k lines) (drop k lines) in
+    let none = empty (lines_of s (drop k lines)) (omega (arith, e, f, ap length parts, length-append (lines_of s (take k lines)) (lines_of s (drop k lines)))) in
+    sym (append-nil (lines_of s (take k lines))) ∙ ap (λ ls. lines_of s (take k lines) ++ ls) (sym none) ∙ sym parts
+  where
+    empty : (ls : List Line) → length ls ≡ 0 → ls ≡ []
+    empty [] h = refl
+    empty (l ∷ ls) h = absurd (omega arith)
+
+-- each line of a section makes the section's claim after the heading and those of the section before it
+pub claims_of_section : (X : Subject) (s : Section) (lines : List Line) → 0 < rank s → GoodSoFar X lines → IsComplete X Section.Heading lines → (j : ℕ) (l : Line) → slice_get (lines_of s lines) j ≡ Some l
+    → SectionClaim X (lines_of Section.Heading lines) s (take j (lines_of s lines)) l
+claims_of_section X s lines past good one j l e =
     let p = stood (λ m. rank (section_of m) == rank s) lines j l e in
     let same = rank_same (section_of l) s (eqb-true _ _ p.passes) in
-    subst (λ ls. SectionClaim X s ls l) p.before (claim_at X s (take p.place lines) l same (good p.place l p.there))
+    let g = good p.place l p.there in
+    let first = g.come.complete Section.Heading (omega (arith, past, ap rank same)) in
+    subst (λ ls. SectionClaim X (lines_of Section.Heading lines) s ls l) p.before
+    (subst (λ h. SectionClaim X h s (lines_of s (take p.place lines)) l) (front_alone Section.Heading lines p.place first one) (claim_at X s (take p.place lines) l same g))
 
 -- no line of a section past s stands among lines that have come to s
 pub none_past : (s t : Section) (lines : List Line) → rank s < rank t → All (λ e. rank (section_of e) ≤ rank s) lines → lines_of t lines ≡ []

@@ -4,7 +4,7 @@ use Rattle.std.proofs.Common.{◌≡◌, ℕ, ◌<◌, refl, sym, ◌∙◌, ari
 use Rattle.std.specs.Prelude.{All}
 use Rattle.std.specs.List.{AllByRecursion, join_with_byte}
 use Rattle.std.proofs.lemmas.List.Elements.{recursion_from_All}
-use Rattle.shape_terms.specs.Pictures.{Picture}
+use Rattle.report_terms.specs.Subjects.{Subject}
 use Rattle.report_terms.specs.Lines.{Line, line_words, spelling, text_of, IsLineOf}
 use Rattle.report_terms.specs.Holds.{BeginsWith}
 use Rattle.report_terms.proofs.WordLists.{IsWord}
@@ -51,10 +51,10 @@ lines_unique d (k ∷ ls) (m ∷ ms) r s a b l e =
     ((λ i. g i ∷ h.0 i), h.1)
 
 -- where a text begins with good lines, and with as many lines of any kind, these are the same, so the last of them is good
-pub same_lines : (X : Picture) (text : List ℕ) (lines ms : List Line) (rest s : List ℕ) → BeginsWith X text lines rest
-    → All (IsLineOf (length X.sides)) ms → length lines ≡ length ms → text ≡ text_of ms ++ s → lines ≡ ms
+pub same_lines : (X : Subject) (text : List ℕ) (lines ms : List Line) (rest s : List ℕ) → BeginsWith X text lines rest
+    → All (IsLineOf (length X.picture.sides)) ms → length lines ≡ length ms → text ≡ text_of ms ++ s → lines ≡ ms
 same_lines X text lines ms rest s b a l e =
-    (lines_unique (length X.sides) lines ms rest s (recursion_from_All (IsLineOf (length X.sides)) lines b.fields) (recursion_from_All (IsLineOf (length X.sides)) ms a) l (sym b.split ∙ e)).0
+    (lines_unique (length X.picture.sides) lines ms rest s (recursion_from_All (IsLineOf (length X.picture.sides)) lines b.fields) (recursion_from_All (IsLineOf (length X.picture.sides)) ms a) l (sym b.split ∙ e)).0
 
 -- no byte of a line's spelling is LF or below it
 pub spelling_past : (d : ℕ) (l : Line) → IsLineOf d l → AllByRecursion (λ c. 10 < c) (spelling l)

@@ -41,11 +41,11 @@ why d = shaped (λ p. record { low = p.0; high = p.1.0; steps = p.1.1 }) (λ r. 
 
 -- a kind of line
 pub data Kind : Type 0 where
-  Shape Parts Near Contour At Seg Turn Cut End : Kind
+  Shape Parts Near Contour At Seg Turn Cut Del Tip Kept End : Kind
 
 -- all kinds
 abbrev pub kinds : List Kind
-kinds = Kind.Shape ∷ Kind.Parts ∷ Kind.Near ∷ Kind.Contour ∷ Kind.At ∷ Kind.Seg ∷ Kind.Turn ∷ Kind.Cut ∷ Kind.End ∷ []
+kinds = Kind.Shape ∷ Kind.Parts ∷ Kind.Near ∷ Kind.Contour ∷ Kind.At ∷ Kind.Seg ∷ Kind.Turn ∷ Kind.Cut ∷ Kind.Del ∷ Kind.Tip ∷ Kind.Kept ∷ Kind.End ∷ []
 
 -- the word that a line of this kind begins with
 abbrev pub first_word : Kind → List ℕ
@@ -57,6 +57,9 @@ first_word Kind.At = codes "at"
 first_word Kind.Seg = codes "seg"
 first_word Kind.Turn = codes "turn"
 first_word Kind.Cut = codes "cut"
+first_word Kind.Del = codes "del"
+first_word Kind.Tip = codes "tip"
+first_word Kind.Kept = codes "kept"
 first_word Kind.End = codes "end"
 
 -- what the fields of a line of this kind are
@@ -69,6 +72,9 @@ Fields Kind.At = Point
 Fields Kind.Seg = ℕ × (ℕ × (ℕ × (List ℤ × ℤ)))
 Fields Kind.Turn = ℕ × (ℕ × ℕ)
 Fields Kind.Cut = ℕ × Refutation
+Fields Kind.Del = Point
+Fields Kind.Tip = Point
+Fields Kind.Kept = ℕ × (ℕ × ℕ)
 Fields Kind.End = Unit {0}
 
 -- the word for pictures with so many axes
@@ -86,6 +92,9 @@ form_of d Kind.At = of_axes 2 d (point 2)
 form_of d Kind.Seg = of_axes 2 d (count ⨾ count ⨾ letter 2 ⨾ row 2 ⨾ signed w64 63)
 form_of d Kind.Turn = of_axes 2 d (letter 2 ⨾ count ⨾ count)
 form_of d Kind.Cut = of_axes 2 d (letter 2 ⨾ why 2)
+form_of d Kind.Del = point d
+form_of d Kind.Tip = point d
+form_of d Kind.Kept = count ⨾ count ⨾ count
 form_of d Kind.End = nothing
 
 -- ---- lines split into their kind and its fields

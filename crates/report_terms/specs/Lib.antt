@@ -1,6 +1,8 @@
 pub mod Forms
 pub mod Kinds
 pub mod Lines
+pub mod Subjects
+pub mod ThinningLines
 pub mod Sections
 pub mod Holds
 pub mod Shows

@@ -16,6 +16,9 @@ pub data Line : Type 0 where
   Seg : (first last axis : ℕ) → (a : List ℤ) → (mu : ℤ) → Line
   Turn : (axis i j : ℕ) → Line
   Cut : (axis : ℕ) → (why : Refutation) → Line
+  Del : (p : Point) → Line
+  Tip : (p : Point) → Line
+  Kept : (points object background : ℕ) → Line
   End : Line
 
 -- the kind of a line, and its fields
@@ -28,6 +31,9 @@ split (At p) = record { kind = Kind.At; fields = p }
 split (Seg b e t a mu) = record { kind = Kind.Seg; fields = (b, (e, (t, (a, mu)))) }
 split (Turn t i j) = record { kind = Kind.Turn; fields = (t, (i, j)) }
 split (Cut t why) = record { kind = Kind.Cut; fields = (t, why) }
+split (Del p) = record { kind = Kind.Del; fields = p }
+split (Tip p) = record { kind = Kind.Tip; fields = p }
+split (Kept n o b) = record { kind = Kind.Kept; fields = (n, (o, b)) }
 split End = record { kind = Kind.End; fields = tt }
 
 -- and the line of a kind with these fields
@@ -40,6 +46,9 @@ joined Kind.At p = At p
 joined Kind.Seg (b, (e, (t, (a, mu)))) = Seg b e t a mu
 joined Kind.Turn (t, (i, j)) = Turn t i j
 joined Kind.Cut (t, why) = Cut t why
+joined Kind.Del p = Del p
+joined Kind.Tip p = Tip p
+joined Kind.Kept (n, (o, b)) = Kept n o b
 joined Kind.End _ = End
 
 -- the line is one of the reports of pictures with d axes, and its fields are in range

@@ -1,22 +1,22 @@
 -- What a report says of a picture, in geometry alone.
 -- No line, spelling or judge stands in what is shown, only in how it is read off the lines.
-use Rattle.std.specs.Prelude.{◌≡◌, ℕ, List, [], ◌∷◌, length, map, filter_map, Option, Some, None, All}
+use Rattle.std.specs.Prelude.{◌≡◌, ℕ, List, [], ◌∷◌, length, map, filter_map, take, slice_get, Option, Some, None, All}
+use Rattle.shape_terms.specs.Points.{Point, box_count}
 use Rattle.shape_terms.specs.Pictures.{Picture}
 use Rattle.shape_terms.specs.Parts.{Counts}
 use Rattle.shape_terms.specs.Distances.{NearFact, IsField}
 use Rattle.shape_terms.specs.Contours.{Crack}
 use Rattle.shape_terms.specs.Traces.{Contour}
+use Rattle.thin_terms.specs.Simple.{IsSimple}
+use Rattle.thin_terms.specs.Thinning.{Rule, Event, Stage, ThinsTo, IsThinning}
 use Rattle.report_terms.specs.ContourFacts.{ContourFact, in_pairs, ContoursShow}
 use Rattle.report_terms.specs.Lines.{Line, text_of, IsLineOf}
 use Rattle.report_terms.specs.ContourLines.{contour_groups, point_of, segment_of, gap_of}
-use Rattle.report_terms.specs.Sections.{Section, lines_of}
+use Rattle.report_terms.specs.ThinningLines.{PartsFact, events_of, kept_facts}
+use Rattle.report_terms.specs.Subjects.{Subject}
+use Rattle.report_terms.specs.Sections.{Section, lines_of, NamesRule}
 
--- what a `parts` line says of the picture: how many object points it has, and how many components its object and its background
-pub record PartsFact : Type 0 where
-  pub points : ℕ
-  pub object : ℕ
-  pub background : ℕ
-
+-- what a `parts` line says of the picture
 abbrev pub parts_fact : Line → Option PartsFact
 parts_fact (Line.Parts n o b) = Some (record { points = n; object = o; background = b })
 parts_fact _ = None
@@ -44,12 +44,16 @@ pub record Content : Type 0 where
   pub parts : List PartsFact
   pub nears : List NearFact
   pub contours : List ContourFact
+  pub events : List Event
+  pub kept : List PartsFact
 
 abbrev pub content_of : List Line → Content
 content_of lines = record {
   parts = filter_map parts_fact lines;
   nears = filter_map near_fact lines;
   contours = map contour_fact (contour_groups (lines_of Section.Contours lines));
+  events = events_of lines;
+  kept = kept_facts lines;
 }
 
 -- the counts of the picture, said once
@@ -58,15 +62,33 @@ pub record ShowsParts (X : Picture) (facts : List PartsFact) : Type 0 where
   pub once : facts ≡ fact ∷ []
   pub counts : Counts X fact.points fact.object fact.background
 
--- the counts of the picture; each object point once, in raster order, with a nearest background point of the whole space; and the contours of a flat picture, each from its least crack and with its points and its cover
-pub record Shows (X : Picture) (content : Content) : Type 0 where
+-- the point is simple in what is left of the picture after these events
+abbrev pub IsSimpleThen : Rule → Picture → List Event → Point → Type 0
+IsSimpleThen rule X events p = (s : Stage) × ThinsTo rule X events s × IsSimple s.left p
+
+-- the events are those of the ordered thinning by the rule: each deleted point was simple when it was deleted, and no unmarked simple point is left.
+-- The points left are counted, and object and background have as many components as in the picture
+pub record ThinningShows (X : Picture) (rule : Rule) (events : List Event) (kept : List PartsFact) : Type 0 where
+  pub stage : Stage
+  pub thinning : IsThinning rule X events stage
+  pub simple : (k : ℕ) (p : Point) → slice_get events k ≡ Some (Event.Del p) → IsSimpleThen rule X (take k events) p
+  pub left : PartsFact
+  pub once : kept ≡ left ∷ []
+  pub counts : Counts stage.left left.points left.object left.background
+  pub same : length X.values ≡ box_count X.sides → (n o b : ℕ) → Counts X n o b → (left.object ≡ o) × (left.background ≡ b)
+
+-- the counts of the picture; each object point once, in raster order, with a nearest background point of the whole space; and the contours of a flat picture, each from its least crack and with its points and its cover; and the thinning by the rule
+pub record Shows (X : Picture) (rule : Rule) (content : Content) : Type 0 where
   pub parts : ShowsParts X content.parts
   pub nears : IsField X content.nears
   pub contours : length X.sides ≡ 2 → ContoursShow X content.contours
+  pub thinning : ThinningShows X rule content.events content.kept
 
--- the text is made of lines that show of the picture what they say
-pub record TextShows (X : Picture) (text : List ℕ) : Type 0 where
+-- the text is made of lines that show of the picture what they say, and of its thinning by the rule that they name
+pub record TextShows (X : Subject) (text : List ℕ) : Type 0 where
   pub lines : List Line
-  pub fields : All (IsLineOf (length X.sides)) lines
+  pub fields : All (IsLineOf (length X.picture.sides)) lines
   pub text_is : text ≡ text_of lines
-  pub shows : Shows X (content_of lines)
+  pub rule : Rule
+  pub names : NamesRule X.shelf (lines_of Section.Heading lines) rule
+  pub shows : Shows X.picture rule (content_of lines)

@@ -3,10 +3,14 @@
 #![tactic(auto)]
 
 mod host;
+mod shelf;
 
 use host::HostDesk;
 use shape_cli::{Outcome, run};
+use shape_rules::{CurveEnds, NoEnds};
+use shelf::shelf;
 use std::env::{self, Env};
+use std::fs::Files;
 use std::io;
 use std::process::ExitCode;
 
@@ -37,9 +41,21 @@ fn complain<R: Eprint>(rt: &R, outcome: Outcome) -> io::Result<()> {
     }
 }
 
+// Runs the words by the rules `none` and `curve`.
+fn run_words<R: Files + Print + AllocGlobal>(rt: &R, words: &[Vec<u8>]) -> Outcome {
+    let alloc = rt.alloc();
+    let (Ok(none), Ok(curve)) = (Box::new(alloc, NoEnds), Box::new(alloc, CurveEnds)) else {
+        return Outcome::NoMemory;
+    };
+    match shelf(alloc, none, curve) {
+        Ok(shelf) => run(alloc, words, &mut HostDesk::new(rt), shelf),
+        Err(_) => Outcome::NoMemory,
+    }
+}
+
 fn main(rt: HostRuntime) -> ExitCode {
     let outcome = match words(&rt) {
-        Ok(words) => run(rt.alloc(), &words, &mut HostDesk::new(&rt)),
+        Ok(words) => run_words(&rt, &words),
         Err(error) => without_words(&error),
     };
     let status = outcome.status();

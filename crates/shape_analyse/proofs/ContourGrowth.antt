@@ -1,8 +1,7 @@
--- A report grows by the good lines of contours, and at its end it holds.
+-- A report grows by the good lines of contours.
 -- One law for each kind of line that is added.
 use Rattle.std.proofs.Common.{◌≡◌, ◌+◌, ◌-◌, ◌*◌, ◌/◌, ◌<◌, ◌≤◌, ℕ, List, [], ◌∷◌, ◌++◌, length, map, refl, sym, ap, ◌∙◌, subst, arith, Some}
 use Rattle.std.specs.Prelude.{All, Contains, flat_map, slice_get, slice_index_or}
-use Rattle.std.proofs.lemmas.List.{append-nil}
 use Rattle.std.proofs.lemmas.List.Elements.{All-nil, All-cons, All-head, All-tail, Contains-append_right}
 use Rattle.std.proofs.lemmas.Option.{get_or_from_slice_get}
 use Rattle.shape_terms.specs.Points.{Point}
@@ -11,17 +10,16 @@ use Rattle.shape_terms.specs.Contours.{Crack, IsCrack, IsCycle}
 use Rattle.shape_terms.specs.Traces.{Contour, AreContours, contour_of}
 use Rattle.shape_terms.specs.Naive.{Naive}
 use Rattle.shape_terms.specs.Covers.{Stretch, Evidence, IsEvidence, IsSegment, gap_run}
-use Rattle.report_terms.specs.Lines.{Line, line_text, text_of, IsLineOf}
+use Rattle.report_terms.specs.Lines.{Line, IsLineOf}
 use Rattle.report_terms.specs.ContourLines.{Standing, standing, no_contour, open_contour, IsFull, OutlineClaim}
-use Rattle.report_terms.specs.Sections.{Section, section_of, lines_of, GoodAfter}
-use Rattle.report_terms.specs.Holds.{Holds}
+use Rattle.report_terms.specs.Sections.{Section, section_of, lines_of, HasCome}
 use Rattle.report_terms.proofs.SectionLaws.{none_past, come_more, come_past, good_at, lines_push}
 use Rattle.report_terms.proofs.ContourGroups.{standing_begun, standing_point, standing_segment, standing_turn, standing_cut}
-use Rattle.shape_analyse.specs.Growing.{IsGrowing, IsOutlined, HasOutlined, gap_line, at_contour}
-use Rattle.shape_analyse.proofs.Growth.{text_push, good_more}
+use Rattle.shape_analyse.specs.Growing.{IsGrowing, IsOutlined, Aim, HasOutlined, gap_line, at_contour}
+use Rattle.shape_analyse.proofs.Growth.{good_more}
 
 -- no contour was begun yet
-pub outlined_none : (X : Picture) (n : ℕ) (lines : List Line) (contours : List Contour) → IsGrowing X n lines → n ≡ length (object_points X) → length X.sides ≡ 2 → AreContours X contours → HasOutlined X contours 0 lines
+pub outlined_none : (X : Aim) (n : ℕ) (lines : List Line) (contours : List Contour) → IsGrowing X n lines → n ≡ length (object_points X.subject.picture) → length X.subject.picture.sides ≡ 2 → AreContours X.subject.picture contours → HasOutlined X contours 0 lines
 outlined_none X n lines contours h all flat are = record {
   stand = record { begun = 0; points = 0; declared = 0; stretches = []; gaps = 0 };
   begun = refl;
@@ -30,26 +28,26 @@ outlined_none X n lines contours h all flat are = record {
     flat = flat;
     are = are;
     lines_good = h.lines_good;
-    come = come_past X Section.Nearest Section.Contours lines refl h.come (h.nears ∙ all);
+    come = come_past X.subject Section.Nearest Section.Contours lines refl h.come (h.nears ∙ all);
     stands = ap standing (none_past Section.Nearest Section.Contours lines (omega arith) h.come.order);
   };
 }
 
 -- ---- one more line of a contour
 
-outlined_more : (X : Picture) (contours : List Contour) (s s2 : Standing) (lines : List Line) (l : Line) → IsOutlined X contours s lines → section_of l ≡ Section.Contours → OutlineClaim contours s l → IsLineOf 2 l → standing (lines_of Section.Contours lines ++ l ∷ []) ≡ s2 → IsOutlined X contours s2 (lines ++ l ∷ [])
+outlined_more : (X : Aim) (contours : List Contour) (s s2 : Standing) (lines : List Line) (l : Line) → IsOutlined X contours s lines → section_of l ≡ Section.Contours → OutlineClaim contours s l → IsLineOf 2 l → standing (lines_of Section.Contours lines ++ l ∷ []) ≡ s2 → IsOutlined X contours s2 (lines ++ l ∷ [])
 outlined_more X contours s s2 lines l o k claim fields next =
-    let good = good_at X Section.Contours lines l o.come k (o.flat, (contours, o.are, subst (λ w. OutlineClaim contours w l) (sym o.stands) claim)) in
+    let good = good_at X.subject Section.Contours lines l o.come k (o.flat, (contours, o.are, subst (λ w. OutlineClaim contours w l) (sym o.stands) claim)) in
     record {
       flat = o.flat;
       are = o.are;
       lines_good = good_more X lines l o.lines_good (omega (arith, o.flat)) (subst (λ d. IsLineOf d l) (sym o.flat) fields) good;
-      come = come_more X Section.Contours lines l o.come k;
+      come = come_more X.subject Section.Contours lines l o.come k;
       stands = ap standing (lines_push Section.Contours lines l k) ∙ next;
     }
 
 -- the next contour is begun
-pub outlined_begun : (X : Picture) (contours : List Contour) (k : ℕ) (lines : List Line) (c : Contour) (p : Point) (side n m : ℕ) → HasOutlined X contours k lines → slice_get contours k ≡ Some c → record { pixel = p; side = side } ≡ c.start → n ≡ length c.points → 1 ≤ m → m ≤ n
+pub outlined_begun : (X : Aim) (contours : List Contour) (k : ℕ) (lines : List Line) (c : Contour) (p : Point) (side n m : ℕ) → HasOutlined X contours k lines → slice_get contours k ≡ Some c → record { pixel = p; side = side } ≡ c.start → n ≡ length c.points → 1 ≤ m → m ≤ n
     → IsLineOf 2 (Line.Contour p side n m) → IsOutlined X contours (at_contour k 0 m [] 0) (lines ++ Line.Contour p side n m ∷ [])
 outlined_begun X contours k lines c p side n m h next start count some few fields =
     let same : c ≡ record { start = record { pixel = p; side = side }; points = c.points } = λ i. record { start = sym start i; points = c.points } in
@@ -68,11 +66,11 @@ last_begun contours s k c b there =
     ap (λ j. slice_index_or contours j no_contour) e ∙ get_or_from_slice_get contours k c no_contour there
 
 -- where some contour was begun, the lines have a `contour` line
-some_begun : (X : Picture) (contours : List Contour) (s : Standing) (lines : List Line) (k : ℕ) → IsOutlined X contours s lines → s.begun ≡ k + 1 → 0 < (standing (lines_of Section.Contours lines)).begun
+some_begun : (X : Aim) (contours : List Contour) (s : Standing) (lines : List Line) (k : ℕ) → IsOutlined X contours s lines → s.begun ≡ k + 1 → 0 < (standing (lines_of Section.Contours lines)).begun
 some_begun X contours s lines k o b = let e = ap (λ (w : Standing). w.begun) o.stands in omega (arith, e, b)
 
 -- it is given its next point
-pub outlined_point : (X : Picture) (contours : List Contour) (k i m : ℕ) (lines : List Line) (c : Contour) (p : Point) → IsOutlined X contours (at_contour k i m [] 0) lines → slice_get contours k ≡ Some c → slice_get c.points i ≡ Some p → IsLineOf 2 (Line.At p)
+pub outlined_point : (X : Aim) (contours : List Contour) (k i m : ℕ) (lines : List Line) (c : Contour) (p : Point) → IsOutlined X contours (at_contour k i m [] 0) lines → slice_get contours k ≡ Some c → slice_get c.points i ≡ Some p → IsLineOf 2 (Line.At p)
     → IsOutlined X contours (at_contour k (i + 1) m [] 0) (lines ++ Line.At p ∷ [])
 outlined_point X contours k i m lines c p o there next fields =
     let s : Standing = at_contour k i m [] 0 in
@@ -84,7 +82,7 @@ outlined_point X contours k i m lines c p o there next fields =
     }) fields (standing_point (lines_of Section.Contours lines) p (some_begun X contours s lines k o refl) ∙ ap (λ (w : Standing). record w { points = w.points + 1 }) o.stands)
 
 -- its next segment
-pub outlined_segment : (X : Picture) (contours : List Contour) (k m : ℕ) (before : List Stretch) (lines : List Line) (c : Contour) (b e t : ℕ) (line : Naive) → IsOutlined X contours (at_contour k (length c.points) m before 0) lines → slice_get contours k ≡ Some c
+pub outlined_segment : (X : Aim) (contours : List Contour) (k m : ℕ) (before : List Stretch) (lines : List Line) (c : Contour) (b e t : ℕ) (line : Naive) → IsOutlined X contours (at_contour k (length c.points) m before 0) lines → slice_get contours k ≡ Some c
     → length before < m → IsSegment c.points m before b e t line → IsLineOf 2 (Line.Seg b e t line.a line.mu)
     → IsOutlined X contours (record { begun = k + 1; points = length c.points; declared = m; stretches = before ++ record { first = b; last = e } ∷ []; gaps = 0 }) (lines ++ Line.Seg b e t line.a line.mu ∷ [])
 outlined_segment X contours k m before lines c b e t line o there more segment fields =
@@ -98,7 +96,7 @@ outlined_segment X contours k m before lines c b e t line o there more segment f
     }) fields (standing_segment (lines_of Section.Contours lines) b e t line.a line.mu (some_begun X contours s lines k o refl) ∙ ap (λ (w : Standing). record w { stretches = w.stretches ++ record { first = b; last = e } ∷ [] }) o.stands)
 
 -- and its next gap line
-pub outlined_gap : (X : Picture) (contours : List Contour) (k : ℕ) (stretches : List Stretch) (g j t : ℕ) (lines : List Line) (c : Contour) (v : Evidence) → IsOutlined X contours (at_contour k (length c.points) (length stretches) stretches g) lines → slice_get contours k ≡ Some c
+pub outlined_gap : (X : Aim) (contours : List Contour) (k : ℕ) (stretches : List Stretch) (g j t : ℕ) (lines : List Line) (c : Contour) (v : Evidence) → IsOutlined X contours (at_contour k (length c.points) (length stretches) stretches g) lines → slice_get contours k ≡ Some c
     → g ≡ 2 * j + t → j < length stretches → t < 2 → IsEvidence t (gap_run c.points stretches j) v → IsLineOf 2 (gap_line t v)
     → IsOutlined X contours (at_contour k (length c.points) (length stretches) stretches (g + 1)) (lines ++ gap_line t v ∷ [])
 outlined_gap X contours k stretches g j t lines c (Evidence.Turned x y) o there count place two good fields =
@@ -125,7 +123,7 @@ outlined_gap X contours k stretches g j t lines c (Evidence.Cut why) o there cou
     }) fields (standing_cut (lines_of Section.Contours lines) t why (some_begun X contours s lines k o refl) ∙ ap (λ (w : Standing). record w { gaps = w.gaps + 1 }) o.stands)
 
 -- it has all its lines
-pub outlined_full : (X : Picture) (contours : List Contour) (k m : ℕ) (stretches : List Stretch) (lines : List Line) (c : Contour) → slice_get contours k ≡ Some c → length stretches ≡ m → IsOutlined X contours (at_contour k (length c.points) m stretches (2 * m)) lines → HasOutlined X contours (k + 1) lines
+pub outlined_full : (X : Aim) (contours : List Contour) (k m : ℕ) (stretches : List Stretch) (lines : List Line) (c : Contour) → slice_get contours k ≡ Some c → length stretches ≡ m → IsOutlined X contours (at_contour k (length c.points) m stretches (2 * m)) lines → HasOutlined X contours (k + 1) lines
 outlined_full X contours k m stretches lines c there all o = record {
   stand = at_contour k (length c.points) m stretches (2 * m);
   begun = refl;
@@ -137,18 +135,15 @@ outlined_full X contours k m stretches lines c there all o = record {
   outlined = o;
 }
 
--- ---- the last line
+-- ---- the section is complete
 
-pub outlined_done : (X : Picture) (contours : List Contour) (lines : List Line) (old new : List ℕ) → old ≡ text_of lines → new ≡ old ++ line_text Line.End → HasOutlined X contours (length contours) lines → Holds X new
-outlined_done X contours lines old new e f h =
+pub outlined_done : (X : Aim) (contours : List Contour) (lines : List Line) → HasOutlined X contours (length contours) lines → HasCome X.subject Section.Thinned lines
+outlined_done X contours lines h =
     let o = h.outlined in
-    let come = come_past X Section.Contours Section.End lines refl o.come (record {
+    come_past X.subject Section.Contours Section.Thinned lines refl o.come (record {
       flat = λ flat. (contours, o.are, subst (IsFull contours) (sym o.stands) h.full, ap (λ (s : Standing). s.begun) o.stands ∙ h.begun);
       other = λ other. absurd (other o.flat);
-    }) in
-    let good : GoodAfter X lines Line.End = good_at X Section.End lines Line.End come refl (none_past Section.Contours Section.End lines (omega arith) o.come.order) in
-    let all = good_more X lines Line.End o.lines_good (omega (arith, o.flat)) tt good in
-    (lines, record { split = text_push old new lines Line.End e f ∙ sym (append-nil (text_of (lines ++ Line.End ∷ []))); fields = all.fields; short = all.short; good = all.good })
+    })
 
 -- ---- the first cracks of contours
 

@@ -5,7 +5,6 @@ use Rattle.std.specs.Prelude.{◌*◌, FitsSigned, Some, nat_abs, slice_get, sli
 use Rattle.std.specs.Int.{w64}
 use Rattle.std.proofs.lemmas.List.{length-map, length-take-le}
 use Rattle.shape_terms.specs.Points.{Point}
-use Rattle.shape_terms.specs.Pictures.{Picture}
 use Rattle.shape_terms.specs.Traces.{Contour}
 use Rattle.shape_terms.specs.Naive.{Naive}
 use Rattle.shape_terms.specs.Refutations.{Share, Step, StepShare, IsStepOf}
@@ -14,7 +13,7 @@ use Rattle.report_terms.specs.Forms.{IsStepIn, counted}
 use Rattle.report_terms.specs.Kinds.{share, step_share}
 use Rattle.report_terms.specs.Lines.{Line, IsLineOf}
 use Rattle.shape_cover.specs.Found.{Found, stretches_of, found_at, IsCoverOf, IsShortLine, AreShortShares, IsShortEvidence}
-use Rattle.shape_analyse.specs.Growing.{IsOutlined, gap_line, at_contour, covered}
+use Rattle.shape_analyse.specs.Growing.{Aim, IsOutlined, gap_line, at_contour, covered}
 use Rattle.shape_analyse.proofs.ContourGrowth.{outlined_segment, outlined_gap}
 
 fits : (z : ℤ) → nat_abs z < 2 ^ 63 → FitsSigned w64 z
@@ -55,7 +54,7 @@ stretches_more found j l = more found j l ∙ ap (λ k. take k (stretches_of fou
 -- ---- lines that are added
 
 -- the line of the next segment
-pub found_segment : (X : Picture) (contours : List Contour) (k : ℕ) (c : Contour) (found : List Found) (j : ℕ) (lines : List Line) → IsOutlined X contours (at_contour k (length c.points) (length found) (take j (stretches_of found)) 0) lines → slice_get contours k ≡ Some c → IsCoverOf c.points found → j < length found
+pub found_segment : (X : Aim) (contours : List Contour) (k : ℕ) (c : Contour) (found : List Found) (j : ℕ) (lines : List Line) → IsOutlined X contours (at_contour k (length c.points) (length found) (take j (stretches_of found)) 0) lines → slice_get contours k ≡ Some c → IsCoverOf c.points found → j < length found
     → IsLineOf 2 (Line.Seg (found_at found j).stretch.first (found_at found j).stretch.last (found_at found j).axis (found_at found j).line.a (found_at found j).line.mu)
     → IsOutlined X contours (at_contour k (length c.points) (length found) (take (j + 1) (stretches_of found)) 0) (lines ++ Line.Seg (found_at found j).stretch.first (found_at found j).stretch.last (found_at found j).axis (found_at found j).line.a (found_at found j).line.mu ∷ [])
 found_segment X contours k c found j lines o there cover l fields =
@@ -66,7 +65,7 @@ found_segment X contours k c found j lines o there cover l fields =
     subst (λ ss. IsOutlined X contours (at_contour k (length c.points) (length found) ss 0) (lines ++ Line.Seg f.stretch.first f.stretch.last f.axis f.line.a f.line.mu ∷ [])) (stretches_more found j l) next
 
 -- the two lines of the next gap
-pub found_gap : (X : Picture) (contours : List Contour) (k : ℕ) (c : Contour) (found : List Found) (j t : ℕ) (v : Evidence) (lines : List Line) → IsOutlined X contours (covered k c found (2 * j + t)) lines → slice_get contours k ≡ Some c → j < length found → t < 2
+pub found_gap : (X : Aim) (contours : List Contour) (k : ℕ) (c : Contour) (found : List Found) (j t : ℕ) (v : Evidence) (lines : List Line) → IsOutlined X contours (covered k c found (2 * j + t)) lines → slice_get contours k ≡ Some c → j < length found → t < 2
     → IsEvidence t (gap_run c.points (stretches_of found) j) v → IsLineOf 2 (gap_line t v) → IsOutlined X contours (covered k c found (2 * j + t + 1)) (lines ++ gap_line t v ∷ [])
 found_gap X contours k c found j t v lines o there l two good fields =
     let n : length found ≡ length (stretches_of found) = sym (length-map found (λ (f : Found). f.stretch)) in

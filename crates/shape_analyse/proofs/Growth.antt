@@ -1,7 +1,7 @@
 -- A report grows by one good line at a time, up to its `near` lines.
 -- One law for each kind of line that is added; those of contours stand in `ContourGrowth`.
 use Rattle.std.proofs.Common.{◌≡◌, ◌+◌, ◌≤◌, ℕ, zero, suc, ℤ, pos, negsuc, ◌≤ℤ◌, List, [], ◌∷◌, ◌++◌, length, map, refl, sym, ap, ◌∙◌, subst, arith, Some}
-use Rattle.std.specs.Prelude.{All, FitsSigned, codes, slice_get}
+use Rattle.std.specs.Prelude.{All, FitsSigned, slice_get}
 use Rattle.std.specs.Int.{w32}
 use Rattle.std.proofs.lemmas.Int.{ints}
 use Rattle.std.proofs.lemmas.List.{append-nil, length-append}
@@ -14,13 +14,15 @@ use Rattle.shape_terms.specs.Distances.{NearFact, IsField, IsFramed}
 use Rattle.report_terms.specs.Forms.{IsName}
 use Rattle.report_terms.specs.Kinds.{weight}
 use Rattle.report_terms.specs.Lines.{Line, spelling, line_text, text_of, IsLineOf}
-use Rattle.report_terms.specs.Sections.{Section, lines_of, GoodAfter}
+use Rattle.report_terms.specs.Subjects.{IsOnShelf}
+use Rattle.report_terms.specs.Sections.{Section, lines_of, NamesRule, GoodAfter}
 use Rattle.report_terms.proofs.Checking.{good_push}
-use Rattle.report_terms.proofs.SectionLaws.{come_none, come_more, come_past, good_at, lines_push}
+use Rattle.report_terms.proofs.HeadingFirst.{past_heading}
+use Rattle.report_terms.proofs.SectionLaws.{come_none, come_more, come_past, good_at, lines_push, lines_skip}
 use Rattle.report_terms.proofs.FramedFields.{within_short, distance_fits}
 use Rattle.report_terms.proofs.Spelled.{short_line}
 use Rattle.shape_grid.proofs.SideLists.{sides_back}
-use Rattle.shape_analyse.specs.Growing.{AreGood, IsGrowing, IsTextOf}
+use Rattle.shape_analyse.specs.Growing.{Aim, HasHeading, AreGood, IsGrowing, IsTextOf}
 
 -- ---- texts
 
@@ -51,43 +53,62 @@ heading_fits g d n rule h m e k = (record { axes = e; fits = sides_fit g n h m }
 
 -- ---- one more line
 
-good_none : (X : Picture) → AreGood X []
-good_none X = record {
-  fields = All-nil (IsLineOf (length X.sides));
-  short = All-nil (λ l. length (spelling l) ≤ 1024);
-  good = λ k l e. cc;
-}
-
-pub good_more : (X : Picture) (lines : List Line) (l : Line) → AreGood X lines → length X.sides ≤ 3 → IsLineOf (length X.sides) l → GoodAfter X lines l → AreGood X (lines ++ l ∷ [])
-good_more X lines l a three fields good = record {
-  fields = All-push (IsLineOf (length X.sides)) lines l a.fields fields;
-  short = All-push (λ m. length (spelling m) ≤ 1024) lines l a.short (short_line (length X.sides) l three fields);
-  good = good_push X lines l a.good good;
-}
-
-pub growing_none : (greatest : ℤ) (X : Picture) (sides : Point) (rule : List ℕ) (n o b : ℕ) → AreSides greatest sides → sides_of sides ≡ X.sides → length X.sides ≤ 3 → IsLineOf (length X.sides) (Line.Shape sides rule) → rule ≡ codes "none" → IsLineOf (length X.sides) (Line.Parts n o b) → Counts X n o b → IsGrowing X 0 (Line.Shape sides rule ∷ Line.Parts n o b ∷ [])
-growing_none g X sides rule n o b h e three first r second counts =
-    let l = Line.Shape sides rule in
-    let m = Line.Parts n o b in
-    let claim : sides ≡ map pos X.sides = sym (sides_back g sides h) ∙ ap (map pos) e in
-    let come = come_past X Section.Heading Section.Counted (l ∷ []) refl (come_more X Section.Heading [] l (come_none X) refl) refl in
-    let good : GoodAfter X [] l = good_at X Section.Heading [] l (come_none X) refl (refl, (claim, r)) in
-    let next : GoodAfter X (l ∷ []) m = good_at X Section.Counted (l ∷ []) m come refl (refl, counts) in
+-- the heading stands there first
+good_first : (X : Aim) (sides : Point) → length X.subject.picture.sides ≤ 3 → IsLineOf (length X.subject.picture.sides) (Line.Shape sides X.name) → IsOnShelf X.subject.shelf X.name X.rule → GoodAfter X.subject [] (Line.Shape sides X.name) → AreGood X (Line.Shape sides X.name ∷ [])
+good_first X sides three fields on good =
+    let l = Line.Shape sides X.name in
     record {
-      lines_good = good_more X (l ∷ []) m (good_more X [] l (good_none X) three first good) three second next;
-      come = come_past X Section.Counted Section.Nearest (l ∷ m ∷ []) refl (come_more X Section.Counted (l ∷ []) m come refl) refl;
+      fields = All-push (IsLineOf (length X.subject.picture.sides)) [] l (All-nil (IsLineOf (length X.subject.picture.sides))) fields;
+      short = All-push (λ m. length (spelling m) ≤ 1024) [] l (All-nil (λ m. length (spelling m) ≤ 1024)) (short_line (length X.subject.picture.sides) l three fields);
+      good = good_push X.subject [] l (λ k m e. cc) good;
+      named = record { sides = sides; first = refl; on_shelf = on };
+    }
+
+-- a line of a later section keeps the heading
+heading_kept : (X : Aim) (lines : List Line) (l : Line) → HasHeading X lines → GoodAfter X.subject lines l → HasHeading X (lines ++ l ∷ [])
+heading_kept X lines l named good = record {
+  sides = named.sides;
+  first = lines_skip Section.Heading lines l (past_heading X.subject lines l (Line.Shape named.sides X.name) named.first good) ∙ named.first;
+  on_shelf = named.on_shelf;
+}
+
+pub good_more : (X : Aim) (lines : List Line) (l : Line) → AreGood X lines → length X.subject.picture.sides ≤ 3 → IsLineOf (length X.subject.picture.sides) l → GoodAfter X.subject lines l → AreGood X (lines ++ l ∷ [])
+good_more X lines l a three fields good = record {
+  fields = All-push (IsLineOf (length X.subject.picture.sides)) lines l a.fields fields;
+  short = All-push (λ m. length (spelling m) ≤ 1024) lines l a.short (short_line (length X.subject.picture.sides) l three fields);
+  good = good_push X.subject lines l a.good good;
+  named = heading_kept X lines l a.named good;
+}
+
+-- so it names the rule
+pub names_rule : (X : Aim) (lines : List Line) → HasHeading X lines → NamesRule X.subject.shelf (lines_of Section.Heading lines) X.rule
+names_rule X lines h = record { sides = h.sides; name = X.name; first = h.first; on_shelf = h.on_shelf }
+
+pub growing_none : (greatest : ℤ) (X : Aim) (sides : Point) (n o b : ℕ) → AreSides greatest sides → sides_of sides ≡ X.subject.picture.sides → length X.subject.picture.sides ≤ 3
+    → IsLineOf (length X.subject.picture.sides) (Line.Shape sides X.name) → IsOnShelf X.subject.shelf X.name X.rule → IsLineOf (length X.subject.picture.sides) (Line.Parts n o b) → Counts X.subject.picture n o b → IsGrowing X 0 (Line.Shape sides X.name ∷ Line.Parts n o b ∷ [])
+growing_none g X sides n o b h e three first on second counts =
+    let l = Line.Shape sides X.name in
+    let m = Line.Parts n o b in
+    let S = X.subject in
+    let claim : sides ≡ map pos S.picture.sides = sym (sides_back g sides h) ∙ ap (map pos) e in
+    let come = come_past S Section.Heading Section.Counted (l ∷ []) refl (come_more S Section.Heading [] l (come_none S) refl) refl in
+    let good : GoodAfter S [] l = good_at S Section.Heading [] l (come_none S) refl (refl, (claim, (X.rule, on))) in
+    let next : GoodAfter S (l ∷ []) m = good_at S Section.Counted (l ∷ []) m come refl (refl, counts) in
+    record {
+      lines_good = good_more X (l ∷ []) m (good_first X sides three first on good) three second next;
+      come = come_past S Section.Counted Section.Nearest (l ∷ m ∷ []) refl (come_more S Section.Counted (l ∷ []) m come refl) refl;
       nears = refl;
     }
 
 -- ---- the `near` lines
 
-pub growing_more : (X : Picture) (n : ℕ) (lines : List Line) (p q : Point) (s : ℕ) → IsGrowing X n lines → length X.sides ≤ 3 → IsLineOf (length X.sides) (Line.Near p q s) → slice_get (object_points X) n ≡ Some p → Least X p q s → IsGrowing X (n + 1) (lines ++ Line.Near p q s ∷ [])
+pub growing_more : (X : Aim) (n : ℕ) (lines : List Line) (p q : Point) (s : ℕ) → IsGrowing X n lines → length X.subject.picture.sides ≤ 3 → IsLineOf (length X.subject.picture.sides) (Line.Near p q s) → slice_get (object_points X.subject.picture) n ≡ Some p → Least X.subject.picture p q s → IsGrowing X (n + 1) (lines ++ Line.Near p q s ∷ [])
 growing_more X n lines p q s h three fields there least =
     let l = Line.Near p q s in
-    let good : GoodAfter X lines l = good_at X Section.Nearest lines l h.come refl (ap (slice_get (object_points X)) h.nears ∙ there, least) in
+    let good : GoodAfter X.subject lines l = good_at X.subject Section.Nearest lines l h.come refl (ap (slice_get (object_points X.subject.picture)) h.nears ∙ there, least) in
     record {
       lines_good = good_more X lines l h.lines_good three fields good;
-      come = come_more X Section.Nearest lines l h.come refl;
+      come = come_more X.subject Section.Nearest lines l h.come refl;
       nears = ap length (lines_push Section.Nearest lines l refl) ∙ length-append (lines_of Section.Nearest lines) (l ∷ []) ∙ ap (λ k. k + 1) h.nears;
     }
 

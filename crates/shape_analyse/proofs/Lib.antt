@@ -1,3 +1,4 @@
 pub mod Growth
 pub mod ContourGrowth
+pub mod ThinningGrowth
 pub mod FoundLines

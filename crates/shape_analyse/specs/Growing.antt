@@ -1,33 +1,53 @@
 -- A report while it grows: good lines that have come to a section.
--- The sections of the `near` lines and of the contours are those with many lines so far.
-use Rattle.std.specs.Prelude.{◌≡◌, ◌+◌, ◌≤◌, ℕ, List, [], length, All}
+-- The sections of the `near` lines, of the contours and of the thinning are those with many lines.
+use Rattle.std.specs.Prelude.{◌≡◌, ◌+◌, ◌≤◌, ℕ, List, [], ◌∷◌, length, take, All}
 use Rattle.shape_terms.specs.Points.{Point}
 use Rattle.shape_terms.specs.Pictures.{Picture, object_points}
 use Rattle.shape_terms.specs.Traces.{Contour, AreContours}
 use Rattle.shape_terms.specs.Covers.{Evidence, Stretch}
+use Rattle.thin_terms.specs.Thinning.{Rule, Event}
+use Rattle.thin_terms.specs.Shelves.{Named}
+use Rattle.report_terms.specs.Subjects.{Subject, IsOnShelf}
 use Rattle.report_terms.specs.Lines.{Line, spelling, text_of, IsLineOf}
 use Rattle.report_terms.specs.ContourLines.{Standing, standing, IsFull}
+use Rattle.report_terms.specs.ThinningLines.{events_of, kept_facts, ThinningComplete}
 use Rattle.report_terms.specs.Sections.{Section, lines_of, HasCome, GoodSoFar}
 use Rattle.shape_cover.specs.Found.{Found, stretches_of, IsCoverOf}
 
--- short lines of the reports of pictures like X, each good after those before it
-pub record AreGood (X : Picture) (lines : List Line) : Type 0 where
-  pub fields : All (IsLineOf (length X.sides)) lines
+-- what a report is to be about, and by which of its rules the picture is to be thinned
+pub record Aim : Type 0 where
+  pub subject : Subject
+  pub name : List ℕ
+  pub rule : Rule
+
+abbrev pub aim_of : Picture → List (Named Rule) → List ℕ → Rule → Aim
+aim_of X shelf name rule = record { subject = record { picture = X; shelf = shelf }; name = name; rule = rule }
+
+-- the lines have one heading, which names the rule
+pub record HasHeading (X : Aim) (lines : List Line) : Type 0 where
+  pub sides : Point
+  pub first : lines_of Section.Heading lines ≡ Line.Shape sides X.name ∷ []
+  pub on_shelf : IsOnShelf X.subject.shelf X.name X.rule
+
+-- short lines of the reports of pictures like X, each good after those before it, of which the first names the rule
+pub record AreGood (X : Aim) (lines : List Line) : Type 0 where
+  pub fields : All (IsLineOf (length X.subject.picture.sides)) lines
   pub short : All (λ l. length (spelling l) ≤ 1024) lines
-  pub good : GoodSoFar X lines
+  pub good : GoodSoFar X.subject lines
+  pub named : HasHeading X lines
 
 -- the `shape` line, the `parts` line and n `near` lines, all of them good
-pub record IsGrowing (X : Picture) (n : ℕ) (lines : List Line) : Type 0 where
+pub record IsGrowing (X : Aim) (n : ℕ) (lines : List Line) : Type 0 where
   pub lines_good : AreGood X lines
-  pub come : HasCome X Section.Nearest lines
+  pub come : HasCome X.subject Section.Nearest lines
   pub nears : length (lines_of Section.Nearest lines) ≡ n
 
 -- all lines before those of contours, and good lines of contours that stand at s, where `contours` are those of the flat picture
-pub record IsOutlined (X : Picture) (contours : List Contour) (s : Standing) (lines : List Line) : Type 0 where
-  pub flat : length X.sides ≡ 2
-  pub are : AreContours X contours
+pub record IsOutlined (X : Aim) (contours : List Contour) (s : Standing) (lines : List Line) : Type 0 where
+  pub flat : length X.subject.picture.sides ≡ 2
+  pub are : AreContours X.subject.picture contours
   pub lines_good : AreGood X lines
-  pub come : HasCome X Section.Contours lines
+  pub come : HasCome X.subject Section.Contours lines
   pub stands : standing (lines_of Section.Contours lines) ≡ s
 
 -- where k contours have all their lines and one more was begun: how many points it was given, how many segments it is to have, and the stretches and how many gap lines it was given
@@ -35,11 +55,26 @@ abbrev pub at_contour : (k points declared : ℕ) → List Stretch → (gaps : �
 at_contour k n m stretches g = record { begun = k + 1; points = n; declared = m; stretches = stretches; gaps = g }
 
 -- the first k contours have all their lines
-pub record HasOutlined (X : Picture) (contours : List Contour) (k : ℕ) (lines : List Line) : Type 0 where
+pub record HasOutlined (X : Aim) (contours : List Contour) (k : ℕ) (lines : List Line) : Type 0 where
   pub stand : Standing
   pub begun : stand.begun ≡ k
   pub full : IsFull contours stand
   pub outlined : IsOutlined X contours stand lines
+
+-- all lines before those of the thinning, and the first k of these events
+pub record HasEvents (X : Aim) (events : List Event) (k : ℕ) (lines : List Line) : Type 0 where
+  pub flat : length X.subject.picture.sides ≡ 2
+  pub lines_good : AreGood X lines
+  pub come : HasCome X.subject Section.Thinned lines
+  pub early : kept_facts (lines_of Section.Thinned lines) ≡ []
+  pub so_far : events_of (lines_of Section.Thinned lines) ≡ take k events
+
+-- all lines before `end`
+pub record HasKept (X : Aim) (lines : List Line) : Type 0 where
+  pub flat : length X.subject.picture.sides ≡ 2
+  pub lines_good : AreGood X lines
+  pub come : HasCome X.subject Section.Thinned lines
+  pub all : ThinningComplete (lines_of Section.Thinned lines)
 
 -- the k-th contour was begun with its points, and is to have m segments
 abbrev pub outlined : (k : ℕ) → Contour → (m : ℕ) → Standing
@@ -56,12 +91,22 @@ pub record IsTextOf (IsSo : List Line → Type 0) (text : List ℕ) : Type 0 whe
   pub so : IsSo lines
 
 -- the text is that of good lines that stand so
-abbrev pub Stands : Picture → List Contour → Standing → List ℕ → Type 0
+abbrev pub Stands : Aim → List Contour → Standing → List ℕ → Type 0
 Stands X contours s text = IsTextOf (IsOutlined X contours s) text
 
 -- the text has all lines before those of contours
-abbrev pub HasNears : Picture → List ℕ → Type 0
-HasNears X text = IsTextOf (IsGrowing X (length (object_points X))) text
+abbrev pub HasNears : Aim → List ℕ → Type 0
+HasNears X text = IsTextOf (IsGrowing X (length (object_points X.subject.picture))) text
+
+-- the text has all lines before those of the thinning, and those of contours are done
+pub record HasContours (X : Aim) (text : List ℕ) : Type 0 where
+  pub contours : List Contour
+  pub lines : IsTextOf (HasOutlined X contours (length contours)) text
+
+-- the line of an event
+abbrev pub event_line : Event → Line
+event_line (Event.Del p) = Line.Del p
+event_line (Event.Tip p) = Line.Tip p
 
 -- what was found is the cover of some contour
 abbrev pub IsSomeCover : List Found → Type 0

@@ -1,14 +1,13 @@
 //! The lines of the contours of a flat picture: each with its points, its segments, and the evidence for the gaps between these.
 //! What is found of a contour comes from `shape_crack` and `shape_cover`.
 ghost use Rattle.std.specs.Prelude.{◌≡◌, ◌≤◌, ◌<◌, ◌+◌, ◌*◌, ℕ, List, [], ◌∷◌, ◌++◌, Some, slice_get, OnOk, length, All};
-ghost use Rattle.shape_terms.specs.Pictures.{Picture};
 ghost use Rattle.shape_terms.specs.Traces.{Contour as Trace};
 ghost use Rattle.report_terms.specs.Lines.{line_text, IsLineOf};
 ghost use Rattle.shape_report.specs.LineOf.{line_of};
 ghost use Rattle.shape_crack.specs.Terms.{point_of};
 ghost use Rattle.shape_refute.specs.Evidences.{evidence_of};
 ghost use Rattle.shape_cover.specs.Found.{IsCoverOf};
-ghost use Rattle.shape_analyse.specs.Growing.{HasOutlined, IsTextOf, Stands, IsSomeCover, gap_line, outlined, covered};
+ghost use Rattle.shape_analyse.specs.Growing.{Aim, HasOutlined, IsTextOf, Stands, IsSomeCover, gap_line, outlined, covered};
 
 use shape_cover::{Cover, cover};
 use shape_crack::{Contour, Contours};
@@ -22,7 +21,7 @@ fn add_outline(contour: &Contour, segments: u32, report: &mut Report) -> Result<
     requires side { contour.now.start.side < 4 }
     requires some { 1 ≤ segments }
     requires few { segments ≤ length contour.now.points }
-    ensures { (X : Picture) (contours : List Trace) (k : ℕ)
+    ensures { (X : Aim) (contours : List Trace) (k : ℕ)
         → slice_get contours k ≡ Some contour.now
         → IsTextOf (HasOutlined X contours k) report.old
         → OnOk result (Stands X contours (outlined k contour.now segments) report.new) }
@@ -46,7 +45,7 @@ fn add_outline(contour: &Contour, segments: u32, report: &mut Report) -> Result<
 // Adds the segments of a contour.
 fn add_segments(cover: &Cover, report: &mut Report) -> Result<(), NoMemory>
     requires { IsSomeCover cover.now }
-    ensures { (X : Picture) (contours : List Trace) (k : ℕ) (contour : Trace)
+    ensures { (X : Aim) (contours : List Trace) (k : ℕ) (contour : Trace)
         → slice_get contours k ≡ Some contour → IsCoverOf contour.points cover.now
         → Stands X contours (outlined k contour (length cover.now)) report.old
         → OnOk result (Stands X contours (covered k contour cover.now 0) report.new) }
@@ -83,7 +82,7 @@ fn add_gap(axis: u8, refusal: Refusal, report: &mut Report) -> Result<(), NoMemo
 // Adds the lines of the gaps of a contour, for each the one of the axis x and then the one of the axis y.
 fn add_gaps(cover: &Cover, report: &mut Report) -> Result<(), NoMemory>
     requires { IsSomeCover cover.now }
-    ensures { (X : Picture) (contours : List Trace) (k : ℕ) (contour : Trace)
+    ensures { (X : Aim) (contours : List Trace) (k : ℕ) (contour : Trace)
         → slice_get contours k ≡ Some contour → IsCoverOf contour.points cover.now
         → Stands X contours (covered k contour cover.now 0) report.old
         → OnOk result (Stands X contours
@@ -100,7 +99,7 @@ fn add_gaps(cover: &Cover, report: &mut Report) -> Result<(), NoMemory>
 // Adds all lines of a contour.
 fn add_contour(alloc: Global, contour: &Contour, report: &mut Report) -> Result<(), NoMemory>
     requires side { contour.now.start.side < 4 }
-    ensures { (X : Picture) (contours : List Trace) (k : ℕ)
+    ensures { (X : Aim) (contours : List Trace) (k : ℕ)
         → slice_get contours k ≡ Some contour.now
         → IsTextOf (HasOutlined X contours k) report.old
         → OnOk result (IsTextOf (HasOutlined X contours (k + 1)) report.new) }
@@ -119,7 +118,7 @@ pub(crate) fn add_contours(
     report: &mut Report,
 ) -> Result<(), NoMemory>
     requires sides { All (λ c. c.start.side < 4) contours.now }
-    ensures { (X : Picture) → IsTextOf (HasOutlined X contours.now 0) report.old
+    ensures { (X : Aim) → IsTextOf (HasOutlined X contours.now 0) report.old
         → OnOk result (IsTextOf (HasOutlined X contours.now (length contours.now)) report.new) }
 {
     for k in 0..contours.len() {

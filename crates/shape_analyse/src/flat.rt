@@ -1,43 +1,43 @@
 //! The report of a picture, section by section.
 //! The parts that serve every dimension are generic; `analyse_flat` puts them together for flat pictures.
-ghost use Rattle.std.specs.Prelude.{◌≡◌, ◌≤◌, IfOk, OnOk, length, codes, All};
+ghost use Rattle.std.specs.Prelude.{◌≡◌, ◌≢◌, ◌<◌, ◌≤◌, ℕ, List, IfOk, OnOk, length, All, Some, slice_get};
+ghost use Rattle.shape_terms.specs.Pictures.{object_points};
+ghost use Rattle.shape_terms.specs.Parts.{Counts};
 ghost use Rattle.shape_terms.specs.Distances.{IsField, IsFramed};
-ghost use Rattle.report_terms.specs.Holds.{Holds};
+ghost use Rattle.thin_terms.specs.Thinning.{Rule};
+ghost use Rattle.thin_terms.specs.Shelves.{Named, names_of};
+ghost use Rattle.report_terms.specs.Subjects.{IsOnShelf, subject_of};
+ghost use Rattle.report_terms.specs.Holds.{HoldsBy};
 ghost use Rattle.shape_rules.specs.Names.{word_of};
-ghost use Rattle.shape_analyse.specs.Growing.{IsGrowing, IsTextOf, HasNears};
+ghost use Rattle.shape_rules.specs.Ruled.{rules_on};
+ghost use Rattle.shape_analyse.specs.Growing.{aim_of, IsGrowing, IsTextOf, HasNears, HasContours};
 
 use crate::contour::add_contours;
-use shape_adj::{Pairing, parts};
+use crate::thinning::{add_thinning, thinned};
+use shape_adj::{Pairing, Parts, parts};
 use shape_crack::contours;
 use shape_dist::{Field, nearest};
 use shape_grid::Grid;
 use shape_report::{Line, Report};
-use shape_rules::Name;
+use shape_rules::{Name, Shelf};
 use shape_space::{NoMemory, P2, Point};
 use std::alloc::Global;
 
-// The name of the rule that keeps no point.
-fn no_rule() -> Name
-    ensures { word_of result ≡ codes "none" }
-{
-    match Name::new(b"none") {
-        Some(name) => name,
-        None => unreachable!(),
-    }
-}
-
 // The report that has its `shape` line and its `parts` line alone.
-fn open<P: Pairing>(alloc: Global, grid: &Grid<P>) -> Result<Report, NoMemory>
-    ensures open { IfOk result (IsTextOf (IsGrowing grid.now 0)) }
+fn open<P: Pairing>(
+    alloc: Global,
+    grid: &Grid<P>,
+    rule: Name,
+    counted: Parts,
+) -> Result<Report, NoMemory>
+    requires { Counts grid.now (length (object_points grid.now)) counted.object counted.background }
+    ensures open { (shelf : List (Named Rule)) (by : Rule) → IsOnShelf shelf (word_of rule) by
+        → IfOk result (IsTextOf (IsGrowing (aim_of grid.now shelf (word_of rule) by) 0)) }
     ensures axes { length grid.now.sides ≡ P.DIM }
     ensures few { P.DIM ≤ 3 }
 {
     let sides = grid.sides().lengths;
-    let head = Line::Shape {
-        sides,
-        rule: no_rule(),
-    };
-    let counted = parts(alloc, grid)?;
+    let head = Line::Shape { sides, rule };
     let counts: Line<P> = Line::Parts {
         points: grid.count(),
         object: counted.object,
@@ -59,8 +59,9 @@ fn add_nears<P: Point>(
     requires few { P.DIM ≤ 3 }
     requires field { IsField grid.now field.now }
     requires framed { All IsFramed field.now }
-    requires open { IsTextOf (IsGrowing grid.now 0) report.old }
-    ensures { OnOk result (HasNears grid.now report.new) }
+    ensures { (shelf : List (Named Rule)) (name : List ℕ) (by : Rule)
+        → IsTextOf (IsGrowing (aim_of grid.now shelf name by) 0) report.old
+        → OnOk result (HasNears (aim_of grid.now shelf name by) report.new) }
 {
     for i in 0..field.len() {
         let near = field.near(i);
@@ -74,26 +75,68 @@ fn add_nears<P: Point>(
     Ok(())
 }
 
-// The report that has all lines before those of outlines.
-fn begin<P: Pairing>(alloc: Global, grid: &Grid<P>) -> Result<Report, NoMemory>
-    ensures grown { IfOk result (HasNears grid.now) }
+// The report that has all lines before those of contours.
+fn begin<P: Pairing>(
+    alloc: Global,
+    grid: &Grid<P>,
+    field: &Field<P>,
+    rule: Name,
+    counted: Parts,
+) -> Result<Report, NoMemory>
+    requires field { IsField grid.now field.now }
+    requires framed { All IsFramed field.now }
+    requires counts { Counts grid.now (length (object_points grid.now))
+        counted.object counted.background }
+    ensures grown { (shelf : List (Named Rule)) (by : Rule) → IsOnShelf shelf (word_of rule) by
+        → IfOk result (HasNears (aim_of grid.now shelf (word_of rule) by)) }
     ensures axes { length grid.now.sides ≡ P.DIM }
 {
-    let mut report = open(alloc, grid)?;
-    let field = nearest(alloc, grid)?;
-    add_nears(grid, &field, &mut report)?;
+    let mut report = open(alloc, grid, rule, counted)?;
+    add_nears(grid, field, &mut report)?;
     Ok(report)
 }
 
-/// The report of a flat picture, which holds of it.
-///
-/// The distances cost a search of the framed box for each object point, and each contour a search of its segments.
-pub fn analyse_flat(alloc: Global, grid: &Grid<P2>) -> Result<Report, NoMemory>
-    ensures { IfOk result (Holds grid.now) }
+// The report that has all lines before those of the thinning.
+fn outlined(
+    alloc: Global,
+    grid: &Grid<P2>,
+    field: &Field<P2>,
+    rule: Name,
+    counted: Parts,
+) -> Result<Report, NoMemory>
+    requires field { IsField grid.now field.now }
+    requires framed { All IsFramed field.now }
+    requires counts { Counts grid.now (length (object_points grid.now))
+        counted.object counted.background }
+    ensures { (shelf : List (Named Rule)) (by : Rule) → IsOnShelf shelf (word_of rule) by
+        → IfOk result (HasContours (aim_of grid.now shelf (word_of rule) by)) }
 {
-    let mut report = begin(alloc, grid)?;
+    let mut report = begin(alloc, grid, field, rule, counted)?;
     let contours = contours(alloc, grid)?;
     add_contours(alloc, &contours, &mut report)?;
-    report.add(&Line::<P2>::End)?;
+    Ok(report)
+}
+
+/// The report of a flat picture, thinned by a rule of the shelf, which holds of it.
+///
+/// The distances cost a search of the framed box for each object point, and each contour a search of its segments.
+pub fn analyse_flat(
+    alloc: Global,
+    grid: &Grid<P2>,
+    shelf: &mut Shelf,
+    which: usize,
+) -> Result<Report, NoMemory>
+    requires { which < length shelf.old }
+    ensures holds { (name : List ℕ) → slice_get (names_of shelf.old) which ≡ Some name
+        → IfOk result
+        (HoldsBy (subject_of grid.now (rules_on opening marks next shelf.old)) name) }
+    ensures kept { rules_on opening marks next shelf.new ≡ rules_on opening marks next shelf.old }
+    ensures others { (j : ℕ) → j ≢ which → slice_get shelf.new j ≡ slice_get shelf.old j }
+{
+    let counted = parts(alloc, grid)?;
+    let field = nearest(alloc, grid)?;
+    let mut report = outlined(alloc, grid, &field, shelf.name(which), counted)?;
+    let thinning = thinned(alloc, grid, &field, shelf.rule(which))?;
+    add_thinning(&thinning, counted, &mut report)?;
     Ok(report)
 }

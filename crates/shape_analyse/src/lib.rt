@@ -4,6 +4,7 @@
 
 mod contour;
 mod flat;
+mod thinning;
 
 pub use flat::analyse_flat;
 

@@ -1,13 +1,13 @@
-//! The report of a full picture of 3 by 3 points.
+//! The report of a full picture of 3 by 3 points, by two rules.
 use super::*;
 use shape_grid::Grid;
+use shape_rules::{CurveEnds, EndRule, Entry, Name, NoEnds, Shelf};
 use shape_space::{P2, Sides};
-use std::alloc::AllocError;
+use std::alloc::{AllocError, Global};
 use std::test::Fail;
 
-#[test]
-fn a_full_picture(rt: HostRuntime) -> Result<(), Fail> {
-    let alloc = rt.alloc();
+// The picture of 3 by 3 points that are all object.
+fn square(alloc: Global) -> Result<Grid<P2>, Fail> {
     let Some(sides) = Sides::try_new(P2 { x: 3, y: 3 }) else {
         return Err(Fail::from(AllocError));
     };
@@ -20,12 +20,40 @@ fn a_full_picture(rt: HostRuntime) -> Result<(), Fail> {
             grid.set(p);
         }
     }
-    let Ok(report) = analyse_flat(alloc, &grid) else {
+    Ok(grid)
+}
+
+// A shelf with these rules under the names `none` and `curve`.
+fn shelf(alloc: Global, none: Box<dyn EndRule>, curve: Box<dyn EndRule>) -> Result<Shelf, Fail> {
+    let (Some(first), Some(second)) = (Name::new(b"none"), Name::new(b"curve")) else {
+        return Err(Fail::from(AllocError));
+    };
+    let mut rules: Vec<Entry> = Vec::new(alloc);
+    rules.push(Entry {
+        name: first,
+        rule: none,
+    })?;
+    rules.push(Entry {
+        name: second,
+        rule: curve,
+    })?;
+    Ok(Shelf::new(rules))
+}
+
+#[test]
+fn a_full_picture(rt: HostRuntime) -> Result<(), Fail> {
+    let alloc = rt.alloc();
+    let grid = square(alloc)?;
+    let mut shelf = shelf(alloc, Box::new(alloc, NoEnds)?, Box::new(alloc, CurveEnds)?)?;
+    let Ok(report) = analyse_flat(alloc, &grid, &mut shelf, 0) else {
         return Err(Fail::from(AllocError));
     };
     let bytes = report.text();
-    assert_eq!(rt; bytes.iter().filter(|&&c| c == b'\n').count(), 33);
+    assert_eq!(rt; bytes.iter().filter(|&&c| c == b'\n').count(), 42);
     assert!(rt; bytes.starts_with(b"shape 1 pbm 3 3 none\nparts 9 1 1\nnear 0 0 ".as_slice()));
+    let end =
+        b"\ndel 0 0\ndel 1 0\ndel 2 0\ndel 0 1\ndel 2 1\ndel 0 2\ndel 1 2\ndel 2 2\nkept 1 1 1\nend\n";
+    assert!(rt; bytes.ends_with(end.as_slice()));
     // The kind of each line, and of a `near` line its distance.
     let mut kinds = Vec::new(alloc);
     for line in bytes.split(|&c| c == b'\n') {
@@ -35,7 +63,23 @@ fn a_full_picture(rt: HostRuntime) -> Result<(), Fail> {
     }
     assert_eq!(rt;
         kinds.as_slice(),
-        b"sp111141111caaaaaaaasssstttttttte".as_slice()
+        b"sp111141111caaaaaaaassssttttttttddddddddke".as_slice()
     );
+    Ok(())
+}
+
+#[test]
+fn a_picture_with_ends(rt: HostRuntime) -> Result<(), Fail> {
+    let alloc = rt.alloc();
+    let grid = square(alloc)?;
+    let mut shelf = shelf(alloc, Box::new(alloc, NoEnds)?, Box::new(alloc, CurveEnds)?)?;
+    let Ok(report) = analyse_flat(alloc, &grid, &mut shelf, 1) else {
+        return Err(Fail::from(AllocError));
+    };
+    let bytes = report.text();
+    assert!(rt; bytes.starts_with(b"shape 1 pbm 3 3 curve\nparts 9 1 1\n".as_slice()));
+    let end =
+        b"\ndel 0 0\ndel 1 0\ndel 2 0\ndel 0 1\ndel 2 1\ndel 0 2\ndel 1 2\ntip 2 2\ntip 1 1\nkept 2 1 1\nend\n";
+    assert!(rt; bytes.ends_with(end.as_slice()));
     Ok(())
 }

@@ -5,25 +5,17 @@ use Rattle.std.specs.Prelude.{◌≢◌, Ok, Err}
 use Rattle.std.proofs.lemmas.List.{length-append}
 use Rattle.shape_desk.specs.Desk.{Rose}
 use Rattle.shape_desk.specs.Line.{IfTold, TakenAhead}
-use Rattle.shape_terms.specs.Pictures.{Picture}
+use Rattle.report_terms.specs.Subjects.{Subject}
 use Rattle.report_terms.specs.Lines.{Line}
 use Rattle.report_terms.specs.Sections.{GoodAfter}
 use Rattle.report_terms.specs.Holds.{BeginsWith, Holds, FirstBad}
 use Rattle.report_terms.proofs.Checking.{begins_none, begins_next, first_bad, no_line_at_end, one_line}
 use Rattle.shape_check.specs.Rows.{HasEnded}
+use Rattle.shape_check.specs.Going.{GoingOn}
 use Rattle.shape_check.specs.Next.{TakesClaim, IsBad}
 use Rattle.shape_check.specs.Checks.{Answer, Checks, TakesFew}
 use Rattle.shape_check.specs.declared.answer.CheckFault.TheVariants.{ReadFault, NoMemory}
 use Rattle.shape_check.specs.declared.answer.Judgement.TheVariants.{Yes, No}
-
--- the text begins with good lines that the row of judges stands for (`F`), the bytes behind them are left, and the next line has the number n
-pub record GoingOn (X : Picture) (text : List ℕ) (left : Option (List ℕ)) (F : List Line → Type 0) (n : ℕ) : Type 0 where
-  pub lines : List Line
-  pub bytes : List ℕ
-  pub told : left ≡ Some bytes
-  pub front : BeginsWith X text lines bytes
-  pub follows : F lines
-  pub number : n ≡ length lines + 1
 
 -- a fact of a text that is told, from another one
 pub if_told : {P Q : List ℕ → Type 0} (text : Option (List ℕ)) → ((t : List ℕ) → P t → Q t) → IfTold text P → IfTold text Q
@@ -31,14 +23,14 @@ if_told None f h = tt
 if_told (Some t) f h = f t h
 
 -- where all bytes of the text are left
-pub told_start : (X : Picture) (text : Option (List ℕ)) (F : List Line → Type 0) → F [] → IfTold text (λ t. GoingOn X t text F 1)
+pub told_start : (X : Subject) (text : Option (List ℕ)) (F : List Line → Type 0) → F [] → IfTold text (λ t. GoingOn X t text F 1)
 told_start X None F f = tt
 told_start X (Some t) F f = record { lines = []; bytes = t; told = refl; front = begins_none X t; follows = f; number = omega arith }
 
 here : (left : Option (List ℕ)) (bytes : List ℕ) (P : List ℕ → Type 0) → left ≡ Some bytes → IfTold left P → P bytes
 here left bytes P e h = subst (λ l. IfTold l P) e h
 
-module _ (X : Picture) (text : List ℕ) (left : Option (List ℕ)) (F : List Line → Type 0) (n : ℕ) (g : GoingOn X text left F n) where
+module _ (X : Subject) (text : List ℕ) (left : Option (List ℕ)) (F : List Line → Type 0) (n : ℕ) (g : GoingOn X text left F n) where
   -- the end of the text after `end`
   pub holds_at_end : (F g.lines → HasEnded g.lines) → IfTold left (λ bytes. bytes ≡ []) → Holds X text
   holds_at_end ended z =
@@ -50,16 +42,16 @@ module _ (X : Picture) (text : List ℕ) (left : Option (List ℕ)) (F : List Li
   pub bad_at_end : (F g.lines → HasEnded g.lines → ⊥) → IfTold left (λ bytes. bytes ≡ []) → FirstBad X text n
   bad_at_end more z =
       let e = here left g.bytes (λ bytes. bytes ≡ []) g.told z in
-      rw g.number (first_bad X text g.lines g.bytes g.front (λ l rest t good. no_line_at_end (length X.sides) g.bytes e l rest t) (λ front f z. more g.follows (record { front = front; is = f })))
+      rw g.number (first_bad X text g.lines g.bytes g.front (λ l rest t good. no_line_at_end (length X.picture.sides) g.bytes e l rest t) (λ front f z. more g.follows (record { front = front; is = f })))
 
   -- no line comes next, though bytes are left
-  pub bad_line : (d : ℕ) → length X.sides ≡ d → IfTold left (IsBad d) → FirstBad X text n
+  pub bad_line : (d : ℕ) → length X.picture.sides ≡ d → IfTold left (IsBad d) → FirstBad X text n
   bad_line d axes bad =
       let b = here left g.bytes (IsBad d) g.told bad in
       rw g.number (first_bad X text g.lines g.bytes g.front (λ l rest t good. b.none l rest (rw axes at t)) (λ front f z. b.some z))
 
   -- the next line is not good
-  pub not_good : (d : ℕ) (l : Line) (new : Option (List ℕ)) → length X.sides ≡ d → IfTold left (λ bytes. TakesClaim d bytes new l) → (F g.lines → GoodAfter X g.lines l → ⊥) → FirstBad X text n
+  pub not_good : (d : ℕ) (l : Line) (new : Option (List ℕ)) → length X.picture.sides ≡ d → IfTold left (λ bytes. TakesClaim d bytes new l) → (F g.lines → GoodAfter X g.lines l → ⊥) → FirstBad X text n
   not_good d l new axes taken bad =
       let t = here left g.bytes (λ bytes. TakesClaim d bytes new l) g.told taken in
       rw g.number (first_bad X text g.lines g.bytes g.front
@@ -67,7 +59,7 @@ module _ (X : Picture) (text : List ℕ) (left : Option (List ℕ)) (F : List Li
       (λ front f z. no_line_at_end d g.bytes z l t.rest t.starts))
 
   -- the next line is good
-  pub one_more : (d : ℕ) (l : Line) (new : Option (List ℕ)) (F2 : List Line → Type 0) → length X.sides ≡ d → IfTold left (λ bytes. TakesClaim d bytes new l) → (F g.lines → GoodAfter X g.lines l × F2 (g.lines ++ l ∷ [])) → GoingOn X text new F2 (n + 1)
+  pub one_more : (d : ℕ) (l : Line) (new : Option (List ℕ)) (F2 : List Line → Type 0) → length X.picture.sides ≡ d → IfTold left (λ bytes. TakesClaim d bytes new l) → (F g.lines → GoodAfter X g.lines l × F2 (g.lines ++ l ∷ [])) → GoingOn X text new F2 (n + 1)
   one_more d l new F2 axes taken good =
       let t = here left g.bytes (λ bytes. TakesClaim d bytes new l) g.told taken in
       let h = good g.follows in
@@ -93,16 +85,16 @@ module _ (X : Picture) (text : List ℕ) (left : Option (List ℕ)) (F : List Li
   }
 
 -- nothing was taken
-pub takes_none : (X : Picture) (text : Option (List ℕ)) → IfTold text (λ t. TakesFew X t text)
+pub takes_none : (X : Subject) (text : Option (List ℕ)) → IfTold text (λ t. TakesFew X t text)
 takes_none X None = tt
 takes_none X (Some t) = record { lines = []; more = []; rest = t; good = begins_none X t; few = omega arith; told = refl }
 
 -- where the text may not be told
-pub told_few : (X : Picture) (text left at_place : Option (List ℕ)) (F : List Line → Type 0) (n : ℕ) → IfTold text (λ t. GoingOn X t left F n) → TakenAhead left at_place → IfTold text (λ t. TakesFew X t at_place)
+pub told_few : (X : Subject) (text left at_place : Option (List ℕ)) (F : List Line → Type 0) (n : ℕ) → IfTold text (λ t. GoingOn X t left F n) → TakenAhead left at_place → IfTold text (λ t. TakesFew X t at_place)
 told_few X text left at_place F n g t = if_told text (λ b h. takes_few X b left F n h at_place t) g
 
 -- a report that holds is answered so, where nothing failed
-pub answered : (X : Picture) (text : List ℕ) (before now : ℕ) (answer : Answer) → Holds X text → Checks X (Some text) before now answer → (Rose before now → ⊥) → answer ≢ Err NoMemory → answer ≡ Ok Yes
+pub answered : (X : Subject) (text : List ℕ) (before now : ℕ) (answer : Answer) → Holds X text → Checks X (Some text) before now answer → (Rose before now → ⊥) → answer ≢ Err NoMemory → answer ≡ Ok Yes
 answered X text before now (Ok Yes) h c r m = refl
 answered X text before now (Ok (No k)) h c r m = absurd (c.1.fails h)
 answered X text before now (Err ReadFault) h c r m = absurd (r c)

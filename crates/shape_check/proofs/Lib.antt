@@ -2,3 +2,6 @@ pub mod NextAnswers
 pub mod RowLaws
 pub mod Going
 pub mod OneLine
+pub mod FirstLine
+pub mod Distances
+pub mod ThinningJudged

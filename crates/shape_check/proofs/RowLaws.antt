@@ -1,33 +1,58 @@
--- A row goes on to its next judge with the first line of another section.
--- Laws over what the judges stand for; which sections these are is no matter here.
-use Rattle.std.proofs.Common.{◌≡◌, ◌≢◌, inl, inr, suc, arith, Bool, List, [], ◌∷◌, ◌++◌}
-use Rattle.std.specs.Prelude.{◌↔◌, IsTrue}
+-- A row takes its next line: where its first section is past, where the line is of it, and where the line is of another one.
+-- Laws over what the judges stand for and answer; which sections these are is no matter here.
+use Rattle.std.proofs.Common.{◌≡◌, ◌≢◌, inl, inr, suc, arith, subst, sym, Bool, true, false, List, [], ◌∷◌, ◌++◌, Result, Ok, Err}
+use Rattle.std.specs.Prelude.{◌↔◌, IsTrue, IfOk}
 use Rattle.std.specs.Bool.{OnTrue}
 use Rattle.std.proofs.lemmas.Bool.{OnTrue_at, OnTrue_from, cases_lt}
-use Rattle.shape_terms.specs.Pictures.{Picture}
+use Rattle.std.proofs.lemmas.Result.{IfOk-weaker}
+use Rattle.report_terms.specs.Subjects.{Subject}
 use Rattle.report_terms.specs.Lines.{Line}
-use Rattle.report_terms.specs.Sections.{Section, rank, section_of, lines_of, SectionComplete, HasCome, GoodAfter}
-use Rattle.report_terms.proofs.SectionLaws.{rank_same, order_last, come_past, none_past}
-use Rattle.shape_check.specs.Rows.{MayCome, HasReached, IsAt}
+use Rattle.report_terms.specs.Sections.{Section, rank, section_of, lines_of, SectionClaim, SectionComplete, HasCome, GoodAfter}
+use Rattle.report_terms.proofs.SectionLaws.{rank_same, order_last, come_more, come_past, none_past, lines_push, good_at, claim_at}
+use Rattle.shape_check.specs.Rows.{MayCome, HasReached, IsAt, RowFollows}
 
-module _ (X : Picture) (s t : Section) (lines : List Line) (l : Line) (Stands Rest : List Line → Type 0) (good : Bool) (next : rank t ≡ suc (rank s))
-    (at : IsAt X s Stands lines) (m : MayCome X s lines l) (n : section_of l ≢ s) (done : SectionComplete X s (lines_of s lines))
-    (enter : HasCome X t lines → lines_of t lines ≡ [] → Rest lines) (answer : Rest lines → MayCome X t lines l → IsTrue good ↔ GoodAfter X lines l) where
+-- what a row stands for, by whether its first section is past
+pub row_past : (X : Subject) (s t : Section) (is_past : Bool) (Stands : List Line → Type 0) (Waits : Type 0) (Rest : List Line → Type 0) (lines : List Line) → is_past ≡ true → RowFollows X s t is_past Stands Waits Rest lines → HasReached X t lines × Rest lines
+row_past X s t is_past Stands Waits Rest lines e f = subst (λ b. RowFollows X s t b Stands Waits Rest lines) e f
+
+pub row_first : (X : Subject) (s t : Section) (is_past : Bool) (Stands : List Line → Type 0) (Waits : Type 0) (Rest : List Line → Type 0) (lines : List Line) → is_past ≡ false → RowFollows X s t is_past Stands Waits Rest lines → IsAt X s Stands lines × Waits
+row_first X s t is_past Stands Waits Rest lines e f = subst (λ b. RowFollows X s t b Stands Waits Rest lines) e f
+
+-- both facts of an answer, where it is true
+both : {E : Type 0} (A B C : Type 0) (r : Result Bool E) → IfOk r (λ b. IsTrue b ↔ A) → IfOk r (λ b. OnTrue b B) → (A → C) → IfOk r (λ b. OnTrue b (C × B))
+both A B C (Ok b) a f g = OnTrue_from b (C × B) (λ e. (g (a.0 e), OnTrue_at e f))
+both A B C (Err e) a f g = tt
+
+module _ {E : Type 0} (X : Subject) (s : Section) (lines : List Line) (l : Line) (answer : Result Bool E) where
+  module _ (may : MayCome X s lines l) where
+    -- what is good after a line of the section or a later one is so too
+    reached : GoodAfter X lines l → HasReached X s (lines ++ l ∷ [])
+    reached g = record { next = λ k h. omega (arith, order_last (section_of k) lines l h.come.order, may g) }
+
+    -- the rest of the row stands for the line, where it is good
+    pub rest_follows : (New : List Line → Type 0) → IfOk answer (λ b. IsTrue b ↔ GoodAfter X lines l) → IfOk answer (λ b. OnTrue b (New (lines ++ l ∷ []))) → IfOk answer (λ b. OnTrue b (HasReached X s (lines ++ l ∷ []) × New (lines ++ l ∷ [])))
+    rest_follows New a f = both _ _ _ answer a f reached
+
+  -- the line is of the section that the lines have come to
+  module _ (Stands : List Line → Type 0) (at : IsAt X s Stands lines) (e : section_of l ≡ s) where
+    pub first_answer : IfOk answer (λ b. IsTrue b ↔ SectionClaim X (lines_of Section.Heading lines) s (lines_of s lines) l) → IfOk answer (λ b. IsTrue b ↔ GoodAfter X lines l)
+    first_answer a = IfOk-weaker answer _ _ (λ b h. (λ t. good_at X s lines l at.come e (h.0 t), λ g. h.1 (claim_at X s lines l e g))) a
+
+    pub first_follows : (New : List Line → Type 0) (Waits : Type 0) → Waits → IfOk answer (λ b. OnTrue b (New (lines_of s lines ++ l ∷ []))) → IfOk answer (λ b. OnTrue b (IsAt X s New (lines ++ l ∷ []) × Waits))
+    first_follows New Waits w f = IfOk-weaker answer _ _ (λ b h. OnTrue_from b (IsAt X s New (lines ++ l ∷ []) × Waits) (λ t. (
+      record {
+        come = come_more X s lines l at.come e;
+        stands = subst New (sym (lines_push s lines l e)) (OnTrue_at t h);
+      },
+      w,
+    ))) f
+
+module _ (X : Subject) (s t : Section) (lines : List Line) (l : Line) (Stands Rest : List Line → Type 0) (next : rank t ≡ suc (rank s))
+    (at : IsAt X s Stands lines) (m : MayCome X s lines l) (n : section_of l ≢ s) (done : SectionComplete X s (lines_of s lines)) where
   -- the lines have come to the next section, and it has none yet
-  rest_follows : Rest lines
-  rest_follows = enter (come_past X s t lines next at.come done) (none_past s t lines (omega (arith, next)) at.come.order)
+  pub entered_with : (HasCome X t lines → lines_of t lines ≡ [] → Rest lines) → Rest lines
+  entered_with enter = enter (come_past X s t lines next at.come done) (none_past s t lines (omega (arith, next)) at.come.order)
 
   -- a good line of another section is of the next one or later
-  may_follow : MayCome X t lines l
+  pub may_follow : MayCome X t lines l
   may_follow = λ g. elim (cases_lt (rank s) (rank (section_of l))) [ inl h ↦ omega (arith, next, h) | inr h ↦ absurd (n (rank_same (section_of l) s (omega (arith, h, m g)))) ]
-
-  -- and what is good after it is of its section or later
-  reached : GoodAfter X lines l → HasReached X t (lines ++ l ∷ [])
-  reached g = record { next = λ k h. omega (arith, order_last (section_of k) lines l h.come.order, may_follow g) }
-
-  pub moved_answer : IsTrue good ↔ GoodAfter X lines l
-  moved_answer = answer rest_follows may_follow
-
-  pub moved_follows : (New : List Line → Type 0) → (Rest lines → MayCome X t lines l → OnTrue good (New (lines ++ l ∷ []))) → OnTrue good (HasReached X t (lines ++ l ∷ []) × New (lines ++ l ∷ []))
-  moved_follows New follows =
-      OnTrue_from good (HasReached X t (lines ++ l ∷ []) × New (lines ++ l ∷ [])) (λ e. (reached (moved_answer.0 e), OnTrue_at e (follows rest_follows may_follow)))

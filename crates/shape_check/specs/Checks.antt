@@ -2,7 +2,7 @@
 use Rattle.std.specs.Prelude.{◌≡◌, ℕ, ◌≤◌, ◌^◌, ⊤, List, ◌++◌, length, Option, Some, Result, Ok, Err}
 use Rattle.shape_desk.specs.Desk.{Rose}
 use Rattle.shape_desk.specs.Line.{IfTold}
-use Rattle.shape_terms.specs.Pictures.{Picture}
+use Rattle.report_terms.specs.Subjects.{Subject}
 use Rattle.report_terms.specs.Lines.{Line}
 use Rattle.report_terms.specs.Holds.{BeginsWith, Holds, FirstBad}
 use Rattle.shape_check.specs.declared.answer.CheckFault.{CheckFault}
@@ -21,14 +21,14 @@ Answer = Result Judgement CheckFault
 
 -- `text` is the bytes of the report, where they are told; then the count of faults of reading before and now.
 -- Yes: the text holds of the picture. No: the line is the first bad one. A fault of reading: the count rose.
-abbrev pub Checks : Picture → Option (List ℕ) → (before now : ℕ) → Answer → Type 0
+abbrev pub Checks : Subject → Option (List ℕ) → (before now : ℕ) → Answer → Type 0
 Checks X text before now (Ok Yes) = IfTold text (Holds X)
 Checks X text before now (Ok (No k)) = IsLineNumber k × IfTold text (λ bytes. FirstBad X bytes k)
 Checks X text before now (Err ReadFault) = Rose before now
 Checks X text before now (Err NoMemory) = ⊤
 
 -- of the text, some good lines and at most 2048 bytes more were taken, and the rest is left at the place
-pub record TakesFew (X : Picture) (text : List ℕ) (left : Option (List ℕ)) : Type 0 where
+pub record TakesFew (X : Subject) (text : List ℕ) (left : Option (List ℕ)) : Type 0 where
   pub lines : List Line
   pub more : List ℕ
   pub rest : List ℕ

@@ -1,4 +1,7 @@
 pub mod Next
 pub mod Rows
 pub mod Entered
+pub mod Going
+pub mod Heading
+pub mod Followed
 pub mod Checks

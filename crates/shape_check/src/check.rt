@@ -1,45 +1,61 @@
-//! Checking a report: each of its lines in turn, up to the first bad one.
+//! Checking a report: its heading, and then each of its lines in turn, up to the first bad one.
 //! Which line is good next is known to the row of judges; this file knows of texts alone.
-ghost use Rattle.std.specs.Prelude.{◌≡◌, ◌<◌, ◌^◌, true, length};
+ghost use Rattle.std.specs.Prelude.{◌≡◌, ◌<◌, ◌-◌, ◌^◌, ℕ, List, Option, true, length};
 ghost use Rattle.shape_desk.specs.Desk.{OnlyReadsAt};
 ghost use Rattle.shape_desk.specs.Line.{IfTold, ahead_of};
 ghost use Rattle.shape_desk.specs.declared.desk.Place.TheVariants.{Report};
-ghost use Rattle.shape_terms.specs.Pictures as Terms;
+ghost use Rattle.thin_terms.specs.Thinning.{rule_by};
+ghost use Rattle.report_terms.specs.Subjects.{Subject};
+ghost use Rattle.shape_rules.specs.Ruled.{rules_on};
 ghost use Rattle.shape_check.specs.Checks.{Checks, TakesFew};
+ghost use Rattle.shape_check.specs.Going.{GoingOn, BehindHeading};
 
 use crate::answer::{CheckFault, Judgement};
 use crate::flat::Flat;
+use crate::heading::find_rule;
 use crate::judges::{Judges, Row};
 use crate::next::{Next, next_claim};
 use shape_desk::{Desk, LineReader};
 use shape_grid::Grid;
+use shape_rules::{EndRule, Shelf};
 use shape_space::{NoMemory, P2, Point};
 use std::alloc::Global;
 
-// Goes through the lines that are left, from the first one on.
+// Goes through the lines behind the heading, which named the rule.
 fn check_lines<P: Point, R: Row<P>, D: Desk>(
     mut row: R,
+    rule: &mut dyn EndRule,
     reader: &mut LineReader,
     desk: &mut D,
 ) -> Result<Judgement, CheckFault>
     requires begun { (D.state desk.old).begun Report ≡ true }
-    requires few { R.room row < 2 ^ 62 }
-    ensures answer { (X : Terms.Picture) → length X.sides ≡ P.DIM → R.waits X row
-        → Checks X (ahead_of reader.old.ahead ((D.state desk.old).left Report))
-        (D.state desk.old).read_faults (D.state desk.new).read_faults result }
-    ensures taken { (X : Terms.Picture) → length X.sides ≡ P.DIM → R.waits X row
-        → IfTold (ahead_of reader.old.ahead ((D.state desk.old).left Report))
-        (λ text. TakesFew X text ((D.state desk.new).left Report)) }
+    requires few { R.room row < 2 ^ 62 - 1 }
+    ensures answer { let by = rule_by (opening rule.old) (marks rule.old) (next rule.old) in
+        (X : Subject) (text : Option (List ℕ)) → length X.picture.sides ≡ P.DIM
+        → R.waits X.picture row
+        → IfTold text (λ t. GoingOn X t (ahead_of reader.old.ahead ((D.state desk.old).left Report))
+        (BehindHeading X by R.section) 2)
+        → Checks X text (D.state desk.old).read_faults (D.state desk.new).read_faults result }
+    ensures taken { let by = rule_by (opening rule.old) (marks rule.old) (next rule.old) in
+        (X : Subject) (text : Option (List ℕ)) → length X.picture.sides ≡ P.DIM
+        → R.waits X.picture row
+        → IfTold text (λ t. GoingOn X t (ahead_of reader.old.ahead ((D.state desk.old).left Report))
+        (BehindHeading X by R.section) 2)
+        → IfTold text (λ t. TakesFew X t ((D.state desk.new).left Report)) }
     ensures reads { OnlyReadsAt Report (D.state desk.old) (D.state desk.new) }
+    ensures same_opening { opening rule.new ≡ opening rule.old }
+    ensures same_marks { marks rule.new ≡ marks rule.old }
+    ensures same_next { next rule.new ≡ next rule.old }
 {
-    let mut line: u64 = 1;
+    let mut line: u64 = 2;
     'lines: loop {
         match next_claim(reader, desk) {
             Ok(Next::Claim(claim)) => {
-                if !row.take(&claim) {
-                    return Ok(Judgement::No { line });
+                match row.take(&claim, rule) {
+                    Ok(true) => line += 1,
+                    Ok(false) => return Ok(Judgement::No { line }),
+                    Err(NoMemory) => return Err(CheckFault::NoMemory),
                 }
-                line += 1;
             }
             Ok(Next::Bad) => return Ok(Judgement::No { line }),
             Ok(Next::End) => {
@@ -53,47 +69,98 @@ fn check_lines<P: Point, R: Row<P>, D: Desk>(
     }
 }
 
+// The same by a boxed rule.
+fn check_behind<P: Point, R: Row<P>, D: Desk>(
+    row: R,
+    rule: &mut Box<dyn EndRule>,
+    reader: &mut LineReader,
+    desk: &mut D,
+) -> Result<Judgement, CheckFault>
+    requires begun { (D.state desk.old).begun Report ≡ true }
+    requires few { R.room row < 2 ^ 62 - 1 }
+    ensures answer { let by = rule_by (opening rule.old) (marks rule.old) (next rule.old) in
+        (X : Subject) (text : Option (List ℕ)) → length X.picture.sides ≡ P.DIM
+        → R.waits X.picture row
+        → IfTold text (λ t. GoingOn X t (ahead_of reader.old.ahead ((D.state desk.old).left Report))
+        (BehindHeading X by R.section) 2)
+        → Checks X text (D.state desk.old).read_faults (D.state desk.new).read_faults result }
+    ensures taken { let by = rule_by (opening rule.old) (marks rule.old) (next rule.old) in
+        (X : Subject) (text : Option (List ℕ)) → length X.picture.sides ≡ P.DIM
+        → R.waits X.picture row
+        → IfTold text (λ t. GoingOn X t (ahead_of reader.old.ahead ((D.state desk.old).left Report))
+        (BehindHeading X by R.section) 2)
+        → IfTold text (λ t. TakesFew X t ((D.state desk.new).left Report)) }
+    ensures reads { OnlyReadsAt Report (D.state desk.old) (D.state desk.new) }
+    ensures same_opening { opening rule.new ≡ opening rule.old }
+    ensures same_marks { marks rule.new ≡ marks rule.old }
+    ensures same_next { next rule.new ≡ next rule.old }
+{
+    check_lines(row, &mut **rule, reader, desk)
+}
+
 // Checks a report of any dimension.
-#[tactic(auto, using(crate::proofs::Going::takes_none))]
 fn check<P: Point, R: Row<P>, D: Desk>(
     alloc: Global,
     grid: &Grid<P>,
     desk: &mut D,
+    shelf: &mut Shelf,
 ) -> Result<Judgement, CheckFault>
     requires { (D.state desk.old).begun Report ≡ true }
-    ensures answer { Checks grid.now ((D.state desk.old).left Report)
+    ensures answer { let X : Subject = record {
+      picture = grid.now;
+      shelf = rules_on opening marks next shelf.old;
+    } in Checks X ((D.state desk.old).left Report)
         (D.state desk.old).read_faults (D.state desk.new).read_faults result }
-    ensures taken { IfTold ((D.state desk.old).left Report)
-        (λ text. TakesFew grid.now text ((D.state desk.new).left Report)) }
+    ensures taken { let X : Subject = record {
+      picture = grid.now;
+      shelf = rules_on opening marks next shelf.old;
+    } in IfTold ((D.state desk.old).left Report)
+        (λ text. TakesFew X text ((D.state desk.new).left Report)) }
     ensures reads { OnlyReadsAt Report (D.state desk.old) (D.state desk.new) }
+    ensures shelf { rules_on opening marks next shelf.new ≡ rules_on opening marks next shelf.old }
 {
     grid.is_picture();
-    let Ok(row) = R::begin(alloc, grid) else {
-        return Err(CheckFault::NoMemory);
-    };
+    shelf.has_names();
     let Ok(mut reader) = LineReader::new(alloc) else {
         return Err(CheckFault::NoMemory);
     };
-    check_lines(row, &mut reader, desk)
+    let i = match find_rule(grid.sides(), shelf, &mut reader, desk) {
+        Ok(Some(i)) => i,
+        Ok(None) => return Ok(Judgement::No { line: 1 }),
+        Err(fault) => return Err(fault),
+    };
+    let Ok(row) = R::begin(alloc, grid) else {
+        return Err(CheckFault::NoMemory);
+    };
+    check_behind(row, shelf.rule(i), &mut reader, desk)
 }
 
 /// Checks the report of a plane picture: whether the file that was begun at `Place::Report` holds
-/// of it.
+/// of it, where the rules are those on the shelf.
 ///
 /// The file is read line by line and never whole: the bytes of its good lines are taken, and at most
 /// 2048 more. `Yes` exactly where the report holds, and `No` exactly where its line is the first bad
 /// one, where the desk tells the file. `ReadFault` comes only where `read_faults` rose in this call.
+/// The state of the rule that the report names is free afterwards, whatever is answered.
 pub fn check_flat<D: Desk>(
     alloc: Global,
     grid: &Grid<P2>,
     desk: &mut D,
+    shelf: &mut Shelf,
 ) -> Result<Judgement, CheckFault>
     requires { (D.state desk.old).begun Report ≡ true }
-    ensures answer { Checks grid.now ((D.state desk.old).left Report)
+    ensures answer { let X : Subject = record {
+      picture = grid.now;
+      shelf = rules_on opening marks next shelf.old;
+    } in Checks X ((D.state desk.old).left Report)
         (D.state desk.old).read_faults (D.state desk.new).read_faults result }
-    ensures taken { IfTold ((D.state desk.old).left Report)
-        (λ text. TakesFew grid.now text ((D.state desk.new).left Report)) }
+    ensures taken { let X : Subject = record {
+      picture = grid.now;
+      shelf = rules_on opening marks next shelf.old;
+    } in IfTold ((D.state desk.old).left Report)
+        (λ text. TakesFew X text ((D.state desk.new).left Report)) }
     ensures reads { OnlyReadsAt Report (D.state desk.old) (D.state desk.new) }
+    ensures shelf { rules_on opening marks next shelf.new ≡ rules_on opening marks next shelf.old }
 {
-    check::<P2, Flat, D>(alloc, grid, desk)
+    check::<P2, Flat, D>(alloc, grid, desk, shelf)
 }

@@ -4,27 +4,34 @@ ghost use Rattle.std.specs.Prelude.{◌≡◌, ◌↔◌, IsTrue};
 
 use crate::judges::SectionJudge;
 use shape_report::Line;
-use shape_space::Point;
+use shape_rules::EndRule;
+use shape_space::{NoMemory, Point};
 
-/// The judge of the `parts` line.
-#[derive(Drop)]
-pub struct CountsJudge {
-    // The counts of the picture: object points, components of the object and of the background.
+/// How many object points a picture has, and how many components its object and its background.
+#[derive(Clone, Copy)]
+pub struct PictureCounts {
     pub points: u32,
     pub object: u32,
     pub background: u32,
-    // Whether the line was taken.
-    pub taken: bool,
 }
 
-impl CountsJudge {
-    // Whether counts are those of the picture.
-    fn are_counts(&self, points: u32, object: u32, background: u32) -> bool
+impl PictureCounts {
+    /// Whether these are the counts.
+    pub fn are(&self, points: u32, object: u32, background: u32) -> bool
         ensures { IsTrue result ↔ ((points ≡ self.now.points) × (object ≡ self.now.object)
             × (background ≡ self.now.background)) }
     {
         points == self.points && object == self.object && background == self.background
     }
+}
+
+/// The judge of the `parts` line.
+#[derive(Drop)]
+pub struct CountsJudge {
+    // The counts of the picture.
+    pub counts: PictureCounts,
+    // Whether the line was taken.
+    pub taken: bool,
 }
 
 impl<P: Point> SectionJudge<P> for CountsJudge {
@@ -35,7 +42,7 @@ impl<P: Point> SectionJudge<P> for CountsJudge {
 
     ghost section = { Section.Counted };
 
-    ghost stands = { λ X j lines. Counts X j.points j.object j.background
+    ghost stands = { λ X by j now lines. Counts X j.counts.points j.counts.object j.counts.background
         × HasTaken j.taken lines };
 
     ghost room = { λ j. if j.taken then 0 else 1 };
@@ -44,9 +51,9 @@ impl<P: Point> SectionJudge<P> for CountsJudge {
         1
     }
 
-    fn take(&mut self, line: &Line<P>) -> bool {
+    fn take(&mut self, line: &Line<P>, _rule: &mut dyn EndRule) -> Result<bool, NoMemory> {
         if self.taken {
-            return false;
+            return Ok(false);
         }
         self.taken = true;
         match *line {
@@ -54,8 +61,8 @@ impl<P: Point> SectionJudge<P> for CountsJudge {
                 points,
                 object,
                 background,
-            } => self.are_counts(points, object, background),
-            _ => false,
+            } => Ok(self.counts.are(points, object, background)),
+            _ => Ok(false),
         }
     }
 

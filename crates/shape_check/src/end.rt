@@ -1,10 +1,11 @@
 //! The judge of the line `end`, the last of a row.
 //! No line is good behind it.
-ghost use Rattle.std.specs.Prelude.{◌≡◌, ◌↔◌, [], ◌∷◌, ◌++◌, List, IsTrue};
+ghost use Rattle.std.specs.Prelude.{◌≡◌, ◌↔◌, [], ◌∷◌, ◌++◌, List, IsTrue, IfOk};
 
 use crate::judges::Judges;
 use shape_report::Line;
-use shape_space::Point;
+use shape_rules::EndRule;
+use shape_space::{NoMemory, Point};
 
 /// The judge of the line `end`.
 #[derive(Drop)]
@@ -23,21 +24,21 @@ impl<P: Point> Judges<P> for EndJudge {
 
     ghost waits = { λ X j. j.taken ≡ false };
 
-    ghost follows = { λ X j lines. EndFollows X j.taken lines };
+    ghost follows = { λ X by j now lines. EndFollows X j.taken lines };
 
     ghost room = { λ j. if j.taken then 0 else 1 };
 
-    fn take(&mut self, line: &Line<P>) -> bool {
+    fn take(&mut self, line: &Line<P>, _rule: &mut dyn EndRule) -> Result<bool, NoMemory> {
         if self.taken {
-            return false;
+            return Ok(false);
         }
         self.taken = true;
-        matches!(line, Line::End)
+        Ok(matches!(line, Line::End))
     }
 
     fn has_ended(&self) -> bool {
         self.taken
     }
 
-    ghost entered = { λ X j lines w h e. end_entered X j.taken lines w h e };
+    ghost entered = { λ X by j now lines w h e. end_entered X j.taken lines w h e };
 }

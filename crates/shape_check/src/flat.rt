@@ -2,23 +2,24 @@
 //! A further section is one more word in the type; another dimension is another row.
 ghost use Rattle.std.specs.Prelude.{◌≡◌, ◌<◌, ◌^◌, IfOk, refl};
 
-use crate::counts::CountsJudge;
+use crate::counts::{CountsJudge, PictureCounts};
 use crate::end::EndJudge;
-use crate::heading::HeadingJudge;
 use crate::judges::Row;
 use crate::then::Then;
+use crate::thinned::{ThinnedJudge, distances_of};
 use judge_cover::CoverJudge;
 use judge_field::FieldJudge;
+use judge_thin::ThinJudge;
 use shape_adj::parts;
 use shape_grid::Grid;
 use shape_space::{NoMemory, P2};
 use std::alloc::Global;
 
-/// The judges of a flat picture.
+/// The judges of a flat picture, behind the heading.
 pub type Flat = Then<
     P2,
-    HeadingJudge<P2>,
-    Then<P2, CountsJudge, Then<P2, FieldJudge<P2>, Then<P2, CoverJudge, EndJudge>>>,
+    CountsJudge,
+    Then<P2, FieldJudge<P2>, Then<P2, CoverJudge, Then<P2, ThinnedJudge<P2>, EndJudge>>>,
 >;
 
 impl Row<P2> for Flat {
@@ -26,20 +27,26 @@ impl Row<P2> for Flat {
         let parts = parts(alloc, grid)?;
         let field = FieldJudge::new(alloc, grid)?;
         let cover = CoverJudge::new(alloc, grid)?;
-        let heading = HeadingJudge {
-            sides: grid.sides(),
-            taken: false,
-        };
-        let counts = CountsJudge {
-            points: grid.count(),
+        let distances = distances_of(alloc, field.scans())?;
+        let thinned = ThinnedJudge {
+            events: ThinJudge::new(alloc, grid, distances)?,
+            begun: false,
             object: parts.object,
             background: parts.background,
+            kept: false,
+        };
+        let counts = CountsJudge {
+            counts: PictureCounts {
+                points: grid.count(),
+                object: parts.object,
+                background: parts.background,
+            },
             taken: false,
         };
-        let row = Then::new(cover, EndJudge { taken: false });
+        let row = Then::new(thinned, EndJudge { taken: false });
+        let row = Then::new(cover, row);
         let row = Then::new(field, row);
-        let row = Then::new(counts, row);
-        Ok(Then::new(heading, row))
+        Ok(Then::new(counts, row))
     }
 
     ghost first = { refl };

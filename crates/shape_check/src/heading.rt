@@ -1,57 +1,59 @@
-//! The judge of the line that gives the sides of the picture and the rule of the thinning.
-//! A further rule is decided here.
-ghost use Rattle.std.specs.Prelude.{◌≡◌, ◌↔◌, IsTrue, codes};
-ghost use Rattle.shape_rules.specs.Names.{word_of};
+//! The first line of a report: it gives the sides of the picture and names a rule on the shelf.
+//! What a rule does is no matter here.
+ghost use Rattle.std.specs.Prelude.{◌≡◌, ◌<◌, true, length, MatchOption, IfSome, IfOk};
+ghost use Rattle.shape_desk.specs.Desk.{OnlyReadsAt};
+ghost use Rattle.shape_desk.specs.Line.{ahead_of, TakenAhead};
+ghost use Rattle.shape_desk.specs.declared.desk.Place.TheVariants.{Report};
+ghost use Rattle.thin_terms.specs.Shelves.{names_of};
+ghost use Rattle.shape_report.specs.LineOf.{line_of};
+ghost use Rattle.shape_check.specs.Heading.{IsHeading, IsNoHeading, HeadingAnswer};
 
-use crate::judges::SectionJudge;
+use crate::answer::CheckFault;
+use crate::next::{Next, next_claim};
+use shape_desk::{Desk, LineReader};
 use shape_report::Line;
-use shape_rules::Name;
+use shape_rules::Shelf;
 use shape_space::{Point, Sides};
 
-/// The judge of the `shape` line.
-#[derive(Drop)]
-pub struct HeadingJudge<P: Point> {
-    pub sides: Sides<P>,
-    // Whether the line was taken.
-    pub taken: bool,
-}
-
-// Whether a rule is the one that thins nothing.
-fn is_none(rule: &Name) -> bool
-    ensures { IsTrue result ↔ (word_of rule.now ≡ codes "none") }
+// The number of the entry of the shelf that the line names, where it gives these sides.
+fn entry_of<P: Point>(sides: Sides<P>, shelf: &Shelf, line: &Line<P>) -> Option<usize>
+    ensures names { MatchOption result
+        (IsNoHeading (P.coords sides.lengths) (names_of shelf.now) (line_of P.coords line.now))
+        (IsHeading (P.coords sides.lengths) (names_of shelf.now) (line_of P.coords line.now)) }
+    ensures there { IfSome result (λ i. i < length shelf.now) }
 {
-    rule.word() == b"none".as_slice()
+    match line {
+        Line::Shape { sides: given, rule } => {
+            if *given != sides.lengths {
+                return None;
+            }
+            shelf.find(rule)
+        }
+        _ => None,
+    }
 }
 
-impl<P: Point> SectionJudge<P> for HeadingJudge<P> {
-    ghost use Rattle.std.specs.Prelude.{if◌then◌else◌};
-    ghost use Rattle.shape_terms.specs.Points.{sides_of};
-    ghost use Rattle.report_terms.specs.Sections.{Section};
-    ghost use Rattle.shape_check.specs.Rows.{HasTaken};
-
-    ghost section = { Section.Heading };
-
-    ghost stands = { λ X j lines. (sides_of (P.coords j.sides.lengths) ≡ X.sides)
-        × HasTaken j.taken lines };
-
-    ghost room = { λ j. if j.taken then 0 else 1 };
-
-    fn rank() -> u8 {
-        0
-    }
-
-    fn take(&mut self, line: &Line<P>) -> bool {
-        if self.taken {
-            return false;
-        }
-        self.taken = true;
-        match line {
-            Line::Shape { sides, rule } => *sides == self.sides.lengths && is_none(rule),
-            _ => false,
-        }
-    }
-
-    fn is_done(&self) -> bool {
-        self.taken
+/// Takes the first line of the report, and answers the number of the entry of the shelf that it names; None where it is no
+/// heading of a picture with these sides.
+pub(crate) fn find_rule<P: Point, D: Desk>(
+    sides: Sides<P>,
+    shelf: &Shelf,
+    reader: &mut LineReader,
+    desk: &mut D,
+) -> Result<Option<usize>, CheckFault>
+    requires { (D.state desk.old).begun Report ≡ true }
+    ensures answer { HeadingAnswer P.DIM (P.coords sides.lengths) (names_of shelf.now)
+        (ahead_of reader.old.ahead ((D.state desk.old).left Report))
+        (ahead_of reader.new.ahead ((D.state desk.new).left Report))
+        (D.state desk.old).read_faults (D.state desk.new).read_faults result }
+    ensures there { IfOk result (λ o. IfSome o (λ i. i < length shelf.now)) }
+    ensures taken { TakenAhead (ahead_of reader.old.ahead ((D.state desk.old).left Report))
+        ((D.state desk.new).left Report) }
+    ensures reads { OnlyReadsAt Report (D.state desk.old) (D.state desk.new) }
+{
+    match next_claim(reader, desk) {
+        Ok(Next::Claim(line)) => Ok(entry_of(sides, shelf, &line)),
+        Ok(_) => Ok(None),
+        Err(fault) => Err(fault),
     }
 }

@@ -1,26 +1,29 @@
 //! What a judge of one section of a report owes, and what a row of judges owes.
 //! A further section is one more `impl` of `SectionJudge`, a further dimension one of `Row`.
-ghost use Rattle.std.specs.Prelude.{◌≡◌, ◌↔◌, ◌<◌, ◌^◌, ℕ, [], ◌∷◌, ◌++◌, List, IsTrue, IfOk};
+ghost use Rattle.std.specs.Prelude.{◌≡◌, ◌↔◌, ◌<◌, ◌-◌, ◌^◌, ℕ, [], ◌∷◌, ◌++◌, List, IsTrue, IfOk};
 ghost use Rattle.std.specs.Bool.{OnTrue};
 ghost use Rattle.shape_terms.specs.Pictures.{Picture};
+ghost use Rattle.thin_terms.specs.Thinning.{Rule, rule_by};
 ghost use Rattle.report_terms.specs.Lines as Terms;
+ghost use Rattle.report_terms.specs.Subjects.{Subject};
 ghost use Rattle.report_terms.specs.Sections.{Section, rank, lines_of, SectionClaim, SectionComplete, HasCome, GoodAfter};
 ghost use Rattle.shape_report.specs.LineOf.{line_of};
-ghost use Rattle.shape_check.specs.Rows.{MayCome, HasEnded};
+ghost use Rattle.shape_check.specs.Rows.{IsRuledBy, MayCome, HasEnded};
 
 use shape_grid::Grid;
 use shape_report::Line;
+use shape_rules::EndRule;
 use shape_space::{NoMemory, Point};
 use std::alloc::Global;
 
-/// A judge of the lines of one section, as they come. After it has answered false it is only
-/// dropped.
+/// A judge of the lines of one section behind the heading, as they come, by the rule that the heading names. After it has
+/// answered false, or that memory was wanting, it is only dropped.
 pub trait SectionJudge<P: Point>: Drop {
     /// Its section.
     ghost section: { Section };
 
-    /// Whether the judge stands for these lines of the section.
-    ghost stands: { Picture → Self → List Terms.Line → Type 0 };
+    /// Whether the judge stands for these lines of the section, for a picture and a rule that is in this state.
+    ghost stands: { Picture → Rule → Self → List ℕ → List Terms.Line → Type 0 };
 
     /// How many lines it may still take.
     ghost room: { Self → ℕ };
@@ -30,21 +33,29 @@ pub trait SectionJudge<P: Point>: Drop {
         ensures { result ≡ rank section };
 
     /// Takes the next line: whether its claim is true after those that were taken.
-    fn take(&mut self, line: &Line<P>) -> bool
-        ensures answer { (X : Picture) (lines : List Terms.Line) → stands X self.old lines
-            → (IsTrue result ↔ SectionClaim X section lines (line_of P.coords line.now)) }
-        ensures stands { (X : Picture) (lines : List Terms.Line) → stands X self.old lines
-            → OnTrue result (stands X self.new (lines ++ line_of P.coords line.now ∷ [])) }
-        ensures room { OnTrue result (room self.new < room self.old) };
+    fn take(&mut self, line: &Line<P>, rule: &mut dyn EndRule) -> Result<bool, NoMemory>
+        ensures answer { let by = rule_by (opening rule.old) (marks rule.old) (next rule.old) in
+            (X : Subject) (heading lines : List Terms.Line) → IsRuledBy X heading by
+            → stands X.picture by self.old (state rule.old) lines → IfOk result (λ b. IsTrue b
+            ↔ SectionClaim X heading section lines (line_of P.coords line.now)) }
+        ensures stands { let by = rule_by (opening rule.old) (marks rule.old) (next rule.old) in
+            (X : Picture) (lines : List Terms.Line) → stands X by self.old (state rule.old) lines
+            → IfOk result (λ b. OnTrue b (stands X by self.new (state rule.new)
+            (lines ++ line_of P.coords line.now ∷ []))) }
+        ensures room { IfOk result (λ b. OnTrue b (room self.new < room self.old)) }
+        ensures same_opening { opening rule.new ≡ opening rule.old }
+        ensures same_marks { marks rule.new ≡ marks rule.old }
+        ensures same_next { next rule.new ≡ next rule.old };
 
     /// Whether the section is complete.
     fn is_done(&self) -> bool
-        ensures { (X : Picture) (lines : List Terms.Line) → stands X self.now lines
+        ensures { (X : Subject) (by : Rule) (now : List ℕ) (lines : List Terms.Line)
+            → stands X.picture by self.now now lines
             → (IsTrue result ↔ SectionComplete X section lines) };
 }
 
-/// The judges of a section and of all behind it. After they have answered false they are only
-/// dropped.
+/// The judges of a section and of all behind it. After they have answered false, or that memory was wanting, they are
+/// only dropped.
 pub trait Judges<P: Point>: Drop {
     /// The first section of the row.
     ghost section: { Section };
@@ -52,37 +63,46 @@ pub trait Judges<P: Point>: Drop {
     /// Whether the row has taken no line, for this picture.
     ghost waits: { Picture → Self → Type 0 };
 
-    /// Whether the row stands for these lines, all of the report so far.
-    ghost follows: { Picture → Self → List Terms.Line → Type 0 };
+    /// Whether the row stands for these lines, all of the report so far, and a rule that is in this state.
+    ghost follows: { Subject → Rule → Self → List ℕ → List Terms.Line → Type 0 };
 
     /// How many lines it may still take.
     ghost room: { Self → ℕ };
 
     /// Takes the next line: whether it is good after those before it.
-    fn take(&mut self, line: &Line<P>) -> bool
-        ensures answer { (X : Picture) (lines : List Terms.Line) → follows X self.old lines
+    fn take(&mut self, line: &Line<P>, rule: &mut dyn EndRule) -> Result<bool, NoMemory>
+        ensures answer { let by = rule_by (opening rule.old) (marks rule.old) (next rule.old) in
+            (X : Subject) (lines : List Terms.Line) → IsRuledBy X (lines_of Section.Heading lines) by
+            → follows X by self.old (state rule.old) lines
             → MayCome X section lines (line_of P.coords line.now)
-            → (IsTrue result ↔ GoodAfter X lines (line_of P.coords line.now)) }
-        ensures follows { (X : Picture) (lines : List Terms.Line) → follows X self.old lines
+            → IfOk result (λ b. IsTrue b ↔ GoodAfter X lines (line_of P.coords line.now)) }
+        ensures follows { let by = rule_by (opening rule.old) (marks rule.old) (next rule.old) in
+            (X : Subject) (lines : List Terms.Line) → IsRuledBy X (lines_of Section.Heading lines) by
+            → follows X by self.old (state rule.old) lines
             → MayCome X section lines (line_of P.coords line.now)
-            → OnTrue result (follows X self.new (lines ++ line_of P.coords line.now ∷ [])) }
-        ensures room { OnTrue result (room self.new < room self.old) };
+            → IfOk result (λ b. OnTrue b (follows X by self.new (state rule.new)
+            (lines ++ line_of P.coords line.now ∷ []))) }
+        ensures room { IfOk result (λ b. OnTrue b (room self.new < room self.old)) }
+        ensures same_opening { opening rule.new ≡ opening rule.old }
+        ensures same_marks { marks rule.new ≡ marks rule.old }
+        ensures same_next { next rule.new ≡ next rule.old };
 
     /// Whether the line `end` was taken.
     fn has_ended(&self) -> bool
-        ensures { (X : Picture) (lines : List Terms.Line) → follows X self.now lines
-            → (IsTrue result ↔ HasEnded lines) };
+        ensures { (X : Subject) (by : Rule) (now : List ℕ) (lines : List Terms.Line)
+            → follows X by self.now now lines → (IsTrue result ↔ HasEnded lines) };
 
-    ghost entered: { (X : Picture) (r : Self) (lines : List Terms.Line) → waits X r
-        → HasCome X section lines → lines_of section lines ≡ [] → follows X r lines };
+    ghost entered: { (X : Subject) (by : Rule) (r : Self) (now : List ℕ) (lines : List Terms.Line)
+        → waits X.picture r → HasCome X section lines → lines_of section lines ≡ []
+        → follows X by r now lines };
 }
 
-/// The judges of all sections of the reports of one dimension.
+/// The judges of all sections behind the heading, for the reports of one dimension.
 pub trait Row<P: Point>: Judges<P> {
     /// Judges of a picture that have taken no line.
     fn begin(alloc: Global, grid: &Grid<P>) -> Result<Self, NoMemory>
         ensures waits { IfOk result (λ r. Self.waits grid.now r) }
-        ensures room { IfOk result (λ r. Self.room r < 2 ^ 62) };
+        ensures room { IfOk result (λ r. Self.room r < 2 ^ 62 - 1) };
 
-    ghost first: { rank Self.section ≡ 0 };
+    ghost first: { rank Self.section ≡ 1 };
 }

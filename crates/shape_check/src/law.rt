@@ -2,7 +2,7 @@
 //! A further law is one more function with an empty body.
 ghost use Rattle.std.specs.Prelude.{◌≡◌, ◌≢◌, ℕ, List, Some, Result, Ok, Err};
 ghost use Rattle.shape_desk.specs.Desk.{Rose};
-ghost use Rattle.shape_terms.specs.Pictures.{Picture};
+ghost use Rattle.report_terms.specs.Subjects.{Subject};
 ghost use Rattle.report_terms.specs.Holds.{Holds, FirstBad};
 ghost use Rattle.report_terms.specs.Shows.{TextShows};
 ghost use Rattle.shape_check.specs.Checks.{Answer, Checks};
@@ -14,19 +14,19 @@ ghost use Rattle.shape_check.specs.declared.answer.Judgement.TheVariants.{Yes};
 /// is flat, its contours, each from its least crack and with its points, its segments and its gaps.
 #[tactic(auto, using(report_terms::proofs::HoldsShows::holds_shows))]
 pub fn holding_shows()
-    ensures { (X : Picture) (text : List ℕ) → Holds X text → TextShows X text }
+    ensures { (X : Subject) (text : List ℕ) → Holds X text → TextShows X text }
 {}
 
 /// A text has one first bad line at most, so `No` answers the line that it means.
 pub fn one_first_bad()
-    ensures { (X : Picture) (text : List ℕ) (k m : ℕ) → FirstBad X text k
+    ensures { (X : Subject) (text : List ℕ) (k m : ℕ) → FirstBad X text k
         → FirstBad X text m → k ≡ m }
 {}
 
 /// A report that holds is answered `Yes`, where memory was found and no count of faults rose.
 #[tactic(auto, using(crate::proofs::Going::answered))]
 pub fn holding_is_answered()
-    ensures { (X : Picture) (text : List ℕ) (before now : ℕ) (answer : Answer) → Holds X text
+    ensures { (X : Subject) (text : List ℕ) (before now : ℕ) (answer : Answer) → Holds X text
         → Checks X (Some text) before now answer → (Rose before now → ⊥) → answer ≢ Err NoMemory
         → answer ≡ Ok Yes }
 {}

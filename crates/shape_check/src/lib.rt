@@ -13,6 +13,7 @@ mod law;
 mod next;
 mod sections;
 mod then;
+mod thinned;
 
 pub use answer::{CheckFault, Judgement};
 pub use check::check_flat;

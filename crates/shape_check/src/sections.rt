@@ -7,14 +7,15 @@ use crate::judges::SectionJudge;
 use judge_cover::CoverJudge;
 use judge_field::FieldJudge;
 use shape_report::Line;
-use shape_space::{P2, Point};
+use shape_rules::EndRule;
+use shape_space::{NoMemory, P2, Point};
 
 impl<P: Point> SectionJudge<P> for FieldJudge<P> {
     ghost use Rattle.judge_field.specs.FieldState.{StandsFor, room_of};
 
     ghost section = { Section.Nearest };
 
-    ghost stands = { λ X j lines. (j.picture ≡ X) × StandsFor j lines };
+    ghost stands = { λ X by j now lines. (j.picture ≡ X) × StandsFor j lines };
 
     ghost room = { room_of };
 
@@ -22,8 +23,8 @@ impl<P: Point> SectionJudge<P> for FieldJudge<P> {
         2
     }
 
-    fn take(&mut self, line: &Line<P>) -> bool {
-        FieldJudge::take(self, line)
+    fn take(&mut self, line: &Line<P>, _rule: &mut dyn EndRule) -> Result<bool, NoMemory> {
+        Ok(FieldJudge::take(self, line))
     }
 
     fn is_done(&self) -> bool {
@@ -36,7 +37,7 @@ impl SectionJudge<P2> for CoverJudge {
 
     ghost section = { Section.Contours };
 
-    ghost stands = { StandsFor };
+    ghost stands = { λ X by j now. StandsFor X j };
 
     ghost room = { room_of };
 
@@ -44,8 +45,8 @@ impl SectionJudge<P2> for CoverJudge {
         3
     }
 
-    fn take(&mut self, line: &Line<P2>) -> bool {
-        CoverJudge::take(self, line)
+    fn take(&mut self, line: &Line<P2>, _rule: &mut dyn EndRule) -> Result<bool, NoMemory> {
+        Ok(CoverJudge::take(self, line))
     }
 
     fn is_done(&self) -> bool {

@@ -2,6 +2,7 @@
 use super::*;
 use shape_desk::{Desk, MemoryDesk, Place};
 use shape_grid::Grid;
+use shape_rules::{CurveEnds, EndRule, Entry, Name, NoEnds, Shelf};
 use shape_space::{P2, Sides};
 use std::alloc::{AllocError, Global};
 use std::test::Fail;
@@ -21,6 +22,25 @@ fn full(alloc: Global, x: i32, y: i32) -> Result<Grid<P2>, Fail> {
     Ok(grid)
 }
 
+// The rules `none` and `curve`.
+fn shelf(alloc: Global) -> Result<Shelf, Fail> {
+    let (Some(none), Some(curve)) = (Name::new(b"none"), Name::new(b"curve")) else {
+        return Err(Fail::from(AllocError));
+    };
+    let no_ends: Box<dyn EndRule> = Box::new(alloc, NoEnds)?;
+    let curve_ends: Box<dyn EndRule> = Box::new(alloc, CurveEnds)?;
+    let mut rules: Vec<Entry> = Vec::new(alloc);
+    rules.push(Entry {
+        name: none,
+        rule: no_ends,
+    })?;
+    rules.push(Entry {
+        name: curve,
+        rule: curve_ends,
+    })?;
+    Ok(Shelf::new(rules))
+}
+
 // The answer to a report of a picture, read in small pieces, where the calls of the desk with these numbers fail.
 fn answer(
     alloc: Global,
@@ -36,12 +56,13 @@ fn answer(
     let bad = Vec::from_slice(alloc, bad_reads)?;
     let mut desk = MemoryDesk::new(alloc, files, bad, Vec::new(alloc), 20, 0)?;
     desk.begin(Place::Report, b"r")?;
-    Ok(check_flat(alloc, grid, &mut desk))
+    let mut shelf = shelf(alloc)?;
+    Ok(check_flat(alloc, grid, &mut desk, &mut shelf))
 }
 
 // The report of one pixel, in front of its last line.
 const ONE_PIXEL: &[u8] =
-    b"shape 1 pbm 1 1 none\nparts 1 1 1\nnear 0 0 0 -1 1\ncontour 0 0 0 1 1\nat 0 0\nseg 0 0 y 0 1 0\nturn x 0 0\nturn y 0 0\n";
+    b"shape 1 pbm 1 1 none\nparts 1 1 1\nnear 0 0 0 -1 1\ncontour 0 0 0 1 1\nat 0 0\nseg 0 0 y 0 1 0\nturn x 0 0\nturn y 0 0\nkept 1 1 1\n";
 
 #[test]
 fn one_pixel(rt: HostRuntime) -> Result<(), Fail> {
@@ -49,10 +70,10 @@ fn one_pixel(rt: HostRuntime) -> Result<(), Fail> {
     let grid = full(alloc, 1, 1)?;
     let endings: [(&[u8], Judgement); 5] = [
         (b"end\n", Judgement::Yes),
-        (b"", Judgement::No { line: 9 }),
-        (b"end", Judgement::No { line: 9 }),
-        (b"end\r\n", Judgement::No { line: 9 }),
-        (b"end\n\n", Judgement::No { line: 10 }),
+        (b"", Judgement::No { line: 10 }),
+        (b"end", Judgement::No { line: 10 }),
+        (b"end\r\n", Judgement::No { line: 10 }),
+        (b"end\n\n", Judgement::No { line: 11 }),
     ];
     for (ending, want) in endings {
         let mut report = Vec::from_slice(alloc, ONE_PIXEL)?;
@@ -72,7 +93,7 @@ fn one_pixel(rt: HostRuntime) -> Result<(), Fail> {
 
 // Each line of a report of the full picture of 2 by 2 points, the line with one thing changed, and the first bad line where it is left out:
 // that a segment is missing shows only where a gap line comes too early.
-const SQUARE: [(&[u8], &[u8], u64); 24] = [
+const SQUARE: [(&[u8], &[u8], u64); 28] = [
     (b"shape 1 pbm 2 2 none\n", b"shape 1 pbm 2 1 none\n", 1),
     (b"parts 4 1 1\n", b"parts 4 1 2\n", 2),
     (b"near 0 0 0 -1 1\n", b"near 0 0 0 -1 2\n", 3),
@@ -96,7 +117,11 @@ const SQUARE: [(&[u8], &[u8], u64); 24] = [
     (b"turn y 1 1\n", b"cut y 0 0 0\n", 21),
     (b"turn x 1 1\n", b"turn x 4294967296 1\n", 22),
     (b"turn y 0 0\n", b"turn y 4294967295 0\n", 23),
-    (b"end\n", b"end \n", 24),
+    (b"del 0 0\n", b"del 1 0\n", 24),
+    (b"del 1 0\n", b"tip 1 0\n", 25),
+    (b"del 0 1\n", b"del 1 1\n", 26),
+    (b"kept 1 1 1\n", b"kept 1 1 2\n", 27),
+    (b"end\n", b"end \n", 28),
 ];
 
 // The report, where the line at a place stands so many times, or is changed.
@@ -201,6 +226,55 @@ fn hostile_lines(rt: HostRuntime) -> Result<(), Fail> {
         report.extend_from_slice(line)?;
         let got = answer(alloc, &grid, report.as_slice(), &[])?;
         assert!(rt; matches!(got, Ok(Judgement::No { line }) if line == want));
+    }
+    Ok(())
+}
+
+// The heading and the lines of the thinning of the full picture of 2 by 2 points, and the first bad line of the whole report.
+const THINNINGS: [(&[u8], &[u8], u64); 6] = [
+    (
+        b"curve",
+        b"del 0 0\ndel 1 0\ntip 0 1\ntip 1 1\nkept 2 1 1\nend\n",
+        0,
+    ),
+    (
+        b"curve",
+        b"del 0 0\ndel 1 0\ndel 0 1\nkept 1 1 1\nend\n",
+        26,
+    ),
+    (
+        b"curve",
+        b"del 0 0\ndel 1 0\ntip 0 1\nkept 2 1 1\nend\n",
+        27,
+    ),
+    (b"none", b"del 0 0\ndel 0 1\ndel 1 0\nkept 1 1 1\nend\n", 25),
+    (
+        b"none",
+        b"del 0 0\ndel 1 0\ndel 0 1\ndel 1 1\nkept 0 1 1\nend\n",
+        27,
+    ),
+    (b"zzz", b"del 0 0\ndel 1 0\ndel 0 1\nkept 1 1 1\nend\n", 1),
+];
+
+#[test]
+fn thinnings(rt: HostRuntime) -> Result<(), Fail> {
+    let alloc = rt.alloc();
+    let grid = full(alloc, 2, 2)?;
+    for (rule, lines, bad) in THINNINGS {
+        let mut report = Vec::from_slice(alloc, b"shape 1 pbm 2 2 ")?;
+        report.extend_from_slice(rule)?;
+        report.push(b'\n')?;
+        for (line, _, _) in SQUARE.iter().take(23).skip(1) {
+            report.extend_from_slice(line)?;
+        }
+        report.extend_from_slice(lines)?;
+        let got = answer(alloc, &grid, report.as_slice(), &[])?;
+        let want = if bad == 0 {
+            Judgement::Yes
+        } else {
+            Judgement::No { line: bad }
+        };
+        assert!(rt; matches!(got, Ok(judgement) if judgement == want));
     }
     Ok(())
 }

@@ -1,12 +1,14 @@
 //! A judge of one section, and the row of those behind it.
 //! How sections follow each other is decided here alone.
-ghost use Rattle.std.specs.Prelude.{◌≡◌, ◌↔◌, suc, false, [], ◌∷◌, ◌++◌, List, IsTrue};
+ghost use Rattle.std.specs.Prelude.{◌≡◌, ◌↔◌, suc, false, [], ◌∷◌, ◌++◌, ℕ, List, IsTrue, IfOk};
+ghost use Rattle.thin_terms.specs.Thinning.{Rule};
 ghost use Rattle.report_terms.specs.Lines as Terms;
 ghost use Rattle.report_terms.specs.Sections.{rank};
 
 use crate::judges::{Judges, SectionJudge};
 use shape_report::Line;
-use shape_space::Point;
+use shape_rules::EndRule;
+use shape_space::{NoMemory, Point};
 use std::marker::PhantomData;
 
 /// The judge of a section, and of those behind it.
@@ -44,31 +46,34 @@ impl<P: Point, J: SectionJudge<P>, R: Judges<P>> Judges<P> for Then<P, J, R> {
 
     ghost section = { J.section };
 
-    ghost waits = { λ X t. (t.is_past ≡ false) × J.stands X t.first [] × R.waits X t.rest };
+    ghost waits = { λ X t. (t.is_past ≡ false)
+        × ((by : Rule) (now : List ℕ) → J.stands X by t.first now []) × R.waits X t.rest };
 
-    ghost follows = { λ X t lines. RowFollows X J.section R.section t.is_past
-        (J.stands X t.first) (R.waits X t.rest) (R.follows X t.rest) lines };
+    ghost follows = { λ X by t now lines. RowFollows X J.section R.section t.is_past
+        (J.stands X.picture by t.first now) (R.waits X.picture t.rest) (R.follows X by t.rest now)
+        lines };
 
     ghost room = { λ t. J.room t.first + R.room t.rest };
 
-    fn take(&mut self, line: &Line<P>) -> bool {
+    fn take(&mut self, line: &Line<P>, rule: &mut dyn EndRule) -> Result<bool, NoMemory> {
         if self.is_past {
-            return self.rest.take(line);
+            return self.rest.take(line, rule);
         }
         if line.rank() == J::rank() {
-            return self.first.take(line);
+            return self.first.take(line, rule);
         }
         if !self.first.is_done() {
-            return false;
+            return Ok(false);
         }
         self.is_past = true;
-        self.rest.take(line)
+        self.rest.take(line, rule)
     }
 
     fn has_ended(&self) -> bool {
         self.is_past && self.rest.has_ended()
     }
 
-    ghost entered = { λ X t lines w h e. row_entered X J.section R.section t.is_past
-        (J.stands X t.first) (R.waits X t.rest) (R.follows X t.rest) lines w.0 w.1 w.2 h e };
+    ghost entered = { λ X by t now lines w h e. row_entered X J.section R.section t.is_past
+        (J.stands X.picture by t.first now) (R.waits X.picture t.rest) (R.follows X by t.rest now)
+        lines w.0 (w.1 by now) w.2 h e };
 }

@@ -3,9 +3,12 @@
 use Rattle.std.proofs.Common.{◌≡◌, ◌⊎◌, inl, inr, ℕ, List, refl, ap, subst, sym}
 use Rattle.std.specs.Prelude.{Option}
 use Rattle.shape_terms.specs.Pictures.{Picture}
+use Rattle.thin_terms.specs.Thinning.{Rule}
+use Rattle.thin_terms.specs.Shelves.{Named}
 use Rattle.report_terms.specs.Holds.{Holds, FirstBad}
 use Rattle.shape_desk.specs.Desk.{Files, DeskState, Rose}
 use Rattle.shape_picture.specs.declared.fault.PictureFault.{PictureFault}
+use Rattle.report_terms.specs.Subjects.{subject_of}
 use Rattle.shape_cli.specs.Commands.{Source, Asked, file_of, source_of}
 use Rattle.shape_cli.specs.Runs.{OfFile, HasFault, IsPictureOf, IsReport, Answers, Lacks, Ran}
 use Rattle.shape_cli.specs.Complete.{FileIs, FindsPicture, FindsSome, FindsFault, FindsRest, HasNoFault, IsAnswer}
@@ -13,112 +16,113 @@ use Rattle.shape_cli.specs.declared.outcome.Outcome.{Outcome}
 use Rattle.shape_cli.specs.declared.outcome.Outcome.TheVariants as outcome
 use Rattle.shape_cli.proofs.Sources.{meet, told, not_missing, is_told, not_faulty, not_picture, its_fault, its_picture, finds_some, is_there}
 
--- an answer tells of a picture
-tells : (c : Asked) (files : Option Files) (o : Outcome) (text : List ℕ) → Answers c files o text → (X : Picture) × IsPictureOf files (source_of c) X
-tells (Asked.Analyse source rule) files outcome.Done text a = (a.0, a.1)
-tells (Asked.Check source report) files outcome.Yes text a = (a.1.0, a.1.1)
-tells (Asked.Check source report) files (outcome.No k) text a = (a.1.0, a.1.1)
-tells (Asked.Analyse source rule) files _ text a = absurd a
-tells (Asked.Check source report) files _ text a = absurd a
+module _ (shelf : List (Named Rule)) where
+  -- an answer tells of a picture
+  tells : (c : Asked) (files : Option Files) (o : Outcome) (text : List ℕ) → Answers shelf c files o text → (X : Picture) × IsPictureOf files (source_of c) X
+  tells (Asked.Analyse source rule) files outcome.Done text a = (a.0, a.1)
+  tells (Asked.Check source report) files outcome.Yes text a = (a.1.0, a.1.1)
+  tells (Asked.Check source report) files (outcome.No k) text a = (a.1.0, a.1.1)
+  tells (Asked.Analyse source rule) files _ text a = absurd a
+  tells (Asked.Check source report) files _ text a = absurd a
 
--- a command that finds all lacks nothing
-not_lacking : (c : Asked) (files : Option Files) → FindsSome files (source_of c) → FindsRest c files → Lacks c files → ⊥
-not_lacking (Asked.Analyse source rule) files s r m = not_missing files (file_of source) _ (is_told files (file_of source) _ s) m
-not_lacking (Asked.Check source report) files s r (inl m) = not_missing files (file_of source) _ (is_told files (file_of source) _ s) m
-not_lacking (Asked.Check source report) files s r (inr m) = not_missing files report _ (is_told files report _ r) m.0
+  -- a command that finds all lacks nothing
+  not_lacking : (c : Asked) (files : Option Files) → FindsSome files (source_of c) → FindsRest c files → Lacks c files → ⊥
+  not_lacking (Asked.Analyse source rule) files s r m = not_missing files (file_of source) _ (is_told files (file_of source) _ s) m
+  not_lacking (Asked.Check source report) files s r (inl m) = not_missing files (file_of source) _ (is_told files (file_of source) _ s) m
+  not_lacking (Asked.Check source report) files s r (inr m) = not_missing files report _ (is_told files report _ r) m.0
 
-pub answers : (c : Asked) (old new : DeskState) (o : Outcome) → Ran c old new o → FindsSome old.files (source_of c) → FindsRest c old.files → HasNoFault old new → IsAnswer c o ⊎ (o ≡ outcome.NoMemory)
-answers c old new outcome.NoMemory r s t h = inr refl
-answers c old new outcome.Usage r s t h = absurd r
-answers c old new outcome.WriteFault r s t h = absurd (h.write r.cause)
-answers c old new (outcome.Picture f) r s t h = absurd (not_faulty old.files (source_of c) f s r.0)
-answers c old new outcome.ReadFault (inl rose, w) s t h = absurd (h.read rose)
-answers c old new outcome.ReadFault (inr l, w) s t h = absurd (not_lacking c old.files s t l)
-answers (Asked.Analyse source rule) old new outcome.Done r s t h = inl tt
-answers (Asked.Analyse source rule) old new outcome.Yes r s t h = absurd r.right
-answers (Asked.Analyse source rule) old new (outcome.No k) r s t h = absurd r.right
-answers (Asked.Check source report) old new outcome.Done r s t h = absurd r.right
-answers (Asked.Check source report) old new outcome.Yes r s t h = inl tt
-answers (Asked.Check source report) old new (outcome.No k) r s t h = inl tt
+  pub answers : (c : Asked) (old new : DeskState) (o : Outcome) → Ran shelf c old new o → FindsSome old.files (source_of c) → FindsRest c old.files → HasNoFault old new → IsAnswer c o ⊎ (o ≡ outcome.NoMemory)
+  answers c old new outcome.NoMemory r s t h = inr refl
+  answers c old new outcome.Usage r s t h = absurd r
+  answers c old new outcome.WriteFault r s t h = absurd (h.write r.cause)
+  answers c old new (outcome.Picture f) r s t h = absurd (not_faulty old.files (source_of c) f s r.0)
+  answers c old new outcome.ReadFault (inl rose, w) s t h = absurd (h.read rose)
+  answers c old new outcome.ReadFault (inr l, w) s t h = absurd (not_lacking c old.files s t l)
+  answers (Asked.Analyse source rule) old new outcome.Done r s t h = inl tt
+  answers (Asked.Analyse source rule) old new outcome.Yes r s t h = absurd r.right
+  answers (Asked.Analyse source rule) old new (outcome.No k) r s t h = absurd r.right
+  answers (Asked.Check source report) old new outcome.Done r s t h = absurd r.right
+  answers (Asked.Check source report) old new outcome.Yes r s t h = inl tt
+  answers (Asked.Check source report) old new (outcome.No k) r s t h = inl tt
 
--- a source with a fault is there, and is no picture
-not_without : (c : Asked) (files : Option Files) (f : PictureFault) → FindsFault files (source_of c) f → Lacks c files → ⊥
-not_without (Asked.Analyse source rule) files f h m = not_missing files (file_of source) _ (is_told files (file_of source) _ h) m
-not_without (Asked.Check source report) files f h (inl m) = not_missing files (file_of source) _ (is_told files (file_of source) _ h) m
-not_without (Asked.Check source report) files f h (inr m) = not_picture files source f m.1.0 h m.1.1
+  -- a source with a fault is there, and is no picture
+  not_without : (c : Asked) (files : Option Files) (f : PictureFault) → FindsFault files (source_of c) f → Lacks c files → ⊥
+  not_without (Asked.Analyse source rule) files f h m = not_missing files (file_of source) _ (is_told files (file_of source) _ h) m
+  not_without (Asked.Check source report) files f h (inl m) = not_missing files (file_of source) _ (is_told files (file_of source) _ h) m
+  not_without (Asked.Check source report) files f h (inr m) = not_picture files source f m.1.0 h m.1.1
 
-not_told : (c : Asked) (files : Option Files) (f : PictureFault) (o : Outcome) (text : List ℕ) → FindsFault files (source_of c) f → Answers c files o text → ⊥
-not_told c files f o text h a = let t = tells c files o text a in not_picture files (source_of c) f t.0 h t.1
+  not_told : (c : Asked) (files : Option Files) (f : PictureFault) (o : Outcome) (text : List ℕ) → FindsFault files (source_of c) f → Answers shelf c files o text → ⊥
+  not_told c files f o text h a = let t = tells c files o text a in not_picture files (source_of c) f t.0 h t.1
 
-pub refuses : (c : Asked) (old new : DeskState) (o : Outcome) (f : PictureFault) → Ran c old new o → FindsFault old.files (source_of c) f → (Rose old.read_faults new.read_faults → ⊥) → (o ≡ outcome.Picture f) ⊎ (o ≡ outcome.NoMemory)
-refuses c old new outcome.NoMemory f r h n = inr refl
-refuses c old new outcome.Usage f r h n = absurd r
-refuses c old new (outcome.Picture g) f r h n = inl (ap (λ x. outcome.Picture x) (its_fault old.files (source_of c) f g h r.0))
-refuses c old new outcome.ReadFault f (inl rose, w) h n = absurd (n rose)
-refuses c old new outcome.ReadFault f (inr l, w) h n = absurd (not_without c old.files f h l)
-refuses c old new outcome.Done f r h n = absurd (not_told c old.files f outcome.Done r.text h r.right)
-refuses c old new outcome.Yes f r h n = absurd (not_told c old.files f outcome.Yes r.text h r.right)
-refuses c old new (outcome.No k) f r h n = absurd (not_told c old.files f (outcome.No k) r.text h r.right)
-refuses c old new outcome.WriteFault f r h n = absurd (not_told c old.files f r.outcome r.text h r.right)
+  pub refuses : (c : Asked) (old new : DeskState) (o : Outcome) (f : PictureFault) → Ran shelf c old new o → FindsFault old.files (source_of c) f → (Rose old.read_faults new.read_faults → ⊥) → (o ≡ outcome.Picture f) ⊎ (o ≡ outcome.NoMemory)
+  refuses c old new outcome.NoMemory f r h n = inr refl
+  refuses c old new outcome.Usage f r h n = absurd r
+  refuses c old new (outcome.Picture g) f r h n = inl (ap (λ x. outcome.Picture x) (its_fault old.files (source_of c) f g h r.0))
+  refuses c old new outcome.ReadFault f (inl rose, w) h n = absurd (n rose)
+  refuses c old new outcome.ReadFault f (inr l, w) h n = absurd (not_without c old.files f h l)
+  refuses c old new outcome.Done f r h n = absurd (not_told c old.files f outcome.Done r.text h r.right)
+  refuses c old new outcome.Yes f r h n = absurd (not_told c old.files f outcome.Yes r.text h r.right)
+  refuses c old new (outcome.No k) f r h n = absurd (not_told c old.files f (outcome.No k) r.text h r.right)
+  refuses c old new outcome.WriteFault f r h n = absurd (not_told c old.files f r.outcome r.text h r.right)
 
--- a command that lacks a file has no answer, and its source no fault
-no_answer : (c : Asked) (files : Option Files) (o : Outcome) (text : List ℕ) → Lacks c files → Answers c files o text → ⊥
-no_answer (Asked.Analyse source rule) files outcome.Done text m a = not_missing files (file_of source) _ a.1 m
-no_answer (Asked.Check source report) files outcome.Yes text (inl m) a = not_missing files (file_of source) _ a.1.1 m
-no_answer (Asked.Check source report) files outcome.Yes text (inr m) a = not_missing files report _ a.1.2 m.0
-no_answer (Asked.Check source report) files (outcome.No k) text (inl m) a = not_missing files (file_of source) _ a.1.1 m
-no_answer (Asked.Check source report) files (outcome.No k) text (inr m) a = not_missing files report _ a.1.2 m.0
-no_answer (Asked.Analyse source rule) files _ text m a = absurd a
-no_answer (Asked.Check source report) files _ text m a = absurd a
+  -- a command that lacks a file has no answer, and its source no fault
+  no_answer : (c : Asked) (files : Option Files) (o : Outcome) (text : List ℕ) → Lacks c files → Answers shelf c files o text → ⊥
+  no_answer (Asked.Analyse source rule) files outcome.Done text m a = not_missing files (file_of source) _ a.1 m
+  no_answer (Asked.Check source report) files outcome.Yes text (inl m) a = not_missing files (file_of source) _ a.1.1 m
+  no_answer (Asked.Check source report) files outcome.Yes text (inr m) a = not_missing files report _ a.1.2 m.0
+  no_answer (Asked.Check source report) files (outcome.No k) text (inl m) a = not_missing files (file_of source) _ a.1.1 m
+  no_answer (Asked.Check source report) files (outcome.No k) text (inr m) a = not_missing files report _ a.1.2 m.0
+  no_answer (Asked.Analyse source rule) files _ text m a = absurd a
+  no_answer (Asked.Check source report) files _ text m a = absurd a
 
-no_fault : (c : Asked) (files : Option Files) (f : PictureFault) → Lacks c files → OfFile files (file_of (source_of c)) (HasFault (source_of c) f) → ⊥
-no_fault (Asked.Analyse source rule) files f m h = not_missing files (file_of source) _ h m
-no_fault (Asked.Check source report) files f (inl m) h = not_missing files (file_of source) _ h m
-no_fault (Asked.Check source report) files f (inr m) h = not_picture files source f m.1.0 (told files report (file_of source) _ m.0 h) m.1.1
+  no_fault : (c : Asked) (files : Option Files) (f : PictureFault) → Lacks c files → OfFile files (file_of (source_of c)) (HasFault (source_of c) f) → ⊥
+  no_fault (Asked.Analyse source rule) files f m h = not_missing files (file_of source) _ h m
+  no_fault (Asked.Check source report) files f (inl m) h = not_missing files (file_of source) _ h m
+  no_fault (Asked.Check source report) files f (inr m) h = not_picture files source f m.1.0 (told files report (file_of source) _ m.0 h) m.1.1
 
-pub lacks : (c : Asked) (old new : DeskState) (o : Outcome) → Ran c old new o → Lacks c old.files → (o ≡ outcome.ReadFault) ⊎ (o ≡ outcome.NoMemory)
-lacks c old new outcome.NoMemory r m = inr refl
-lacks c old new outcome.ReadFault r m = inl refl
-lacks c old new outcome.Usage r m = absurd r
-lacks c old new (outcome.Picture f) r m = absurd (no_fault c old.files f m r.0)
-lacks c old new outcome.Done r m = absurd (no_answer c old.files outcome.Done r.text m r.right)
-lacks c old new outcome.Yes r m = absurd (no_answer c old.files outcome.Yes r.text m r.right)
-lacks c old new (outcome.No k) r m = absurd (no_answer c old.files (outcome.No k) r.text m r.right)
-lacks c old new outcome.WriteFault r m = absurd (no_answer c old.files r.outcome r.text m r.right)
+  pub lacks : (c : Asked) (old new : DeskState) (o : Outcome) → Ran shelf c old new o → Lacks c old.files → (o ≡ outcome.ReadFault) ⊎ (o ≡ outcome.NoMemory)
+  lacks c old new outcome.NoMemory r m = inr refl
+  lacks c old new outcome.ReadFault r m = inl refl
+  lacks c old new outcome.Usage r m = absurd r
+  lacks c old new (outcome.Picture f) r m = absurd (no_fault c old.files f m r.0)
+  lacks c old new outcome.Done r m = absurd (no_answer c old.files outcome.Done r.text m r.right)
+  lacks c old new outcome.Yes r m = absurd (no_answer c old.files outcome.Yes r.text m r.right)
+  lacks c old new (outcome.No k) r m = absurd (no_answer c old.files (outcome.No k) r.text m r.right)
+  lacks c old new outcome.WriteFault r m = absurd (no_answer c old.files r.outcome r.text m r.right)
 
--- ---- verdicts
+  -- ---- verdicts
 
-module _ (source : Source) (report : List ℕ) (X : Picture) (old new : DeskState) where
-  -- the answer of a check whose report is there
-  judged : (P : List ℕ → Type 0) (o : Outcome) → Ran (Asked.Check source report) old new o → FindsPicture old.files source X → FileIs old.files report P → HasNoFault old new → IsAnswer (Asked.Check source report) o ⊎ (o ≡ outcome.NoMemory)
-  judged P o r p h n = answers (Asked.Check source report) old new o r (finds_some old.files source X p) (is_there old.files report P h) n
+  module _ (source : Source) (report : List ℕ) (X : Picture) (old new : DeskState) where
+    -- the answer of a check whose report is there
+    judged : (P : List ℕ → Type 0) (o : Outcome) → Ran shelf (Asked.Check source report) old new o → FindsPicture old.files source X → FileIs old.files report P → HasNoFault old new → IsAnswer (Asked.Check source report) o ⊎ (o ≡ outcome.NoMemory)
+    judged P o r p h n = answers (Asked.Check source report) old new o r (finds_some old.files source X p) (is_there old.files report P h) n
 
-  holds_no : (k : ℕ) (text : List ℕ) → Answers (Asked.Check source report) old.files (outcome.No k) text → FindsPicture old.files source X → FileIs old.files report (Holds X) → ⊥
-  holds_no k text a p h =
-      let e = its_picture old.files source X a.1.0 p a.1.1 in
-      let m = meet old.files report (Holds X) (λ bytes. FirstBad a.1.0 bytes k) h a.1.2 in
-      m.2.fails (subst (λ Y. Holds Y m.0) e m.1)
+    holds_no : (k : ℕ) (text : List ℕ) → Answers shelf (Asked.Check source report) old.files (outcome.No k) text → FindsPicture old.files source X → FileIs old.files report (Holds (subject_of X shelf)) → ⊥
+    holds_no k text a p h =
+        let e = its_picture old.files source X a.1.0 p a.1.1 in
+        let m = meet old.files report (Holds (subject_of X shelf)) (λ bytes. FirstBad (subject_of a.1.0 shelf) bytes k) h a.1.2 in
+        m.2.fails (subst (λ Y. Holds (subject_of Y shelf) m.0) e m.1)
 
-  pub yes : (o : Outcome) → Ran (Asked.Check source report) old new o → FindsPicture old.files source X → FileIs old.files report (Holds X) → HasNoFault old new → (o ≡ outcome.Yes) ⊎ (o ≡ outcome.NoMemory)
-  yes o r p h n = by_answer o r (judged (Holds X) o r p h n)
-    where
-      by_answer : (o : Outcome) → Ran (Asked.Check source report) old new o → IsAnswer (Asked.Check source report) o ⊎ (o ≡ outcome.NoMemory) → (o ≡ outcome.Yes) ⊎ (o ≡ outcome.NoMemory)
-      by_answer o r (inr e) = inr e
-      by_answer outcome.Yes r (inl a) = inl refl
-      by_answer (outcome.No k) r (inl a) = absurd (holds_no k r.text r.right p h)
-      by_answer _ r (inl a) = absurd a
+    pub yes : (o : Outcome) → Ran shelf (Asked.Check source report) old new o → FindsPicture old.files source X → FileIs old.files report (Holds (subject_of X shelf)) → HasNoFault old new → (o ≡ outcome.Yes) ⊎ (o ≡ outcome.NoMemory)
+    yes o r p h n = by_answer o r (judged (Holds (subject_of X shelf)) o r p h n)
+      where
+        by_answer : (o : Outcome) → Ran shelf (Asked.Check source report) old new o → IsAnswer (Asked.Check source report) o ⊎ (o ≡ outcome.NoMemory) → (o ≡ outcome.Yes) ⊎ (o ≡ outcome.NoMemory)
+        by_answer o r (inr e) = inr e
+        by_answer outcome.Yes r (inl a) = inl refl
+        by_answer (outcome.No k) r (inl a) = absurd (holds_no k r.text r.right p h)
+        by_answer _ r (inl a) = absurd a
 
-  fails_yes : (text : List ℕ) → Answers (Asked.Check source report) old.files outcome.Yes text → FindsPicture old.files source X → FileIs old.files report (λ bytes. Holds X bytes → ⊥) → ⊥
-  fails_yes text a p h =
-      let e = its_picture old.files source X a.1.0 p a.1.1 in
-      let m = meet old.files report (λ bytes. Holds X bytes → ⊥) (IsReport a.1.0) h a.1.2 in
-      m.1 (subst (λ Y. Holds Y m.0) (sym e) m.2.0)
+    fails_yes : (text : List ℕ) → Answers shelf (Asked.Check source report) old.files outcome.Yes text → FindsPicture old.files source X → FileIs old.files report (λ bytes. Holds (subject_of X shelf) bytes → ⊥) → ⊥
+    fails_yes text a p h =
+        let e = its_picture old.files source X a.1.0 p a.1.1 in
+        let m = meet old.files report (λ bytes. Holds (subject_of X shelf) bytes → ⊥) (IsReport (subject_of a.1.0 shelf)) h a.1.2 in
+        m.1 (subst (λ Y. Holds (subject_of Y shelf) m.0) (sym e) m.2.0)
 
-  pub no : (o : Outcome) → Ran (Asked.Check source report) old new o → FindsPicture old.files source X → FileIs old.files report (λ bytes. Holds X bytes → ⊥) → HasNoFault old new → ((k : ℕ) × (o ≡ outcome.No k)) ⊎ (o ≡ outcome.NoMemory)
-  no o r p h n = by_answer o r (judged (λ bytes. Holds X bytes → ⊥) o r p h n)
-    where
-      by_answer : (o : Outcome) → Ran (Asked.Check source report) old new o → IsAnswer (Asked.Check source report) o ⊎ (o ≡ outcome.NoMemory) → ((k : ℕ) × (o ≡ outcome.No k)) ⊎ (o ≡ outcome.NoMemory)
-      by_answer o r (inr e) = inr e
-      by_answer outcome.Yes r (inl a) = absurd (fails_yes r.text r.right p h)
-      by_answer (outcome.No k) r (inl a) = inl (k, refl)
-      by_answer _ r (inl a) = absurd a
+    pub no : (o : Outcome) → Ran shelf (Asked.Check source report) old new o → FindsPicture old.files source X → FileIs old.files report (λ bytes. Holds (subject_of X shelf) bytes → ⊥) → HasNoFault old new → ((k : ℕ) × (o ≡ outcome.No k)) ⊎ (o ≡ outcome.NoMemory)
+    no o r p h n = by_answer o r (judged (λ bytes. Holds (subject_of X shelf) bytes → ⊥) o r p h n)
+      where
+        by_answer : (o : Outcome) → Ran shelf (Asked.Check source report) old new o → IsAnswer (Asked.Check source report) o ⊎ (o ≡ outcome.NoMemory) → ((k : ℕ) × (o ≡ outcome.No k)) ⊎ (o ≡ outcome.NoMemory)
+        by_answer o r (inr e) = inr e
+        by_answer outcome.Yes r (inl a) = absurd (fails_yes r.text r.right p h)
+        by_answer (outcome.No k) r (inl a) = inl (k, refl)
+        by_answer _ r (inl a) = absurd a

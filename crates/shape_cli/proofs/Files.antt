@@ -2,7 +2,7 @@
 -- Laws of what a desk tells, over plain values.
 use Rattle.std.proofs.Common.{inl, ◌≤◌, ℕ, List, arith, subst}
 use Rattle.std.specs.Prelude.{Option, None, Some, IsSome, MatchOption, Result, Ok, Err}
-use Rattle.shape_terms.specs.Pictures.{Picture}
+use Rattle.report_terms.specs.Subjects.{Subject}
 use Rattle.report_terms.specs.Holds.{Holds}
 use Rattle.report_terms.proofs.HoldsShows.{holds_shows}
 use Rattle.shape_desk.specs.Desk.{Files, DeskState, Rose, IsAtFront}
@@ -33,7 +33,7 @@ pub weaker : (left : Option (List ℕ)) (P Q : List ℕ → Type 0) → ((bytes 
 weaker None P Q f h = tt
 weaker (Some bytes) P Q f h = f bytes h
 
-pub judged : (X : Picture) (report : List ℕ) (old mid new : DeskState) (r : Result Judgement CheckFault) → IsAtFront old.files report (mid.left Report) → old.read_faults ≤ mid.read_faults → Checks X (mid.left Report) mid.read_faults new.read_faults r → IfTold (mid.left Report) (λ bytes. TakesFew X bytes (new.left Report)) → Judged X report old new r
+pub judged : (X : Subject) (report : List ℕ) (old mid new : DeskState) (r : Result Judgement CheckFault) → IsAtFront old.files report (mid.left Report) → old.read_faults ≤ mid.read_faults → Checks X (mid.left Report) mid.read_faults new.read_faults r → IfTold (mid.left Report) (λ bytes. TakesFew X bytes (new.left Report)) → Judged X report old new r
 judged X report old mid new (Ok judgement.Yes) a l h t = (tt, of_file old.files report (mid.left Report) _ a (weaker (mid.left Report) (Holds X) _ (λ bytes k. (k, holds_shows X bytes k)) h), of_file old.files report (mid.left Report) _ a t)
 judged X report old mid new (Ok (judgement.No k)) a l h t = (h.0, of_file old.files report (mid.left Report) _ a h.1, of_file old.files report (mid.left Report) _ a t)
 judged X report old mid new (Err check.ReadFault) a l h t = inl (rose_earlier old.read_faults mid.read_faults new.read_faults l h)

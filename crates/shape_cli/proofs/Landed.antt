@@ -1,7 +1,8 @@
 -- What `run` says of each outcome by itself follows from the relation of a run.
 -- One law for each clause, over the command that the words spell.
 use Rattle.std.proofs.Common.{◌≡◌, ◌⊎◌, inl, inr, ℕ, List, refl, ap, sym, subst, ◌∙◌}
-use Rattle.std.specs.Prelude.{codes}
+use Rattle.thin_terms.specs.Thinning.{Rule}
+use Rattle.thin_terms.specs.Shelves.{Named, names_of}
 use Rattle.shape_desk.specs.Desk.{DeskState, Rose, Puts, PutsFront}
 use Rattle.shape_picture.specs.declared.fault.PictureFault.{PictureFault}
 use Rattle.shape_check.specs.declared.answer.Judgement.TheVariants as judgement
@@ -14,53 +15,49 @@ use Rattle.shape_cli.specs.declared.outcome.Outcome.TheVariants as outcome
 use Rattle.shape_cli.proofs.OneCommand.{asked, ran}
 use Rattle.shape_cli.proofs.Complete.{answers, refuses}
 
-module _ (words : List (List ℕ)) (old new : DeskState) where
-  -- the words of an analysis, with the one rule
-  with_none : (file rule : List ℕ) → rule ≡ codes "none" → words ≡ words_of (Asked.Analyse (Source.Pbm file) rule) → words ≡ words_of (Asked.Analyse (Source.Pbm file) (codes "none"))
-  with_none file rule i w = w ∙ ap (λ x. words_of (Asked.Analyse (Source.Pbm file) x)) i
-
+module _ (shelf : List (Named Rule)) (words : List (List ℕ)) (old new : DeskState) where
   -- ---- one outcome of one command
 
-  done_of : (c : Asked) → IsInRange c → words ≡ words_of c → Ran c old new outcome.Done → Analyses words (λ file. WroteFor file old new)
-  done_of (Asked.Analyse (Source.Pbm file) rule) i w r = (file, with_none file rule i w, record { picture = r.right.0; spells = r.right.1; text = r.text; right = r.right.2; puts = r.puts })
+  done_of : (c : Asked) → IsInRange (names_of shelf) c → words ≡ words_of c → Ran shelf c old new outcome.Done → Analyses shelf words (λ file rule. WroteFor shelf file rule old new)
+  done_of (Asked.Analyse (Source.Pbm file) rule) i w r = record { file = file; rule = rule; on_shelf = i; spelled = w; holds = record { picture = r.right.0; spells = r.right.1; text = r.text; right = r.right.2; puts = r.puts } }
   done_of (Asked.Check (Source.Pbm file) report) i w r = absurd r.right
 
-  yes_of : (c : Asked) → words ≡ words_of c → Ran c old new outcome.Yes → Checks words (λ file report. GaveVerdict file report old new judgement.Yes)
+  yes_of : (c : Asked) → words ≡ words_of c → Ran shelf c old new outcome.Yes → Checks words (λ file report. GaveVerdict shelf file report old new judgement.Yes)
   yes_of (Asked.Analyse (Source.Pbm file) rule) w r = absurd r.right
   yes_of (Asked.Check (Source.Pbm file) report) w r = let a = r.right in (file, report, w, record { picture = a.1.0; spells = a.1.1; right = a.1.2; puts = subst (λ t. Puts old.written new.written t) a.0 r.puts; taken = r.taken })
 
-  no_of : (k : ℕ) (c : Asked) → words ≡ words_of c → Ran c old new (outcome.No k) → Checks words (λ file report. GaveVerdict file report old new (judgement.No k))
+  no_of : (k : ℕ) (c : Asked) → words ≡ words_of c → Ran shelf c old new (outcome.No k) → Checks words (λ file report. GaveVerdict shelf file report old new (judgement.No k))
   no_of k (Asked.Analyse (Source.Pbm file) rule) w r = absurd r.right
   no_of k (Asked.Check (Source.Pbm file) report) w r = let a = r.right in (file, report, w, record { picture = a.1.0; spells = a.1.1; right = a.1.2; puts = subst (λ t. Puts old.written new.written t) a.0 r.puts; taken = r.taken })
 
-  cut_report : (file rule text : List ℕ) (o : Outcome) → Answers (Asked.Analyse (Source.Pbm file) rule) old.files o text → PutsFront old.written new.written text → Rose old.write_faults new.write_faults → CutFor file old new
+  cut_report : (file rule text : List ℕ) (o : Outcome) → Answers shelf (Asked.Analyse (Source.Pbm file) rule) old.files o text → PutsFront old.written new.written text → Rose old.write_faults new.write_faults → CutFor shelf file rule old new
   cut_report file rule text outcome.Done a p f = record { picture = a.0; spells = a.1; text = text; right = a.2; puts = p; cause = f }
   cut_report file rule text _ a p f = absurd a
 
-  cut_verdict : (file report text : List ℕ) (o : Outcome) → Answers (Asked.Check (Source.Pbm file) report) old.files o text → PutsFront old.written new.written text → Rose old.write_faults new.write_faults → TookFew (Asked.Check (Source.Pbm file) report) old new → CutVerdict file report old new
+  cut_verdict : (file report text : List ℕ) (o : Outcome) → Answers shelf (Asked.Check (Source.Pbm file) report) old.files o text → PutsFront old.written new.written text → Rose old.write_faults new.write_faults → TookFew shelf (Asked.Check (Source.Pbm file) report) old new → CutVerdict shelf file report old new
   cut_verdict file report text outcome.Yes a p f t = record { verdict = judgement.Yes; picture = a.1.0; spells = a.1.1; right = a.1.2; puts = subst (λ w. PutsFront old.written new.written w) a.0 p; cause = f; taken = t }
   cut_verdict file report text (outcome.No k) a p f t = record { verdict = judgement.No k; picture = a.1.0; spells = a.1.1; right = a.1.2; puts = subst (λ w. PutsFront old.written new.written w) a.0 p; cause = f; taken = t }
   cut_verdict file report text _ a p f t = absurd a
 
-  cut_of : (c : Asked) → IsInRange c → words ≡ words_of c → CutShort c old new → Analyses words (λ file. CutFor file old new) ⊎ Checks words (λ file report. CutVerdict file report old new)
-  cut_of (Asked.Analyse (Source.Pbm file) rule) i w r = inl (file, with_none file rule i w, cut_report file rule r.text r.outcome r.right r.puts r.cause)
+  cut_of : (c : Asked) → IsInRange (names_of shelf) c → words ≡ words_of c → CutShort shelf c old new → Analyses shelf words (λ file rule. CutFor shelf file rule old new) ⊎ Checks words (λ file report. CutVerdict shelf file report old new)
+  cut_of (Asked.Analyse (Source.Pbm file) rule) i w r = inl (record { file = file; rule = rule; on_shelf = i; spelled = w; holds = cut_report file rule r.text r.outcome r.right r.puts r.cause })
   cut_of (Asked.Check (Source.Pbm file) report) i w r = inr (file, report, w, cut_verdict file report r.text r.outcome r.right r.puts r.cause r.taken)
 
-  fault_of : (f : PictureFault) (c : Asked) → IsInRange c → words ≡ words_of c → IsFaultOf old.files (source_of c) f → Analyses words (λ file. IsFaultOf old.files (Source.Pbm file) f) ⊎ Checks words (λ file report. IsFaultOf old.files (Source.Pbm file) f)
-  fault_of f (Asked.Analyse (Source.Pbm file) rule) i w r = inl (file, with_none file rule i w, r)
+  fault_of : (f : PictureFault) (c : Asked) → IsInRange (names_of shelf) c → words ≡ words_of c → IsFaultOf old.files (source_of c) f → Analyses shelf words (λ file rule. IsFaultOf old.files (Source.Pbm file) f) ⊎ Checks words (λ file report. IsFaultOf old.files (Source.Pbm file) f)
+  fault_of f (Asked.Analyse (Source.Pbm file) rule) i w r = inl (record { file = file; rule = rule; on_shelf = i; spelled = w; holds = r })
   fault_of f (Asked.Check (Source.Pbm file) report) i w r = inr (file, report, w, r)
 
-  lacks_of : (c : Asked) → IsInRange c → words ≡ words_of c → Rose old.read_faults new.read_faults ⊎ Lacks c old.files → Analyses words (λ file. LacksPicture file old new) ⊎ Checks words (λ file report. LacksFile file report old new)
-  lacks_of (Asked.Analyse (Source.Pbm file) rule) i w r = inl (file, with_none file rule i w, r)
+  lacks_of : (c : Asked) → IsInRange (names_of shelf) c → words ≡ words_of c → Rose old.read_faults new.read_faults ⊎ Lacks c old.files → Analyses shelf words (λ file rule. LacksPicture file old new) ⊎ Checks words (λ file report. LacksFile file report old new)
+  lacks_of (Asked.Analyse (Source.Pbm file) rule) i w r = inl (record { file = file; rule = rule; on_shelf = i; spelled = w; holds = r })
   lacks_of (Asked.Check (Source.Pbm file) report) i w (inl rose) = inr (file, report, w, inl rose)
   lacks_of (Asked.Check (Source.Pbm file) report) i w (inr (inl m)) = inr (file, report, w, inr (inl m))
   lacks_of (Asked.Check (Source.Pbm file) report) i w (inr (inr m)) = inr (file, report, w, inr (inr (m.0, (m.1.0, m.1.1))))
 
-  silent : (o : Outcome) → HasRun words old new o → IsBeforeWrites o → new.written ≡ old.written
+  silent : (o : Outcome) → HasRun shelf words old new o → IsBeforeWrites o → new.written ≡ old.written
   silent outcome.Usage h s = ap (λ d. d.written) (h.untouched refl)
-  silent (outcome.Picture f) h s = (asked words old new (outcome.Picture f) h (λ e. cc)).holds.1
-  silent outcome.ReadFault h s = (asked words old new outcome.ReadFault h (λ e. cc)).holds.1
-  silent outcome.NoMemory h s = (asked words old new outcome.NoMemory h (λ e. cc)).holds
+  silent (outcome.Picture f) h s = (asked shelf words old new (outcome.Picture f) h (λ e. cc)).holds.1
+  silent outcome.ReadFault h s = (asked shelf words old new outcome.ReadFault h (λ e. cc)).holds.1
+  silent outcome.NoMemory h s = (asked shelf words old new outcome.NoMemory h (λ e. cc)).holds
   silent outcome.Done h s = absurd s
   silent outcome.Yes h s = absurd s
   silent (outcome.No k) h s = absurd s
@@ -68,12 +65,12 @@ module _ (words : List (List ℕ)) (old new : DeskState) where
 
   -- ---- all outcomes
 
-  module _ (o : Outcome) (h : HasRun words old new o) where
+  module _ (o : Outcome) (h : HasRun shelf words old new o) where
     -- the command, where the outcome is known
-    for_outcome : (p : Outcome) → o ≡ p → (p ≡ outcome.Usage → ⊥) → Asks words (λ c. Ran c old new p)
-    for_outcome p e u = subst (λ x. Asks words (λ c. Ran c old new x)) e (asked words old new o h (λ f. u (sym e ∙ f)))
+    for_outcome : (p : Outcome) → o ≡ p → (p ≡ outcome.Usage → ⊥) → Asks (names_of shelf) words (λ c. Ran shelf c old new p)
+    for_outcome p e u = subst (λ x. Asks (names_of shelf) words (λ c. Ran shelf c old new x)) e (asked shelf words old new o h (λ f. u (sym e ∙ f)))
 
-    pub says : SaysOutcome words old new o
+    pub says : SaysOutcome shelf words old new o
     says = record {
       picture = λ f e. let a = for_outcome (outcome.Picture f) e (λ u. cc) in fault_of f a.command a.in_range a.spelled a.holds.0;
       read_fault = λ e. let a = for_outcome outcome.ReadFault e (λ u. cc) in lacks_of a.command a.in_range a.spelled a.holds.0;
@@ -99,18 +96,18 @@ module _ (words : List (List ℕ)) (old new : DeskState) where
     refused f p (inl e) = subst (IsRefused f) (sym e) refl
     refused f p (inr e) = subst (IsRefused f) (sym e) tt
 
-    pub comes : ComesOut words old new o
+    pub comes : ComesOut shelf words old new o
     comes = record {
-      analyse_complete = λ file e s r w.
-          let c = Asked.Analyse (Source.Pbm file) (codes "none") in
-          analysed (Source.Pbm file) (codes "none") o (answers c old new o (ran words old new o c h refl e) s tt (record { read = r; write = w }));
+      analyse_complete = λ file rule i e s r w.
+          let c = Asked.Analyse (Source.Pbm file) rule in
+          analysed (Source.Pbm file) rule o (answers shelf c old new o (ran shelf words old new o c h i e) s tt (record { read = r; write = w }));
       check_complete = λ file report e s t r w.
           let c = Asked.Check (Source.Pbm file) report in
-          judged (Source.Pbm file) report o (answers c old new o (ran words old new o c h tt e) s t (record { read = r; write = w }));
-      analyse_refused = λ file f e s r.
-          let c = Asked.Analyse (Source.Pbm file) (codes "none") in
-          refused f o (refuses c old new o f (ran words old new o c h refl e) s r);
+          judged (Source.Pbm file) report o (answers shelf c old new o (ran shelf words old new o c h tt e) s t (record { read = r; write = w }));
+      analyse_refused = λ file rule f i e s r.
+          let c = Asked.Analyse (Source.Pbm file) rule in
+          refused f o (refuses shelf c old new o f (ran shelf words old new o c h i e) s r);
       check_refused = λ file report f e s r.
           let c = Asked.Check (Source.Pbm file) report in
-          refused f o (refuses c old new o f (ran words old new o c h tt e) s r);
+          refused f o (refuses shelf c old new o f (ran shelf words old new o c h tt e) s r);
     }

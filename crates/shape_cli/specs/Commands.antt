@@ -1,6 +1,6 @@
 -- The commands of the program and their words: what is asked for, times where the picture is read.
 -- A further source or command is a constructor and its words.
-use Rattle.std.specs.Prelude.{◌≡◌, ◌++◌, ℕ, List, [], ◌∷◌, codes, map, ⊤}
+use Rattle.std.specs.Prelude.{◌≡◌, ◌++◌, ℕ, List, [], ◌∷◌, codes, map, slice_get, Some, Contains, ⊤}
 use Rattle.std.specs.declared.vec.Vec.{Vec}
 use Rattle.shape_cli.specs.declared.words.Source.{Source as ProgramSource}
 use Rattle.shape_cli.specs.declared.words.Source.TheVariants as source
@@ -38,19 +38,19 @@ abbrev pub words_of : Asked → List (List ℕ)
 words_of (Asked.Analyse source rule) = with_words (codes "analyse") source rule
 words_of (Asked.Check source report) = with_words (codes "check") source report
 
--- the rule of a command is one that there is
-abbrev pub IsInRange : Asked → Type 0
-IsInRange (Asked.Analyse source rule) = rule ≡ codes "none"
-IsInRange (Asked.Check source report) = ⊤
+-- the rule of a command is one of these names
+abbrev pub IsInRange : List (List ℕ) → Asked → Type 0
+IsInRange names (Asked.Analyse source rule) = Contains names rule
+IsInRange names (Asked.Check source report) = ⊤
 
 -- the words spell no command
-abbrev pub IsNoForm : List (List ℕ) → Type 0
-IsNoForm words = (c : Asked) → IsInRange c → words ≡ words_of c → ⊥
+abbrev pub IsNoForm : (names words : List (List ℕ)) → Type 0
+IsNoForm names words = (c : Asked) → IsInRange names c → words ≡ words_of c → ⊥
 
 -- the words spell a command of which something holds
-pub record Asks (words : List (List ℕ)) (P : Asked → Type 0) : Type 0 where
+pub record Asks (names words : List (List ℕ)) (P : Asked → Type 0) : Type 0 where
   pub command : Asked
-  pub in_range : IsInRange command
+  pub in_range : IsInRange names command
   pub spelled : words ≡ words_of command
   pub holds : P command
 
@@ -64,7 +64,12 @@ texts words = map (λ w. w.items) words
 abbrev pub read_source : ProgramSource → Source
 read_source (source.Pbm file) = Source.Pbm file.now
 
+-- the place of its rule among the names is the one that the program found
+abbrev pub IsFound : List (List ℕ) → Command → Type 0
+IsFound names (command.Analyse source rule which) = slice_get names which ≡ Some rule.now
+IsFound names (command.Check source report) = ⊤
+
 -- the command that the program does
 abbrev pub read_command : Command → Asked
-read_command (command.Analyse source) = Asked.Analyse (read_source source) (codes "none")
+read_command (command.Analyse source rule which) = Asked.Analyse (read_source source) rule.now
 read_command (command.Check source report) = Asked.Check (read_source source) report.now

@@ -2,6 +2,8 @@
 -- These are the premises and the ends of the laws of runs; no call needs them.
 use Rattle.std.specs.Prelude.{◌≡◌, ◌⊎◌, ◌↔◌, List, ⊤, Option, None, Some, MatchOption, ℕ}
 use Rattle.shape_terms.specs.Pictures.{Picture}
+use Rattle.thin_terms.specs.Thinning.{Rule}
+use Rattle.thin_terms.specs.Shelves.{Named, names_of}
 use Rattle.shape_desk.specs.Desk.{Files, DeskState, Rose}
 use Rattle.shape_picture.specs.declared.fault.PictureFault.{PictureFault}
 use Rattle.shape_cli.specs.Commands.{Source, Asked, file_of, IsNoForm, Asks}
@@ -43,9 +45,9 @@ IsAnswer (Asked.Check source report) outcome.Yes = ⊤
 IsAnswer (Asked.Check source report) (outcome.No k) = ⊤
 IsAnswer _ _ = ⊥
 
--- what `run` ensures, over the words, the desk before and now, and the outcome
-pub record HasRun (words : List (List ℕ)) (old new : DeskState) (o : Outcome) : Type 0 where
-  pub usage : (o ≡ outcome.Usage) ↔ IsNoForm words
+-- what `run` ensures, over the rules on the shelf, the words, the desk before and now, and the outcome
+pub record HasRun (shelf : List (Named Rule)) (words : List (List ℕ)) (old new : DeskState) (o : Outcome) : Type 0 where
+  pub usage : (o ≡ outcome.Usage) ↔ IsNoForm (names_of shelf) words
   pub untouched : o ≡ outcome.Usage → new ≡ old
-  pub ran : Asks words (λ c. Ran c old new o) ⊎ IsNoForm words
+  pub ran : Asks (names_of shelf) words (λ c. Ran shelf c old new o) ⊎ IsNoForm (names_of shelf) words
   pub kept : KeepsFiles old new

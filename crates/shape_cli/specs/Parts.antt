@@ -2,6 +2,7 @@
 -- These words are the program's own; its callers need `Runs` alone.
 use Rattle.std.specs.Prelude.{◌⊎◌, ℕ, List, ⊤, Result, Ok, Err}
 use Rattle.shape_terms.specs.Pictures.{Picture}
+use Rattle.report_terms.specs.Subjects.{Subject}
 use Rattle.report_terms.specs.Holds.{FirstBad}
 use Rattle.shape_desk.specs.Desk.{DeskState, Rose, IsMissing}
 use Rattle.shape_desk.specs.declared.desk.Place.TheVariants.{Report}
@@ -28,7 +29,7 @@ verdict_text judgement.Yes = yes_text
 verdict_text (judgement.No k) = no_text k
 
 -- yes: the bytes are a report of the picture; no: the line is the first bad one
-abbrev pub IsRight : Picture → Judgement → List ℕ → Type 0
+abbrev pub IsRight : Subject → Judgement → List ℕ → Type 0
 IsRight X judgement.Yes bytes = IsReport X bytes
 IsRight X (judgement.No k) bytes = FirstBad X bytes k
 
@@ -38,7 +39,7 @@ IsCounted judgement.Yes = ⊤
 IsCounted (judgement.No k) = IsLineNumber k
 
 -- what the judging of a report's file gives
-abbrev pub Judged : Picture → List ℕ → DeskState → DeskState → Result Judgement CheckFault → Type 0
+abbrev pub Judged : Subject → List ℕ → DeskState → DeskState → Result Judgement CheckFault → Type 0
 Judged X report old new (Ok v) = IsCounted v × OfFile old.files report (IsRight X v) × OfFile old.files report (λ bytes. TakesFew X bytes (new.left Report))
 Judged X report old new (Err check.ReadFault) = Rose old.read_faults new.read_faults ⊎ IsMissing old.files report
 Judged X report old new (Err check.NoMemory) = ⊤

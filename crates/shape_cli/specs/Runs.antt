@@ -3,7 +3,10 @@
 use Rattle.std.specs.Prelude.{◌≡◌, ◌⊎◌, ◌≤◌, ℕ, List, ◌++◌, codes, ⊤, Option, None, Some, MatchOption}
 use Rattle.std.specs.Fmt.{decimal}
 use Rattle.shape_terms.specs.Pictures.{Picture}
-use Rattle.report_terms.specs.Holds.{Holds, FirstBad}
+use Rattle.thin_terms.specs.Thinning.{Rule}
+use Rattle.thin_terms.specs.Shelves.{Named}
+use Rattle.report_terms.specs.Subjects.{Subject, subject_of}
+use Rattle.report_terms.specs.Holds.{Holds, HoldsBy, FirstBad}
 use Rattle.report_terms.specs.Shows.{TextShows}
 use Rattle.shape_desk.specs.Desk.{Files, DeskState, Rose, IsMissing, Puts, PutsFront}
 use Rattle.shape_desk.specs.declared.desk.Place.TheVariants.{Report}
@@ -51,16 +54,16 @@ no_text k = codes "no " ++ decimal k ++ codes "\n"
 abbrev pub OfPicture : Option Files → Source → (Picture → Type 0) → Type 0
 OfPicture files source P = (X : Picture) × IsPictureOf files source X × P X
 
--- the report holds of the picture, and shows what it says
-abbrev pub IsReport : Picture → List ℕ → Type 0
+-- the report holds, and shows what it says
+abbrev pub IsReport : Subject → List ℕ → Type 0
 IsReport X bytes = Holds X bytes × TextShows X bytes
 
--- the answer of a command: this text, with this outcome, is right; no other outcome has one
-abbrev pub Answers : Asked → Option Files → Outcome → List ℕ → Type 0
-Answers (Asked.Analyse source rule) files outcome.Done text = OfPicture files source (λ X. Holds X text)
-Answers (Asked.Check source report) files outcome.Yes text = (text ≡ yes_text) × OfPicture files source (λ X. OfFile files report (IsReport X))
-Answers (Asked.Check source report) files (outcome.No k) text = (text ≡ no_text k) × OfPicture files source (λ X. OfFile files report (λ bytes. FirstBad X bytes k))
-Answers _ files _ text = ⊥
+-- the answer of a command, where these rules are on the shelf: this text, with this outcome, is right; no other outcome has one
+abbrev pub Answers : List (Named Rule) → Asked → Option Files → Outcome → List ℕ → Type 0
+Answers shelf (Asked.Analyse source rule) files outcome.Done text = OfPicture files source (λ X. HoldsBy (subject_of X shelf) rule text)
+Answers shelf (Asked.Check source report) files outcome.Yes text = (text ≡ yes_text) × OfPicture files source (λ X. OfFile files report (IsReport (subject_of X shelf)))
+Answers shelf (Asked.Check source report) files (outcome.No k) text = (text ≡ no_text k) × OfPicture files source (λ X. OfFile files report (λ bytes. FirstBad (subject_of X shelf) bytes k))
+Answers shelf _ files _ text = ⊥
 
 -- a file that the command reads is missing; that of the report is read where there is a picture
 abbrev pub Lacks : Asked → Option Files → Type 0
@@ -70,40 +73,40 @@ Lacks (Asked.Check source report) files = IsMissing files (file_of source) ⊎ (
 -- ---- runs
 
 -- of a report, good lines for the picture and at most 2048 bytes more were taken, and the rest is left at its place
-abbrev pub TookFew : Asked → DeskState → DeskState → Type 0
-TookFew (Asked.Analyse source rule) old new = ⊤
-TookFew (Asked.Check source report) old new = OfPicture old.files source (λ X. OfFile old.files report (λ bytes. TakesFew X bytes (new.left Report)))
+abbrev pub TookFew : List (Named Rule) → Asked → DeskState → DeskState → Type 0
+TookFew shelf (Asked.Analyse source rule) old new = ⊤
+TookFew shelf (Asked.Check source report) old new = OfPicture old.files source (λ X. OfFile old.files report (λ bytes. TakesFew (subject_of X shelf) bytes (new.left Report)))
 
 -- the whole answer was written
-pub record Answered (c : Asked) (old new : DeskState) (o : Outcome) : Type 0 where
+pub record Answered (shelf : List (Named Rule)) (c : Asked) (old new : DeskState) (o : Outcome) : Type 0 where
   pub text : List ℕ
-  pub right : Answers c old.files o text
+  pub right : Answers shelf c old.files o text
   pub puts : Puts old.written new.written text
-  pub taken : TookFew c old new
+  pub taken : TookFew shelf c old new
 
 -- a write failed, and a front of a right answer was written
-pub record CutShort (c : Asked) (old new : DeskState) : Type 0 where
+pub record CutShort (shelf : List (Named Rule)) (c : Asked) (old new : DeskState) : Type 0 where
   pub outcome : Outcome
   pub text : List ℕ
-  pub right : Answers c old.files outcome text
+  pub right : Answers shelf c old.files outcome text
   pub puts : PutsFront old.written new.written text
   pub cause : Rose old.write_faults new.write_faults
-  pub taken : TookFew c old new
+  pub taken : TookFew shelf c old new
 
 -- nothing was written
 abbrev pub IsSilent : DeskState → DeskState → Type 0
 IsSilent old new = new.written ≡ old.written
 
--- what a run of the command did, outcome by outcome
-abbrev pub Ran : Asked → DeskState → DeskState → Outcome → Type 0
-Ran c old new outcome.Usage = ⊥
-Ran c old new (outcome.Picture f) = IsFaultOf old.files (source_of c) f × IsSilent old new
-Ran c old new outcome.ReadFault = (Rose old.read_faults new.read_faults ⊎ Lacks c old.files) × IsSilent old new
-Ran c old new outcome.NoMemory = IsSilent old new
-Ran c old new outcome.WriteFault = CutShort c old new
-Ran c old new outcome.Done = Answered c old new outcome.Done
-Ran c old new outcome.Yes = Answered c old new outcome.Yes
-Ran c old new (outcome.No k) = Answered c old new (outcome.No k)
+-- what a run of the command did, outcome by outcome, where these rules are on the shelf
+abbrev pub Ran : List (Named Rule) → Asked → DeskState → DeskState → Outcome → Type 0
+Ran shelf c old new outcome.Usage = ⊥
+Ran shelf c old new (outcome.Picture f) = IsFaultOf old.files (source_of c) f × IsSilent old new
+Ran shelf c old new outcome.ReadFault = (Rose old.read_faults new.read_faults ⊎ Lacks c old.files) × IsSilent old new
+Ran shelf c old new outcome.NoMemory = IsSilent old new
+Ran shelf c old new outcome.WriteFault = CutShort shelf c old new
+Ran shelf c old new outcome.Done = Answered shelf c old new outcome.Done
+Ran shelf c old new outcome.Yes = Answered shelf c old new outcome.Yes
+Ran shelf c old new (outcome.No k) = Answered shelf c old new (outcome.No k)
 
 -- no file changed, and no count fell
 pub record KeepsFiles (old new : DeskState) : Type 0 where

@@ -1,6 +1,8 @@
 //! The command `analyse`: the picture, then its report, then the output.
 //! The report is built whole before its first byte is written.
-ghost use Rattle.std.specs.Prelude.{codes};
+ghost use Rattle.std.specs.Prelude.{◌≡◌, ◌<◌, ℕ, List, Some, length, slice_get};
+ghost use Rattle.thin_terms.specs.Shelves.{names_of};
+ghost use Rattle.shape_rules.specs.Ruled.{rules_on};
 ghost use Rattle.shape_cli.specs.Commands.{Asked, read_source};
 ghost use Rattle.shape_cli.specs.Runs.{Ran, KeepsFiles};
 
@@ -10,11 +12,21 @@ use crate::words::Source;
 use shape_analyse::analyse_flat;
 use shape_desk::Desk;
 use shape_report::write_report;
+use shape_rules::Shelf;
 use std::alloc::Global;
 
-// Analyses the picture at a source.
-pub(crate) fn analyse_file<D: Desk>(alloc: Global, source: Source<'_>, desk: &mut D) -> Outcome
-    ensures ran { Ran (Asked.Analyse (read_source source.entry) (codes "none"))
+// Analyses the picture at a source by the rule with a number.
+pub(crate) fn analyse_file<D: Desk>(
+    alloc: Global,
+    source: Source<'_>,
+    shelf: &mut Shelf,
+    which: usize,
+    desk: &mut D,
+) -> Outcome
+    requires { which < length shelf.old }
+    ensures ran { (rule : List ℕ) → slice_get (names_of shelf.old) which ≡ Some rule
+        → Ran (rules_on opening marks next shelf.old)
+        (Asked.Analyse (read_source source.entry) rule)
         (D.state desk.old) (D.state desk.new) result }
     ensures kept { KeepsFiles (D.state desk.old) (D.state desk.new) }
 {
@@ -22,7 +34,7 @@ pub(crate) fn analyse_file<D: Desk>(alloc: Global, source: Source<'_>, desk: &mu
         Ok(grid) => grid,
         Err(error) => return refused(error),
     };
-    let report = match analyse_flat(alloc, &grid) {
+    let report = match analyse_flat(alloc, &grid, shelf, which) {
         Ok(report) => report,
         Err(_) => return Outcome::NoMemory,
     };

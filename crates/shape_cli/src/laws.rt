@@ -2,9 +2,12 @@
 //! These are laws alone: the calls do nothing, what counts is their clauses.
 ghost use Rattle.std.specs.Prelude.{◌≡◌, ◌⊎◌, ℕ, List};
 ghost use Rattle.shape_terms.specs.Pictures.{Picture};
+ghost use Rattle.thin_terms.specs.Thinning.{Rule};
+ghost use Rattle.thin_terms.specs.Shelves.{Named, names_of};
 ghost use Rattle.report_terms.specs.Holds.{Holds};
 ghost use Rattle.shape_desk.specs.Desk.{DeskState, Rose};
 ghost use Rattle.shape_picture.specs.declared.fault.PictureFault.{PictureFault};
+ghost use Rattle.report_terms.specs.Subjects.{subject_of};
 ghost use Rattle.shape_cli.specs.Commands.{Source, Asked, IsInRange, source_of, words_of};
 ghost use Rattle.shape_cli.specs.Runs.{Lacks, Ran};
 ghost use Rattle.shape_cli.specs.Complete.{FileIs, FindsPicture, FindsSome, FindsFault, FindsRest, HasNoFault, IsAnswer, HasRun};
@@ -14,8 +17,10 @@ ghost use Rattle.shape_cli.specs.declared.outcome.Outcome.{Outcome};
 /// Words spell one command at most, and it is the one of which `run` speaks.
 pub fn words_are_of_one_command()
     ensures one { (c d : Asked) → words_of c ≡ words_of d → c ≡ d }
-    ensures ran { (words : List (List ℕ)) (old new : DeskState) (o : Outcome) (c : Asked)
-        → HasRun words old new o → IsInRange c → words ≡ words_of c → Ran c old new o }
+    ensures ran { (shelf : List (Named Rule)) (words : List (List ℕ))
+        (old new : DeskState) (o : Outcome) (c : Asked)
+        → HasRun shelf words old new o → IsInRange (names_of shelf) c
+        → words ≡ words_of c → Ran shelf c old new o }
 {}
 
 /// What a run owes, but for want of memory.
@@ -23,36 +28,40 @@ pub fn words_are_of_one_command()
 /// A source that is there and accepted, and all other files there, give an answer where no count rose. A source that is
 /// there and has a fault gives that fault where no count of reads rose. A missing file is a failed read.
 pub fn runs_are_complete()
-    ensures answers { (c : Asked) (old new : DeskState) (o : Outcome)
-        → Ran c old new o → FindsSome old.files (source_of c) → FindsRest c old.files
+    ensures answers { (shelf : List (Named Rule)) (c : Asked) (old new : DeskState) (o : Outcome)
+        → Ran shelf c old new o → FindsSome old.files (source_of c) → FindsRest c old.files
         → HasNoFault old new → IsAnswer c o ⊎ (o ≡ Outcome.NoMemory) }
-    ensures refuses { (c : Asked) (old new : DeskState) (o : Outcome) (f : PictureFault)
-        → Ran c old new o → FindsFault old.files (source_of c) f
+    ensures refuses { (shelf : List (Named Rule)) (c : Asked) (old new : DeskState)
+        (o : Outcome) (f : PictureFault)
+        → Ran shelf c old new o → FindsFault old.files (source_of c) f
         → (Rose old.read_faults new.read_faults → ⊥)
         → (o ≡ Outcome.Picture f) ⊎ (o ≡ Outcome.NoMemory) }
-    ensures lacks { (c : Asked) (old new : DeskState) (o : Outcome)
-        → Ran c old new o → Lacks c old.files
+    ensures lacks { (shelf : List (Named Rule)) (c : Asked) (old new : DeskState) (o : Outcome)
+        → Ran shelf c old new o → Lacks c old.files
         → (o ≡ Outcome.ReadFault) ⊎ (o ≡ Outcome.NoMemory) }
 {}
 
 /// A report that holds of the picture gets `yes`, and every other text `no`, where no count rose, but for want of memory.
 pub fn verdicts_are_right()
-    ensures yes { (source : Source) (report : List ℕ) (X : Picture)
+    ensures yes { (shelf : List (Named Rule)) (source : Source) (report : List ℕ) (X : Picture)
         (old new : DeskState) (o : Outcome)
-        → Ran (Asked.Check source report) old new o → FindsPicture old.files source X
-        → FileIs old.files report (Holds X) → HasNoFault old new
+        → Ran shelf (Asked.Check source report) old new o → FindsPicture old.files source X
+        → FileIs old.files report (Holds (subject_of X shelf)) → HasNoFault old new
         → (o ≡ Outcome.Yes) ⊎ (o ≡ Outcome.NoMemory) }
-    ensures no { (source : Source) (report : List ℕ) (X : Picture)
+    ensures no { (shelf : List (Named Rule)) (source : Source) (report : List ℕ) (X : Picture)
         (old new : DeskState) (o : Outcome)
-        → Ran (Asked.Check source report) old new o → FindsPicture old.files source X
-        → FileIs old.files report (λ bytes. Holds X bytes → ⊥) → HasNoFault old new
+        → Ran shelf (Asked.Check source report) old new o → FindsPicture old.files source X
+        → FileIs old.files report (λ bytes. Holds (subject_of X shelf) bytes → ⊥)
+        → HasNoFault old new
         → ((k : ℕ) × (o ≡ Outcome.No k)) ⊎ (o ≡ Outcome.NoMemory) }
 {}
 
 /// What `run` says of each outcome by itself.
 pub fn outcomes_speak()
-    ensures says { (words : List (List ℕ)) (old new : DeskState) (o : Outcome)
-        → HasRun words old new o → SaysOutcome words old new o }
-    ensures comes { (words : List (List ℕ)) (old new : DeskState) (o : Outcome)
-        → HasRun words old new o → ComesOut words old new o }
+    ensures says { (shelf : List (Named Rule)) (words : List (List ℕ))
+        (old new : DeskState) (o : Outcome)
+        → HasRun shelf words old new o → SaysOutcome shelf words old new o }
+    ensures comes { (shelf : List (Named Rule)) (words : List (List ℕ))
+        (old new : DeskState) (o : Outcome)
+        → HasRun shelf words old new o → ComesOut shelf words old new o }
 {}

@@ -2,6 +2,7 @@
 use super::*;
 use shape_desk::MemoryDesk;
 use shape_picture::PictureFault;
+use shape_rules::{CurveEnds, EndRule, Entry, Name, NoEnds, Shelf};
 use std::alloc::{AllocError, Global};
 use std::test::Fail;
 
@@ -27,6 +28,23 @@ fn desk(
     }
 }
 
+// A shelf with these rules under the names `none` and `curve`.
+fn shelf(alloc: Global, none: Box<dyn EndRule>, curve: Box<dyn EndRule>) -> Result<Shelf, Fail> {
+    let (Some(first), Some(second)) = (Name::new(b"none"), Name::new(b"curve")) else {
+        return Err(Fail::from(AllocError));
+    };
+    let mut rules: Vec<Entry> = Vec::new(alloc);
+    rules.push(Entry {
+        name: first,
+        rule: none,
+    })?;
+    rules.push(Entry {
+        name: second,
+        rule: curve,
+    })?;
+    Ok(Shelf::new(rules))
+}
+
 // The words of a command line.
 fn words(alloc: Global, line: &str) -> Result<Vec<Vec<u8>>, Fail> {
     let mut words = Vec::new(alloc);
@@ -36,15 +54,21 @@ fn words(alloc: Global, line: &str) -> Result<Vec<Vec<u8>>, Fail> {
     Ok(words)
 }
 
+// What the words of a command line come to, with the rules `none` and `curve`.
+fn ran(alloc: Global, line: &str, desk: &mut MemoryDesk) -> Result<Outcome, Fail> {
+    let shelf = shelf(alloc, Box::new(alloc, NoEnds)?, Box::new(alloc, CurveEnds)?)?;
+    Ok(run(alloc, &words(alloc, line)?, desk, shelf))
+}
+
 #[test]
 fn one_pixel(rt: HostRuntime) -> Result<(), Fail> {
     let alloc = rt.alloc();
     let mut desk = desk(alloc, b"P1 1 1 1", &[], &[])?;
-    let outcome = run(alloc, &words(alloc, "analyse pbm a.pbm none")?, &mut desk);
+    let outcome = ran(alloc, "analyse pbm a.pbm none", &mut desk)?;
     assert_eq!(rt; outcome, Outcome::Done);
     let text = desk.output();
     assert!(rt; text.starts_with(b"shape 1 pbm 1 1 none\nparts 1 1 1\nnear 0 0 ".as_slice()));
-    assert!(rt; text.ends_with(b" 0\nturn x 0 0\nturn y 0 0\nend\n".as_slice()));
+    assert!(rt; text.ends_with(b" 0\nturn x 0 0\nturn y 0 0\nkept 1 1 1\nend\n".as_slice()));
     Ok(())
 }
 
@@ -57,7 +81,7 @@ fn checked(alloc: Global, picture: &[u8], report: &[u8]) -> Result<Outcome, Fail
     else {
         return Err(Fail::from(AllocError));
     };
-    Ok(run(alloc, &words(alloc, "check pbm a.pbm a.report")?, &mut desk))
+    ran(alloc, "check pbm a.pbm a.report", &mut desk)
 }
 
 #[test]
@@ -65,19 +89,19 @@ fn reports_of_one_pixel(rt: HostRuntime) -> Result<(), Fail> {
     let alloc = rt.alloc();
     let table = [
         (
-            b"shape 1 pbm 1 1 none\nparts 1 1 1\nnear 0 0 0 -1 1\ncontour 0 0 0 1 1\nat 0 0\nseg 0 0 y 0 1 0\nturn x 0 0\nturn y 0 0\nend\n".as_slice(),
+            b"shape 1 pbm 1 1 none\nparts 1 1 1\nnear 0 0 0 -1 1\ncontour 0 0 0 1 1\nat 0 0\nseg 0 0 y 0 1 0\nturn x 0 0\nturn y 0 0\nkept 1 1 1\nend\n".as_slice(),
             Outcome::Yes,
         ),
         (
-            b"shape 1 pbm 1 1 none\nparts 1 1 1\nnear 0 0 1 0 1\ncontour 0 0 0 1 1\nat 0 0\nseg 0 0 y 0 1 0\nturn x 0 0\nturn y 0 0\nend\n".as_slice(),
+            b"shape 1 pbm 1 1 none\nparts 1 1 1\nnear 0 0 1 0 1\ncontour 0 0 0 1 1\nat 0 0\nseg 0 0 y 0 1 0\nturn x 0 0\nturn y 0 0\nkept 1 1 1\nend\n".as_slice(),
             Outcome::Yes,
         ),
         (
-            b"shape 1 pbm 1 1 none\nparts 1 1 1\nnear 0 0 0 -1 2\ncontour 0 0 0 1 1\nat 0 0\nseg 0 0 y 0 1 0\nturn x 0 0\nturn y 0 0\nend\n".as_slice(),
+            b"shape 1 pbm 1 1 none\nparts 1 1 1\nnear 0 0 0 -1 2\ncontour 0 0 0 1 1\nat 0 0\nseg 0 0 y 0 1 0\nturn x 0 0\nturn y 0 0\nkept 1 1 1\nend\n".as_slice(),
             Outcome::No { line: 3 },
         ),
         (
-            b"shape 1 pbm 1 1 none\nparts 1 1 1\nnear 00 0 0 -1 1\ncontour 0 0 0 1 1\nat 0 0\nseg 0 0 y 0 1 0\nturn x 0 0\nturn y 0 0\nend\n".as_slice(),
+            b"shape 1 pbm 1 1 none\nparts 1 1 1\nnear 00 0 0 -1 1\ncontour 0 0 0 1 1\nat 0 0\nseg 0 0 y 0 1 0\nturn x 0 0\nturn y 0 0\nkept 1 1 1\nend\n".as_slice(),
             Outcome::No { line: 3 },
         ),
         (
@@ -85,23 +109,23 @@ fn reports_of_one_pixel(rt: HostRuntime) -> Result<(), Fail> {
             Outcome::No { line: 4 },
         ),
         (
-            b"shape 1 pbm 1 1 none\nparts 1 1 1\nnear 0 0 0 -1 1\ncontour 0 0 0 1 1\nat 0 0\nseg 0 0 y 0 1 0\nturn x 0 0\nturn y 0 0\n".as_slice(),
-            Outcome::No { line: 9 },
-        ),
-        (
-            b"shape 1 pbm 1 1 none\nparts 1 1 1\nnear 0 0 0 -1 1\ncontour 0 0 0 1 1\nat 0 0\nseg 0 0 y 0 1 0\nturn x 0 0\nturn y 0 0\nend".as_slice(),
-            Outcome::No { line: 9 },
-        ),
-        (
-            b"shape 1 pbm 1 1 none\nparts 1 1 1\nnear 0 0 0 -1 1\ncontour 0 0 0 1 1\nat 0 0\nseg 0 0 y 0 1 0\nturn x 0 0\nturn y 0 0\nend\nx".as_slice(),
+            b"shape 1 pbm 1 1 none\nparts 1 1 1\nnear 0 0 0 -1 1\ncontour 0 0 0 1 1\nat 0 0\nseg 0 0 y 0 1 0\nturn x 0 0\nturn y 0 0\nkept 1 1 1\n".as_slice(),
             Outcome::No { line: 10 },
         ),
         (
-            b"shape 1 pbm 1 1 none\nparts 1 1 2\nnear 0 0 0 -1 1\ncontour 0 0 0 1 1\nat 0 0\nseg 0 0 y 0 1 0\nturn x 0 0\nturn y 0 0\nend\n".as_slice(),
+            b"shape 1 pbm 1 1 none\nparts 1 1 1\nnear 0 0 0 -1 1\ncontour 0 0 0 1 1\nat 0 0\nseg 0 0 y 0 1 0\nturn x 0 0\nturn y 0 0\nkept 1 1 1\nend".as_slice(),
+            Outcome::No { line: 10 },
+        ),
+        (
+            b"shape 1 pbm 1 1 none\nparts 1 1 1\nnear 0 0 0 -1 1\ncontour 0 0 0 1 1\nat 0 0\nseg 0 0 y 0 1 0\nturn x 0 0\nturn y 0 0\nkept 1 1 1\nend\nx".as_slice(),
+            Outcome::No { line: 11 },
+        ),
+        (
+            b"shape 1 pbm 1 1 none\nparts 1 1 2\nnear 0 0 0 -1 1\ncontour 0 0 0 1 1\nat 0 0\nseg 0 0 y 0 1 0\nturn x 0 0\nturn y 0 0\nkept 1 1 1\nend\n".as_slice(),
             Outcome::No { line: 2 },
         ),
         (
-            b"shape 1 pbm 1 1 zzz\nparts 1 1 1\nnear 0 0 0 -1 1\ncontour 0 0 0 1 1\nat 0 0\nseg 0 0 y 0 1 0\nturn x 0 0\nturn y 0 0\nend\n".as_slice(),
+            b"shape 1 pbm 1 1 zzz\nparts 1 1 1\nnear 0 0 0 -1 1\ncontour 0 0 0 1 1\nat 0 0\nseg 0 0 y 0 1 0\nturn x 0 0\nturn y 0 0\nkept 1 1 1\nend\n".as_slice(),
             Outcome::No { line: 1 },
         ),
         (
@@ -122,7 +146,7 @@ fn counts_of_parts(rt: HostRuntime) -> Result<(), Fail> {
     let table = [
         (
             b"P1 2 2 0000".as_slice(),
-            b"shape 1 pbm 2 2 none\nparts 0 0 1\nend\n".as_slice(),
+            b"shape 1 pbm 2 2 none\nparts 0 0 1\nkept 0 0 1\nend\n".as_slice(),
         ),
         (
             b"P1 2 2 1001".as_slice(),
@@ -135,8 +159,10 @@ fn counts_of_parts(rt: HostRuntime) -> Result<(), Fail> {
     ];
     for (picture, lines) in table {
         let mut desk = desk(alloc, picture, &[], &[])?;
-        let words = words(alloc, "analyse pbm a.pbm none")?;
-        assert_eq!(rt; run(alloc, &words, &mut desk), Outcome::Done);
+        assert_eq!(rt;
+            ran(alloc, "analyse pbm a.pbm none", &mut desk)?,
+            Outcome::Done
+        );
         assert!(rt; desk.output().starts_with(lines));
     }
     Ok(())
@@ -164,26 +190,68 @@ fn a_drawing(rt: HostRuntime) -> Result<(), Fail> {
     let alloc = rt.alloc();
     let mut files = Vec::new(alloc);
     files.push((b"a.pbm".to_vec(alloc)?, drawing(alloc)?))?;
-    let Ok(mut desk) = MemoryDesk::new(alloc, files, Vec::new(alloc), Vec::new(alloc), 500, 60000)
+    let Ok(mut desk) = MemoryDesk::new(alloc, files, Vec::new(alloc), Vec::new(alloc), 500, 90000)
     else {
         return Err(Fail::from(AllocError));
     };
-    let words = words(alloc, "analyse pbm a.pbm none")?;
-    assert_eq!(rt; run(alloc, &words, &mut desk), Outcome::Done);
+    assert_eq!(rt;
+        ran(alloc, "analyse pbm a.pbm none", &mut desk)?,
+        Outcome::Done
+    );
     let text = desk.output();
     assert!(rt; text.starts_with(b"shape 1 pbm 64 48 none\nparts 1408 1 1\nnear 10 8 ".as_slice()));
+    assert!(rt; text.ends_with(b"\nkept 1 1 1\nend\n".as_slice()));
     let mut nears = Vec::new(alloc);
+    let mut events = Vec::new(alloc);
     let mut has_middle = false;
     for line in text.split(|&c| c == b'\n') {
         if line.starts_with(b"near ") {
             nears.push(())?;
+        }
+        if line.starts_with(b"del ") {
+            events.push(())?;
         }
         if line == b"near 31 23 31 7 256".as_slice() {
             has_middle = true;
         }
     }
     assert_eq!(rt; nears.len(), 1408);
+    assert_eq!(rt; events.len(), 1407);
     assert!(rt; has_middle);
+    Ok(())
+}
+
+#[test]
+fn thinnings(rt: HostRuntime) -> Result<(), Fail> {
+    let alloc = rt.alloc();
+    let table = [
+        (
+            "analyse pbm a.pbm none",
+            b"P1 3 3 111 111 111".as_slice(),
+            b"del 0 0\ndel 1 0\ndel 2 0\ndel 0 1\ndel 2 1\ndel 0 2\ndel 1 2\ndel 2 2\nkept 1 1 1\nend\n".as_slice(),
+        ),
+        (
+            "analyse pbm a.pbm curve",
+            b"P1 3 3 111 111 111".as_slice(),
+            b"del 0 0\ndel 1 0\ndel 2 0\ndel 0 1\ndel 2 1\ndel 0 2\ndel 1 2\ntip 2 2\ntip 1 1\nkept 2 1 1\nend\n".as_slice(),
+        ),
+        (
+            "analyse pbm a.pbm none",
+            b"P1 2 2 1001".as_slice(),
+            b"\ndel 0 0\nkept 1 1 1\nend\n".as_slice(),
+        ),
+        (
+            "analyse pbm a.pbm none",
+            b"P1 3 3 111 101 111".as_slice(),
+            b"\ndel 0 0\ndel 2 0\ndel 0 2\ndel 2 2\nkept 4 1 2\nend\n".as_slice(),
+        ),
+    ];
+    for (line, picture, end) in table {
+        let mut desk = desk(alloc, picture, &[], &[])?;
+        assert_eq!(rt; ran(alloc, line, &mut desk)?, Outcome::Done);
+        assert!(rt; desk.output().ends_with(end));
+        assert_eq!(rt; checked(alloc, picture, desk.output())?, Outcome::Yes);
+    }
     Ok(())
 }
 
@@ -199,8 +267,10 @@ fn analyses_are_checked(rt: HostRuntime) -> Result<(), Fail> {
     ];
     for picture in pictures {
         let mut desk = desk(alloc, picture, &[], &[])?;
-        let words = words(alloc, "analyse pbm a.pbm none")?;
-        assert_eq!(rt; run(alloc, &words, &mut desk), Outcome::Done);
+        assert_eq!(rt;
+            ran(alloc, "analyse pbm a.pbm none", &mut desk)?,
+            Outcome::Done
+        );
         assert_eq!(rt; checked(alloc, picture, desk.output())?, Outcome::Yes);
     }
     Ok(())
@@ -210,10 +280,15 @@ fn analyses_are_checked(rt: HostRuntime) -> Result<(), Fail> {
 fn a_failed_write(rt: HostRuntime) -> Result<(), Fail> {
     let alloc = rt.alloc();
     let mut desk = desk(alloc, b"P1 1 1 1", &[], &[3])?;
-    let words = words(alloc, "analyse pbm a.pbm none")?;
-    assert_eq!(rt; run(alloc, &words, &mut desk), Outcome::WriteFault);
+    assert_eq!(rt;
+        ran(alloc, "analyse pbm a.pbm none", &mut desk)?,
+        Outcome::WriteFault
+    );
     assert_eq!(rt; desk.output(), b"shape 1 ".as_slice());
-    assert_eq!(rt; run(alloc, &words, &mut desk), Outcome::Done);
+    assert_eq!(rt;
+        ran(alloc, "analyse pbm a.pbm none", &mut desk)?,
+        Outcome::Done
+    );
     Ok(())
 }
 
@@ -222,8 +297,10 @@ fn a_segment_left_out(rt: HostRuntime) -> Result<(), Fail> {
     let alloc = rt.alloc();
     let picture = b"P1 2 2 1111".as_slice();
     let mut desk = desk(alloc, picture, &[], &[])?;
-    let words = words(alloc, "analyse pbm a.pbm none")?;
-    assert_eq!(rt; run(alloc, &words, &mut desk), Outcome::Done);
+    assert_eq!(rt;
+        ran(alloc, "analyse pbm a.pbm none", &mut desk)?,
+        Outcome::Done
+    );
     let mut report = Vec::new(alloc);
     for line in desk.output().split(|&c| c == b'\n') {
         if !line.is_empty() && !line.starts_with(b"seg 1 2 ") {
@@ -254,7 +331,7 @@ fn refused_files(rt: HostRuntime) -> Result<(), Fail> {
     for (bytes, fault) in table {
         for line in ["analyse pbm a.pbm none", "check pbm a.pbm a.pbm"] {
             let mut desk = desk(alloc, bytes, &[], &[])?;
-            let outcome = run(alloc, &words(alloc, line)?, &mut desk);
+            let outcome = ran(alloc, line, &mut desk)?;
             assert_eq!(rt; outcome, Outcome::Picture(fault));
             assert_eq!(rt; desk.output().len(), 0);
         }
@@ -278,12 +355,12 @@ fn refusals(rt: HostRuntime) -> Result<(), Fail> {
     ];
     for (line, outcome) in table {
         let mut desk = desk(alloc, one, &[], &[])?;
-        assert_eq!(rt; run(alloc, &words(alloc, line)?, &mut desk), outcome);
+        assert_eq!(rt; ran(alloc, line, &mut desk)?, outcome);
         assert_eq!(rt; desk.output().len(), 0);
     }
     let mut desk = desk(alloc, one, &[2], &[])?;
     assert_eq!(rt;
-        run(alloc, &words(alloc, "analyse pbm a.pbm none")?, &mut desk),
+        ran(alloc, "analyse pbm a.pbm none", &mut desk)?,
         Outcome::ReadFault
     );
     Ok(())

@@ -1,6 +1,8 @@
 //! The top call: what the words ask for is done by `analysis` or `verdict`.
 //! What each outcome means for the desk stands in `specs/Runs.antt`.
 ghost use Rattle.std.specs.Prelude.{◌≡◌, ◌↔◌, ◌⊎◌};
+ghost use Rattle.thin_terms.specs.Shelves.{names_of};
+ghost use Rattle.shape_rules.specs.Ruled.{rules_on};
 ghost use Rattle.shape_cli.specs.Commands.{texts, IsNoForm, Asks};
 ghost use Rattle.shape_cli.specs.Runs.{Ran, KeepsFiles};
 
@@ -9,6 +11,7 @@ use crate::outcome::Outcome;
 use crate::verdict::check_file;
 use crate::words::{Command, read_words};
 use shape_desk::Desk;
+use shape_rules::Shelf;
 use std::alloc::Global;
 
 /// Does what the words of a command line say, without the program's name.
@@ -16,16 +19,23 @@ use std::alloc::Global;
 /// The words are judged first, without memory and without the desk; then the picture is read; then, for a check, the
 /// report; then the output is written. Want of memory may be answered at any time after the words.
 /// Of a report that got its verdict, the bytes of its good lines were taken, and at most 2048 more.
-pub fn run<D: Desk>(alloc: Global, words: &[Vec<u8>], desk: &mut D) -> Outcome
-    ensures usage { (result ≡ Outcome.Usage) ↔ IsNoForm (texts words.now) }
+/// The rule of an analysis is one on the shelf; a check goes by the rule that the report names.
+pub fn run<D: Desk>(alloc: Global, words: &[Vec<u8>], desk: &mut D, mut shelf: Shelf) -> Outcome
+    ensures usage { (result ≡ Outcome.Usage)
+        ↔ IsNoForm (names_of (rules_on opening marks next shelf)) (texts words.now) }
     ensures untouched { result ≡ Outcome.Usage → desk.new ≡ desk.old }
-    ensures ran { Asks (texts words.now) (λ c. Ran c (D.state desk.old) (D.state desk.new) result)
-        ⊎ IsNoForm (texts words.now) }
+    ensures ran { Asks (names_of (rules_on opening marks next shelf)) (texts words.now)
+        (λ c. Ran (rules_on opening marks next shelf) c (D.state desk.old) (D.state desk.new) result)
+        ⊎ IsNoForm (names_of (rules_on opening marks next shelf)) (texts words.now) }
     ensures kept { KeepsFiles (D.state desk.old) (D.state desk.new) }
 {
-    match read_words(words) {
-        Some(Command::Analyse { source }) => analyse_file(alloc, source, desk),
-        Some(Command::Check { source, report }) => check_file(alloc, source, report, desk),
+    match read_words(words, &shelf) {
+        Some(Command::Analyse { source, which, .. }) => {
+            analyse_file(alloc, source, &mut shelf, which, desk)
+        }
+        Some(Command::Check { source, report }) => {
+            check_file(alloc, source, report, &mut shelf, desk)
+        }
         None => Outcome::Usage,
     }
 }

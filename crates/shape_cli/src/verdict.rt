@@ -1,7 +1,9 @@
 //! The command `check`: the picture, then the report, then the verdict line.
 //! The report is judged line by line; nothing of it is kept.
 ghost use Rattle.std.specs.Prelude.{◌≡◌, ◌≤◌, length, take};
+ghost use Rattle.shape_rules.specs.Ruled.{rules_on};
 ghost use Rattle.shape_desk.specs.Desk.{OnlyReads, WritesText};
+ghost use Rattle.report_terms.specs.Subjects.{subject_of};
 ghost use Rattle.shape_cli.specs.Commands.{Asked, read_source};
 ghost use Rattle.shape_cli.specs.Outcomes.{outcome_of};
 ghost use Rattle.shape_cli.specs.Parts.{Judged, IsCounted, verdict_text};
@@ -13,6 +15,7 @@ use crate::words::Source;
 use shape_check::{CheckFault, Judgement, check_flat};
 use shape_desk::{Desk, Failed, Place, put_all, put_number, put_word};
 use shape_grid::Grid;
+use shape_rules::Shelf;
 use shape_space::P2;
 use std::alloc::Global;
 
@@ -21,13 +24,15 @@ fn judge<D: Desk>(
     alloc: Global,
     grid: &Grid<P2>,
     report: &[u8],
+    shelf: &mut Shelf,
     desk: &mut D,
 ) -> Result<Judgement, CheckFault>
-    ensures judged { Judged grid.now report.now (D.state desk.old) (D.state desk.new) result }
+    ensures judged { Judged (subject_of grid.now (rules_on opening marks next shelf.old)) report.now
+        (D.state desk.old) (D.state desk.new) result }
     ensures only { OnlyReads (D.state desk.old) (D.state desk.new) }
 {
     match desk.begin(Place::Report, report) {
-        Ok(()) => check_flat(alloc, grid, desk),
+        Ok(()) => check_flat(alloc, grid, desk, shelf),
         Err(_) => Err(CheckFault::ReadFault),
     }
 }
@@ -74,9 +79,11 @@ pub(crate) fn check_file<D: Desk>(
     alloc: Global,
     source: Source<'_>,
     report: &[u8],
+    shelf: &mut Shelf,
     desk: &mut D,
 ) -> Outcome
-    ensures ran { Ran (Asked.Check (read_source source.entry) report.now)
+    ensures ran { Ran (rules_on opening marks next shelf.old)
+        (Asked.Check (read_source source.entry) report.now)
         (D.state desk.old) (D.state desk.new) result }
     ensures kept { KeepsFiles (D.state desk.old) (D.state desk.new) }
 {
@@ -84,7 +91,7 @@ pub(crate) fn check_file<D: Desk>(
         Ok(grid) => grid,
         Err(error) => return refused(error),
     };
-    let verdict = match judge(alloc, &grid, report, desk) {
+    let verdict = match judge(alloc, &grid, report, shelf, desk) {
         Ok(verdict) => verdict,
         Err(CheckFault::ReadFault) => return Outcome::ReadFault,
         Err(CheckFault::NoMemory) => return Outcome::NoMemory,

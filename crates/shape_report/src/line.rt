@@ -60,6 +60,20 @@ pub enum Line<P> {
         axis: u8,
         why: Refutation,
     },
+    /// The next point that the thinning deletes.
+    Del {
+        p: P,
+    },
+    /// The next point that the thinning marks as an end.
+    Tip {
+        p: P,
+    },
+    /// The counts of the points that the thinning leaves, as `Parts` gives those of all points.
+    Kept {
+        points: u32,
+        object: u32,
+        background: u32,
+    },
     /// The last line.
     End,
 }
@@ -80,7 +94,10 @@ impl<P: Point> Line<P> {
             Line::Seg { .. } => 3,
             Line::Turn { .. } => 3,
             Line::Cut { .. } => 3,
-            Line::End => 4,
+            Line::Del { .. } => 4,
+            Line::Tip { .. } => 4,
+            Line::Kept { .. } => 4,
+            Line::End => 5,
         }
     }
 }

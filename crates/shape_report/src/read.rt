@@ -124,6 +124,36 @@ fn cut<P: Point>(words: &mut Words) -> Option<Line<P>>
     Some(Line::Cut { axis, why })
 }
 
+// Reads the fields of a `del` line.
+fn del<P: Point>(words: &mut Words) -> Option<Line<P>>
+    ensures { ReadsKind P.DIM P.coords Kind.Del words.old words.new result }
+{
+    let p = point(words)?;
+    Some(Line::Del { p })
+}
+
+// Reads the fields of a `tip` line.
+fn tip<P: Point>(words: &mut Words) -> Option<Line<P>>
+    ensures { ReadsKind P.DIM P.coords Kind.Tip words.old words.new result }
+{
+    let p = point(words)?;
+    Some(Line::Tip { p })
+}
+
+// Reads the fields of a `kept` line.
+fn kept<P: Point>(words: &mut Words) -> Option<Line<P>>
+    ensures { ReadsKind P.DIM P.coords Kind.Kept words.old words.new result }
+{
+    let points = count(words)?;
+    let object = count(words)?;
+    let background = count(words)?;
+    Some(Line::Kept {
+        points,
+        object,
+        background,
+    })
+}
+
 // Reads the fields of a line whose first word is given.
 fn fields<P: Point>(word: &[u8], words: &mut Words) -> Option<Line<P>>
     ensures { ReadsFields P.DIM P.coords word.now words.old words.new result }
@@ -144,6 +174,12 @@ fn fields<P: Point>(word: &[u8], words: &mut Words) -> Option<Line<P>>
         turn(words)
     } else if word == b"cut".as_slice() {
         cut(words)
+    } else if word == b"del".as_slice() {
+        del(words)
+    } else if word == b"tip".as_slice() {
+        tip(words)
+    } else if word == b"kept".as_slice() {
+        kept(words)
     } else if word == b"end".as_slice() {
         Some(Line::End)
     } else {
@@ -311,6 +347,10 @@ mod tests {
             "turn z 2 7",
             "turn x 2 -7",
             "cut z 0 0 0",
+            "del 1",
+            "tip 1 2 3",
+            "kept 1 1",
+            "kept 1 1 4294967296",
             "cut x 5 1 0 1 1 1 2 1 3 1 4 0 0",
             "cut x 1 9223372036854775808 0 0 0",
             "cut x 0 0 1 1 up+z",

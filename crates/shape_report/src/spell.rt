@@ -111,6 +111,35 @@ fn put_cut(axis: u8, why: &Refutation, text: &mut Text)
     put_why(why, text)
 }
 
+// Puts the words of a `del` line.
+fn put_del<P: Point>(p: P, text: &mut Text)
+    requires { text.old ≡ [] }
+    ensures { text.new ≡ kind_text P.DIM Kind.Del (P.coords p) }
+{
+    text.put(b"del");
+    text.point(p)
+}
+
+// Puts the words of a `tip` line.
+fn put_tip<P: Point>(p: P, text: &mut Text)
+    requires { text.old ≡ [] }
+    ensures { text.new ≡ kind_text P.DIM Kind.Tip (P.coords p) }
+{
+    text.put(b"tip");
+    text.point(p)
+}
+
+// Puts the words of a `kept` line.
+fn put_kept(points: u32, object: u32, background: u32, text: &mut Text)
+    requires { text.old ≡ [] }
+    ensures { text.new ≡ kind_text 2 Kind.Kept (points, (object, background)) }
+{
+    text.put(b"kept");
+    text.count(points);
+    text.count(object);
+    text.count(background)
+}
+
 // Puts the words of a line.
 fn put_line<P: Point>(line: &Line<P>, text: &mut Text)
     requires empty { text.old ≡ [] }
@@ -139,6 +168,13 @@ fn put_line<P: Point>(line: &Line<P>, text: &mut Text)
         } => put_seg(*first, *last, naive, text),
         Line::Turn { axis, i, j } => put_turn(*axis, *i, *j, text),
         Line::Cut { axis, why } => put_cut(*axis, why, text),
+        Line::Del { p } => put_del(*p, text),
+        Line::Tip { p } => put_tip(*p, text),
+        Line::Kept {
+            points,
+            object,
+            background,
+        } => put_kept(*points, *object, *background, text),
         Line::End => text.put(b"end"),
     }
 }

@@ -61,7 +61,7 @@ fn a_small_report(rt: HostRuntime) -> Result<(), Fail> {
 fn lines_of_every_kind_are_read_and_written(rt: HostRuntime) {
     let alloc = rt.alloc();
     let text = b"shape 1 pbm 2 1 few\nparts 4 1 2\nnear 0 0 -1 0 1\ncontour 0 0 3 4 0\nat 12 7\n\
-seg 1 4 y -1 3 0\nturn x 2 7\ncut y 2 1 0 1 4 1 2 2 0\ncut x 0 1 7 1 3 5 up 6 up+y 7 up-y\nend\n"
+seg 1 4 y -1 3 0\nturn x 2 7\ncut y 2 1 0 1 4 1 2 2 0\ncut x 0 1 7 1 3 5 up 6 up+y 7 up-y\ndel 0 0\ntip -1 7\nkept 3 1 2\nend\n"
         .as_slice();
     let mut report = Report::new(alloc);
     for text in [
@@ -74,6 +74,9 @@ seg 1 4 y -1 3 0\nturn x 2 7\ncut y 2 1 0 1 4 1 2 2 0\ncut x 0 1 7 1 3 5 up 6 up
         "turn x 2 7",
         "cut y 2 1 0 1 4 1 2 2 0",
         "cut x 0 1 7 1 3 5 up 6 up+y 7 up-y",
+        "del 0 0",
+        "tip -1 7",
+        "kept 3 1 2",
         "end",
     ] {
         let Some(line) = read_claim::<P2>(text.as_bytes()) else {

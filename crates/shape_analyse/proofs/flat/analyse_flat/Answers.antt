@@ -1,16 +1,37 @@
-use Rattle.std.proofs.Common.{length, refl}
+use Rattle.std.proofs.Common.{length, refl, sym, ◌∙◌}
 use Rattle.shape_terms.specs.Pictures.{object_points}
-use Rattle.shape_analyse.proofs.Growth.{text_as}
-use Rattle.shape_analyse.proofs.ContourGrowth.{contour_starts, outlined_none, outlined_done}
+use Rattle.shape_rules.specs.Names.{word_of}
+use Rattle.shape_rules.proofs.Ruled.{rules_same, rule_there, others_same}
+use Rattle.shape_analyse.proofs.ThinningGrowth.{renamed}
 use Rattle.shape_analyse.proofs.flat.analyse_flat.Goals as goal
 
-pub add_contours-requires : goal.add_contours-requires
-add_contours-requires c = record { sides = contour_starts c.args.grid.now c.in_ok-contours.contours c.in_ok-contours.ensures }
+pub returns-in_err-thinning-clause-kept : goal.returns-in_err-thinning-clause-kept
+returns-in_err-thinning-clause-kept g c =
+    rules_same _ _ _ c.args.shelf.now c.args.which c.rule.result.now c.thinned.new.rule c.rule.ensures.value c.thinned.ensures.same_opening c.thinned.ensures.same_marks c.thinned.ensures.same_next
 
-pub returns : goal.returns
-returns c =
+pub returns-in_err-add_thinning-clause-kept : goal.returns-in_err-add_thinning-clause-kept
+returns-in_err-add_thinning-clause-kept g c =
+    rules_same _ _ _ c.args.shelf.now c.args.which c.rule.result.now c.thinned.new.rule c.rule.ensures.value c.thinned.ensures.same_opening c.thinned.ensures.same_marks c.thinned.ensures.same_next
+
+pub returns-clause-kept : goal.returns-clause-kept
+returns-clause-kept g c =
+    rules_same _ _ _ c.args.shelf.now c.args.which c.rule.result.now c.thinned.new.rule c.rule.ensures.value c.thinned.ensures.same_opening c.thinned.ensures.same_marks c.thinned.ensures.same_next
+
+pub returns-in_err-thinning-clause-others : goal.returns-in_err-thinning-clause-others
+returns-in_err-thinning-clause-others g c = λ j other. others_same c.args.shelf.now c.args.which j c.thinned.new.rule other
+
+pub returns-in_err-add_thinning-clause-others : goal.returns-in_err-add_thinning-clause-others
+returns-in_err-add_thinning-clause-others g c = λ j other. others_same c.args.shelf.now c.args.which j c.thinned.new.rule other
+
+pub returns-clause-others : goal.returns-clause-others
+returns-clause-others g c = λ j other. others_same c.args.shelf.now c.args.which j c.thinned.new.rule other
+
+pub returns-clause-holds : goal.returns-clause-holds
+returns-clause-holds g c = λ name there.
+    let on = rule_there _ _ _ c.args.shelf.now c.args.which c.rule.result.now (word_of c.name.result) c.rule.ensures.value c.name.ensures in
+    let run = c.in_ok-thinning.ensures.thinning in
     let X = c.args.grid.now in
-    let contours = c.in_ok-contours.contours in
-    let none = text_as (λ lines h. outlined_none X (length (object_points X)) lines contours h refl c.in_ok-report.ensures.axes c.in_ok-contours.ensures) c.in_ok-report.ensures.grown in
-    let h = c.in_ok-add_contours.ensures X none in
-    outlined_done X contours h.lines _ _ h.is c.in_ok-add.ensures.ok h.so
+    let counts = c.in_ok-thinning.ensures.kept (length (object_points X)) c.in_ok-counted.counted.object c.in_ok-counted.counted.background c.in_ok-counted.ensures in
+    let contours = c.in_ok-report.ensures _ _ on in
+    let holds = c.in_ok-add_thinning.ensures _ _ run.1 refl counts contours in
+    renamed _ _ _ _ (sym c.name.ensures ∙ there) holds

@@ -2,6 +2,7 @@ use Rattle.std.proofs.Common.{◌≡◌, ◌≤◌, [], ◌∷◌, length, inl, 
 use Rattle.report_terms.specs.Lines.{Line, IsLineOf}
 use Rattle.shape_terms.specs.Parts.{Counts}
 use Rattle.shape_rules.specs.Names.{word_of}
+use Rattle.shape_analyse.specs.Growing.{aim_of}
 use Rattle.shape_analyse.proofs.Growth.{text_push, text_more, heading_fits, growing_none}
 use Rattle.shape_analyse.proofs.flat.open.Goals as goal
 
@@ -11,13 +12,13 @@ returns-clause-open g c =
     let s = c.sides-sides.result in
     let w = c.sides-sides.ensures.picture in
     let sides = g.P.Point.coords s.lengths in
-    let rule = c.no_rule.result in
+    let rule = c.args.rule in
     let n = c.count.result in
-    let parts = c.in_ok-counted.counted in
+    let parts = c.args.counted in
     let axes : length sides ≡ length X.sides = g.met.P.Point.axes s.lengths ∙ sym w.axes in
     let three : length X.sides ≤ 3 = elim g.met.P.Point.two_or_three [ inl d ↦ omega (arith, w.axes, d) | inr d ↦ omega (arith, w.axes, d) ] in
     let first = heading_fits g.P.Point.MAX_SIDE (length X.sides) sides (word_of rule) s.in_range g.met.P.Point.flat_side axes rule.is_name in
     let second : IsLineOf (length X.sides) (Line.Parts n parts.object parts.background) = search rules in
-    let counts : Counts X n parts.object parts.background = rw c.count.ensures c.in_ok-counted.ensures in
+    let counts : Counts X n parts.object parts.background = rw c.count.ensures c.requires in
     let one = text_push _ _ [] (Line.Shape sides (word_of rule)) c.new-report.ensures c.in_ok-add.ensures.ok in
-    text_more _ _ _ (Line.Shape sides (word_of rule) ∷ []) _ one c.in_ok-add-2.ensures.ok (growing_none g.P.Point.MAX_SIDE X sides (word_of rule) n parts.object parts.background s.in_range c.sides-sides.ensures.value three first c.no_rule.ensures second counts)
+    λ shelf by on. text_more _ _ _ (Line.Shape sides (word_of rule) ∷ []) _ one c.in_ok-add-2.ensures.ok (growing_none g.P.Point.MAX_SIDE (aim_of X shelf (word_of rule) by) sides n parts.object parts.background s.in_range c.sides-sides.ensures.value three first on second counts)

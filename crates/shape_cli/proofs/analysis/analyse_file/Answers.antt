@@ -1,9 +1,15 @@
+use Rattle.shape_cli.specs.Commands.{read_source}
 use Rattle.shape_cli.specs.declared.outcome.Outcome.TheVariants.{Done}
-use Rattle.shape_cli.proofs.Endings.{cut_short}
+use Rattle.shape_cli.proofs.Endings.{cut_short, analysed}
 use Rattle.shape_cli.proofs.analysis.analyse_file.Goals as goal
 
 pub returns-clause-ran : goal.returns-clause-ran
-returns-clause-ran g c =
+returns-clause-ran g c = λ rule there.
     let s = g.D.Desk.state in
     let w = c.in-Err-write_report.ensures in
-    cut_short _ (s c.args.desk.now) (s c.open_picture.new.desk) (s c.write_report.new.desk) Done (c.in-Ok-analyse_flat.report) c.in-Ok.ensures.only (c.in-Ok.grid, c.in-Ok.ensures.opened, c.in-Ok-analyse_flat.ensures) w.text.err w.failed tt
+    cut_short _ _ (s c.args.desk.now) (s c.open_picture.new.desk) (s c.write_report.new.desk) Done c.in-Ok-analyse_flat.report c.in-Ok.ensures.only (c.in-Ok.grid, c.in-Ok.ensures.opened, c.in-Ok-analyse_flat.ensures.holds rule there) w.text.err w.failed tt
+
+pub returns-in-Ok-write_report-clause-ran : goal.returns-in-Ok-write_report-clause-ran
+returns-in-Ok-write_report-clause-ran g c = λ rule there.
+    let s = g.D.Desk.state in
+    analysed _ (read_source c.args.source) rule (s c.args.desk.now) (s c.open_picture.new.desk) (s c.write_report.new.desk) c.in-Ok.grid c.in-Ok-analyse_flat.report c.in-Ok.ensures.only c.in-Ok.ensures.opened (c.in-Ok-analyse_flat.ensures.holds rule there) c.in-Ok-write_report.ensures.text.ok

@@ -39,5 +39,14 @@ returns-in-Turn g c = rw c.in-Turn.is c.put_turn.ensures
 pub returns-in-Cut : goal.returns-in-Cut
 returns-in-Cut g c = rw c.in-Cut.is c.put_cut.ensures
 
+pub returns-in-Del : goal.returns-in-Del
+returns-in-Del g c = rw c.in-Del.is c.put_del.ensures
+
+pub returns-in-Tip : goal.returns-in-Tip
+returns-in-Tip g c = rw c.in-Tip.is c.put_tip.ensures
+
+pub returns-in-Kept : goal.returns-in-Kept
+returns-in-Kept g c = rw c.in-Kept.is c.put_kept.ensures
+
 pub returns-in-End : goal.returns-in-End
 returns-in-End g c = rw (c.in-End.is, c.put.ensures, c.requires.empty) refl

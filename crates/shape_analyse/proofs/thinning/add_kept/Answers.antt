@@ -1,0 +1,16 @@
+use Rattle.std.proofs.Common.{rules, sym, subst}
+use Rattle.shape_terms.specs.Pictures.{Picture}
+use Rattle.shape_terms.specs.Parts.{Counts}
+use Rattle.report_terms.specs.Lines.{Line, IsLineOf}
+use Rattle.shape_analyse.proofs.Growth.{text_more}
+use Rattle.shape_analyse.proofs.ThinningGrowth.{events_kept}
+use Rattle.shape_analyse.proofs.thinning.add_kept.Goals as goal
+
+pub returns : goal.returns
+returns c = λ X stage t left counts h.
+    let n = c.count.result in
+    let parts = c.args.counted in
+    let fields : IsLineOf 2 (Line.Kept n parts.object parts.background) = search rules in
+    let mine : Counts c.args.thinning.now.left n parts.object parts.background = rw (c.count.ensures, c.left.ensures) counts in
+    let there : Counts stage.left n parts.object parts.background = subst (λ (Y : Picture). Counts Y n parts.object parts.background) (sym left) mine in
+    text_more _ _ _ h.lines _ h.is c.in_ok-add.ensures.ok (events_kept X c.args.thinning.now.events stage h.lines n parts.object parts.background h.so t there fields)

@@ -1,0 +1,102 @@
+-- The heading of a report, and what is known of a report behind it.
+-- Laws over shelves, texts and lines; the program stands in none.
+use Rattle.std.proofs.Common.{◌≡◌, ◌≤◌, ℕ, refl, sym, ap, ◌∙◌, subst, arith, List, [], ◌∷◌, ◌++◌, length, map, Bool, Option, None, Some, Ok, Err}
+use Rattle.std.specs.Prelude.{pos, MatchOption}
+use Rattle.std.proofs.lemmas.List.{length-append}
+use Rattle.shape_desk.specs.Line.{IfTold, ahead_of}
+use Rattle.shape_terms.specs.Points.{Point}
+use Rattle.thin_terms.specs.Thinning.{Rule, Facts}
+use Rattle.thin_terms.specs.Shelves.{Named, AreNames, names_of}
+use Rattle.report_terms.specs.Subjects.{Subject, IsOnShelf}
+use Rattle.report_terms.specs.Lines.{Line}
+use Rattle.report_terms.specs.Sections.{Section, rank, lines_of, GoodAfter, NamesRule}
+use Rattle.report_terms.specs.Holds.{FirstBad}
+use Rattle.report_terms.specs.Progress.{StartsWithLine}
+use Rattle.report_terms.proofs.SectionLaws.{come_none, come_more, come_past, none_past, lines_skip}
+use Rattle.report_terms.proofs.NamedRules.{one_named}
+use Rattle.report_terms.proofs.HeadingFirst.{past_heading}
+use Rattle.report_terms.proofs.Checking.{begins_none, begins_next, first_bad, one_line, no_line_at_end}
+use Rattle.shape_terms.proofs.Members.{Contains-map}
+use Rattle.shape_check.specs.Next.{TakesClaim, IsBad}
+use Rattle.shape_check.specs.Rows.{IsRuledBy, MayCome}
+use Rattle.shape_check.specs.Going.{GoingOn, BehindHeading}
+use Rattle.shape_rules.specs.Ruled.{rules_on}
+use Rattle.shape_check.specs.Checks.{Answer, Checks}
+use Rattle.shape_check.specs.declared.answer.CheckFault.TheVariants.{ReadFault, NoMemory}
+use Rattle.shape_check.specs.declared.answer.Judgement.TheVariants.{Yes, No}
+use Rattle.shape_check.specs.Heading.{IsHeading, IsNoHeading, LacksHeading, HeadingAnswer}
+use Rattle.shape_check.proofs.Going.{if_told}
+
+-- ---- what looking for the heading answers
+
+module _ (d : ℕ) (sides : Point) (names : List (List ℕ)) (old new : Option (List ℕ)) (before now : ℕ) where
+  pub answer_claim : (l : Line) (r : Option ℕ) → IfTold old (λ bytes. TakesClaim d bytes new l) → MatchOption r (IsNoHeading sides names l) (IsHeading sides names l)
+      → HeadingAnswer d sides names old new before now (Ok r)
+  answer_claim l None t h = if_told old (λ bytes k m rest starts. subst (IsNoHeading sides names) (sym (one_line d bytes m l rest k.rest starts k.starts).0) h) t
+  answer_claim l (Some i) t h = if_told old (λ bytes k. record { line = l; takes = k; heading = h }) t
+
+  pub answer_bad : IfTold old (IsBad d) → HeadingAnswer d sides names old new before now (Ok None)
+  answer_bad t = if_told old (λ bytes k m rest starts. absurd (k.none m rest starts)) t
+
+  pub answer_end : IfTold old (λ bytes. bytes ≡ []) → HeadingAnswer d sides names old new before now (Ok None)
+  answer_end t = if_told old (λ bytes e m rest starts. absurd (no_line_at_end d bytes e m rest starts)) t
+
+-- a heading that names a rule on a shelf of distinct names names no other
+ruled_by : (X : Subject) → AreNames (names_of X.shelf) → (heading : List Line) (rule : Rule) → NamesRule X.shelf heading rule → IsRuledBy X heading rule
+ruled_by X apart heading rule names = record { names = names; alone = λ other o. one_named X.shelf apart heading other rule o names }
+
+-- ---- behind the heading
+
+module _ (X : Subject) (sides : Point) (name : List ℕ) (rule : Rule) (given : sides ≡ map pos X.picture.sides) (on : IsOnShelf X.shelf name rule) where
+  -- the heading is good where no line stands before it
+  good_first : GoodAfter X [] (Line.Shape sides name)
+  good_first = record { come = come_none X; claim = (refl, (given, (rule, on))) }
+
+  pub behind_heading : AreNames (names_of X.shelf) → (s : Section) → rank s ≡ 1 → (text : List ℕ) (new : Option (List ℕ)) → TakesClaim (length X.picture.sides) text new (Line.Shape sides name) → GoingOn X text new (BehindHeading X rule s) 2
+  behind_heading apart s one text new t = record {
+    lines = Line.Shape sides name ∷ [];
+    bytes = t.rest;
+    told = t.left;
+    front = begins_next X text [] text (Line.Shape sides name) t.rest (begins_none X text) t.starts good_first;
+    follows = record {
+      ruled = ruled_by X apart _ rule (record { sides = sides; name = name; first = refl; on_shelf = on });
+      come = come_past X Section.Heading s (Line.Shape sides name ∷ []) one (come_more X Section.Heading [] (Line.Shape sides name) (come_none X) refl) refl;
+      none = none_past Section.Heading s (Line.Shape sides name ∷ []) (omega (arith, one)) (come_more X Section.Heading [] (Line.Shape sides name) (come_none X) refl).order;
+    };
+    number = omega arith;
+  }
+
+-- a text that begins with no heading has a bad first line
+pub no_heading : (X : Subject) (sides : Point) (text : List ℕ) → sides ≡ map pos X.picture.sides → LacksHeading (length X.picture.sides) sides (names_of X.shelf) text → FirstBad X text 1
+no_heading X sides text given lacks = first_bad X text [] text (begins_none X text) (λ l rest starts good. bad l rest starts good) (λ front e z. let m = ap length e in omega (arith, m, length-append front (Line.End ∷ [])))
+  where
+    bad : (l : Line) (rest : List ℕ) → StartsWithLine (length X.picture.sides) text l rest → GoodAfter X [] l → ⊥
+    bad (Line.Shape s n) rest starts good =
+        let same = ap (λ t. Line.Shape t n) (good.claim.1.0 ∙ sym given) in
+        lacks (Line.Shape s n) rest starts n same (Contains-map (λ e. e.name) X.shelf _ good.claim.1.1.1)
+    bad l rest starts good = absurd (let c = good.come.complete Section.Heading (omega arith) in omega (arith, c))
+
+-- ---- behind the heading, where a line comes
+
+module _ (X : Subject) (rule : Rule) (s : Section) (one : rank s ≡ 1) (lines : List Line) (l : Line) (ruled : IsRuledBy X (lines_of Section.Heading lines) rule) where
+  pub may_come : MayCome X s lines l
+  may_come good = omega (arith, one, past_heading X lines l _ ruled.names.first good)
+
+  pub still_ruled : GoodAfter X lines l → IsRuledBy X (lines_of Section.Heading (lines ++ l ∷ [])) rule
+  still_ruled good = subst (λ ls. IsRuledBy X ls rule) (sym (lines_skip Section.Heading lines l (past_heading X lines l _ ruled.names.first good))) ruled
+
+-- ---- bytes taken ahead, faults before, names of a shelf
+
+pub none_ahead : (ahead : List ℕ) (left : Option (List ℕ)) → ahead ≡ [] → ahead_of ahead left ≡ left
+none_ahead ahead None e = refl
+none_ahead ahead (Some left) e = ap (λ a. Some (a ++ left)) e
+
+pub checks_later : (X : Subject) (text : Option (List ℕ)) (before middle now : ℕ) (r : Answer) → before ≤ middle → Checks X text middle now r → Checks X text before now r
+checks_later X text before middle now (Ok Yes) l h = h
+checks_later X text before middle now (Ok (No k)) l h = h
+checks_later X text before middle now (Err ReadFault) l h = omega (arith, h)
+checks_later X text before middle now (Err NoMemory) l h = tt
+
+pub names_on : {R : Type 0} (opening : R → List ℕ) (marks : R → List ℕ → Facts → Bool) (next : R → List ℕ → Facts → List ℕ) (shelf : List (Named R)) → names_of (rules_on opening marks next shelf) ≡ names_of shelf
+names_on opening marks next [] = refl
+names_on opening marks next (e ∷ es) = ap (λ ns. e.name ∷ ns) (names_on opening marks next es)

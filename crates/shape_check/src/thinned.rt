@@ -1,0 +1,143 @@
+//! The judge of the lines of the thinning: its events, and the counts of the points left.
+//! How the events are followed stands in `judge_thin`.
+ghost use Rattle.std.specs.Prelude.{◌≡◌, ◌↔◌, ◌+◌, ◌<◌, true, false, IsTrue, IfOk, ℕ, List, [], ◌∷◌, ◌++◌};
+ghost use Rattle.shape_terms.specs.Pictures.{Picture, at};
+ghost use Rattle.thin_terms.specs.Thinning.{Rule, Event, HasDistance, rule_by};
+ghost use Rattle.report_terms.specs.Lines as Terms;
+ghost use Rattle.report_terms.specs.Sections.{Section};
+ghost use Rattle.report_terms.specs.ThinningLines.{IsKeptLine};
+ghost use Rattle.shape_queue.specs.Distances.{AreDistances};
+ghost use Rattle.shape_check.specs.Followed.{Thins, HasFollowed};
+
+use crate::counts::PictureCounts;
+use crate::judges::SectionJudge;
+use judge_field::Scans;
+use judge_thin::ThinJudge;
+use shape_report::Line;
+use shape_rules::EndRule;
+use shape_space::{NoMemory, Point};
+use shape_topo::SimpleMask;
+use std::alloc::Global;
+
+/// The judge of the `del`, `tip` and `kept` lines.
+#[derive(Drop)]
+pub struct ThinnedJudge<P: SimpleMask> {
+    // It follows the events.
+    pub events: ThinJudge<P>,
+    // Whether the rule has begun.
+    pub begun: bool,
+    // The components of the object and of the background, which no event changes.
+    pub object: u32,
+    pub background: u32,
+    // Whether the `kept` line was taken.
+    pub kept: bool,
+}
+
+// The squared distance of an object point, and 0 of any other.
+fn distance_at<P: Point>(scans: &Scans<P>, p: P) -> u64
+    ensures { IsTrue (at scans.now (P.coords p)) → HasDistance scans.now (P.coords p) result }
+{
+    if scans.grid().has(p) {
+        scans.least(p)
+    } else {
+        0
+    }
+}
+
+/// The squared distances of the object points by raster number, from the least ones that were scanned.
+pub(crate) fn distances_of<P: Point>(alloc: Global, scans: &Scans<P>) -> Result<Vec<u64>, NoMemory>
+    ensures { IfOk result (λ d. AreDistances scans.now d.items) }
+{
+    let sides = scans.grid().sides();
+    let n = sides.count();
+    let mut distances = Vec::with_capacity(alloc, n as usize)?;
+    for i in 0..n {
+        distances.push(distance_at(scans, sides.unraster(i)))?;
+    }
+    Ok(distances)
+}
+
+impl<P: SimpleMask> ThinnedJudge<P> {
+    ghost use Rattle.judge_thin.specs.Standing.{StandsFor};
+
+    // Lets the rule begin anew, before the first line.
+    fn start(&mut self, rule: &mut dyn EndRule)
+        ensures begun { self.new.begun ≡ true }
+        ensures events { self.new.events ≡ self.old.events }
+        ensures object { self.new.object ≡ self.old.object }
+        ensures background { self.new.background ≡ self.old.background }
+        ensures kept { self.new.kept ≡ self.old.kept }
+        ensures stands { let by = rule_by (opening rule.old) (marks rule.old) (next rule.old) in
+            (X : Picture) (events : List Event) → HasFollowed self.old.begun
+            (λ events now. StandsFor by X events now self.old.events) (opening rule.old)
+            (state rule.old) events → StandsFor by X events (state rule.new) self.new.events }
+        ensures same_opening { opening rule.new ≡ opening rule.old }
+        ensures same_marks { marks rule.new ≡ marks rule.old }
+        ensures same_next { next rule.new ≡ next rule.old }
+    {
+        if !self.begun {
+            rule.reset();
+            self.begun = true;
+        }
+    }
+
+    // Whether the `kept` line gives the counts of the points left, of which none is unmarked and simple.
+    fn are_left(&self, points: u32, object: u32, background: u32) -> bool
+        ensures { (X : Picture) (by : Rule) (now : List ℕ) (lines : List Terms.Line)
+            → self.now.begun ≡ true → self.now.kept ≡ false
+            → Thins X by (λ events now. StandsFor by X events now self.now.events) self.now.begun
+            self.now.kept self.now.object self.now.background now lines
+            → (IsTrue result ↔ IsKeptLine by X lines points object background) }
+    {
+        if !self.events.finished() {
+            return false;
+        }
+        let left = PictureCounts {
+            points: self.events.left(),
+            object: self.object,
+            background: self.background,
+        };
+        left.are(points, object, background)
+    }
+}
+
+impl<P: SimpleMask> SectionJudge<P> for ThinnedJudge<P> {
+    ghost use Rattle.std.specs.Prelude.{if◌then◌else◌};
+    ghost use Rattle.judge_thin.specs.Standing.{StandsFor, room_of};
+
+    ghost section = { Section.Thinned };
+
+    ghost stands = { λ X by j now lines. Thins X by (λ events now. StandsFor by X events now j.events)
+        j.begun j.kept j.object j.background now lines };
+
+    ghost room = { λ j. room_of j.events + (if j.kept then 0 else 1) };
+
+    fn rank() -> u8 {
+        4
+    }
+
+    fn take(&mut self, line: &Line<P>, rule: &mut dyn EndRule) -> Result<bool, NoMemory> {
+        if self.kept {
+            return Ok(false);
+        }
+        self.start(rule);
+        match *line {
+            Line::Del { p } => self.events.event(p, false, rule),
+            Line::Tip { p } => self.events.event(p, true, rule),
+            Line::Kept {
+                points,
+                object,
+                background,
+            } => {
+                let good = self.are_left(points, object, background);
+                self.kept = true;
+                Ok(good)
+            }
+            _ => Ok(false),
+        }
+    }
+
+    fn is_done(&self) -> bool {
+        self.kept
+    }
+}
