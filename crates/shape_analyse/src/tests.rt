@@ -73,6 +73,7 @@ fn a_picture_with_ends(rt: HostRuntime) -> Result<(), Fail> {
     let alloc = rt.alloc();
     let grid = square(alloc)?;
     let mut shelf = shelf(alloc, Box::new(alloc, NoEnds)?, Box::new(alloc, CurveEnds)?)?;
+    assert_eq!(rt; shelf.len(), 2);
     let Ok(report) = analyse_flat(alloc, &grid, &mut shelf, 1) else {
         return Err(Fail::from(AllocError));
     };
