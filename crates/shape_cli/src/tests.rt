@@ -1,8 +1,10 @@
 //! Runs over a desk in memory: pictures, commands and failures whose outcomes are known from outside.
+ghost use Rattle.std.specs.Prelude.{◌==◌, [], ◌∷◌, if◌then◌else◌, slice_index};
+
 use super::*;
 use shape_desk::MemoryDesk;
 use shape_picture::PictureFault;
-use shape_rules::{CurveEnds, EndRule, Entry, Name, NoEnds, Shelf};
+use shape_rules::{CurveEnds, EndRule, Entry, Facts, Name, NoEnds, Shelf};
 use std::alloc::{AllocError, Global};
 use std::test::Fail;
 
@@ -72,8 +74,8 @@ fn one_pixel(rt: HostRuntime) -> Result<(), Fail> {
     Ok(())
 }
 
-// The outcome of the check of a report against a picture.
-fn checked(alloc: Global, picture: &[u8], report: &[u8]) -> Result<Outcome, Fail> {
+// The outcome of the check of a report against a picture, with the rules of a shelf.
+fn checked_by(alloc: Global, picture: &[u8], report: &[u8], shelf: Shelf) -> Result<Outcome, Fail> {
     let mut files = Vec::new(alloc);
     files.push((b"a.pbm".to_vec(alloc)?, picture.to_vec(alloc)?))?;
     files.push((b"a.report".to_vec(alloc)?, report.to_vec(alloc)?))?;
@@ -81,7 +83,14 @@ fn checked(alloc: Global, picture: &[u8], report: &[u8]) -> Result<Outcome, Fail
     else {
         return Err(Fail::from(AllocError));
     };
-    ran(alloc, "check pbm a.pbm a.report", &mut desk)
+    let words = words(alloc, "check pbm a.pbm a.report")?;
+    Ok(run(alloc, &words, &mut desk, shelf))
+}
+
+// The same with the rules `none` and `curve`.
+fn checked(alloc: Global, picture: &[u8], report: &[u8]) -> Result<Outcome, Fail> {
+    let shelf = shelf(alloc, Box::new(alloc, NoEnds)?, Box::new(alloc, CurveEnds)?)?;
+    checked_by(alloc, picture, report, shelf)
 }
 
 #[test]
@@ -252,6 +261,59 @@ fn thinnings(rt: HostRuntime) -> Result<(), Fail> {
         assert!(rt; desk.output().ends_with(end));
         assert_eq!(rt; checked(alloc, picture, desk.output())?, Outcome::Yes);
     }
+    Ok(())
+}
+
+// Marks at every second question.
+#[derive(Drop)]
+struct Alternate {
+    turn: u64,
+}
+
+impl EndRule for Alternate {
+    ghost state = { λ r. r.turn ∷ [] };
+
+    ghost opening = { λ r. 0 ∷ [] };
+
+    ghost marks = { λ r s f. slice_index s 0 == 1 };
+
+    ghost next = { λ r s f. (if slice_index s 0 == 1 then 0 else 1) ∷ [] };
+
+    fn reset(&mut self) {
+        self.turn = 0;
+    }
+
+    fn keep(&mut self, _facts: &Facts) -> bool {
+        let marks = self.turn == 1;
+        self.turn = if marks { 0 } else { 1 };
+        marks
+    }
+}
+
+#[test]
+fn a_rule_of_the_caller(rt: HostRuntime) -> Result<(), Fail> {
+    let alloc = rt.alloc();
+    let picture = b"P1 3 3 111111111".as_slice();
+    let mut desk = desk(alloc, picture, &[], &[])?;
+    let words = words(alloc, "analyse pbm a.pbm curve")?;
+    let first = shelf(
+        alloc,
+        Box::new(alloc, NoEnds)?,
+        Box::new(alloc, Alternate { turn: 1 })?,
+    )?;
+    assert_eq!(rt; run(alloc, &words, &mut desk, first), Outcome::Done);
+    let end =
+        b"\ndel 0 0\ntip 1 0\ndel 2 0\ntip 0 1\ndel 2 1\ntip 0 2\ndel 1 2\ntip 2 2\nkept 5 1 1\nend\n";
+    assert!(rt; desk.output().ends_with(end.as_slice()));
+    let second = shelf(
+        alloc,
+        Box::new(alloc, NoEnds)?,
+        Box::new(alloc, Alternate { turn: 1 })?,
+    )?;
+    assert_eq!(rt;
+        checked_by(alloc, picture, desk.output(), second)?,
+        Outcome::Yes
+    );
     Ok(())
 }
 
