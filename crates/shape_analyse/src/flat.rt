@@ -119,7 +119,8 @@ fn outlined(
 
 /// The report of a flat picture, thinned by a rule of the shelf, which holds of it.
 ///
-/// The distances cost a search of the framed box for each object point, and each contour a search of its segments.
+/// Distances, contours and segments take time in proportion to the points of the framed box and of the contours, the
+/// thinning n log n. The rule `which` begins anew, and its state is free afterwards, also where memory was wanting.
 pub fn analyse_flat(
     alloc: Global,
     grid: &Grid<P2>,
