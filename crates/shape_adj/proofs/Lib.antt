@@ -2,3 +2,4 @@ pub mod Flooding
 pub mod Links
 pub mod Labelling
 pub mod FlatSteps
+mod SolidSteps

@@ -1,3 +1,2 @@
 pub mod Flood
 pub mod Labels
-pub mod Plane

@@ -8,6 +8,7 @@ mod net;
 mod pairing;
 mod picture;
 mod places;
+mod solid;
 
 pub use answers::{Labels, Parts};
 pub use pairing::Pairing;

@@ -6,7 +6,7 @@ ghost use Rattle.shape_terms.specs.FramedBox.{IsWithin};
 ghost use Rattle.shape_terms.specs.Adjacency.{Near, Side, Round, Lists, city_distance, near_steps, side_steps, near_step, side_step, near_point, side_point};
 ghost use Rattle.shape_terms.proofs.AdjacencySymmetric.{near_sym, side_sym};
 ghost use Rattle.shape_terms.proofs.NeighbourNumbers.{near_listed_once, side_listed_once, side_is_round};
-ghost use Rattle.shape_adj.specs.Plane.{all_round};
+ghost use Rattle.shape_terms.proofs.RoundSets.{flat_round};
 
 use shape_space::{P2, Point};
 
@@ -124,7 +124,7 @@ impl Pairing for P2 {
 
     ghost side_symmetric = { λ p q. side_sym (p.x ∷ p.y ∷ []) (q.x ∷ q.y ∷ []) };
 
-    ghost round_bits = { λ p k h. all_round p.x p.y k h };
+    ghost round_bits = { λ p k h. flat_round (p.x ∷ p.y ∷ []) k refl h };
 
     ghost side_in_round = { λ p q. side_is_round (p.x ∷ p.y ∷ []) (q.x ∷ q.y ∷ []) };
 

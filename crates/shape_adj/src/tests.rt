@@ -4,7 +4,7 @@ ghost use Rattle.shape_terms.specs.FramedBox.{IsWithin};
 
 use super::*;
 use shape_grid::Grid;
-use shape_space::{P2, Sides};
+use shape_space::{P2, P3, Sides};
 use std::alloc::{AllocError, Global};
 use std::test::Fail;
 
@@ -111,5 +111,39 @@ fn neighbours_in_the_plane(rt: HostRuntime) -> Result<(), Fail> {
         [at(4, 0), at(6, 0), at(5, -1), at(5, 1)].as_slice()
     );
     assert_eq!(rt; P2::ROUND, 255);
+    Ok(())
+}
+
+#[test]
+fn neighbours_in_space(rt: HostRuntime) -> Result<(), Fail> {
+    let at = |x: i32, y: i32, z: i32| P3 { x, y, z };
+    let (near, side) = around(rt.alloc(), at(5, 0, 7))?;
+    assert_eq!(rt; near.len(), 26);
+    // the first row of the layer before, the row through the point, and the last of the layer behind
+    let rows = [
+        at(4, -1, 6),
+        at(5, -1, 6),
+        at(6, -1, 6),
+        at(4, 0, 7),
+        at(6, 0, 7),
+        at(4, 1, 8),
+        at(5, 1, 8),
+        at(6, 1, 8),
+    ];
+    let numbers = [0usize, 1, 2, 12, 13, 23, 24, 25];
+    for i in 0..8usize {
+        assert_eq!(rt; near.get(numbers[i]), Some(&rows[i]));
+    }
+    let beside = [
+        at(4, 0, 7),
+        at(6, 0, 7),
+        at(5, -1, 7),
+        at(5, 1, 7),
+        at(5, 0, 6),
+        at(5, 0, 8),
+    ];
+    assert_eq!(rt; side.as_slice(), beside.as_slice());
+    // the eight corners are not looked at
+    assert_eq!(rt; (P3::ROUND.count_ones(), P3::ROUND & 0x28a0145), (18, 0));
     Ok(())
 }

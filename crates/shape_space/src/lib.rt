@@ -10,6 +10,7 @@ mod memory;
 mod point;
 mod row;
 mod sides;
+mod solid;
 mod vector;
 
 pub use counter::Steps;
@@ -19,6 +20,7 @@ pub use memory::NoMemory;
 pub use point::{P2, Point};
 pub use row::Row;
 pub use sides::{Sides, raster_order};
+pub use solid::P3;
 pub use vector::dot;
 
 #[cfg(test)]

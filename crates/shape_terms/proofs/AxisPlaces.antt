@@ -1,6 +1,6 @@
 -- Numbers and their digits before an axis, on it and behind it: each number has them once.
 -- Plain variables alone stand here.
-use Rattle.std.proofs.Common.{◌≡◌, ℕ, zero, suc, ◌+◌, ◌*◌, ◌/◌, ◌%◌, ◌<◌, ◌≤◌, refl, sym, ap, ◌∙◌, arith, mul_comm}
+use Rattle.std.proofs.Common.{◌≡◌, ℕ, zero, suc, ◌+◌, ◌*◌, ◌/◌, ◌%◌, ◌<◌, ◌≤◌, refl, ap, arith, mul_comm}
 use Rattle.std.proofs.lemmas.Nat.{div-mul-add, div_below, same_from_place, mul-le}
 use Rattle.shape_terms.specs.AxisLines.{place}
 

@@ -12,6 +12,9 @@ pub mod ApartLists
 pub mod NearNeighbours
 pub mod SideNeighbours
 pub mod NeighbourNumbers
+pub mod LinkTests
+pub mod ShiftedSteps
+pub mod RoundSets
 pub mod CrackOrder
 pub mod Turning
 pub mod Edges

@@ -1,12 +1,11 @@
 -- Where one parabola gets lower than another: the comparison is linear in x.
 -- Plain variables alone stand here.
-use Rattle.std.proofs.Common.{◌≡◌, ℕ, zero, suc, ◌+◌, ◌-◌, ◌*◌, ◌/◌, ◌%◌, ◌<◌, ◌≤◌, refl, ap, inl, inr, arith, mul_comm}
+use Rattle.std.proofs.Common.{◌≡◌, ℕ, zero, suc, ◌+◌, ◌-◌, ◌*◌, ◌/◌, ◌%◌, ◌<◌, ◌≤◌, ap, inl, inr, arith, mul_comm}
 use Rattle.std.specs.Prelude.{ℤ, pos, negsuc, ◌+ℤ◌, ◌-ℤ◌, ◌*ℤ◌, neg_ℤ, ◌≤ℤ◌, ◌<ℤ◌, nat_abs}
-use Rattle.std.proofs.lemmas.Int.{ints, by_lt_z}
+use Rattle.std.proofs.lemmas.Int.{ints}
 use Rattle.std.proofs.lemmas.Bool.{cases_lt}
 use Rattle.std.proofs.lemmas.Nat.{mul-le, le-div}
-use Rattle.std.proofs.Math.IntN.{*ℤ_comm}
-use Rattle.shape_terms.proofs.Ring.{*ℤ-+ℤ, +ℤ-*ℤ, *ℤ-≤ℤ}
+use Rattle.shape_terms.proofs.Ring.{+ℤ-*ℤ, *ℤ-≤ℤ}
 use Rattle.shape_terms.proofs.Products.{rings}
 use Rattle.shape_terms.specs.Rows.{height, IsFirstBetter}
 

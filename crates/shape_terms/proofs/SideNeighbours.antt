@@ -12,7 +12,9 @@ use native.Mathlib.Decide.{ℕ_discrete}
 use Rattle.shape_terms.proofs.ApartLists.{Apart, apart_points, apart_pairs}
 use Rattle.shape_terms.proofs.Members.{Contains-map, Contains-flat_map, Contains-range}
 
-city-cons : (x y : ℤ) (p q : Point) → city_distance (x ∷ p) (y ∷ q) ≡ nat_abs (x -ℤ y) + city_distance p q
+-- ---- distances
+
+pub city-cons : (x y : ℤ) (p q : Point) → city_distance (x ∷ p) (y ∷ q) ≡ nat_abs (x -ℤ y) + city_distance p q
 city-cons x y p q = sum_by-cons (λ g. g) (nat_abs (x -ℤ y)) (axis_distances p q)
 
 at_origin : (p : Point) → moved p (origin (length p)) ≡ p
@@ -29,11 +31,11 @@ no_step (x ∷ u) = refl
 stays : (p : Point) → moved p (moved (origin (length p)) []) ≡ p
 stays p = ap (moved p) (no_step (origin (length p))) ∙ at_origin p
 
-none_apart : (p : Point) → city_distance p p ≡ 0
+pub none_apart : (p : Point) → city_distance p p ≡ 0
 none_apart [] = refl
 none_apart (x ∷ p) = let s = city-cons x x p p in let r = none_apart p in omega (arith, ints)
 
-same_place : (p q : Point) → length p ≡ length q → city_distance p q ≡ 0 → p ≡ q
+pub same_place : (p q : Point) → length p ≡ length q → city_distance p q ≡ 0 → p ≡ q
 same_place [] [] l h = refl
 same_place [] (y ∷ q) l h = absurd (omega arith)
 same_place (x ∷ p) [] l h = absurd (omega arith)

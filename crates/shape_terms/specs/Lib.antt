@@ -2,6 +2,7 @@ pub mod Points
 pub mod Pictures
 pub mod FramedBox
 pub mod Adjacency
+pub mod Links
 pub mod Parts
 pub mod Net
 pub mod Places

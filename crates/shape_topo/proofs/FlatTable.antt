@@ -7,7 +7,7 @@ use Rattle.std.proofs.lemmas.Bool.Decides.{nat_tests}
 use Rattle.std.proofs.lemmas.Nat.{and_le_l}
 use Rattle.shape_terms.specs.Adjacency.{Round, origin, near_step}
 use Rattle.shape_terms.proofs.PartCount.{one_count}
-use Rattle.shape_adj.specs.Plane.{all_round}
+use Rattle.shape_terms.proofs.RoundSets.{flat_round}
 use Rattle.shape_topo.specs.Bits.{In, AreSymmetric, CountsParts}
 use Rattle.shape_topo.specs.Masks.{near_total, NearSteps, SideSteps, HasMaskObjectNumber, HasMaskBackgroundNumber, IsSimpleMask}
 use Rattle.shape_topo.specs.Compute.{count}
@@ -88,7 +88,7 @@ decides links m seeds mf sf y sub H counted one r e z = (
 
 all_are_round : (k : ℕ) → k < near_total 2 → In 255 k ↔ Round (origin 2) (near_step 2 k)
 all_are_round k l =
-    let a = all_round (pos 0) (pos 0) k l in
+    let a = flat_round (pos 0 ∷ pos 0 ∷ []) k refl l in
     let r = round_step (pos 0 ∷ pos 0 ∷ []) k l in
     ((λ i. r.1 (a.0 i)), λ h. a.1 (r.0 h))
 

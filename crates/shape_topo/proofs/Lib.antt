@@ -2,8 +2,6 @@ pub mod Growing
 pub mod WholePart
 pub mod Counting
 pub mod Computed
-pub mod ShiftedSteps
-pub mod LinkTests
 pub mod Matching
 pub mod MaskBits
 pub mod MaskNumbers

@@ -9,7 +9,7 @@ use Rattle.std.proofs.lemmas.List.FromFn.{get_or-map-range_with_len}
 use Rattle.shape_terms.specs.Points.{Point}
 use Rattle.shape_terms.specs.Adjacency.{moved, origin, near_step, near_point}
 use Rattle.shape_topo.specs.Masks.{near_total}
-use Rattle.shape_topo.proofs.ShiftedSteps.{length-near_step, length-moved, moved-origin}
+use Rattle.shape_terms.proofs.ShiftedSteps.{length-near_step, length-moved, moved-origin}
 
 pub moved_twice : (p v w : Point) → length v ≡ length p → length w ≡ length p → moved (moved p v) w ≡ moved p (moved v w)
 moved_twice [] [] w l k = refl

@@ -1,5 +1,5 @@
 //! Simple points: those whose deletion keeps both numbers of components.
-//! The plane reads a table; a further dimension is one more `impl` of `SimpleMask`, which counts where it brings no table.
+//! The plane reads a table, space counts; a further dimension is one more `impl` of `SimpleMask`.
 ghost use Rattle.std.specs.Prelude.{◌≡◌, ◌+◌, ◌<◌, ◌^◌, ◌↔◌, IsTrue};
 ghost use Rattle.shape_terms.specs.Pictures.{at};
 ghost use Rattle.thin_terms.specs.Simple.{IsSimple};
@@ -10,7 +10,7 @@ use crate::number::counts_one;
 use crate::table::is_simple_flat;
 use shape_adj::Pairing;
 use shape_grid::Grid;
-use shape_space::{P2, Steps};
+use shape_space::{P2, P3, Steps};
 use std::sync::ledger::Ledger;
 
 /// Points with a test of masks of near neighbours.
@@ -29,6 +29,9 @@ impl SimpleMask for P2 {
         is_simple_flat(mask)
     }
 }
+
+// In space there are 2^26 masks: they are counted.
+impl SimpleMask for P3 {}
 
 /// Whether the object point is simple. This is one step.
 pub fn is_simple<P: SimpleMask, L: Ledger>(grid: &Grid<P>, p: P, steps: &mut Steps<L>) -> bool

@@ -6,7 +6,7 @@ ghost use Rattle.shape_terms.specs.FramedBox.{IsWithin};
 use super::*;
 use crate::number::counts_one;
 use shape_grid::Grid;
-use shape_space::{P2, Sides, Steps};
+use shape_space::{P2, P3, Sides, Steps};
 use std::alloc::{AllocError, Global};
 use std::marker::Brand;
 use std::sync::ledger::{Blank, Ledger};
@@ -40,6 +40,32 @@ fn numbers_of_masks(rt: HostRuntime) {
         assert_eq!(rt; object_number::<P2>(mask), object[i]);
         assert_eq!(rt; background_number::<P2>(mask), background[i]);
     }
+}
+
+// The bit of a near neighbour in space, by the step to it.
+fn bit(x: usize, y: usize, z: usize) -> u32 {
+    let n = x + 3 * y + 9 * z;
+    let k = if n > 13 { n - 1 } else { n };
+    1u32 << k.min(31) as u32
+}
+
+#[test]
+fn a_tunnel_in_space(rt: HostRuntime) {
+    // all near neighbours are object but +x, +x+y, +x+y+z, +y+z and +z
+    let dark = bit(2, 1, 1) | bit(2, 2, 1) | bit(2, 2, 2) | bit(1, 2, 2) | bit(1, 1, 2);
+    let mask = (0x3ffffff & !dark) % 0x4000000;
+    assert_eq!(rt;
+        (object_number::<P3>(mask), background_number::<P3>(mask)),
+        (1, 2)
+    );
+    assert!(rt; !P3::simple_mask(mask));
+    // with a side neighbour of both, the two are one
+    let joined = mask & !bit(2, 1, 2) % 0x4000000;
+    assert_eq!(rt;
+        (object_number::<P3>(joined), background_number::<P3>(joined)),
+        (1, 1)
+    );
+    assert!(rt; P3::simple_mask(joined));
 }
 
 #[test]

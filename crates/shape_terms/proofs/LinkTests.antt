@@ -1,39 +1,21 @@
 -- The tests of adjacency are right, and so are the sets that lists of truth values stand for.
 -- Laws over lists alone.
-use Rattle.std.proofs.Common.{◌≡◌, ◌+◌, ℤ, ◌≤◌, ◌<◌, ◌↔◌, ℕ, suc, Bool, true, false, cond, refl, ap, sym, ◌∙◌, subst, arith, List, [], ◌∷◌, length, map, get_or, slice_index}
+use Rattle.std.proofs.Common.{◌≡◌, ◌≤◌, ◌<◌, ◌↔◌, ℕ, suc, Bool, true, false, cond, refl, ap, sym, ◌∙◌, subst, arith, List, [], ◌∷◌, length, map, get_or, slice_index}
 use Rattle.std.specs.Prelude.{◌-ℤ◌, nat_abs, nat_lt, ◌==◌}
 use Rattle.std.specs.Int.{bit_at}
 use Rattle.std.specs.List.{AllZip}
-use Rattle.std.proofs.lemmas.Int.{ints}
 use Rattle.std.proofs.lemmas.Bool.{and_parts, and_from, ltb-true, lt-ltb, eqb-true}
 use Rattle.std.proofs.lemmas.List.{get_or-map, length-map, get_or_past}
-use Rattle.std.proofs.lemmas.List.Sums.{sum_by-cons}
 use Rattle.std.proofs.lemmas.Nat.Bits.{bit_at-zero}
 use native.Mathlib.Decide.{dec_lt}
-use Rattle.shape_terms.specs.Points.{Point, axis_distances}
+use Rattle.shape_terms.specs.Points.{Point}
 use Rattle.shape_terms.specs.Adjacency.{city_distance, Near, Side}
+use Rattle.shape_terms.proofs.SideNeighbours.{none_apart, same_place}
 use Rattle.std.specs.Simd.Lanes.{mask_l}
 use Rattle.std.proofs.lemmas.Simd.{bit_mask_l}
-use Rattle.shape_topo.specs.Links.{close_test, near_test, side_test, links_of}
+use Rattle.shape_terms.specs.Links.{close_test, near_test, side_test, links_of}
 
 -- ---- tests of adjacency
-
-city-cons : (x y : ℤ) (p q : Point) → city_distance (x ∷ p) (y ∷ q) ≡ nat_abs (x -ℤ y) + city_distance p q
-city-cons x y p q = sum_by-cons (λ g. g) (nat_abs (x -ℤ y)) (axis_distances p q)
-
-none_apart : (p : Point) → city_distance p p ≡ 0
-none_apart [] = refl
-none_apart (x ∷ p) = let s = city-cons x x p p in let r = none_apart p in omega (arith, ints)
-
-same_place : (p q : Point) → length p ≡ length q → city_distance p q ≡ 0 → p ≡ q
-same_place [] [] l h = refl
-same_place [] (y ∷ q) l h = absurd (omega arith)
-same_place (x ∷ p) [] l h = absurd (omega arith)
-same_place (x ∷ p) (y ∷ q) l h =
-    let s = city-cons x y p q in
-    let e : x ≡ y = omega (arith, ints) in
-    let r = same_place p q (omega arith) (omega arith) in
-    λ i. e i ∷ r i
 
 close_length : (p q : Point) → close_test p q ≡ true → length p ≡ length q
 close_length [] [] h = refl

@@ -30,3 +30,11 @@ side_links d = links_of side_test (near_steps d)
 -- the near neighbours that are side neighbours
 abbrev pub side_set : ℕ → ℕ
 side_set d = mask_l (map (side_test (origin d)) (near_steps d))
+
+-- the step has at most two coordinates that are not 0
+abbrev pub round_test : (d : ℕ) → Point → Bool
+round_test d v = nat_lt (city_distance (origin d) v) 3
+
+-- the near neighbours that differ in at most two coordinates
+abbrev pub round_set : ℕ → ℕ
+round_set d = mask_l (map (round_test d) (near_steps d))

@@ -1,0 +1,110 @@
+//! The neighbours of points of space: 26 near ones and 6 beside.
+//! What a pairing owes, `pairing.rt` says; the numbering is that of the steps in `shape_terms`.
+ghost use Rattle.std.specs.Prelude.{◌≡◌, ◌<◌, ◌≤◌, ◌+◌, [], ◌∷◌, ◌-ℤ◌, pos, refl, nat_abs, cond, nat_lt};
+ghost use Rattle.shape_terms.specs.Adjacency.{near_step, side_step};
+ghost use Rattle.shape_terms.proofs.AdjacencySymmetric.{near_sym, side_sym};
+ghost use Rattle.shape_terms.proofs.NeighbourNumbers.{near_listed_once, side_listed_once, side_is_round};
+ghost use Rattle.shape_terms.proofs.RoundSets.{solid_round};
+
+use crate::pairing::Pairing;
+use shape_space::P3;
+
+// The number of a near neighbour among all 27 steps, of which that with number 13 has no length.
+fn among_all(k: usize) -> usize
+    requires { k < 26 }
+    ensures value { result ≡ cond (nat_lt k 13) k (k + 1) }
+    ensures few { result < 27 }
+{
+    if k < 13 { k } else { k + 1 }
+}
+
+// A digit of a step's number, as a coordinate.
+fn coordinate_of(digit: usize) -> i32
+    requires { digit < 3 }
+    ensures value { result ≡ pos digit -ℤ pos 1 }
+    ensures short { nat_abs result ≤ 1 }
+{
+    digit as i32 - 1
+}
+
+// The step to a near neighbour.
+fn solid_near_step(k: usize) -> P3
+    requires { k < 26 }
+    ensures value { result.x ∷ result.y ∷ result.z ∷ [] ≡ near_step 3 k }
+    ensures short_x { nat_abs result.x ≤ 1 }
+    ensures short_y { nat_abs result.y ≤ 1 }
+    ensures short_z { nat_abs result.z ≤ 1 }
+{
+    let d = among_all(k);
+    P3 {
+        x: coordinate_of(d % 3),
+        y: coordinate_of(d / 3 % 3),
+        z: coordinate_of(d / 9),
+    }
+}
+
+// The step to a side neighbour.
+fn solid_side_step(k: usize) -> P3
+    requires { k < 6 }
+    ensures value { result.x ∷ result.y ∷ result.z ∷ [] ≡ side_step 3 k }
+    ensures short_x { nat_abs result.x ≤ 1 }
+    ensures short_y { nat_abs result.y ≤ 1 }
+    ensures short_z { nat_abs result.z ≤ 1 }
+{
+    match k {
+        0 => P3 { x: -1, y: 0, z: 0 },
+        1 => P3 { x: 1, y: 0, z: 0 },
+        2 => P3 { x: 0, y: -1, z: 0 },
+        3 => P3 { x: 0, y: 1, z: 0 },
+        4 => P3 { x: 0, y: 0, z: -1 },
+        _ => P3 { x: 0, y: 0, z: 1 },
+    }
+}
+
+impl Pairing for P3 {
+    ghost NEAR_COUNT = { 26 };
+
+    const NEAR_COUNT: usize = 26;
+
+    ghost SIDE_COUNT = { 6 };
+
+    const SIDE_COUNT: usize = 6;
+
+    ghost ROUND = { 24510138 };
+
+    const ROUND: u32 = 0x175feba;
+
+    ghost near_total = { refl };
+
+    ghost side_total = { refl };
+
+    ghost near_listed = { λ p. near_listed_once (p.x ∷ p.y ∷ p.z ∷ []) };
+
+    ghost side_listed = { λ p. side_listed_once (p.x ∷ p.y ∷ p.z ∷ []) };
+
+    ghost near_symmetric = { λ p q. near_sym (p.x ∷ p.y ∷ p.z ∷ []) (q.x ∷ q.y ∷ q.z ∷ []) };
+
+    ghost side_symmetric = { λ p q. side_sym (p.x ∷ p.y ∷ p.z ∷ []) (q.x ∷ q.y ∷ q.z ∷ []) };
+
+    ghost round_bits = { λ p k h. solid_round (p.x ∷ p.y ∷ p.z ∷ []) k refl h };
+
+    ghost side_in_round = { λ p q. side_is_round (p.x ∷ p.y ∷ p.z ∷ []) (q.x ∷ q.y ∷ q.z ∷ []) };
+
+    fn near(&self, k: usize) -> P3 {
+        let step = solid_near_step(k);
+        P3 {
+            x: self.x + step.x,
+            y: self.y + step.y,
+            z: self.z + step.z,
+        }
+    }
+
+    fn side(&self, k: usize) -> P3 {
+        let step = solid_side_step(k);
+        P3 {
+            x: self.x + step.x,
+            y: self.y + step.y,
+            z: self.z + step.z,
+        }
+    }
+}
