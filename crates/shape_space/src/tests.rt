@@ -14,7 +14,10 @@ fn a_solid_box(rt: HostRuntime) {
         assert!(rt; false, "3 by 2 by 4 is a box");
         return;
     };
-    assert_eq!(rt; (sides.side(0), sides.side(1), sides.side(2), sides.count()), (3, 2, 4, 24));
+    assert_eq!(rt;
+        (sides.side(0), sides.side(1), sides.side(2), sides.count()),
+        (3, 2, 4, 24)
+    );
     let p = P3 { x: 2, y: 0, z: 3 };
     let q = P3 { x: 0, y: 1, z: 1 };
     assert_eq!(rt; (sides.unraster(20), sides.unraster(9)), (p, q));
@@ -25,7 +28,14 @@ fn a_solid_box(rt: HostRuntime) {
     assert_eq!(rt; squared_distance(p, P3 { x: -1, y: 2, z: 4 }), 14);
     assert_eq!(rt; dot(&[3, -5, 7], p), 27);
     assert!(rt; q < p && q.with(2, 4) > p && P3::origin().with(1, 1) == P3 { x: 0, y: 1, z: 0 });
-    assert!(rt; Sides::try_new(P3 { x: 128, y: 1, z: 128 }).is_some());
+    assert!(rt;
+        Sides::try_new(P3 {
+            x: 128,
+            y: 1,
+            z: 128
+        })
+        .is_some()
+    );
     assert!(rt; Sides::try_new(P3 { x: 1, y: 1, z: 129 }).is_none());
     assert!(rt; Sides::try_new(P3 { x: 1, y: 0, z: 1 }).is_none());
 }
