@@ -12,10 +12,10 @@ use Rattle.shape_terms.specs.Naive.{Naive}
 use Rattle.shape_terms.specs.Covers.{Stretch, Evidence, IsEvidence, IsSegment, gap_run}
 use Rattle.report_terms.specs.Lines.{Line, IsLineOf}
 use Rattle.report_terms.specs.ContourLines.{Standing, standing, no_contour, open_contour, IsFull, OutlineClaim}
-use Rattle.report_terms.specs.Sections.{Section, section_of, lines_of, HasCome}
+use Rattle.report_terms.specs.Sections.{Section, section_of, lines_of}
 use Rattle.report_terms.proofs.SectionLaws.{none_past, come_more, come_past, good_at, lines_push}
 use Rattle.report_terms.proofs.ContourGroups.{standing_begun, standing_point, standing_segment, standing_turn, standing_cut}
-use Rattle.shape_analyse.specs.Growing.{IsGrowing, IsOutlined, Aim, HasOutlined, gap_line, at_contour}
+use Rattle.shape_analyse.specs.Growing.{IsGrowing, IsOutlined, IsSurveyed, Aim, HasOutlined, gap_line, at_contour}
 use Rattle.shape_analyse.proofs.Growth.{good_more}
 
 -- no contour was begun yet
@@ -137,13 +137,34 @@ outlined_full X contours k m stretches lines c there all o = record {
 
 -- ---- the section is complete
 
-pub outlined_done : (X : Aim) (contours : List Contour) (lines : List Line) → HasOutlined X contours (length contours) lines → HasCome X.subject Section.Thinned lines
+pub outlined_done : (X : Aim) (contours : List Contour) (lines : List Line) → HasOutlined X contours (length contours) lines → IsSurveyed 2 X lines
 outlined_done X contours lines h =
     let o = h.outlined in
-    come_past X.subject Section.Contours Section.Thinned lines refl o.come (record {
-      flat = λ flat. (contours, o.are, subst (IsFull contours) (sym o.stands) h.full, ap (λ (s : Standing). s.begun) o.stands ∙ h.begun);
-      other = λ other. absurd (other o.flat);
-    })
+    record {
+      axes = o.flat;
+      few = omega arith;
+      lines_good = o.lines_good;
+      come = come_past X.subject Section.Contours Section.Thinned lines refl o.come (record {
+        flat = λ flat. (contours, o.are, subst (IsFull contours) (sym o.stands) h.full, ap (λ (s : Standing). s.begun) o.stands ∙ h.begun);
+        other = λ other. absurd (other o.flat);
+      });
+      none = none_past Section.Contours Section.Thinned lines (omega arith) o.come.order;
+    }
+
+-- a volume has no contours
+pub surveyed_solid : (X : Aim) (lines : List Line) → length X.subject.picture.sides ≡ 3 → IsGrowing X (length (object_points X.subject.picture)) lines → IsSurveyed 3 X lines
+surveyed_solid X lines axes h =
+    let come = come_past X.subject Section.Nearest Section.Contours lines refl h.come h.nears in
+    record {
+      axes = axes;
+      few = omega arith;
+      lines_good = h.lines_good;
+      come = come_past X.subject Section.Contours Section.Thinned lines refl come (record {
+        flat = λ flat. absurd (omega (arith, axes, flat));
+        other = λ _. none_past Section.Nearest Section.Contours lines (omega arith) h.come.order;
+      });
+      none = none_past Section.Nearest Section.Thinned lines (omega arith) h.come.order;
+    }
 
 -- ---- the first cracks of contours
 

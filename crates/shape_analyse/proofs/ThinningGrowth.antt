@@ -1,10 +1,10 @@
 -- A report grows by the events of a thinning and by the counts of the points left, and at its end it holds.
 -- One law for each kind of line that is added.
 use Rattle.std.proofs.Common.{◌≡◌, ◌+◌, ℕ, suc, List, [], ◌∷◌, ◌++◌, length, take, refl, sym, ap, ◌∙◌, subst, arith, Some}
-use Rattle.std.specs.Prelude.{slice_get}
+use Rattle.std.specs.Prelude.{slice_get, pos, negsuc}
 use Rattle.std.proofs.lemmas.List.{append-nil, take_all, length-append}
+use Rattle.shape_terms.specs.FramedBox.{IsWithin}
 use Rattle.shape_terms.specs.Parts.{Counts}
-use Rattle.shape_terms.specs.Traces.{Contour}
 use Rattle.thin_terms.specs.Thinning.{Event, Stage, ThinsTo, IsThinning, opening_stage}
 use Rattle.thin_terms.specs.Following.{IsNextEvent}
 use Rattle.report_terms.specs.Subjects.{Subject}
@@ -16,21 +16,14 @@ use Rattle.report_terms.proofs.ListPushes.{take_next, filter_map-same, filter_ma
 use Rattle.report_terms.proofs.SectionLaws.{none_past, come_more, come_past, good_at, lines_push}
 use Rattle.report_terms.proofs.HeadingFirst.{gives_rule}
 use Rattle.report_terms.proofs.ThinningShown.{step_at}
-use Rattle.shape_analyse.specs.Growing.{Aim, HasOutlined, HasEvents, HasKept, event_line}
+use Rattle.report_terms.proofs.FramedFields.{within_short}
+use Rattle.shape_thin.specs.Runs.{event_point}
+use Rattle.shape_analyse.specs.Growing.{Aim, IsSurveyed, HasEvents, HasKept, event_line}
 use Rattle.shape_analyse.proofs.Growth.{names_rule, text_push, good_more}
-use Rattle.shape_analyse.proofs.ContourGrowth.{outlined_done}
 
 -- no event came yet
-pub events_none : (X : Aim) (contours : List Contour) (events : List Event) (lines : List Line) → HasOutlined X contours (length contours) lines → HasEvents X events 0 lines
-events_none X contours events lines h =
-    let none : lines_of Section.Thinned lines ≡ [] = none_past Section.Contours Section.Thinned lines (omega arith) h.outlined.come.order in
-    record {
-      flat = h.outlined.flat;
-      lines_good = h.outlined.lines_good;
-      come = outlined_done X contours lines h;
-      early = ap kept_facts none;
-      so_far = ap events_of none;
-    }
+pub events_none : (d : ℕ) (X : Aim) (events : List Event) (lines : List Line) → IsSurveyed d X lines → HasEvents d X events 0 lines
+events_none d X events lines h = record { axes = h.axes; few = h.few; lines_good = h.lines_good; come = h.come; early = ap kept_facts h.none; so_far = ap events_of h.none }
 
 -- the next event of a thinning
 next_event : (X : Aim) (events : List Event) (stage : Stage) (k : ℕ) (e : Event) (so_far : List Event) → ThinsTo X.rule X.subject.picture events stage → slice_get events k ≡ Some e → so_far ≡ take k events → IsNextEvent X.rule X.subject.picture so_far e
@@ -42,38 +35,39 @@ take_more : (events : List Event) (k : ℕ) (e : Event) → slice_get events k �
 take_more events k e there = take_next events k e there ∙ ap (λ n. take n events) (let q : suc k ≡ k + 1 = omega arith in q)
 
 -- a good line of an event was added
-event_added : (X : Aim) (events : List Event) (k : ℕ) (lines : List Line) (l : Line) (e : Event) → HasEvents X events k lines → section_of l ≡ Section.Thinned → events_of (l ∷ []) ≡ e ∷ [] → kept_facts (l ∷ []) ≡ [] → slice_get events k ≡ Some e → IsLineOf 2 l
-    → GoodAfter X.subject lines l → HasEvents X events (k + 1) (lines ++ l ∷ [])
-event_added X events k lines l e h s gives none there fields good =
+event_added : (d : ℕ) (X : Aim) (events : List Event) (k : ℕ) (lines : List Line) (l : Line) (e : Event) → HasEvents d X events k lines → section_of l ≡ Section.Thinned → events_of (l ∷ []) ≡ e ∷ [] → kept_facts (l ∷ []) ≡ [] → slice_get events k ≡ Some e → IsLineOf d l
+    → GoodAfter X.subject lines l → HasEvents d X events (k + 1) (lines ++ l ∷ [])
+event_added d X events k lines l e h s gives none there fields good =
     let push = lines_push Section.Thinned lines l s in
     let before = lines_of Section.Thinned lines in
     record {
-      flat = h.flat;
-      lines_good = good_more X lines l h.lines_good (omega (arith, h.flat)) (subst (λ d. IsLineOf d l) (sym h.flat) fields) good;
+      axes = h.axes;
+      few = h.few;
+      lines_good = good_more X lines l h.lines_good (omega (arith, h.axes, h.few)) (subst (λ n. IsLineOf n l) (sym h.axes) fields) good;
       come = come_more X.subject Section.Thinned lines l h.come s;
       early = ap kept_facts push ∙ filter_map-same kept_fact before l none ∙ h.early;
       so_far = ap events_of push ∙ filter_map-push event_of before l e gives ∙ ap (λ es. es ++ e ∷ []) h.so_far ∙ take_more events k e there;
     }
 
-pub events_more : (X : Aim) (events : List Event) (stage : Stage) (k : ℕ) (lines : List Line) (e : Event) → HasEvents X events k lines → IsThinning X.rule X.subject.picture events stage → slice_get events k ≡ Some e → IsLineOf 2 (event_line e)
-    → HasEvents X events (k + 1) (lines ++ event_line e ∷ [])
-events_more X events stage k lines (Event.Del p) h t there fields =
+pub events_more : (d : ℕ) (X : Aim) (events : List Event) (stage : Stage) (k : ℕ) (lines : List Line) (e : Event) → HasEvents d X events k lines → IsThinning X.rule X.subject.picture events stage → slice_get events k ≡ Some e → IsLineOf d (event_line e)
+    → HasEvents d X events (k + 1) (lines ++ event_line e ∷ [])
+events_more d X events stage k lines (Event.Del p) h t there fields =
     let l = Line.Del p in
     let before = lines_of Section.Thinned lines in
     let next = next_event X events stage k (Event.Del p) (events_of before) t.0 there h.so_far in
     let good = good_at X.subject Section.Thinned lines l h.come refl (X.rule, names_rule X lines h.lines_good.named, record { early = h.early; next = next }) in
-    event_added X events k lines l (Event.Del p) h refl refl refl there fields good
-events_more X events stage k lines (Event.Tip p) h t there fields =
+    event_added d X events k lines l (Event.Del p) h refl refl refl there fields good
+events_more d X events stage k lines (Event.Tip p) h t there fields =
     let l = Line.Tip p in
     let before = lines_of Section.Thinned lines in
     let next = next_event X events stage k (Event.Tip p) (events_of before) t.0 there h.so_far in
     let good = good_at X.subject Section.Thinned lines l h.come refl (X.rule, names_rule X lines h.lines_good.named, record { early = h.early; next = next }) in
-    event_added X events k lines l (Event.Tip p) h refl refl refl there fields good
+    event_added d X events k lines l (Event.Tip p) h refl refl refl there fields good
 
 -- the counts of the points left come behind all events
-pub events_kept : (X : Aim) (events : List Event) (stage : Stage) (lines : List Line) (n o b : ℕ) → HasEvents X events (length events) lines → IsThinning X.rule X.subject.picture events stage → Counts stage.left n o b → IsLineOf 2 (Line.Kept n o b)
+pub events_kept : (d : ℕ) (X : Aim) (events : List Event) (stage : Stage) (lines : List Line) (n o b : ℕ) → HasEvents d X events (length events) lines → IsThinning X.rule X.subject.picture events stage → Counts stage.left n o b → IsLineOf d (Line.Kept n o b)
     → HasKept X (lines ++ Line.Kept n o b ∷ [])
-events_kept X events stage lines n o b h t counts fields =
+events_kept d X events stage lines n o b h t counts fields =
     let l = Line.Kept n o b in
     let before = lines_of Section.Thinned lines in
     let all : events_of before ≡ events = h.so_far ∙ take_all (length events) events (omega arith) in
@@ -82,8 +76,8 @@ events_kept X events stage lines n o b h t counts fields =
     let left : PartsFact = record { points = n; object = o; background = b } in
     let facts = ap kept_facts (lines_push Section.Thinned lines l refl) ∙ filter_map-push kept_fact before l left refl in
     record {
-      flat = h.flat;
-      lines_good = good_more X lines l h.lines_good (omega (arith, h.flat)) (subst (λ d. IsLineOf d l) (sym h.flat) fields) good;
+      few = omega (arith, h.axes, h.few);
+      lines_good = good_more X lines l h.lines_good (omega (arith, h.axes, h.few)) (subst (λ n. IsLineOf n l) (sym h.axes) fields) good;
       come = come_more X.subject Section.Thinned lines l h.come refl;
       all = ap length facts ∙ length-append (kept_facts before) (left ∷ []) ∙ ap (λ fs. length fs + 1) h.early;
     }
@@ -93,12 +87,17 @@ pub kept_done : (X : Aim) (lines : List Line) (old new : List ℕ) → old ≡ t
 kept_done X lines old new e f h =
     let come = come_past X.subject Section.Thinned Section.End lines refl h.come h.all in
     let good : GoodAfter X.subject lines Line.End = good_at X.subject Section.End lines Line.End come refl (none_past Section.Thinned Section.End lines (omega arith) h.come.order) in
-    let all = good_more X lines Line.End h.lines_good (omega (arith, h.flat)) tt good in
+    let all = good_more X lines Line.End h.lines_good h.few tt good in
     let is = text_push old new lines Line.End e f in
     record {
       holds = (lines, record { split = is ∙ sym (append-nil (text_of (lines ++ Line.End ∷ []))); fields = all.fields; short = all.short; good = all.good });
       named = gives_rule X.subject (lines ++ Line.End ∷ []) new all.named.sides X.name all.good all.named.first is;
     }
+
+-- the line of an event in the framed box
+pub event_fits : (d : ℕ) (e : Event) → length (event_point e) ≡ d → IsWithin (negsuc 0) (pos 4096) (event_point e) → IsLineOf d (event_line e)
+event_fits d (Event.Del p) axes within = within_short d p axes within
+event_fits d (Event.Tip p) axes within = within_short d p axes within
 
 -- a report by a rule, where the name is known otherwise
 pub renamed : (X : Subject) (v w text : List ℕ) → Some v ≡ Some w → HoldsBy X v text → HoldsBy X w text

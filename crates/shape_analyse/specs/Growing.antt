@@ -61,9 +61,18 @@ pub record HasOutlined (X : Aim) (contours : List Contour) (k : ℕ) (lines : Li
   pub full : IsFull contours stand
   pub outlined : IsOutlined X contours stand lines
 
--- all lines before those of the thinning, and the first k of these events
-pub record HasEvents (X : Aim) (events : List Event) (k : ℕ) (lines : List Line) : Type 0 where
-  pub flat : length X.subject.picture.sides ≡ 2
+-- all lines before those of the thinning, in a report of a picture of d axes
+pub record IsSurveyed (d : ℕ) (X : Aim) (lines : List Line) : Type 0 where
+  pub axes : length X.subject.picture.sides ≡ d
+  pub few : d ≤ 3
+  pub lines_good : AreGood X lines
+  pub come : HasCome X.subject Section.Thinned lines
+  pub none : lines_of Section.Thinned lines ≡ []
+
+-- and the first k of these events
+pub record HasEvents (d : ℕ) (X : Aim) (events : List Event) (k : ℕ) (lines : List Line) : Type 0 where
+  pub axes : length X.subject.picture.sides ≡ d
+  pub few : d ≤ 3
   pub lines_good : AreGood X lines
   pub come : HasCome X.subject Section.Thinned lines
   pub early : kept_facts (lines_of Section.Thinned lines) ≡ []
@@ -71,7 +80,7 @@ pub record HasEvents (X : Aim) (events : List Event) (k : ℕ) (lines : List Lin
 
 -- all lines before `end`
 pub record HasKept (X : Aim) (lines : List Line) : Type 0 where
-  pub flat : length X.subject.picture.sides ≡ 2
+  pub few : length X.subject.picture.sides ≤ 3
   pub lines_good : AreGood X lines
   pub come : HasCome X.subject Section.Thinned lines
   pub all : ThinningComplete (lines_of Section.Thinned lines)
@@ -98,10 +107,9 @@ Stands X contours s text = IsTextOf (IsOutlined X contours s) text
 abbrev pub HasNears : Aim → List ℕ → Type 0
 HasNears X text = IsTextOf (IsGrowing X (length (object_points X.subject.picture))) text
 
--- the text has all lines before those of the thinning, and those of contours are done
-pub record HasContours (X : Aim) (text : List ℕ) : Type 0 where
-  pub contours : List Contour
-  pub lines : IsTextOf (HasOutlined X contours (length contours)) text
+-- the text has all lines before those of the thinning
+abbrev pub HasSurveyed : ℕ → Aim → List ℕ → Type 0
+HasSurveyed d X text = IsTextOf (IsSurveyed d X) text
 
 -- the line of an event
 abbrev pub event_line : Event → Line

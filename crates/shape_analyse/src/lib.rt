@@ -2,11 +2,13 @@
 //! One function adds the lines of each section; what the lines claim is found by the crates below.
 #![tactic(auto)]
 
+mod begin;
 mod contour;
-mod flat;
+mod outline;
 mod thinning;
+mod whole;
 
-pub use flat::analyse_flat;
+pub use whole::{analyse_flat, analyse_solid};
 
 #[cfg(test)]
 mod tests;

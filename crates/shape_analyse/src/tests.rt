@@ -1,8 +1,8 @@
-//! The report of a full picture of 3 by 3 points, by two rules.
+//! The report of a full picture of 3 by 3 points, by two rules, and that of a volume of three voxels.
 use super::*;
 use shape_grid::Grid;
 use shape_rules::{CurveEnds, EndRule, Entry, Name, NoEnds, Shelf};
-use shape_space::{P2, Sides};
+use shape_space::{P2, P3, Sides};
 use std::alloc::{AllocError, Global};
 use std::test::Fail;
 
@@ -82,5 +82,31 @@ fn a_picture_with_ends(rt: HostRuntime) -> Result<(), Fail> {
     let end =
         b"\ndel 0 0\ndel 1 0\ndel 2 0\ndel 0 1\ndel 2 1\ndel 0 2\ndel 1 2\ntip 2 2\ntip 1 1\nkept 2 1 1\nend\n";
     assert!(rt; bytes.ends_with(end.as_slice()));
+    Ok(())
+}
+
+#[test]
+fn a_volume(rt: HostRuntime) -> Result<(), Fail> {
+    let alloc = rt.alloc();
+    let Some(sides) = Sides::try_new(P3 { x: 3, y: 1, z: 2 }) else {
+        return Err(Fail::from(AllocError));
+    };
+    let Ok(mut grid) = Grid::new(alloc, sides) else {
+        return Err(Fail::from(AllocError));
+    };
+    for i in 0..sides.count() {
+        let p = sides.unraster(i);
+        if i % 2 == 0 && grid.sides().inside(p) {
+            grid.set(p);
+        }
+    }
+    let mut shelf = shelf(alloc, Box::new(alloc, NoEnds)?, Box::new(alloc, CurveEnds)?)?;
+    let Ok(report) = analyse_solid(alloc, &grid, &mut shelf, 0) else {
+        return Err(Fail::from(AllocError));
+    };
+    let bytes = report.text();
+    assert_eq!(rt; bytes.iter().filter(|&&c| c == b'\n').count(), 9);
+    assert!(rt; bytes.starts_with(b"shape 1 raw 3 1 2 none\nparts 3 1 1\nnear 0 0 0 ".as_slice()));
+    assert!(rt; bytes.ends_with(b" 1\ndel 0 0 0\ndel 2 0 0\nkept 1 1 1\nend\n".as_slice()));
     Ok(())
 }

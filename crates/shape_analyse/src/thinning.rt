@@ -1,36 +1,37 @@
-//! The lines of the thinning of a flat picture: its events, the counts of the points left, and the end of the report.
+//! The lines of the thinning of a picture: its events, the counts of the points left, and the end of the report.
 //! The thinning itself comes from `shape_thin`; both numbers of components are those of the picture.
-ghost use Rattle.std.specs.Prelude.{◌≡◌, ◌++◌, ℕ, IfOk, OnOk, length};
+ghost use Rattle.std.specs.Prelude.{◌≡◌, ◌++◌, ℕ, IfOk, OnOk, length, pos, negsuc};
 ghost use Rattle.shape_terms.specs.Pictures.{object_points};
 ghost use Rattle.shape_terms.specs.Parts.{Counts};
 ghost use Rattle.shape_terms.specs.Distances.{IsField};
 ghost use Rattle.thin_terms.specs.Thinning.{Stage, IsThinning, rule_by};
 ghost use Rattle.report_terms.specs.Lines.{line_text, IsLineOf};
 ghost use Rattle.report_terms.specs.Holds.{HoldsBy};
-ghost use Rattle.shape_crack.specs.Terms.{point_of};
-ghost use Rattle.shape_thin.specs.Runs.{IsRunOf, event_of};
+ghost use Rattle.shape_thin.specs.Runs.{IsRunOf, event_of, event_point};
+ghost use Rattle.shape_terms.specs.FramedBox.{IsWithin};
 ghost use Rattle.shape_thin.specs.Laws.{KeepsParts};
-ghost use Rattle.shape_analyse.specs.Growing.{Aim, IsTextOf, HasContours, HasEvents, HasKept, event_line};
+ghost use Rattle.shape_analyse.specs.Growing.{Aim, IsTextOf, HasSurveyed, HasEvents, HasKept, event_line};
 
 use shape_adj::Parts;
 use shape_dist::Field;
 use shape_grid::Grid;
 use shape_report::{Line, Report};
 use shape_rules::EndRule;
-use shape_space::{NoMemory, P2, Steps};
+use shape_space::{NoMemory, Point, Steps};
 use shape_thin::{Event, Thinning, thin};
+use shape_topo::SimpleMask;
 use std::alloc::Global;
 use std::marker::Brand;
 use std::sync::ledger::{Blank, Ledger};
 
 // The thinning of a picture, with a counter on this ledger.
-fn counted<L: Ledger>(
+fn counted<P: SimpleMask, L: Ledger>(
     alloc: Global,
     blank: Blank,
-    grid: &Grid<P2>,
-    field: &Field<P2>,
+    grid: &Grid<P>,
+    field: &Field<P>,
     rule: &mut Box<dyn EndRule>,
-) -> Result<Thinning<P2>, NoMemory>
+) -> Result<Thinning<P>, NoMemory>
     requires name { blank.name ≡ L.name }
     requires parts { blank.parts ≡ L.parts }
     requires whole { blank.parts ≡ 1 }
@@ -48,12 +49,12 @@ fn counted<L: Ledger>(
 }
 
 // The thinning of a picture by a rule.
-pub(crate) fn thinned(
+pub(crate) fn thinned<P: SimpleMask>(
     alloc: Global,
-    grid: &Grid<P2>,
-    field: &Field<P2>,
+    grid: &Grid<P>,
+    field: &Field<P>,
     rule: &mut Box<dyn EndRule>,
-) -> Result<Thinning<P2>, NoMemory>
+) -> Result<Thinning<P>, NoMemory>
     requires { IsField grid.now field.now }
     ensures thinning { IfOk result (IsRunOf
         (rule_by (opening rule.old) (marks rule.old) (next rule.old))
@@ -63,14 +64,15 @@ pub(crate) fn thinned(
     ensures same_marks { marks rule.new ≡ marks rule.old }
     ensures same_next { next rule.new ≡ next rule.old }
 {
-    counted::<Brand>(alloc, Blank::new(1), grid, field, rule)
+    counted::<P, Brand>(alloc, Blank::new(1), grid, field, rule)
 }
 
 // Adds the line of an event.
-fn add_event(event: Event<P2>, report: &mut Report) -> Result<(), NoMemory>
+fn add_event<P: Point>(event: Event<P>, report: &mut Report) -> Result<(), NoMemory>
+    requires { IsWithin (negsuc 0) (pos 4096) (event_point (event_of P.coords event)) }
     ensures text { OnOk result (report.new
-        ≡ report.old ++ line_text (event_line (event_of point_of event))) }
-    ensures fields { IsLineOf 2 (event_line (event_of point_of event)) }
+        ≡ report.old ++ line_text (event_line (event_of P.coords event))) }
+    ensures fields { IsLineOf P.DIM (event_line (event_of P.coords event)) }
 {
     match event {
         Event::Del(p) => report.add(&Line::Del { p }),
@@ -79,11 +81,11 @@ fn add_event(event: Event<P2>, report: &mut Report) -> Result<(), NoMemory>
 }
 
 // Adds the line of each event.
-fn add_events(thinning: &Thinning<P2>, report: &mut Report) -> Result<(), NoMemory>
+fn add_events<P: Point>(thinning: &Thinning<P>, report: &mut Report) -> Result<(), NoMemory>
     ensures { (X : Aim) (stage : Stage)
         → IsThinning X.rule X.subject.picture thinning.now.events stage
-        → IsTextOf (HasEvents X thinning.now.events 0) report.old
-        → OnOk result (IsTextOf (HasEvents X thinning.now.events
+        → IsTextOf (HasEvents P.DIM X thinning.now.events 0) report.old
+        → OnOk result (IsTextOf (HasEvents P.DIM X thinning.now.events
         (length thinning.now.events)) report.new) }
 {
     for i in 0..thinning.len() {
@@ -93,16 +95,20 @@ fn add_events(thinning: &Thinning<P2>, report: &mut Report) -> Result<(), NoMemo
 }
 
 // Adds the line of the points left.
-fn add_kept(thinning: &Thinning<P2>, counted: Parts, report: &mut Report) -> Result<(), NoMemory>
+fn add_kept<P: Point>(
+    thinning: &Thinning<P>,
+    counted: Parts,
+    report: &mut Report,
+) -> Result<(), NoMemory>
     ensures { (X : Aim) (stage : Stage)
         → IsThinning X.rule X.subject.picture thinning.now.events stage
         → stage.left ≡ thinning.now.left
         → Counts thinning.now.left (length (object_points thinning.now.left))
         counted.object counted.background
-        → IsTextOf (HasEvents X thinning.now.events (length thinning.now.events)) report.old
+        → IsTextOf (HasEvents P.DIM X thinning.now.events (length thinning.now.events)) report.old
         → OnOk result (IsTextOf (HasKept X) report.new) }
 {
-    let line: Line<P2> = Line::Kept {
+    let line: Line<P> = Line::Kept {
         points: thinning.left().count(),
         object: counted.object,
         background: counted.background,
@@ -112,8 +118,8 @@ fn add_kept(thinning: &Thinning<P2>, counted: Parts, report: &mut Report) -> Res
 }
 
 // Adds the lines of the thinning and the last line, where the picture has so many components.
-pub(crate) fn add_thinning(
-    thinning: &Thinning<P2>,
+pub(crate) fn add_thinning<P: Point>(
+    thinning: &Thinning<P>,
     counted: Parts,
     report: &mut Report,
 ) -> Result<(), NoMemory>
@@ -122,10 +128,10 @@ pub(crate) fn add_thinning(
         → stage.left ≡ thinning.now.left
         → Counts thinning.now.left (length (object_points thinning.now.left))
         counted.object counted.background
-        → HasContours X report.old → OnOk result (HoldsBy X.subject X.name report.new) }
+        → HasSurveyed P.DIM X report.old → OnOk result (HoldsBy X.subject X.name report.new) }
 {
     add_events(thinning, report)?;
     add_kept(thinning, counted, report)?;
-    report.add(&Line::<P2>::End)?;
+    report.add(&Line::<P>::End)?;
     Ok(())
 }

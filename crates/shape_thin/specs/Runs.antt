@@ -16,6 +16,11 @@ abbrev pub event_of : {P : Type 0} → (P → Point) → Event P → Terms.Event
 event_of coords (Del p) = Terms.Event.Del (coords p)
 event_of coords (Tip p) = Terms.Event.Tip (coords p)
 
+-- the point of an event
+abbrev pub event_point : Terms.Event → Point
+event_point (Terms.Event.Del p) = p
+event_point (Terms.Event.Tip p) = p
+
 -- the run is the thinning of X by the rule, which ends in this state
 abbrev pub IsRunOf : Terms.Rule → Picture → List ℕ → Run → Type 0
 IsRunOf rule X state t = (marked : List Point) × Terms.IsThinning rule X t.events (record { left = t.left; marked = marked; state = state })

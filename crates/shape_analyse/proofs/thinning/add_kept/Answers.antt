@@ -7,10 +7,10 @@ use Rattle.shape_analyse.proofs.ThinningGrowth.{events_kept}
 use Rattle.shape_analyse.proofs.thinning.add_kept.Goals as goal
 
 pub returns : goal.returns
-returns c = λ X stage t left counts h.
+returns g c = λ X stage t left counts h.
     let n = c.count.result in
     let parts = c.args.counted in
-    let fields : IsLineOf 2 (Line.Kept n parts.object parts.background) = search rules in
+    let fields : IsLineOf g.P.Point.DIM (Line.Kept n parts.object parts.background) = search rules in
     let mine : Counts c.args.thinning.now.left n parts.object parts.background = rw (c.count.ensures, c.left.ensures) counts in
     let there : Counts stage.left n parts.object parts.background = subst (λ (Y : Picture). Counts Y n parts.object parts.background) (sym left) mine in
-    text_more _ _ _ h.lines _ h.is c.in_ok-add.ensures.ok (events_kept X c.args.thinning.now.events stage h.lines n parts.object parts.background h.so t there fields)
+    text_more _ _ _ h.lines _ h.is c.in_ok-add.ensures.ok (events_kept g.P.Point.DIM X c.args.thinning.now.events stage h.lines n parts.object parts.background h.so t there fields)

@@ -3,9 +3,9 @@ use Rattle.shape_analyse.proofs.ThinningGrowth.{events_none, kept_done}
 use Rattle.shape_analyse.proofs.thinning.add_thinning.Goals as goal
 
 pub returns : goal.returns
-returns c = λ X stage t left counts h.
+returns g c = λ X stage t left counts h.
     let events = c.args.thinning.now.events in
-    let none = text_as (λ lines o. events_none X h.contours events lines o) h.lines in
+    let none = text_as (events_none g.P.Point.DIM X events) h in
     let all = c.in_ok-add_events.ensures X stage t none in
     let kept = c.in_ok-add_kept.ensures X stage t left counts all in
     kept_done X kept.lines _ _ kept.is c.in_ok-add.ensures.ok kept.so

@@ -4,7 +4,7 @@ use Rattle.shape_terms.specs.Parts.{Counts}
 use Rattle.shape_rules.specs.Names.{word_of}
 use Rattle.shape_analyse.specs.Growing.{aim_of}
 use Rattle.shape_analyse.proofs.Growth.{text_push, text_more, heading_fits, growing_none}
-use Rattle.shape_analyse.proofs.flat.open.Goals as goal
+use Rattle.shape_analyse.proofs.begin.open.Goals as goal
 
 pub returns-clause-open : goal.returns-clause-open
 returns-clause-open g c =

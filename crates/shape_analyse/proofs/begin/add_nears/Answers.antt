@@ -2,7 +2,7 @@ use Rattle.std.proofs.Common.{◌≤◌, length, arith, subst}
 use Rattle.report_terms.specs.Lines.{Line, IsLineOf}
 use Rattle.shape_analyse.specs.Growing.{aim_of}
 use Rattle.shape_analyse.proofs.Growth.{text_more, fact_at, growing_more}
-use Rattle.shape_analyse.proofs.flat.add_nears.Goals as goal
+use Rattle.shape_analyse.proofs.begin.add_nears.Goals as goal
 
 pub add-requires : goal.add-requires
 add-requires g c =

@@ -3,7 +3,7 @@ use Rattle.shape_terms.specs.Pictures.{object_points}
 use Rattle.shape_rules.specs.Names.{word_of}
 use Rattle.shape_rules.proofs.Ruled.{rules_same, rule_there, others_same}
 use Rattle.shape_analyse.proofs.ThinningGrowth.{renamed}
-use Rattle.shape_analyse.proofs.flat.analyse_flat.Goals as goal
+use Rattle.shape_analyse.proofs.whole.analyse.Goals as goal
 
 pub returns-in_err-thinning-clause-kept : goal.returns-in_err-thinning-clause-kept
 returns-in_err-thinning-clause-kept g c =
@@ -32,6 +32,7 @@ returns-clause-holds g c = λ name there.
     let run = c.in_ok-thinning.ensures.thinning in
     let X = c.args.grid.now in
     let counts = c.in_ok-thinning.ensures.kept (length (object_points X)) c.in_ok-counted.counted.object c.in_ok-counted.counted.background c.in_ok-counted.ensures in
-    let contours = c.in_ok-report.ensures _ _ on in
-    let holds = c.in_ok-add_thinning.ensures _ _ run.1 refl counts contours in
+    let nears = c.in_ok-report.ensures.grown _ _ on in
+    let surveyed = c.in_ok-add_outline.ensures _ _ _ nears in
+    let holds = c.in_ok-add_thinning.ensures _ _ run.1 refl counts surveyed in
     renamed _ _ _ _ (sym c.name.ensures ∙ there) holds
