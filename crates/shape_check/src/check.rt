@@ -11,14 +11,14 @@ ghost use Rattle.shape_check.specs.Checks.{Checks, TakesFew};
 ghost use Rattle.shape_check.specs.Going.{GoingOn, BehindHeading};
 
 use crate::answer::{CheckFault, Judgement};
-use crate::flat::Flat;
 use crate::heading::find_rule;
 use crate::judges::{Judges, Row};
 use crate::next::{Next, next_claim};
+use crate::whole::{Flat, Solid};
 use shape_desk::{Desk, LineReader};
 use shape_grid::Grid;
 use shape_rules::{EndRule, Shelf};
-use shape_space::{NoMemory, P2, Point};
+use shape_space::{NoMemory, P2, P3, Point};
 use std::alloc::Global;
 
 // Goes through the lines behind the heading, which named the rule.
@@ -163,4 +163,31 @@ pub fn check_flat<D: Desk>(
     ensures shelf { rules_on opening marks next shelf.new ≡ rules_on opening marks next shelf.old }
 {
     check::<P2, Flat, D>(alloc, grid, desk, shelf)
+}
+
+/// Checks the report of a volume: whether the file that was begun at `Place::Report` holds of it,
+/// where the rules are those on the shelf.
+///
+/// All that is said of `check_flat` holds here too.
+pub fn check_solid<D: Desk>(
+    alloc: Global,
+    grid: &Grid<P3>,
+    desk: &mut D,
+    shelf: &mut Shelf,
+) -> Result<Judgement, CheckFault>
+    requires { (D.state desk.old).begun Report ≡ true }
+    ensures answer { let X : Subject = record {
+      picture = grid.now;
+      shelf = rules_on opening marks next shelf.old;
+    } in Checks X ((D.state desk.old).left Report)
+        (D.state desk.old).read_faults (D.state desk.new).read_faults result }
+    ensures taken { let X : Subject = record {
+      picture = grid.now;
+      shelf = rules_on opening marks next shelf.old;
+    } in IfTold ((D.state desk.old).left Report)
+        (λ text. TakesFew X text ((D.state desk.new).left Report)) }
+    ensures reads { OnlyReadsAt Report (D.state desk.old) (D.state desk.new) }
+    ensures shelf { rules_on opening marks next shelf.new ≡ rules_on opening marks next shelf.old }
+{
+    check::<P3, Solid, D>(alloc, grid, desk, shelf)
 }

@@ -6,18 +6,21 @@ mod answer;
 mod check;
 mod counts;
 mod end;
-mod flat;
 mod heading;
 mod judges;
 mod law;
 mod next;
+mod outline;
 mod sections;
 mod then;
 mod thinned;
+mod whole;
 
 pub use answer::{CheckFault, Judgement};
-pub use check::check_flat;
+pub use check::{check_flat, check_solid};
 pub use law::{holding_is_answered, holding_shows, one_first_bad};
 
 #[cfg(test)]
 mod tests;
+#[cfg(test)]
+mod volume_tests;

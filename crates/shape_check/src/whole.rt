@@ -1,0 +1,110 @@
+//! The rows of judges of whole reports, one for each dimension.
+//! A further section is one more word in a type and one more line in its `begin`; another dimension is another row.
+ghost use Rattle.std.specs.Prelude.{◌≡◌, ◌<◌, ◌^◌, ℕ, false, List, [], IfOk, refl};
+ghost use Rattle.shape_terms.specs.Parts.{Counts};
+ghost use Rattle.thin_terms.specs.Thinning.{Rule};
+ghost use Rattle.judge_field.specs.FieldState as Field;
+ghost use Rattle.judge_thin.specs.Standing as Thin;
+ghost use Rattle.shape_check.specs.Followed.{Thins};
+
+use crate::counts::{CountsJudge, PictureCounts};
+use crate::end::EndJudge;
+use crate::judges::Row;
+use crate::outline::NoContours;
+use crate::then::Then;
+use crate::thinned::{ThinnedJudge, distances_of};
+use judge_cover::CoverJudge;
+use judge_field::FieldJudge;
+use judge_thin::ThinJudge;
+use shape_adj::parts;
+use shape_grid::Grid;
+use shape_space::{NoMemory, P2, P3};
+use shape_topo::SimpleMask;
+use std::alloc::Global;
+
+// The judges that every row has: of the counts, of the nearest points and of the thinning.
+#[derive(Drop)]
+struct Common<P: SimpleMask> {
+    counts: CountsJudge,
+    field: FieldJudge<P>,
+    thinned: ThinnedJudge<P>,
+}
+
+// The judges of a picture that have taken no line.
+fn wait_for<P: SimpleMask>(alloc: Global, grid: &Grid<P>) -> Result<Common<P>, NoMemory>
+    ensures counts { IfOk result (λ c. Counts grid.now c.counts.counts.points
+        c.counts.counts.object c.counts.counts.background) }
+    ensures counts_wait { IfOk result (λ c. c.counts.taken ≡ false) }
+    ensures picture { IfOk result (λ c. c.field.picture ≡ grid.now) }
+    ensures field { IfOk result (λ c. Field.StandsFor c.field []) }
+    ensures field_room { IfOk result (λ c. Field.room_of c.field < 2 ^ 60) }
+    ensures thinned { IfOk result (λ c. (by : Rule) (now : List ℕ) → Thins grid.now by
+        (λ events now. Thin.StandsFor by grid.now events now c.thinned.events) c.thinned.begun
+        c.thinned.kept c.thinned.object c.thinned.background now []) }
+    ensures thinned_waits { IfOk result (λ c. c.thinned.kept ≡ false) }
+    ensures thinned_room { IfOk result (λ c. Thin.room_of c.thinned.events < 2 ^ 60) }
+{
+    let parts = parts(alloc, grid)?;
+    let field = FieldJudge::new(alloc, grid)?;
+    let distances = distances_of(alloc, field.scans())?;
+    let thinned = ThinnedJudge {
+        events: ThinJudge::new(alloc, grid, distances)?,
+        begun: false,
+        object: parts.object,
+        background: parts.background,
+        kept: false,
+    };
+    let counts = CountsJudge {
+        counts: PictureCounts {
+            points: grid.count(),
+            object: parts.object,
+            background: parts.background,
+        },
+        taken: false,
+    };
+    Ok(Common {
+        counts,
+        field,
+        thinned,
+    })
+}
+
+/// The judges of a flat picture, behind the heading.
+pub type Flat = Then<
+    P2,
+    CountsJudge,
+    Then<P2, FieldJudge<P2>, Then<P2, CoverJudge, Then<P2, ThinnedJudge<P2>, EndJudge>>>,
+>;
+
+impl Row<P2> for Flat {
+    fn begin(alloc: Global, grid: &Grid<P2>) -> Result<Flat, NoMemory> {
+        let common = wait_for(alloc, grid)?;
+        let cover = CoverJudge::new(alloc, grid)?;
+        let row = Then::new(common.thinned, EndJudge { taken: false });
+        let row = Then::new(cover, row);
+        let row = Then::new(common.field, row);
+        Ok(Then::new(common.counts, row))
+    }
+
+    ghost first = { refl };
+}
+
+/// The judges of a volume, behind the heading.
+pub type Solid = Then<
+    P3,
+    CountsJudge,
+    Then<P3, FieldJudge<P3>, Then<P3, NoContours, Then<P3, ThinnedJudge<P3>, EndJudge>>>,
+>;
+
+impl Row<P3> for Solid {
+    fn begin(alloc: Global, grid: &Grid<P3>) -> Result<Solid, NoMemory> {
+        let common = wait_for(alloc, grid)?;
+        grid.is_picture();
+        let rest = Then::new(common.thinned, EndJudge { taken: false });
+        let rest = Then::new(NoContours, rest);
+        let rest = Then::new(common.field, rest);
+        Ok(Then::new(common.counts, rest))
+    }
+
+    ghost first = { refl };
+}
