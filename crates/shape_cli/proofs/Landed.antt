@@ -6,7 +6,7 @@ use Rattle.thin_terms.specs.Shelves.{Named, names_of}
 use Rattle.shape_desk.specs.Desk.{DeskState, Rose, Puts, PutsFront}
 use Rattle.shape_picture.specs.declared.fault.PictureFault.{PictureFault}
 use Rattle.shape_check.specs.declared.answer.Judgement.TheVariants as judgement
-use Rattle.shape_cli.specs.Commands.{Source, Asked, IsInRange, Asks, words_of, source_of}
+use Rattle.shape_cli.specs.Commands.{Source, Asked, HasSides, IsInRange, Asks, words_of, source_of}
 use Rattle.shape_cli.specs.Runs.{Answers, Lacks, CutShort, TookFew, IsFaultOf, Ran}
 use Rattle.shape_cli.specs.Complete.{IsAnswer, HasRun}
 use Rattle.shape_cli.specs.Landed.{Analyses, Checks, WroteFor, CutFor, GaveVerdict, CutVerdict, LacksPicture, LacksFile, IsBeforeWrites, IsRefused, IsAnalysed, IsJudged, SaysOutcome, ComesOut}
@@ -18,40 +18,43 @@ use Rattle.shape_cli.proofs.Complete.{answers, refuses}
 module _ (shelf : List (Named Rule)) (words : List (List ℕ)) (old new : DeskState) where
   -- ---- one outcome of one command
 
-  done_of : (c : Asked) → IsInRange (names_of shelf) c → words ≡ words_of c → Ran shelf c old new outcome.Done → Analyses shelf words (λ file rule. WroteFor shelf file rule old new)
-  done_of (Asked.Analyse (Source.Pbm file) rule) i w r = record { file = file; rule = rule; on_shelf = i; spelled = w; holds = record { picture = r.right.0; spells = r.right.1; text = r.text; right = r.right.2; puts = r.puts } }
-  done_of (Asked.Check (Source.Pbm file) report) i w r = absurd r.right
+  checks : {P : Source → List ℕ → Type 0} (source : Source) (report : List ℕ) → HasSides source → words ≡ words_of (Asked.Check source report) → P source report → Checks words P
+  checks source report i w p = record { source = source; report = report; in_range = i; spelled = w; holds = p }
 
-  yes_of : (c : Asked) → words ≡ words_of c → Ran shelf c old new outcome.Yes → Checks words (λ file report. GaveVerdict shelf file report old new judgement.Yes)
-  yes_of (Asked.Analyse (Source.Pbm file) rule) w r = absurd r.right
-  yes_of (Asked.Check (Source.Pbm file) report) w r = let a = r.right in (file, report, w, record { picture = a.1.0; spells = a.1.1; right = a.1.2; puts = subst (λ t. Puts old.written new.written t) a.0 r.puts; taken = r.taken })
+  done_of : (c : Asked) → IsInRange (names_of shelf) c → words ≡ words_of c → Ran shelf c old new outcome.Done → Analyses shelf words (λ source rule. WroteFor shelf source rule old new)
+  done_of (Asked.Analyse source rule) i w r = record { source = source; rule = rule; in_range = i.0; on_shelf = i.1; spelled = w; holds = record { picture = r.right.0; spells = r.right.1; text = r.text; right = r.right.2; puts = r.puts } }
+  done_of (Asked.Check source report) i w r = absurd r.right
 
-  no_of : (k : ℕ) (c : Asked) → words ≡ words_of c → Ran shelf c old new (outcome.No k) → Checks words (λ file report. GaveVerdict shelf file report old new (judgement.No k))
-  no_of k (Asked.Analyse (Source.Pbm file) rule) w r = absurd r.right
-  no_of k (Asked.Check (Source.Pbm file) report) w r = let a = r.right in (file, report, w, record { picture = a.1.0; spells = a.1.1; right = a.1.2; puts = subst (λ t. Puts old.written new.written t) a.0 r.puts; taken = r.taken })
+  yes_of : (c : Asked) → IsInRange (names_of shelf) c → words ≡ words_of c → Ran shelf c old new outcome.Yes → Checks words (λ source report. GaveVerdict shelf source report old new judgement.Yes)
+  yes_of (Asked.Analyse source rule) i w r = absurd r.right
+  yes_of (Asked.Check source report) i w r = let a = r.right in checks source report i w (record { picture = a.1.0; spells = a.1.1; right = a.1.2; puts = subst (λ t. Puts old.written new.written t) a.0 r.puts; taken = r.taken })
 
-  cut_report : (file rule text : List ℕ) (o : Outcome) → Answers shelf (Asked.Analyse (Source.Pbm file) rule) old.files o text → PutsFront old.written new.written text → Rose old.write_faults new.write_faults → CutFor shelf file rule old new
-  cut_report file rule text outcome.Done a p f = record { picture = a.0; spells = a.1; text = text; right = a.2; puts = p; cause = f }
-  cut_report file rule text _ a p f = absurd a
+  no_of : (k : ℕ) (c : Asked) → IsInRange (names_of shelf) c → words ≡ words_of c → Ran shelf c old new (outcome.No k) → Checks words (λ source report. GaveVerdict shelf source report old new (judgement.No k))
+  no_of k (Asked.Analyse source rule) i w r = absurd r.right
+  no_of k (Asked.Check source report) i w r = let a = r.right in checks source report i w (record { picture = a.1.0; spells = a.1.1; right = a.1.2; puts = subst (λ t. Puts old.written new.written t) a.0 r.puts; taken = r.taken })
 
-  cut_verdict : (file report text : List ℕ) (o : Outcome) → Answers shelf (Asked.Check (Source.Pbm file) report) old.files o text → PutsFront old.written new.written text → Rose old.write_faults new.write_faults → TookFew shelf (Asked.Check (Source.Pbm file) report) old new → CutVerdict shelf file report old new
-  cut_verdict file report text outcome.Yes a p f t = record { verdict = judgement.Yes; picture = a.1.0; spells = a.1.1; right = a.1.2; puts = subst (λ w. PutsFront old.written new.written w) a.0 p; cause = f; taken = t }
-  cut_verdict file report text (outcome.No k) a p f t = record { verdict = judgement.No k; picture = a.1.0; spells = a.1.1; right = a.1.2; puts = subst (λ w. PutsFront old.written new.written w) a.0 p; cause = f; taken = t }
-  cut_verdict file report text _ a p f t = absurd a
+  cut_report : (source : Source) (rule text : List ℕ) (o : Outcome) → Answers shelf (Asked.Analyse source rule) old.files o text → PutsFront old.written new.written text → Rose old.write_faults new.write_faults → CutFor shelf source rule old new
+  cut_report source rule text outcome.Done a p f = record { picture = a.0; spells = a.1; text = text; right = a.2; puts = p; cause = f }
+  cut_report source rule text _ a p f = absurd a
 
-  cut_of : (c : Asked) → IsInRange (names_of shelf) c → words ≡ words_of c → CutShort shelf c old new → Analyses shelf words (λ file rule. CutFor shelf file rule old new) ⊎ Checks words (λ file report. CutVerdict shelf file report old new)
-  cut_of (Asked.Analyse (Source.Pbm file) rule) i w r = inl (record { file = file; rule = rule; on_shelf = i; spelled = w; holds = cut_report file rule r.text r.outcome r.right r.puts r.cause })
-  cut_of (Asked.Check (Source.Pbm file) report) i w r = inr (file, report, w, cut_verdict file report r.text r.outcome r.right r.puts r.cause r.taken)
+  cut_verdict : (source : Source) (report text : List ℕ) (o : Outcome) → Answers shelf (Asked.Check source report) old.files o text → PutsFront old.written new.written text → Rose old.write_faults new.write_faults → TookFew shelf (Asked.Check source report) old new → CutVerdict shelf source report old new
+  cut_verdict source report text outcome.Yes a p f t = record { verdict = judgement.Yes; picture = a.1.0; spells = a.1.1; right = a.1.2; puts = subst (λ w. PutsFront old.written new.written w) a.0 p; cause = f; taken = t }
+  cut_verdict source report text (outcome.No k) a p f t = record { verdict = judgement.No k; picture = a.1.0; spells = a.1.1; right = a.1.2; puts = subst (λ w. PutsFront old.written new.written w) a.0 p; cause = f; taken = t }
+  cut_verdict source report text _ a p f t = absurd a
 
-  fault_of : (f : PictureFault) (c : Asked) → IsInRange (names_of shelf) c → words ≡ words_of c → IsFaultOf old.files (source_of c) f → Analyses shelf words (λ file rule. IsFaultOf old.files (Source.Pbm file) f) ⊎ Checks words (λ file report. IsFaultOf old.files (Source.Pbm file) f)
-  fault_of f (Asked.Analyse (Source.Pbm file) rule) i w r = inl (record { file = file; rule = rule; on_shelf = i; spelled = w; holds = r })
-  fault_of f (Asked.Check (Source.Pbm file) report) i w r = inr (file, report, w, r)
+  cut_of : (c : Asked) → IsInRange (names_of shelf) c → words ≡ words_of c → CutShort shelf c old new → Analyses shelf words (λ source rule. CutFor shelf source rule old new) ⊎ Checks words (λ source report. CutVerdict shelf source report old new)
+  cut_of (Asked.Analyse source rule) i w r = inl (record { source = source; rule = rule; in_range = i.0; on_shelf = i.1; spelled = w; holds = cut_report source rule r.text r.outcome r.right r.puts r.cause })
+  cut_of (Asked.Check source report) i w r = inr (checks source report i w (cut_verdict source report r.text r.outcome r.right r.puts r.cause r.taken))
 
-  lacks_of : (c : Asked) → IsInRange (names_of shelf) c → words ≡ words_of c → Rose old.read_faults new.read_faults ⊎ Lacks c old.files → Analyses shelf words (λ file rule. LacksPicture file old new) ⊎ Checks words (λ file report. LacksFile file report old new)
-  lacks_of (Asked.Analyse (Source.Pbm file) rule) i w r = inl (record { file = file; rule = rule; on_shelf = i; spelled = w; holds = r })
-  lacks_of (Asked.Check (Source.Pbm file) report) i w (inl rose) = inr (file, report, w, inl rose)
-  lacks_of (Asked.Check (Source.Pbm file) report) i w (inr (inl m)) = inr (file, report, w, inr (inl m))
-  lacks_of (Asked.Check (Source.Pbm file) report) i w (inr (inr m)) = inr (file, report, w, inr (inr (m.0, (m.1.0, m.1.1))))
+  fault_of : (f : PictureFault) (c : Asked) → IsInRange (names_of shelf) c → words ≡ words_of c → IsFaultOf old.files (source_of c) f → Analyses shelf words (λ source rule. IsFaultOf old.files source f) ⊎ Checks words (λ source report. IsFaultOf old.files source f)
+  fault_of f (Asked.Analyse source rule) i w r = inl (record { source = source; rule = rule; in_range = i.0; on_shelf = i.1; spelled = w; holds = r })
+  fault_of f (Asked.Check source report) i w r = inr (checks source report i w (r))
+
+  lacks_of : (c : Asked) → IsInRange (names_of shelf) c → words ≡ words_of c → Rose old.read_faults new.read_faults ⊎ Lacks c old.files → Analyses shelf words (λ source rule. LacksPicture source old new) ⊎ Checks words (λ source report. LacksFile source report old new)
+  lacks_of (Asked.Analyse source rule) i w r = inl (record { source = source; rule = rule; in_range = i.0; on_shelf = i.1; spelled = w; holds = r })
+  lacks_of (Asked.Check source report) i w (inl rose) = inr (checks source report i w (inl rose))
+  lacks_of (Asked.Check source report) i w (inr (inl m)) = inr (checks source report i w (inr (inl m)))
+  lacks_of (Asked.Check source report) i w (inr (inr m)) = inr (checks source report i w (inr (inr (m.0, (m.1.0, m.1.1)))))
 
   silent : (o : Outcome) → HasRun shelf words old new o → IsBeforeWrites o → new.written ≡ old.written
   silent outcome.Usage h s = ap (λ d. d.written) (h.untouched refl)
@@ -76,8 +79,8 @@ module _ (shelf : List (Named Rule)) (words : List (List ℕ)) (old new : DeskSt
       read_fault = λ e. let a = for_outcome outcome.ReadFault e (λ u. cc) in lacks_of a.command a.in_range a.spelled a.holds.0;
       write_fault = λ e. let a = for_outcome outcome.WriteFault e (λ u. cc) in cut_of a.command a.in_range a.spelled a.holds;
       done = λ e. let a = for_outcome outcome.Done e (λ u. cc) in done_of a.command a.in_range a.spelled a.holds;
-      yes = λ e. let a = for_outcome outcome.Yes e (λ u. cc) in yes_of a.command a.spelled a.holds;
-      no = λ k e. let a = for_outcome (outcome.No k) e (λ u. cc) in no_of k a.command a.spelled a.holds;
+      yes = λ e. let a = for_outcome outcome.Yes e (λ u. cc) in yes_of a.command a.in_range a.spelled a.holds;
+      no = λ k e. let a = for_outcome (outcome.No k) e (λ u. cc) in no_of k a.command a.in_range a.spelled a.holds;
       silent = silent o h;
     }
 
@@ -98,16 +101,16 @@ module _ (shelf : List (Named Rule)) (words : List (List ℕ)) (old new : DeskSt
 
     pub comes : ComesOut shelf words old new o
     comes = record {
-      analyse_complete = λ file rule i e s r w.
-          let c = Asked.Analyse (Source.Pbm file) rule in
-          analysed (Source.Pbm file) rule o (answers shelf c old new o (ran shelf words old new o c h i e) s tt (record { read = r; write = w }));
-      check_complete = λ file report e s t r w.
-          let c = Asked.Check (Source.Pbm file) report in
-          judged (Source.Pbm file) report o (answers shelf c old new o (ran shelf words old new o c h tt e) s t (record { read = r; write = w }));
-      analyse_refused = λ file rule f i e s r.
-          let c = Asked.Analyse (Source.Pbm file) rule in
+      analyse_complete = λ source rule i e s r w.
+          let c = Asked.Analyse source rule in
+          analysed source rule o (answers shelf c old new o (ran shelf words old new o c h i e) s tt (record { read = r; write = w }));
+      check_complete = λ source report i e s t r w.
+          let c = Asked.Check source report in
+          judged source report o (answers shelf c old new o (ran shelf words old new o c h i e) s t (record { read = r; write = w }));
+      analyse_refused = λ source rule f i e s r.
+          let c = Asked.Analyse source rule in
           refused f o (refuses shelf c old new o f (ran shelf words old new o c h i e) s r);
-      check_refused = λ file report f e s r.
-          let c = Asked.Check (Source.Pbm file) report in
-          refused f o (refuses shelf c old new o f (ran shelf words old new o c h tt e) s r);
+      check_refused = λ source report f i e s r.
+          let c = Asked.Check source report in
+          refused f o (refuses shelf c old new o f (ran shelf words old new o c h i e) s r);
     }

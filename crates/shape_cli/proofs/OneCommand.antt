@@ -3,30 +3,65 @@ use Rattle.std.proofs.Common.{◌≡◌, ◌⊎◌, inl, inr, ℕ, List, length,
 use Rattle.std.specs.Prelude.{◌↔◌, codes, Contains, slice_get}
 use Rattle.thin_terms.specs.Thinning.{Rule}
 use Rattle.thin_terms.specs.Shelves.{Named, names_of}
+use Rattle.std.specs.Fmt.{decimal}
 use Rattle.std.proofs.lemmas.Option.{slice_get_within, get_or_from_slice_get}
 use Rattle.shape_desk.specs.Desk.{DeskState}
-use Rattle.shape_cli.specs.Commands.{Source, Asked, IsInRange, IsNoForm, Asks, words_of, with_words}
+use Rattle.shape_cli.specs.Commands.{Source, Asked, HasSides, IsInRange, IsNoForm, Asks, source_of, words_of, with_words}
 use Rattle.shape_cli.specs.Runs.{Ran}
 use Rattle.shape_cli.specs.Complete.{HasRun}
 use Rattle.shape_cli.specs.declared.outcome.Outcome.{Outcome}
 use Rattle.shape_cli.specs.declared.outcome.Outcome.TheVariants as outcome
+use Rattle.shape_cli.proofs.SideWords.{same_sides}
 
-pub one : (c d : Asked) → words_of c ≡ words_of d → c ≡ d
-one (Asked.Analyse (Source.Pbm file) rule) (Asked.Analyse (Source.Pbm file') rule') e = let f : file ≡ file' = cc in let r : rule ≡ rule' = cc in rw (f, r) refl
-one (Asked.Check (Source.Pbm file) report) (Asked.Check (Source.Pbm file') report') e = let f : file ≡ file' = cc in let r : report ≡ report' = cc in rw (f, r) refl
-one (Asked.Analyse (Source.Pbm file) rule) (Asked.Check (Source.Pbm file') report) e = let f : codes "analyse" ≡ codes "check" = cc in let n = ap length f in absurd (omega arith)
-one (Asked.Check (Source.Pbm file) report) (Asked.Analyse (Source.Pbm file') rule) e = let f : codes "analyse" ≡ codes "check" = cc in let n = ap length f in absurd (omega arith)
+-- words with the same first word, source and last word
+record SameWords (first last first' last' : List ℕ) (s t : Source) : Type 0 where
+  begins : first ≡ first'
+  source : s ≡ t
+  ends : last ≡ last'
+
+same_words : (first last first' last' : List ℕ) (s t : Source) → HasSides s → HasSides t → with_words first s last ≡ with_words first' t last' → SameWords first last first' last' s t
+same_words first last first' last' (Source.Pbm f) (Source.Pbm g) h k e = record { begins = cc; source = (let n : f ≡ g = cc in rw n refl); ends = cc }
+same_words first last first' last' (Source.Raw a b c f) (Source.Raw x y z g) h k e =
+    let i : decimal a ≡ decimal x = cc in
+    let j : decimal b ≡ decimal y = cc in
+    let l : decimal c ≡ decimal z = cc in
+    let n : f ≡ g = cc in
+    let m : first ≡ first' = cc in
+    let o : last ≡ last' = cc in
+    let s = same_sides a b c x y z h k i j l in
+    record { begins = m; source = rw (s.first, s.second, s.third, n) refl; ends = o }
+same_words first last first' last' (Source.Pbm f) (Source.Raw x y z g) h k e = absurd (let n = ap length e in omega arith)
+same_words first last first' last' (Source.Raw x y z g) (Source.Pbm f) h k e = absurd (let n = ap length e in omega arith)
+
+not_both_commands : codes "analyse" ≡ codes "check" → ⊥
+not_both_commands f = let n = ap length f in omega arith
+
+pub one : (c d : Asked) → HasSides (source_of c) → HasSides (source_of d) → words_of c ≡ words_of d → c ≡ d
+one (Asked.Analyse s rule) (Asked.Analyse t rule') h k e = let p = same_words _ rule _ rule' s t h k e in rw (p.source, p.ends) refl
+one (Asked.Check s report) (Asked.Check t report') h k e = let p = same_words _ report _ report' s t h k e in rw (p.source, p.ends) refl
+one (Asked.Analyse s rule) (Asked.Check t report) h k e = absurd (not_both_commands (same_words _ rule _ report s t h k e).begins)
+one (Asked.Check s report) (Asked.Analyse t rule) h k e = absurd (not_both_commands (sym (same_words _ report _ rule s t h k e).begins))
+
+-- the sides of a command in range
+pub sides_in_range : (names : List (List ℕ)) (c : Asked) → IsInRange names c → HasSides (source_of c)
+sides_in_range names (Asked.Analyse source rule) i = i.0
+sides_in_range names (Asked.Check source report) i = i
 
 -- words whose last names no rule are of no form, unless the first is that of a check
-pub not_named : (names : List (List ℕ)) (first last : List ℕ) (source : Source) → (first ≡ codes "check" → ⊥) → (Contains names last → ⊥) → IsNoForm names (with_words first source last)
-not_named names first last (Source.Pbm file) n m (Asked.Analyse (Source.Pbm file') rule) i e = let same : rule ≡ last = cc in m (subst (Contains names) same i)
-not_named names first last (Source.Pbm file) n m (Asked.Check (Source.Pbm file') report) i e = n (let f : first ≡ codes "check" = cc in f)
+pub not_named : (names : List (List ℕ)) (first last : List ℕ) (source : Source) → HasSides source → (first ≡ codes "check" → ⊥) → (Contains names last → ⊥) → IsNoForm names (with_words first source last)
+not_named names first last source h n m (Asked.Analyse t rule) i e = m (subst (Contains names) (sym (same_words first last _ rule source t h i.0 e).ends) i.1)
+not_named names first last source h n m (Asked.Check t report) i e = n (same_words first last _ report source t h i e).begins
+
+-- words that begin with no command's first word are of no form
+pub not_begun : (names : List (List ℕ)) (first last : List ℕ) (source : Source) → HasSides source → (first ≡ codes "check" → ⊥) → (first ≡ codes "analyse" → ⊥) → IsNoForm names (with_words first source last)
+not_begun names first last source h n m (Asked.Analyse t rule) i e = m (same_words first last _ rule source t h i.0 e).begins
+not_begun names first last source h n m (Asked.Check t report) i e = n (same_words first last _ report source t h i e).begins
 
 pub ran : (shelf : List (Named Rule)) (words : List (List ℕ)) (old new : DeskState) (o : Outcome) (c : Asked) → HasRun shelf words old new o → IsInRange (names_of shelf) c → words ≡ words_of c → Ran shelf c old new o
 ran shelf words old new o c h i e = by_form h.ran
   where
     by_form : Asks (names_of shelf) words (λ d. Ran shelf d old new o) ⊎ IsNoForm (names_of shelf) words → Ran shelf c old new o
-    by_form (inl a) = subst (λ d. Ran shelf d old new o) (one a.command c (sym a.spelled ∙ e)) a.holds
+    by_form (inl a) = subst (λ d. Ran shelf d old new o) (one a.command c (sides_in_range (names_of shelf) a.command a.in_range) (sides_in_range (names_of shelf) c i) (sym a.spelled ∙ e)) a.holds
     by_form (inr n) = absurd (n c i e)
 
 -- an outcome other than `Usage` has a command
@@ -44,11 +79,21 @@ named_at : (names : List (List ℕ)) (i : ℕ) (rule : List ℕ) → slice_get n
 named_at names i rule there = (i, slice_get_within names i rule there, get_or_from_slice_get names i rule rule there)
 
 -- the words of an analysis that was run
-pub analysis_asked : (shelf : List (Named Rule)) (names words : List (List ℕ)) (source : Source) (rule : List ℕ) (i : ℕ) (old new : DeskState) (o : Outcome) → names_of shelf ≡ names → slice_get names i ≡ Some rule → words ≡ words_of (Asked.Analyse source rule)
+pub analysis_asked : (shelf : List (Named Rule)) (names words : List (List ℕ)) (source : Source) (rule : List ℕ) (i : ℕ) (old new : DeskState) (o : Outcome) → HasSides source → names_of shelf ≡ names → slice_get names i ≡ Some rule → words ≡ words_of (Asked.Analyse source rule)
     → Ran shelf (Asked.Analyse source rule) old new o → Asks (names_of shelf) words (λ c. Ran shelf c old new o)
-analysis_asked shelf names words source rule i old new o e there spelled r = record {
+analysis_asked shelf names words source rule i old new o h e there spelled r = record {
   command = Asked.Analyse source rule;
-  in_range = subst (λ ns. Contains ns rule) (sym e) (named_at names i rule there);
+  in_range = (h, subst (λ ns. Contains ns rule) (sym e) (named_at names i rule there));
+  spelled = spelled;
+  holds = r;
+}
+
+-- the words of a check that was run
+pub check_asked : (shelf : List (Named Rule)) (names words : List (List ℕ)) (source : Source) (report : List ℕ) (old new : DeskState) (o : Outcome) → HasSides source → words ≡ words_of (Asked.Check source report)
+    → Ran shelf (Asked.Check source report) old new o → Asks names words (λ c. Ran shelf c old new o)
+check_asked shelf names words source report old new o h spelled r = record {
+  command = Asked.Check source report;
+  in_range = h;
   spelled = spelled;
   holds = r;
 }

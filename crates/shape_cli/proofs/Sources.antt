@@ -1,12 +1,13 @@
 -- A source that is a picture has no fault and is no other picture, one with a fault has no other fault, and one that is there is not missing.
 -- Facts of files and sources, over what the desk tells.
-use Rattle.std.proofs.Common.{◌≡◌, ℕ, List, subst}
+use Rattle.std.proofs.Common.{◌≡◌, ℕ, List, [], ◌∷◌, subst}
 use Rattle.std.specs.Prelude.{Option, None, Some, MatchOption, ⊤}
 use Rattle.shape_terms.specs.Pictures.{Picture}
 use Rattle.shape_desk.specs.Desk.{Files, IsMissing}
 use Rattle.shape_picture.specs.Answers.{most_side, most_bytes}
 use Rattle.shape_picture.specs.declared.fault.PictureFault.{PictureFault}
 use Rattle.shape_picture.proofs.AtMostOne.{not_both, one_fault, one_picture}
+use Rattle.shape_picture.proofs.VolumeSteps.{not_both_volume, one_volume_fault, one_volume_picture}
 use Rattle.shape_cli.specs.Commands.{Source, file_of}
 use Rattle.shape_cli.specs.Runs.{OfFile, Spells, HasFault, IsPictureOf, IsFaultOf}
 use Rattle.shape_cli.specs.Complete.{FileIs, FindsPicture, FindsSome, FindsFault}
@@ -39,6 +40,7 @@ is_told (Some files) name P p = p
 
 not_spelled : (source : Source) (X : Picture) (f : PictureFault) (bytes : List ℕ) → Spells source X bytes → HasFault source f bytes → ⊥
 not_spelled (Source.Pbm file) X f bytes s h = not_both most_side most_bytes bytes X s.0 f s.1 h
+not_spelled (Source.Raw x y z file) X f bytes s h = not_both_volume (x ∷ y ∷ z ∷ []) bytes X f s h
 
 pub not_faulty : (files : Option Files) (source : Source) (f : PictureFault) → FindsSome files source → IsFaultOf files source f → ⊥
 not_faulty files source f p q =
@@ -52,6 +54,7 @@ not_picture files source f X p q =
 
 same_fault : (source : Source) (f g : PictureFault) (bytes : List ℕ) → HasFault source f bytes → HasFault source g bytes → g ≡ f
 same_fault (Source.Pbm file) f g bytes p q = one_fault most_side most_bytes bytes g f q p
+same_fault (Source.Raw x y z file) f g bytes p q = one_volume_fault (x ∷ y ∷ z ∷ []) bytes g f q p
 
 pub its_fault : (files : Option Files) (source : Source) (f g : PictureFault) → FindsFault files source f → IsFaultOf files source g → g ≡ f
 its_fault files source f g p q =
@@ -60,6 +63,7 @@ its_fault files source f g p q =
 
 same_picture : (source : Source) (X Y : Picture) (bytes : List ℕ) → Spells source X bytes → Spells source Y bytes → X ≡ Y
 same_picture (Source.Pbm file) X Y bytes p q = one_picture most_side most_bytes bytes X Y p.0 q.0 p.1 q.1
+same_picture (Source.Raw x y z file) X Y bytes p q = one_volume_picture (x ∷ y ∷ z ∷ []) bytes X Y p q
 
 pub its_picture : (files : Option Files) (source : Source) (X Y : Picture) → FindsPicture files source X → IsPictureOf files source Y → X ≡ Y
 its_picture files source X Y p q =

@@ -29,6 +29,7 @@ fault_message (fault.SideTooLarge v) = codes "a side is too large:"
 fault_message (fault.BadByte i) = codes "bad pixel at"
 fault_message (fault.Short i) = codes "picture ends early at"
 fault_message fault.TooLong = codes "picture is too long"
+fault_message fault.Trailing = codes "bytes after the volume"
 
 -- the text on standard error
 abbrev pub message_of : Outcome → List ℕ

@@ -13,8 +13,20 @@ use Rattle.shape_check.specs.declared.answer.Judgement.{Judgement}
 use Rattle.shape_check.specs.declared.answer.Judgement.TheVariants as judgement
 use Rattle.shape_check.specs.declared.answer.CheckFault.{CheckFault}
 use Rattle.shape_check.specs.declared.answer.CheckFault.TheVariants as check
+use Rattle.shape_cli.specs.declared.picture.Image.{Image}
+use Rattle.shape_cli.specs.declared.picture.Image.TheVariants as image
 use Rattle.shape_cli.specs.Commands.{Source, file_of}
 use Rattle.shape_cli.specs.Runs.{OfFile, IsPictureOf, IsFaultOf, IsReport, yes_text, no_text}
+
+-- the picture that was read, flat or solid
+abbrev pub picture_of : Image → Picture
+picture_of (image.Flat X) = X
+picture_of (image.Solid X) = X
+
+-- an answer of the reading, with the picture that its image is
+abbrev pub seen : Result Image PictureError → Result Picture PictureError
+seen (Ok v) = Ok (picture_of v)
+seen (Err e) = Err e
 
 -- what the reading of a source gives: its picture, its fault, or the cause of the failure
 abbrev pub Opened : Source → DeskState → DeskState → Result Picture PictureError → Type 0

@@ -1,6 +1,6 @@
 -- What a run of a command has done to the desk, outcome by outcome.
 -- Clauses on the bytes of files hold where the desk tells its files; a further command is a clause of `Answers` and of `Lacks`.
-use Rattle.std.specs.Prelude.{◌≡◌, ◌⊎◌, ◌≤◌, ℕ, List, ◌++◌, codes, ⊤, Option, None, Some, MatchOption}
+use Rattle.std.specs.Prelude.{◌≡◌, ◌⊎◌, ◌≤◌, ℕ, List, [], ◌∷◌, ◌++◌, codes, ⊤, Option, None, Some, MatchOption}
 use Rattle.std.specs.Fmt.{decimal}
 use Rattle.shape_terms.specs.Pictures.{Picture}
 use Rattle.thin_terms.specs.Thinning.{Rule}
@@ -10,8 +10,7 @@ use Rattle.report_terms.specs.Holds.{Holds, HoldsBy, FirstBad}
 use Rattle.report_terms.specs.Shows.{TextShows}
 use Rattle.shape_desk.specs.Desk.{Files, DeskState, Rose, IsMissing, Puts, PutsFront}
 use Rattle.shape_desk.specs.declared.desk.Place.TheVariants.{Report}
-use Rattle.shape_picture.specs.Plain.{PlainFault}
-use Rattle.shape_picture.specs.Answers.{most_side, most_bytes, SpellsPicture}
+use Rattle.shape_picture.specs.Answers.{Format, most_side, most_bytes, plain, raw}
 use Rattle.shape_picture.specs.declared.fault.PictureFault.{PictureFault}
 use Rattle.shape_check.specs.Checks.{TakesFew}
 use Rattle.shape_cli.specs.Commands.{Source, Asked, file_of, source_of}
@@ -25,13 +24,18 @@ abbrev pub OfFile : Option Files → List ℕ → (List ℕ → Type 0) → Type
 OfFile None name P = ⊤
 OfFile (Some files) name P = MatchOption (files name) ⊥ P
 
--- some front of the bytes of a source's file spells the picture
+-- the format of a source's file
+abbrev pub format_of : Source → Format
+format_of (Source.Pbm file) = plain most_side most_bytes
+format_of (Source.Raw x y z file) = raw (x ∷ y ∷ z ∷ [])
+
+-- the bytes of a source's file spell the picture
 abbrev pub Spells : Source → Picture → List ℕ → Type 0
-Spells (Source.Pbm file) X bytes = SpellsPicture most_side most_bytes X bytes
+Spells source X bytes = (format_of source).spells X bytes
 
 -- the bytes of a source's file have the fault
 abbrev pub HasFault : Source → PictureFault → List ℕ → Type 0
-HasFault (Source.Pbm file) f bytes = PlainFault most_side most_bytes bytes f
+HasFault source f bytes = (format_of source).has_fault f bytes
 
 -- the source is this picture
 abbrev pub IsPictureOf : Option Files → Source → Picture → Type 0

@@ -1,19 +1,41 @@
 //! The command `analyse`: the picture, then its report, then the output.
 //! The report is built whole before its first byte is written.
-ghost use Rattle.std.specs.Prelude.{◌≡◌, ◌<◌, ℕ, List, Some, length, slice_get};
+ghost use Rattle.std.specs.Prelude.{◌≡◌, ◌<◌, ℕ, List, Some, IfOk, length, slice_get};
 ghost use Rattle.thin_terms.specs.Shelves.{names_of};
+ghost use Rattle.report_terms.specs.Subjects.{subject_of};
+ghost use Rattle.report_terms.specs.Holds.{HoldsBy};
 ghost use Rattle.shape_rules.specs.Ruled.{rules_on};
 ghost use Rattle.shape_cli.specs.Commands.{Asked, read_source};
+ghost use Rattle.shape_cli.specs.Parts.{picture_of};
 ghost use Rattle.shape_cli.specs.Runs.{Ran, KeepsFiles};
 
 use crate::outcome::{Outcome, refused};
-use crate::picture::open_picture;
+use crate::picture::{Image, open_picture};
 use crate::words::Source;
-use shape_analyse::analyse_flat;
+use shape_analyse::{analyse_flat, analyse_solid};
 use shape_desk::Desk;
-use shape_report::write_report;
+use shape_report::{Report, write_report};
 use shape_rules::Shelf;
+use shape_space::NoMemory;
 use std::alloc::Global;
+
+// The report of a picture by the rule with a number.
+fn report_of(
+    alloc: Global,
+    image: &Image,
+    shelf: &mut Shelf,
+    which: usize,
+) -> Result<Report, NoMemory>
+    requires { which < length shelf.old }
+    ensures holds { (name : List ℕ) → slice_get (names_of shelf.old) which ≡ Some name
+        → IfOk result (HoldsBy
+        (subject_of (picture_of image.now) (rules_on opening marks next shelf.old)) name) }
+{
+    match image {
+        Image::Flat(grid) => analyse_flat(alloc, grid, shelf, which),
+        Image::Solid(grid) => analyse_solid(alloc, grid, shelf, which),
+    }
+}
 
 // Analyses the picture at a source by the rule with a number.
 pub(crate) fn analyse_file<D: Desk>(
@@ -30,11 +52,11 @@ pub(crate) fn analyse_file<D: Desk>(
         (D.state desk.old) (D.state desk.new) result }
     ensures kept { KeepsFiles (D.state desk.old) (D.state desk.new) }
 {
-    let grid = match open_picture(alloc, source, desk) {
-        Ok(grid) => grid,
+    let image = match open_picture(alloc, source, desk) {
+        Ok(image) => image,
         Err(error) => return refused(error),
     };
-    let report = match analyse_flat(alloc, &grid, shelf, which) {
+    let report = match report_of(alloc, &image, shelf, which) {
         Ok(report) => report,
         Err(_) => return Outcome::NoMemory,
     };

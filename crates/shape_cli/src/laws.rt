@@ -8,15 +8,16 @@ ghost use Rattle.report_terms.specs.Holds.{Holds};
 ghost use Rattle.shape_desk.specs.Desk.{DeskState, Rose};
 ghost use Rattle.shape_picture.specs.declared.fault.PictureFault.{PictureFault};
 ghost use Rattle.report_terms.specs.Subjects.{subject_of};
-ghost use Rattle.shape_cli.specs.Commands.{Source, Asked, IsInRange, source_of, words_of};
+ghost use Rattle.shape_cli.specs.Commands.{Source, Asked, HasSides, IsInRange, source_of, words_of};
 ghost use Rattle.shape_cli.specs.Runs.{Lacks, Ran};
 ghost use Rattle.shape_cli.specs.Complete.{FileIs, FindsPicture, FindsSome, FindsFault, FindsRest, HasNoFault, IsAnswer, HasRun};
 ghost use Rattle.shape_cli.specs.Landed.{SaysOutcome, ComesOut};
 ghost use Rattle.shape_cli.specs.declared.outcome.Outcome.{Outcome};
 
-/// Words spell one command at most, and it is the one of which `run` speaks.
+/// Words spell one command at most with sides of a volume, and it is the one of which `run` speaks.
 pub fn words_are_of_one_command()
-    ensures one { (c d : Asked) → words_of c ≡ words_of d → c ≡ d }
+    ensures one { (c d : Asked) → HasSides (source_of c) → HasSides (source_of d)
+        → words_of c ≡ words_of d → c ≡ d }
     ensures ran { (shelf : List (Named Rule)) (words : List (List ℕ))
         (old new : DeskState) (o : Outcome) (c : Asked)
         → HasRun shelf words old new o → IsInRange (names_of shelf) c

@@ -15,4 +15,10 @@ pub use outcome::Outcome;
 pub use top::run;
 
 #[cfg(test)]
-mod tests;
+mod refusal_tests;
+#[cfg(test)]
+mod report_tests;
+#[cfg(test)]
+mod test_runs;
+#[cfg(test)]
+mod volume_tests;

@@ -83,6 +83,7 @@ fn fault_text(fault: PictureFault) -> &'static str
         PictureFault::BadByte { at: _ } => "bad pixel at",
         PictureFault::Short { at: _ } => "picture ends early at",
         PictureFault::TooLong => "picture is too long",
+        PictureFault::Trailing => "bytes after the volume",
     }
 }
 

@@ -1,38 +1,63 @@
 //! The command `check`: the picture, then the report, then the verdict line.
 //! The report is judged line by line; nothing of it is kept.
-ghost use Rattle.std.specs.Prelude.{◌≡◌, ◌≤◌, length, take};
+ghost use Rattle.std.specs.Prelude.{◌≡◌, ◌≤◌, length, take, true};
 ghost use Rattle.shape_rules.specs.Ruled.{rules_on};
-ghost use Rattle.shape_desk.specs.Desk.{OnlyReads, WritesText};
+ghost use Rattle.shape_desk.specs.Desk.{OnlyReads, OnlyReadsAt, WritesText};
+ghost use Rattle.shape_desk.specs.Line.{IfTold};
+ghost use Rattle.shape_desk.specs.declared.desk.Place.TheVariants.{Report};
+ghost use Rattle.shape_check.specs.Checks.{Checks, TakesFew};
 ghost use Rattle.report_terms.specs.Subjects.{subject_of};
 ghost use Rattle.shape_cli.specs.Commands.{Asked, read_source};
 ghost use Rattle.shape_cli.specs.Outcomes.{outcome_of};
-ghost use Rattle.shape_cli.specs.Parts.{Judged, IsCounted, verdict_text};
+ghost use Rattle.shape_cli.specs.Parts.{Judged, IsCounted, picture_of, verdict_text};
 ghost use Rattle.shape_cli.specs.Runs.{Ran, KeepsFiles};
 
 use crate::outcome::{Outcome, refused};
-use crate::picture::open_picture;
+use crate::picture::{Image, open_picture};
 use crate::words::Source;
-use shape_check::{CheckFault, Judgement, check_flat};
+use shape_check::{CheckFault, Judgement, check_flat, check_solid};
 use shape_desk::{Desk, Failed, Place, put_all, put_number, put_word};
-use shape_grid::Grid;
 use shape_rules::Shelf;
-use shape_space::P2;
 use std::alloc::Global;
+
+// Checks the report that is begun against a picture.
+fn check_image<D: Desk>(
+    alloc: Global,
+    image: &Image,
+    desk: &mut D,
+    shelf: &mut Shelf,
+) -> Result<Judgement, CheckFault>
+    requires { (D.state desk.old).begun Report ≡ true }
+    ensures answer { Checks
+        (subject_of (picture_of image.now) (rules_on opening marks next shelf.old))
+        ((D.state desk.old).left Report)
+        (D.state desk.old).read_faults (D.state desk.new).read_faults result }
+    ensures taken { IfTold ((D.state desk.old).left Report) (λ text. TakesFew
+        (subject_of (picture_of image.now) (rules_on opening marks next shelf.old))
+        text ((D.state desk.new).left Report)) }
+    ensures reads { OnlyReadsAt Report (D.state desk.old) (D.state desk.new) }
+{
+    match image {
+        Image::Flat(grid) => check_flat(alloc, grid, desk, shelf),
+        Image::Solid(grid) => check_solid(alloc, grid, desk, shelf),
+    }
+}
 
 // Judges the report in a file.
 fn judge<D: Desk>(
     alloc: Global,
-    grid: &Grid<P2>,
+    image: &Image,
     report: &[u8],
     shelf: &mut Shelf,
     desk: &mut D,
 ) -> Result<Judgement, CheckFault>
-    ensures judged { Judged (subject_of grid.now (rules_on opening marks next shelf.old)) report.now
+    ensures judged { Judged
+        (subject_of (picture_of image.now) (rules_on opening marks next shelf.old)) report.now
         (D.state desk.old) (D.state desk.new) result }
     ensures only { OnlyReads (D.state desk.old) (D.state desk.new) }
 {
     match desk.begin(Place::Report, report) {
-        Ok(()) => check_flat(alloc, grid, desk, shelf),
+        Ok(()) => check_image(alloc, image, desk, shelf),
         Err(_) => Err(CheckFault::ReadFault),
     }
 }
@@ -87,11 +112,11 @@ pub(crate) fn check_file<D: Desk>(
         (D.state desk.old) (D.state desk.new) result }
     ensures kept { KeepsFiles (D.state desk.old) (D.state desk.new) }
 {
-    let grid = match open_picture(alloc, source, desk) {
-        Ok(grid) => grid,
+    let image = match open_picture(alloc, source, desk) {
+        Ok(image) => image,
         Err(error) => return refused(error),
     };
-    let verdict = match judge(alloc, &grid, report, shelf, desk) {
+    let verdict = match judge(alloc, &image, report, shelf, desk) {
         Ok(verdict) => verdict,
         Err(CheckFault::ReadFault) => return Outcome::ReadFault,
         Err(CheckFault::NoMemory) => return Outcome::NoMemory,

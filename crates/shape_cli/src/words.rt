@@ -1,16 +1,33 @@
 //! The words of a command line.
 //! A command has one spelling: fixed words in their places, the words of a source, and names of files.
-ghost use Rattle.std.specs.Prelude.{◌≡◌, ◌↔◌, ◌<◌, MatchOption, IsTrue, Some, Contains, slice_get};
+ghost use Rattle.std.specs.Prelude.{◌≡◌, ◌↔◌, ◌<◌, ◌∷◌, [], MatchOption, IsTrue, Some, Contains, slice_get, nat_abs};
+ghost use Rattle.shape_report.specs.Reading.{ReadsNumberWord};
 ghost use Rattle.thin_terms.specs.Shelves.{names_of};
-ghost use Rattle.shape_cli.specs.Commands.{texts, with_words, words_of, read_source, read_command, IsNoForm, IsFound};
+ghost use Rattle.shape_cli.specs.Commands.{Source as AskedSource, HasSides, IsNoSides, ReadsCoordinate, side_words, source_words, file_of, texts, with_words, words_of, read_source, read_command, IsNoForm, IsFound};
 
+use shape_desk::read_number;
 use shape_rules::Shelf;
+use shape_space::{P3, Sides};
 
 /// Where a picture is read.
 #[derive(Clone, Copy)]
 pub enum Source<'a> {
     /// The plain PBM in a file.
     Pbm { file: &'a [u8] },
+    /// The raw volume with these sides in a file.
+    Raw { sides: Sides<P3>, file: &'a [u8] },
+}
+
+impl<'a> Source<'a> {
+    /// The name of its file.
+    pub(crate) fn file(self) -> &'a [u8]
+        ensures { result.now ≡ file_of (read_source self.entry) }
+    {
+        match self {
+            Source::Pbm { file } => file,
+            Source::Raw { file, .. } => file,
+        }
+    }
 }
 
 /// What the words ask for.
@@ -80,22 +97,58 @@ fn with_source<'a>(
     })
 }
 
-/// The command that the words spell, if they are of a form and the rule is on the shelf.
+// The number that a whole word spells.
+fn number(word: &[u8]) -> Option<i64>
+    ensures { ReadsNumberWord word.now result }
+{
+    let (value, len) = read_number(word)?;
+    if len == word.len() { Some(value) } else { None }
+}
+
+// The coordinate that a word spells.
+fn coordinate(word: &Vec<u8>) -> Option<i32>
+    ensures { ReadsCoordinate word.now.items result }
+{
+    i32::try_from(number(word.as_slice())?).ok()
+}
+
+// The sides of a volume that three words spell.
+fn read_sides(x: &Vec<u8>, y: &Vec<u8>, z: &Vec<u8>) -> Option<Sides<P3>>
+    ensures { MatchOption result (IsNoSides (x.now.items ∷ y.now.items ∷ z.now.items ∷ []))
+        (λ s. x.now.items ∷ y.now.items ∷ z.now.items ∷ []
+        ≡ side_words (nat_abs s.lengths.x) (nat_abs s.lengths.y) (nat_abs s.lengths.z)) }
+{
+    let x = coordinate(x)?;
+    let y = coordinate(y)?;
+    let z = coordinate(z)?;
+    Sides::try_new(P3 { x, y, z })
+}
+
+// The source of a kind, with the words behind that of the kind.
+fn source_at<'a>(kind: &Vec<u8>, words: &'a [Vec<u8>]) -> Option<Source<'a>>
+    ensures { MatchOption result
+        ((s : AskedSource) → HasSides s → kind.now.items ∷ texts words.now ≡ source_words s → ⊥)
+        (λ s. kind.now.items ∷ texts words.now ≡ source_words (read_source s)) }
+{
+    match words {
+        [file] if is_text(kind, b"pbm") => Some(Source::Pbm {
+            file: file.as_slice(),
+        }),
+        [x, y, z, file] if is_text(kind, b"raw") => Some(Source::Raw {
+            sides: read_sides(x, y, z)?,
+            file: file.as_slice(),
+        }),
+        _ => None,
+    }
+}
+
+/// The command that the words spell, if they are of a form, with sides of a volume and a rule on the shelf.
 pub fn read_words<'a>(words: &'a [Vec<u8>], shelf: &Shelf) -> Option<Command<'a>>
     ensures { MatchOption result (IsNoForm (names_of shelf.now) (texts words.now))
         (λ c. (texts words.now ≡ words_of (read_command c)) × IsFound (names_of shelf.now) c) }
 {
     match words {
-        [first, second, file, last] if is_text(second, b"pbm") => {
-            with_source(
-                first,
-                Source::Pbm {
-                    file: file.as_slice(),
-                },
-                last,
-                shelf,
-            )
-        }
+        [first, kind, at @ .., last] => with_source(first, source_at(kind, at)?, last, shelf),
         _ => None,
     }
 }

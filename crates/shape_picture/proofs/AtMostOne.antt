@@ -51,7 +51,7 @@ codes_injective xs ys e = sym (decoded xs) ∙ ap (map (λ c. c == 49)) e ∙ de
 same_by_parts : {R : Type 0} (f : List ℕ → List Bool → R) (a c : List ℕ) (b d : List Bool) → a ≡ c → b ≡ d → f a b ≡ f c d
 same_by_parts f a c b d x y = cc
 
-same_picture : (X Y : Picture) → X.sides ≡ Y.sides → X.values ≡ Y.values → X ≡ Y
+pub same_picture : (X Y : Picture) → X.sides ≡ Y.sides → X.values ≡ Y.values → X ≡ Y
 same_picture X Y s c = same_by_parts (λ s c. record { sides = s; values = c }) X.sides Y.sides X.values Y.values s c
 
 module _ (limit longest : ℕ) (bytes : List ℕ) where

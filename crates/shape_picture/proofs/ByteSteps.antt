@@ -1,6 +1,6 @@
 -- Bytes taken one after another from a desk: where the reading stops, the error has its cause.
 -- Over any front of which the caller knows that no byte has spoilt it.
-use Rattle.std.proofs.Common.{◌≡◌, ℕ, ◌+◌, ◌-◌, ◌<◌, ◌≤◌, max, List, [], ◌∷◌, ◌++◌, length, take, Option, None, Some, Ok, Err, refl, sym, arith}
+use Rattle.std.proofs.Common.{◌≡◌, ℕ, ◌+◌, ◌<◌, ◌≤◌, List, [], ◌∷◌, ◌++◌, length, take, Option, None, Some, Ok, Err, refl, sym, arith}
 use Rattle.std.specs.Prelude.{slice_get}
 use Rattle.std.proofs.lemmas.List.{append_assoc, append-nil, length-append, take_at}
 use Rattle.shape_desk.specs.Desk.{Takes, IsEnd, Rose}
@@ -10,7 +10,7 @@ use Rattle.shape_picture.specs.declared.fault.PictureFault.TheVariants as fault
 use Rattle.shape_picture.specs.declared.fault.PictureError.{PictureError}
 use Rattle.shape_picture.specs.declared.fault.PictureError.TheVariants as error
 use Rattle.shape_picture.specs.Plain.{IsUnfinished, DecidesFault, PlainFault}
-use Rattle.shape_picture.specs.Answers.{TakesAtMost, ReadStopped, PictureAnswer}
+use Rattle.shape_picture.specs.Answers.{Format, plain, TakesAtMost, ReadStopped, PictureAnswer}
 use Rattle.std.specs.declared.result.Result.{Result}
 use Rattle.shape_terms.specs.Pictures.{Picture}
 use Rattle.shape_picture.specs.Parts.{BytesTaken}
@@ -45,6 +45,7 @@ module _ (limit longest : ℕ) where
   decided : (front rest : List ℕ) (c : ℕ) (f : PictureFault) → length front < longest → DecidesFault limit front c f → PlainFault limit longest (front ++ c ∷ rest) f
   decided front rest c (fault.Short i) l d = absurd d
   decided front rest c fault.TooLong l d = absurd d
+  decided front rest c fault.Trailing l d = absurd d
   decided front rest c f l d = (length front, c, l, byte_at front rest c, rw (take_at front (c ∷ rest) (length front) refl) d)
 
   -- the byte just taken decides
@@ -52,41 +53,33 @@ module _ (limit longest : ℕ) where
   byte_fault all None front c f e l d = rw e tt
   byte_fault all (Some xs) front c f e l d = rw (e, append_assoc front (c ∷ []) xs) (decided front xs c f l d)
 
-module _ (limit longest at : ℕ) (all old new : Option (List ℕ)) (before_ahead ahead front : List ℕ) (before now : ℕ) where
-  -- nothing more was taken
-  pub still_taken : BytesTaken longest at all old before_ahead front → at < longest → ahead_of ahead new ≡ ahead_of before_ahead old → length ahead ≤ max (length before_ahead) (longest - at) → BytesTaken longest at all new ahead front
-  still_taken h m e l = record {
-    many = h.many;
-    takes = rw e h.takes;
-    room = omega (arith, h.room);
-  }
+-- a byte is wanted, and there is none, or the read failed
+module _ (limit longest at : ℕ) (all left : Option (List ℕ)) (ahead front : List ℕ) (before now : ℕ) where
+  pub ends_short : BytesTaken longest at all left ahead front × IsEnd (ahead_of ahead left) → IsUnfinished limit front → at < longest → ReadStopped (plain limit longest) all left before now (error.Bad (fault.Short at))
+  ends_short t u m = record { comes = short_fault limit longest all (ahead_of ahead left) front at t.0.takes t.1 t.0.many m u; within = taken_within longest at all left ahead front t.0 }
 
-  pub ends_short : BytesTaken longest at all old before_ahead front → IsUnfinished limit front → at < longest → (ahead_of ahead new ≡ ahead_of before_ahead old) × IsEnd (ahead_of ahead new) → length ahead ≤ max (length before_ahead) (longest - at) → ReadStopped limit longest all new before now (error.Bad (fault.Short at))
-  ends_short h u m e l =
-      let t = still_taken h m e.0 l in
-      record { comes = short_fault limit longest all (ahead_of ahead new) front at t.takes e.1 h.many m u; within = taken_within longest at all new ahead front t }
+  pub ends_failed : BytesTaken longest at all left ahead front × Rose before now → ReadStopped (plain limit longest) all left before now error.ReadFault
+  ends_failed t = record { comes = t.1; within = taken_within longest at all left ahead front t.0 }
 
-  pub ends_failed : BytesTaken longest at all old before_ahead front → at < longest → (ahead_of ahead new ≡ ahead_of before_ahead old) × Rose before now → length ahead ≤ max (length before_ahead) (longest - at) → ReadStopped limit longest all new before now error.ReadFault
-  ends_failed h m e l = record { comes = e.1; within = taken_within longest at all new ahead front (still_taken h m e.0 l) }
-
-pub stops_bad : (limit longest at : ℕ) (all left : Option (List ℕ)) (ahead front : List ℕ) (c before now : ℕ) (f : PictureFault) → BytesTaken longest (at + 1) all left ahead (front ++ c ∷ []) → length front < longest → DecidesFault limit front c f → ReadStopped limit longest all left before now (error.Bad f)
+pub stops_bad : (limit longest at : ℕ) (all left : Option (List ℕ)) (ahead front : List ℕ) (c before now : ℕ) (f : PictureFault) → BytesTaken longest (at + 1) all left ahead (front ++ c ∷ []) → length front < longest → DecidesFault limit front c f → ReadStopped (plain limit longest) all left before now (error.Bad f)
 stops_bad limit longest at all left ahead front c before now f h l d = record {
   comes = byte_fault limit longest all (ahead_of ahead left) front c f h.takes l d;
   within = taken_within longest (at + 1) all left ahead (front ++ c ∷ []) h;
 }
 
-pub stops_long : (limit longest at : ℕ) (all left : Option (List ℕ)) (ahead front : List ℕ) (before now : ℕ) → BytesTaken longest at all left ahead front → longest ≤ at → IsUnfinished limit front → ReadStopped limit longest all left before now (error.Bad fault.TooLong)
+pub stops_long : (limit longest at : ℕ) (all left : Option (List ℕ)) (ahead front : List ℕ) (before now : ℕ) → BytesTaken longest at all left ahead front → longest ≤ at → IsUnfinished limit front → ReadStopped (plain limit longest) all left before now (error.Bad fault.TooLong)
 stops_long limit longest at all left ahead front before now h l u = record {
   comes = long_fault limit longest all (ahead_of ahead left) front h.takes (omega (arith, h.room, h.many)) u;
   within = taken_within longest at all left ahead front h;
 }
 
 -- an error of a later part is one of the whole
-pub stops_earlier : (limit longest : ℕ) (all left : Option (List ℕ)) (before mid now : ℕ) (e : PictureError) → before ≤ mid → ReadStopped limit longest all left mid now e → ReadStopped limit longest all left before now e
-stops_earlier limit longest all left before mid now error.ReadFault l h = record { comes = (let r = h.comes in omega arith); within = h.within }
-stops_earlier limit longest all left before mid now e l h = record { comes = h.comes; within = h.within }
+pub stops_earlier : (F : Format) (all left : Option (List ℕ)) (before mid now : ℕ) (e : PictureError) → before ≤ mid → ReadStopped F all left mid now e → ReadStopped F all left before now e
+stops_earlier F all left before mid now error.ReadFault l h = record { comes = (let r = h.comes in omega arith); within = h.within }
+stops_earlier F all left before mid now (error.Bad f) l h = record { comes = h.comes; within = h.within }
+stops_earlier F all left before mid now error.NoMemory l h = record { comes = h.comes; within = h.within }
 
 -- an answer of a later part is one of the whole
-pub answer_earlier : (limit longest : ℕ) (all left : Option (List ℕ)) (before mid now : ℕ) (r : Result Picture PictureError) → before ≤ mid → PictureAnswer limit longest all left mid now r → PictureAnswer limit longest all left before now r
-answer_earlier limit longest all left before mid now (Ok X) l h = h
-answer_earlier limit longest all left before mid now (Err e) l h = stops_earlier limit longest all left before mid now e l h
+pub answer_earlier : (F : Format) (all left : Option (List ℕ)) (before mid now : ℕ) (r : Result Picture PictureError) → before ≤ mid → PictureAnswer F all left mid now r → PictureAnswer F all left before now r
+answer_earlier F all left before mid now (Ok X) l h = h
+answer_earlier F all left before mid now (Err e) l h = stops_earlier F all left before mid now e l h

@@ -165,3 +165,4 @@ module _ (limit : ℕ) where
       ∙ byte_step (length front) c (number_value width) (number_value height) raster h.begins l hash k ∙ ap (λ (n : ℕ). State.AtFault (fault.BadByte n)) (sym e)
   decided_step front c (fault.Short i) d = absurd d
   decided_step front c fault.TooLong d = absurd d
+  decided_step front c fault.Trailing d = absurd d

@@ -7,3 +7,4 @@ pub mod SomeAnswer
 pub mod Machine
 pub mod FrontStates
 pub mod AtMostOne
+pub mod VolumeSteps

@@ -14,7 +14,7 @@ use Rattle.shape_picture.specs.Plain.{is_white, is_line_end, is_pixel, pixel_cod
 use Rattle.shape_picture.specs.declared.header.Coming.TheVariants as coming
 use Rattle.shape_picture.specs.Header.{IsInGap}
 use Rattle.shape_picture.specs.Raster.{piece_of, RasterGoesOn, PieceAnswer, PictureSoFar}
-use Rattle.shape_picture.specs.Answers.{PictureRead, SpellsPicture}
+use Rattle.shape_picture.specs.Answers.{plain, PictureRead, SpellsPicture}
 use Rattle.shape_picture.specs.Parts.{BytesTaken}
 use Rattle.shape_picture.proofs.Grammar.{some_pixels, times_one, raster_opens, open_white, open_comment, comment_more, comment_done, raster_byte, pixels_of-white, pixels_of-pixel}
 use Rattle.shape_picture.proofs.ByteSteps.{byte_at, taken_within}
@@ -74,7 +74,7 @@ module _ (limit : ℕ) where
 abbrev pub put_value : List Bool → ℕ → Bool → List Bool
 put_value values n b = cond b (set values n true) values
 
-values_next : (known values : List Bool) (n t : ℕ) (b : Bool) → values ≡ known ++ replicate (t - n) false → length known ≡ n → n < t → put_value values n b ≡ (known ++ b ∷ []) ++ replicate (t - (n + 1)) false
+pub values_next : (known values : List Bool) (n t : ℕ) (b : Bool) → values ≡ known ++ replicate (t - n) false → length known ≡ n → n < t → put_value values n b ≡ (known ++ b ∷ []) ++ replicate (t - (n + 1)) false
 values_next known values n t b e l m =
     let k : t - n ≡ suc (t - (n + 1)) = omega arith in
     by_value b (e ∙ ap (λ (i : ℕ). known ++ replicate i false) k)
@@ -135,7 +135,7 @@ module _ (limit : ℕ) (X Y : Picture) (comment : Bool) (n : ℕ) (front : List 
       }
 
   -- the last pixel, on a desk
-  pub pixel_last : (longest at : ℕ) (all left : Option (List ℕ)) (ahead : List ℕ) (h : PictureSoFar limit X comment n front) (c : ℕ) → RasterGoesOn limit front c h.width h.height h.raster (piece.Pixel b) → Y.sides ≡ X.sides → Y.values ≡ put_value X.values n b → n + 1 ≡ number_value h.width * number_value h.height → length front < longest → BytesTaken longest at all left ahead (front ++ c ∷ []) → PictureRead limit longest all left Y
+  pub pixel_last : (longest at : ℕ) (all left : Option (List ℕ)) (ahead : List ℕ) (h : PictureSoFar limit X comment n front) (c : ℕ) → RasterGoesOn limit front c h.width h.height h.raster (piece.Pixel b) → Y.sides ≡ X.sides → Y.values ≡ put_value X.values n b → n + 1 ≡ number_value h.width * number_value h.height → length front < longest → BytesTaken longest at all left ahead (front ++ c ∷ []) → PictureRead (plain limit longest) all left Y
   pixel_last longest at all left ahead h c g s e l m t =
       record { spells = told all (ahead_of ahead left) t.takes; within = taken_within longest at all left ahead (front ++ c ∷ []) t }
     where

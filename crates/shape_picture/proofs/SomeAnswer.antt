@@ -16,7 +16,7 @@ use Rattle.shape_picture.specs.declared.raster.Piece.TheVariants as piece
 use Rattle.shape_picture.specs.Plain.{number_value, Plain, IsUnfinished}
 use Rattle.shape_picture.specs.Header.{HeaderReached, StepAnswer, header_step}
 use Rattle.shape_picture.specs.Raster.{PictureSoFar, PieceAnswer, piece_of}
-use Rattle.shape_picture.specs.Answers.{SpellsSome, HasFault}
+use Rattle.shape_picture.specs.Answers.{plain, SpellsSome, HasFault}
 use Rattle.shape_picture.proofs.HeaderSteps.{step_answer, unfinished}
 use Rattle.shape_picture.proofs.ByteSteps.{short_fault, long_fault, byte_fault}
 use Rattle.shape_picture.proofs.RasterSteps.{piece_answer, raster_unfinished, gap_next, pixel_next, put_value, spelled, pixels_start}
@@ -24,7 +24,7 @@ use Rattle.shape_picture.proofs.RasterSteps.{piece_answer, raster_unfinished, ga
 module _ (limit longest : ℕ) (bytes : List ℕ) where
   -- the bytes have an answer
   abbrev HasAnswer : Type 0
-  HasAnswer = SpellsSome limit longest bytes ⊎ HasFault limit longest bytes
+  HasAnswer = SpellsSome (plain limit longest) bytes ⊎ HasFault (plain limit longest) bytes
 
   one_more : (front rest : List ℕ) (c : ℕ) → bytes ≡ front ++ c ∷ rest → bytes ≡ (front ++ c ∷ []) ++ rest
   one_more front rest c e = e ∙ sym (append_assoc front (c ∷ []) rest)

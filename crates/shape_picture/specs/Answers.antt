@@ -1,6 +1,7 @@
--- What a reader of plain PBM answers, and what it leaves of the desk: all that its callers have to read beside `Plain`.
--- The words of the reader's parts stand in `Bytes`, `Header`, `Raster` and `Parts`.
-use Rattle.std.specs.Prelude.{ℕ, ◌≤◌, ◌^◌, List, length, Option, Result, Ok, Err, ⊤}
+-- What a reader of pictures answers, and what it leaves of the desk: all that its callers have to read beside its format.
+-- The words of the readers' parts stand in `Bytes`, `Header`, `Raster` and `Parts`.
+use Rattle.std.specs.Prelude.{ℕ, ◌+◌, ◌≤◌, ◌^◌, List, length, Option, Result, Ok, Err, ⊤}
+use Rattle.shape_terms.specs.Points.{box_count}
 use Rattle.shape_terms.specs.Pictures.{Picture}
 use Rattle.shape_desk.specs.Desk.{Rose, Takes}
 use Rattle.shape_desk.specs.Line.{IfTold}
@@ -8,8 +9,23 @@ use Rattle.shape_picture.specs.declared.fault.PictureFault.{PictureFault}
 use Rattle.shape_picture.specs.declared.fault.PictureError.{PictureError}
 use Rattle.shape_picture.specs.declared.fault.PictureError.TheVariants as error
 use Rattle.shape_picture.specs.Plain.{Plain, PlainFault}
+use Rattle.shape_picture.specs.Raw.{Raw, RawFault}
 
--- ---- the limits
+-- ---- formats
+
+-- a format of pictures: which picture the bytes of a file spell, which fault they have, and how many of them are taken at most
+pub record Format : Type 1 where
+  pub spells : Picture → List ℕ → Type 0
+  pub has_fault : PictureFault → List ℕ → Type 0
+  pub most : ℕ
+
+-- the bytes spell some picture
+abbrev pub SpellsSome : Format → List ℕ → Type 0
+SpellsSome F bytes = (X : Picture) × F.spells X bytes
+
+-- the bytes have some fault
+abbrev pub HasFault : Format → List ℕ → Type 0
+HasFault F bytes = (f : PictureFault) × F.has_fault f bytes
 
 -- the greatest side of a plain PBM
 abbrev pub most_side : ℕ
@@ -19,19 +35,17 @@ most_side = 1024
 abbrev pub most_bytes : ℕ
 most_bytes = 2 ^ 25
 
--- ---- the bytes
-
 -- some front of the bytes spells the picture
 abbrev pub SpellsPicture : ℕ → ℕ → Picture → List ℕ → Type 0
 SpellsPicture limit longest X bytes = (m : ℕ) × Plain limit longest bytes X m
 
--- some front of the bytes spells some picture
-abbrev pub SpellsSome : ℕ → ℕ → List ℕ → Type 0
-SpellsSome limit longest bytes = (X : Picture) × SpellsPicture limit longest X bytes
+-- plain PBM with these limits
+abbrev pub plain : ℕ → ℕ → Format
+plain limit longest = record { spells = SpellsPicture limit longest; has_fault = λ f bytes. PlainFault limit longest bytes f; most = longest }
 
--- the bytes have some fault
-abbrev pub HasFault : ℕ → ℕ → List ℕ → Type 0
-HasFault limit longest bytes = (f : PictureFault) × PlainFault limit longest bytes f
+-- raw volumes of these sides: at most one byte is taken behind the last point's
+abbrev pub raw : List ℕ → Format
+raw sides = record { spells = λ X bytes. Raw sides bytes X; has_fault = λ f bytes. RawFault sides bytes f; most = box_count sides + 1 }
 
 -- ---- the desk
 
@@ -45,24 +59,24 @@ pub record TakesAtMost (longest : ℕ) (old new : Option (List ℕ)) : Type 0 wh
 -- `all` are the bytes left at the picture's place before the call and `left` those after it, where the desk tells them;
 -- `before` and `now` are its numbers of faults of reading.
 
--- a picture that a front of the bytes spells
-pub record PictureRead (limit longest : ℕ) (all left : Option (List ℕ)) (X : Picture) : Type 0 where
-  pub spells : IfTold all (SpellsPicture limit longest X)
-  pub within : TakesAtMost longest all left
+-- a picture that the bytes spell
+pub record PictureRead (F : Format) (all left : Option (List ℕ)) (X : Picture) : Type 0 where
+  pub spells : IfTold all (F.spells X)
+  pub within : TakesAtMost F.most all left
 
 -- when each error comes: a fault where the bytes have it, and a read that failed where a count of failed reads rose;
 -- want of memory may come at any time
-abbrev pub ErrorComes : ℕ → ℕ → Option (List ℕ) → ℕ → ℕ → PictureError → Type 0
-ErrorComes limit longest all before now (error.Bad f) = IfTold all (λ bytes. PlainFault limit longest bytes f)
-ErrorComes limit longest all before now error.ReadFault = Rose before now
-ErrorComes limit longest all before now error.NoMemory = ⊤
+abbrev pub ErrorComes : Format → Option (List ℕ) → ℕ → ℕ → PictureError → Type 0
+ErrorComes F all before now (error.Bad f) = IfTold all (F.has_fault f)
+ErrorComes F all before now error.ReadFault = Rose before now
+ErrorComes F all before now error.NoMemory = ⊤
 
 -- an error that has its cause
-pub record ReadStopped (limit longest : ℕ) (all left : Option (List ℕ)) (before now : ℕ) (e : PictureError) : Type 0 where
-  pub comes : ErrorComes limit longest all before now e
-  pub within : TakesAtMost longest all left
+pub record ReadStopped (F : Format) (all left : Option (List ℕ)) (before now : ℕ) (e : PictureError) : Type 0 where
+  pub comes : ErrorComes F all before now e
+  pub within : TakesAtMost F.most all left
 
 -- the picture that the bytes spell, or the error
-abbrev pub PictureAnswer : ℕ → ℕ → Option (List ℕ) → Option (List ℕ) → ℕ → ℕ → Result Picture PictureError → Type 0
-PictureAnswer limit longest all left before now (Ok X) = PictureRead limit longest all left X
-PictureAnswer limit longest all left before now (Err e) = ReadStopped limit longest all left before now e
+abbrev pub PictureAnswer : Format → Option (List ℕ) → Option (List ℕ) → ℕ → ℕ → Result Picture PictureError → Type 0
+PictureAnswer F all left before now (Ok X) = PictureRead F all left X
+PictureAnswer F all left before now (Err e) = ReadStopped F all left before now e

@@ -1,4 +1,5 @@
 pub mod Plain
+pub mod Raw
 pub mod Answers
 pub mod Bytes
 pub mod Header

@@ -1,16 +1,18 @@
 -- What the parts of the reader say of the bytes taken so far.
 -- `all` are the bytes left before the first of them, `left` those on the desk now and `ahead` those read ahead.
-use Rattle.std.specs.Prelude.{◌≡◌, ℕ, ◌+◌, ◌≤◌, Bool, List, [], ◌∷◌, ◌++◌, length, Option, Result, Ok, Err}
+use Rattle.std.specs.Prelude.{◌≡◌, ℕ, ◌+◌, ◌≤◌, Bool, List, [], ◌∷◌, ◌++◌, length, Option, None, Some, Result, Ok, Err, map, replicate, ◌-◌, false}
 use Rattle.shape_terms.specs.Pictures.{Picture}
-use Rattle.shape_desk.specs.Desk.{Takes}
+use Rattle.shape_desk.specs.Desk.{Rose, Takes, IsEnd}
 use Rattle.shape_desk.specs.Line.{ahead_of}
 use Rattle.shape_picture.specs.declared.plain.Heading.{Heading}
 use Rattle.shape_picture.specs.declared.header.Header.{Header}
 use Rattle.shape_picture.specs.declared.header.Coming.TheVariants as coming
 use Rattle.shape_picture.specs.declared.fault.PictureError.{PictureError}
-use Rattle.shape_picture.specs.Answers.{ReadStopped}
+use Rattle.shape_picture.specs.Answers.{plain, raw, ReadStopped}
 use Rattle.shape_picture.specs.Header.{HeaderReached, IsInGap}
 use Rattle.shape_picture.specs.Raster.{PictureSoFar}
+use Rattle.shape_picture.specs.Raw.{is_object}
+use Rattle.shape_terms.specs.Points.{box_count}
 
 -- the first `at` of all bytes were taken, and some that follow were read ahead
 pub record BytesTaken (longest at : ℕ) (all left : Option (List ℕ)) (ahead front : List ℕ) : Type 0 where
@@ -18,10 +20,16 @@ pub record BytesTaken (longest at : ℕ) (all left : Option (List ℕ)) (ahead f
   pub takes : Takes all (ahead_of ahead left) front
   pub room : at + length ahead ≤ longest
 
+-- one byte more was taken; or there is none, or the read failed, and nothing was taken
+abbrev pub NextTaken : {E : Type 0} → ℕ → ℕ → Option (List ℕ) → Option (List ℕ) → List ℕ → List ℕ → ℕ → ℕ → Result (Option ℕ) E → Type 0
+NextTaken longest at all left ahead front before now (Ok (Some c)) = BytesTaken longest (at + 1) all left ahead (front ++ c ∷ [])
+NextTaken longest at all left ahead front before now (Ok None) = BytesTaken longest at all left ahead front × IsEnd (ahead_of ahead left)
+NextTaken longest at all left ahead front before now (Err e) = BytesTaken longest at all left ahead front × Rose before now
+
 -- one byte more was taken, or the reading stopped
 abbrev pub NextByteAnswer : ℕ → ℕ → ℕ → Option (List ℕ) → Option (List ℕ) → List ℕ → List ℕ → ℕ → ℕ → Result ℕ PictureError → Type 0
 NextByteAnswer limit longest at all left ahead front before now (Ok c) = BytesTaken longest (at + 1) all left ahead (front ++ c ∷ [])
-NextByteAnswer limit longest at all left ahead front before now (Err e) = ReadStopped limit longest all left before now e
+NextByteAnswer limit longest at all left ahead front before now (Err e) = ReadStopped (plain limit longest) all left before now e
 
 -- the header's bytes so far
 pub record HeaderSoFar (limit longest at : ℕ) (header : Header) (all left : Option (List ℕ)) (ahead : List ℕ) : Type 0 where
@@ -38,10 +46,22 @@ pub record HeaderTaken (limit longest : ℕ) (h : Heading) (all left : Option (L
 -- the whole header was read, or the reading stopped
 abbrev pub HeaderAnswer : ℕ → ℕ → Option (List ℕ) → Option (List ℕ) → List ℕ → ℕ → ℕ → Result Heading PictureError → Type 0
 HeaderAnswer limit longest all left ahead before now (Ok h) = HeaderTaken limit longest h all left ahead
-HeaderAnswer limit longest all left ahead before now (Err e) = ReadStopped limit longest all left before now e
+HeaderAnswer limit longest all left ahead before now (Err e) = ReadStopped (plain limit longest) all left before now e
 
 -- the raster's pixels so far
 pub record RasterSoFar (limit longest at : ℕ) (X : Picture) (comment : Bool) (n : ℕ) (all left : Option (List ℕ)) (ahead : List ℕ) : Type 0 where
   pub front : List ℕ
   pub pixels : PictureSoFar limit X comment n front
   pub taken : BytesTaken longest at all left ahead front
+
+-- the values of the first points of a volume so far; the other values are still background
+pub record VolumeSoFar (sides : List ℕ) (at : ℕ) (X : Picture) (all left : Option (List ℕ)) (ahead : List ℕ) : Type 0 where
+  pub front : List ℕ
+  pub same_sides : X.sides ≡ sides
+  pub values : X.values ≡ map is_object front ++ replicate (box_count sides - at) false
+  pub taken : BytesTaken (box_count sides + 1) at all left ahead front
+
+-- the values of all points were read, or the reading stopped
+abbrev pub VolumeAnswer : List ℕ → Option (List ℕ) → Option (List ℕ) → List ℕ → ℕ → ℕ → Result Picture PictureError → Type 0
+VolumeAnswer sides all left ahead before now (Ok X) = VolumeSoFar sides (box_count sides) X all left ahead
+VolumeAnswer sides all left ahead before now (Err e) = ReadStopped (raw sides) all left before now e

@@ -1,10 +1,11 @@
 //! Bytes of the picture's place, taken one by one and read ahead in pieces.
 //! Never more bytes are read than the caller still wants; the size of a piece is this file's own.
-ghost use Rattle.std.specs.Prelude.{◌≡◌, ◌+◌, ◌-◌, ◌≤◌, max, [], ◌∷◌, true, length, take, drop, IfOk, OnOk, OnErr, MatchResult, MatchOption, option_to_list};
+ghost use Rattle.std.specs.Prelude.{◌≡◌, ◌+◌, ◌-◌, ◌≤◌, ◌<◌, Option, List, ℕ, max, [], ◌∷◌, true, length, take, drop, IfOk, OnOk, OnErr, MatchResult, MatchOption, option_to_list};
 ghost use Rattle.shape_desk.specs.Desk.{Rose, IsEnd, Reads, OnlyReadsAt};
 ghost use Rattle.shape_desk.specs.Line.{ahead_of};
 ghost use Rattle.shape_desk.specs.declared.desk.Place.TheVariants.{Picture};
 ghost use Rattle.shape_picture.specs.Bytes.{NextByte};
+ghost use Rattle.shape_picture.specs.Parts.{BytesTaken, NextTaken};
 
 use shape_desk::{Desk, Failed, Place};
 use shape_space::NoMemory;
@@ -111,5 +112,23 @@ impl ByteReader {
             Ok(()) => Ok(self.pop()),
             Err(failed) => Err(failed),
         }
+    }
+
+    /// Takes the next byte behind the first `at` of a file of which at most `longest` are taken.
+    pub fn take<D: Desk>(
+        &mut self,
+        at: u64,
+        longest: u64,
+        desk: &mut D,
+    ) -> Result<Option<u8>, Failed>
+        requires more { at < longest }
+        requires begun { (D.state desk.old).begun Picture ≡ true }
+        ensures taken { (all : Option (List ℕ)) (front : List ℕ)
+            → BytesTaken longest at all ((D.state desk.old).left Picture) self.old front
+            → NextTaken longest at all ((D.state desk.new).left Picture) self.new front
+            (D.state desk.old).read_faults (D.state desk.new).read_faults result }
+        ensures reads { OnlyReadsAt Picture (D.state desk.old) (D.state desk.new) }
+    {
+        self.next(desk, longest - at)
     }
 }

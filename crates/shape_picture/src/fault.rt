@@ -1,5 +1,5 @@
 //! What can be wrong with the bytes of a picture, and why a call gave none.
-//! A further format brings its own faults; the exact place of each is said in `specs/Plain.antt`.
+//! A further format brings its own faults; the exact place of each is said in `specs/Plain.antt` and `specs/Raw.antt`.
 use thiserror::Error;
 
 /// What is wrong with the bytes of a picture. The first byte that decides, in file order, decides the fault.
@@ -21,6 +21,8 @@ pub enum PictureFault {
     Short { at: u64 },
     /// The picture is not complete after the greatest number of bytes.
     TooLong,
+    /// Bytes follow the last point of a volume.
+    Trailing,
 }
 
 /// Why there is no picture.

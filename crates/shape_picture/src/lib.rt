@@ -1,5 +1,5 @@
-//! The reader of plain PBM pictures: the grid that it gives is the picture that the bytes spell.
-//! Callers need `read_plain`, its errors and the law `one_answer`; everything else is the reader's own.
+//! The readers of plain PBM pictures and of raw volumes: the grid that each gives is the picture that the bytes spell.
+//! Callers need `read_plain`, `read_raw`, their errors and the laws; everything else is the readers' own.
 #![tactic(auto)]
 
 mod bytes;
@@ -8,10 +8,14 @@ mod header;
 mod laws;
 mod plain;
 mod raster;
+mod volume;
 
 pub use fault::{PictureError, PictureFault};
-pub use laws::one_answer;
+pub use laws::{one_answer, one_volume};
 pub use plain::{MOST_BYTES, MOST_SIDE, read_plain};
+pub use volume::read_raw;
 
 #[cfg(test)]
 mod tests;
+#[cfg(test)]
+mod volume_tests;

@@ -4,7 +4,7 @@ ghost use Rattle.std.specs.Prelude.{◌≡◌, ◌+◌, ◌≤◌, ◌<◌, [], 
 ghost use Rattle.shape_terms.specs.Points.{sides_of};
 ghost use Rattle.shape_desk.specs.Desk.{OnlyReadsAt};
 ghost use Rattle.shape_desk.specs.declared.desk.Place.TheVariants.{Picture};
-ghost use Rattle.shape_picture.specs.Answers.{most_side, most_bytes, PictureAnswer};
+ghost use Rattle.shape_picture.specs.Answers.{most_side, most_bytes, plain, PictureAnswer};
 ghost use Rattle.shape_picture.specs.Plain.{IsUnfinished};
 ghost use Rattle.shape_picture.specs.Parts.{BytesTaken, NextByteAnswer, HeaderAnswer, RasterSoFar};
 
@@ -34,7 +34,7 @@ fn next_byte<D: Desk>(at: u64, bytes: &mut ByteReader, desk: &mut D) -> Result<u
         front (D.state desk.old).read_faults (D.state desk.new).read_faults result }
     ensures reads { OnlyReadsAt Picture (D.state desk.old) (D.state desk.new) }
 {
-    match bytes.next(desk, MOST_BYTES - at) {
+    match bytes.take(at, MOST_BYTES, desk) {
         Ok(Some(c)) => Ok(c),
         Ok(None) => Err(PictureError::Bad(PictureFault::Short { at })),
         Err(_) => Err(PictureError::ReadFault),
@@ -109,7 +109,7 @@ fn read_raster<D: Desk>(
     ensures answer { (all : Option (List ℕ))
         → RasterSoFar most_side most_bytes from grid false 0 all
         ((D.state desk.old).left Picture) bytes.old
-        → PictureAnswer most_side most_bytes all ((D.state desk.new).left Picture)
+        → PictureAnswer (plain most_side most_bytes) all ((D.state desk.new).left Picture)
         (D.state desk.old).read_faults (D.state desk.new).read_faults result }
     ensures reads { OnlyReadsAt Picture (D.state desk.old) (D.state desk.new) }
 {
@@ -148,7 +148,7 @@ fn read_raster<D: Desk>(
 /// and the grid.
 pub fn read_plain<D: Desk>(alloc: Global, desk: &mut D) -> Result<Grid<P2>, PictureError>
     requires { (D.state desk.old).begun Picture ≡ true }
-    ensures answer { PictureAnswer most_side most_bytes
+    ensures answer { PictureAnswer (plain most_side most_bytes)
         ((D.state desk.old).left Picture) ((D.state desk.new).left Picture)
         (D.state desk.old).read_faults (D.state desk.new).read_faults result }
     ensures reads { OnlyReadsAt Picture (D.state desk.old) (D.state desk.new) }

@@ -9,13 +9,13 @@ use shape_space::P2;
 use std::alloc::Global;
 use std::test::Fail;
 
-// What is read of a file, in pieces of so many bytes, where the call of the desk with this number fails.
-fn read(
+// A desk with the file `f`, read in pieces of so many bytes, where the call of the desk with this number fails.
+pub(crate) fn desk_of(
     alloc: Global,
     bytes: &[u8],
     piece: usize,
     bad_read: u64,
-) -> Result<Grid<P2>, PictureError> {
+) -> Result<MemoryDesk, PictureError> {
     let Ok(name) = Vec::from_slice(alloc, b"f") else {
         return Err(PictureError::NoMemory);
     };
@@ -29,10 +29,20 @@ fn read(
     let Ok(bad_reads) = Vec::from_slice(alloc, &[bad_read]) else {
         return Err(PictureError::NoMemory);
     };
-    let Ok(mut desk) = MemoryDesk::new(alloc, files, bad_reads, Vec::new(alloc), piece.max(1), 0)
-    else {
-        return Err(PictureError::NoMemory);
-    };
+    match MemoryDesk::new(alloc, files, bad_reads, Vec::new(alloc), piece.max(1), 0) {
+        Ok(desk) => Ok(desk),
+        Err(_) => Err(PictureError::NoMemory),
+    }
+}
+
+// What is read of a file.
+fn read(
+    alloc: Global,
+    bytes: &[u8],
+    piece: usize,
+    bad_read: u64,
+) -> Result<Grid<P2>, PictureError> {
+    let mut desk = desk_of(alloc, bytes, piece, bad_read)?;
     if desk.begin(Place::Picture, b"f").is_err() {
         return Err(PictureError::ReadFault);
     }
@@ -126,10 +136,10 @@ fn failed_reads(rt: HostRuntime) -> Result<(), Fail> {
 
 // A picture of one pixel: some bytes, so many blanks, and then `1` without end. It tells nothing.
 #[derive(Drop)]
-struct Blanks {
-    head: &'static [u8],
-    at: usize,
-    blanks: u64,
+pub(crate) struct Blanks {
+    pub(crate) head: &'static [u8],
+    pub(crate) at: usize,
+    pub(crate) blanks: u64,
     ghost none: { 0 < 2 ^ 64 },
 }
 

@@ -2,7 +2,7 @@ use Rattle.shape_desk.proofs.Writes.{OnlyReads-more}
 use Rattle.shape_desk.specs.declared.desk.Place.TheVariants.{Report}
 use Rattle.shape_cli.specs.Commands.{read_source}
 use Rattle.shape_cli.specs.Outcomes.{outcome_of}
-use Rattle.shape_cli.specs.Parts.{verdict_text}
+use Rattle.shape_cli.specs.Parts.{picture_of, verdict_text}
 use Rattle.shape_cli.proofs.Endings.{cut_short, kept_right, verdict_answers, took}
 use Rattle.shape_cli.proofs.verdict.check_file.Goals as goal
 
@@ -18,4 +18,4 @@ returns-clause-ran g c =
     let right = kept_right _ report v _ _ h.same_files j.judged.1 in
     let old = s c.args.desk.now in
     let new = s c.write_verdict.new.desk in
-    cut_short _ _ old (s c.judge.new.desk) new (outcome_of v) (verdict_text v) (OnlyReads-more h j.only) (verdict_answers _ source report old.files c.in-Ok.grid v c.in-Ok.ensures.opened right) w.text.err w.failed (took _ source report old (s c.open_picture.new.desk) (s c.judge.new.desk) new c.in-Ok.grid h.same_files (w.only.same_left Report) c.in-Ok.ensures.opened j.judged.2)
+    cut_short _ _ old (s c.judge.new.desk) new (outcome_of v) (verdict_text v) (OnlyReads-more h j.only) (verdict_answers _ source report old.files (picture_of c.in-Ok.image) v c.in-Ok.ensures.opened right) w.text.err w.failed (took _ source report old (s c.open_picture.new.desk) (s c.judge.new.desk) new (picture_of c.in-Ok.image) h.same_files (w.only.same_left Report) c.in-Ok.ensures.opened j.judged.2)

@@ -1,7 +1,7 @@
 use Rattle.std.proofs.Common.{sym, subst, arith}
 use Rattle.shape_desk.specs.declared.desk.Place.TheVariants.{Picture}
 use Rattle.shape_desk.proofs.Writes.{OnlyReadsAt-more}
-use Rattle.shape_picture.specs.Answers.{most_side, most_bytes}
+use Rattle.shape_picture.specs.Answers.{most_side, most_bytes, plain}
 use Rattle.shape_picture.specs.Header.{StepAnswer}
 use Rattle.shape_picture.proofs.HeaderSteps.{step_answer, unfinished}
 use Rattle.shape_picture.proofs.ByteSteps.{stops_long, stops_bad, stops_earlier}
@@ -10,7 +10,7 @@ use Rattle.shape_picture.proofs.plain.read_header.Goals as goal
 pub returns-in-Err-clause-answer : goal.returns-in-Err-clause-answer
 returns-in-Err-clause-answer g c =
     let i = c.loop-at.invariant.0 in
-    stops_earlier most_side most_bytes _ _ _ _ _ _ c.loop-at.invariant.1.only.later (c.in-Err.ensures.answer ((g.D.Desk.state c.args.desk.now).left Picture) i.front i.taken (unfinished most_side c.loop-at.header i.front i.reached))
+    stops_earlier (plain most_side most_bytes) _ _ _ _ _ _ c.loop-at.invariant.1.only.later (c.in-Err.ensures.answer ((g.D.Desk.state c.args.desk.now).left Picture) i.front i.taken (unfinished most_side c.loop-at.header i.front i.reached))
 
 pub returns-in-Err-step-clause-answer : goal.returns-in-Err-step-clause-answer
 returns-in-Err-step-clause-answer g c =

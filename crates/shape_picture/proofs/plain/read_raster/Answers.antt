@@ -1,7 +1,7 @@
 use Rattle.std.proofs.Common.{◌≡◌, ◌+◌, ◌*◌, ◌<◌, length, sym, subst, ap, ◌∙◌, arith}
 use Rattle.shape_terms.specs.Points.{box_count}
 use Rattle.shape_desk.specs.declared.desk.Place.TheVariants.{Picture}
-use Rattle.shape_picture.specs.Answers.{most_side, most_bytes}
+use Rattle.shape_picture.specs.Answers.{most_side, most_bytes, plain}
 use Rattle.shape_picture.specs.Plain.{number_value}
 use Rattle.shape_picture.specs.Raster.{PieceAnswer}
 use Rattle.shape_desk.proofs.Writes.{OnlyReadsAt-more}
@@ -13,7 +13,7 @@ pub returns-in-Err-clause-answer : goal.returns-in-Err-clause-answer
 returns-in-Err-clause-answer g c = λ all h.
     let r = c.loop-at.invariant.0 all h in
     let p = r.pixels in
-    stops_earlier most_side most_bytes all _ _ _ _ _ c.loop-at.invariant.4.only.later
+    stops_earlier (plain most_side most_bytes) all _ _ _ _ _ c.loop-at.invariant.4.only.later
     (c.in-Err.ensures.answer all r.front r.taken (raster_unfinished most_side p))
 
 pub returns-in-Err-piece_at-clause-answer : goal.returns-in-Err-piece_at-clause-answer

@@ -1,66 +1,14 @@
-//! Runs over a desk in memory: pictures, commands and failures whose outcomes are known from outside.
+//! Reports of flat pictures that are known from outside, and their checks.
+//! A further picture is one more row of a table.
 ghost use Rattle.std.specs.Prelude.{◌==◌, [], ◌∷◌, if◌then◌else◌, slice_index};
 
-use super::*;
+use crate::outcome::Outcome;
+use crate::test_runs::{checked, checked_by, desk, ran, shelf, words};
+use crate::top::run;
 use shape_desk::MemoryDesk;
-use shape_picture::PictureFault;
-use shape_rules::{CurveEnds, EndRule, Entry, Facts, Name, NoEnds, Shelf};
+use shape_rules::{EndRule, Facts, NoEnds};
 use std::alloc::{AllocError, Global};
 use std::test::Fail;
-
-// A desk with one file, whose calls move 4 bytes at most.
-fn desk(
-    alloc: Global,
-    bytes: &[u8],
-    bad_reads: &[u64],
-    bad_writes: &[u64],
-) -> Result<MemoryDesk, Fail> {
-    let mut files = Vec::new(alloc);
-    files.push((b"a.pbm".to_vec(alloc)?, bytes.to_vec(alloc)?))?;
-    match MemoryDesk::new(
-        alloc,
-        files,
-        bad_reads.to_vec(alloc)?,
-        bad_writes.to_vec(alloc)?,
-        4,
-        9000,
-    ) {
-        Ok(desk) => Ok(desk),
-        Err(_) => Err(Fail::from(AllocError)),
-    }
-}
-
-// A shelf with these rules under the names `none` and `curve`.
-fn shelf(alloc: Global, none: Box<dyn EndRule>, curve: Box<dyn EndRule>) -> Result<Shelf, Fail> {
-    let (Some(first), Some(second)) = (Name::new(b"none"), Name::new(b"curve")) else {
-        return Err(Fail::from(AllocError));
-    };
-    let mut rules: Vec<Entry> = Vec::new(alloc);
-    rules.push(Entry {
-        name: first,
-        rule: none,
-    })?;
-    rules.push(Entry {
-        name: second,
-        rule: curve,
-    })?;
-    Ok(Shelf::new(rules))
-}
-
-// The words of a command line.
-fn words(alloc: Global, line: &str) -> Result<Vec<Vec<u8>>, Fail> {
-    let mut words = Vec::new(alloc);
-    for word in line.split_whitespace() {
-        words.push(word.as_bytes().to_vec(alloc)?)?;
-    }
-    Ok(words)
-}
-
-// What the words of a command line come to, with the rules `none` and `curve`.
-fn ran(alloc: Global, line: &str, desk: &mut MemoryDesk) -> Result<Outcome, Fail> {
-    let shelf = shelf(alloc, Box::new(alloc, NoEnds)?, Box::new(alloc, CurveEnds)?)?;
-    Ok(run(alloc, &words(alloc, line)?, desk, shelf))
-}
 
 #[test]
 fn one_pixel(rt: HostRuntime) -> Result<(), Fail> {
@@ -72,25 +20,6 @@ fn one_pixel(rt: HostRuntime) -> Result<(), Fail> {
     assert!(rt; text.starts_with(b"shape 1 pbm 1 1 none\nparts 1 1 1\nnear 0 0 ".as_slice()));
     assert!(rt; text.ends_with(b" 0\nturn x 0 0\nturn y 0 0\nkept 1 1 1\nend\n".as_slice()));
     Ok(())
-}
-
-// The outcome of the check of a report against a picture, with the rules of a shelf.
-fn checked_by(alloc: Global, picture: &[u8], report: &[u8], shelf: Shelf) -> Result<Outcome, Fail> {
-    let mut files = Vec::new(alloc);
-    files.push((b"a.pbm".to_vec(alloc)?, picture.to_vec(alloc)?))?;
-    files.push((b"a.report".to_vec(alloc)?, report.to_vec(alloc)?))?;
-    let Ok(mut desk) = MemoryDesk::new(alloc, files, Vec::new(alloc), Vec::new(alloc), 100, 30)
-    else {
-        return Err(Fail::from(AllocError));
-    };
-    let words = words(alloc, "check pbm a.pbm a.report")?;
-    Ok(run(alloc, &words, &mut desk, shelf))
-}
-
-// The same with the rules `none` and `curve`.
-fn checked(alloc: Global, picture: &[u8], report: &[u8]) -> Result<Outcome, Fail> {
-    let shelf = shelf(alloc, Box::new(alloc, NoEnds)?, Box::new(alloc, CurveEnds)?)?;
-    checked_by(alloc, picture, report, shelf)
 }
 
 #[test]
@@ -311,7 +240,13 @@ fn a_rule_of_the_caller(rt: HostRuntime) -> Result<(), Fail> {
         Box::new(alloc, Alternate { turn: 1 })?,
     )?;
     assert_eq!(rt;
-        checked_by(alloc, picture, desk.output(), second)?,
+        checked_by(
+            alloc,
+            "check pbm a.pbm a.report",
+            picture,
+            desk.output(),
+            second
+        )?,
         Outcome::Yes
     );
     Ok(())
@@ -339,22 +274,6 @@ fn analyses_are_checked(rt: HostRuntime) -> Result<(), Fail> {
 }
 
 #[test]
-fn a_failed_write(rt: HostRuntime) -> Result<(), Fail> {
-    let alloc = rt.alloc();
-    let mut desk = desk(alloc, b"P1 1 1 1", &[], &[3])?;
-    assert_eq!(rt;
-        ran(alloc, "analyse pbm a.pbm none", &mut desk)?,
-        Outcome::WriteFault
-    );
-    assert_eq!(rt; desk.output(), b"shape 1 ".as_slice());
-    assert_eq!(rt;
-        ran(alloc, "analyse pbm a.pbm none", &mut desk)?,
-        Outcome::Done
-    );
-    Ok(())
-}
-
-#[test]
 fn a_segment_left_out(rt: HostRuntime) -> Result<(), Fail> {
     let alloc = rt.alloc();
     let picture = b"P1 2 2 1111".as_slice();
@@ -372,58 +291,5 @@ fn a_segment_left_out(rt: HostRuntime) -> Result<(), Fail> {
     }
     let want = Outcome::No { line: 15 };
     assert_eq!(rt; checked(alloc, picture, &report)?, want);
-    Ok(())
-}
-
-#[test]
-fn refused_files(rt: HostRuntime) -> Result<(), Fail> {
-    let alloc = rt.alloc();
-    let table = [
-        (b"".as_slice(), PictureFault::Short { at: 0 }),
-        (b"P1 3 1 1 0".as_slice(), PictureFault::Short { at: 10 }),
-        (b"P1 1 1 a".as_slice(), PictureFault::BadByte { at: 7 }),
-        (b"P1 0 1 1".as_slice(), PictureFault::ZeroSide),
-        (
-            b"P1 1025 1 1".as_slice(),
-            PictureFault::SideTooLarge { value: 1025 },
-        ),
-        (b"P4 1 1 x".as_slice(), PictureFault::NotPlain),
-        (b"P1 2x2 1".as_slice(), PictureFault::BadNumber { at: 4 }),
-    ];
-    for (bytes, fault) in table {
-        for line in ["analyse pbm a.pbm none", "check pbm a.pbm a.pbm"] {
-            let mut desk = desk(alloc, bytes, &[], &[])?;
-            let outcome = ran(alloc, line, &mut desk)?;
-            assert_eq!(rt; outcome, Outcome::Picture(fault));
-            assert_eq!(rt; desk.output().len(), 0);
-        }
-    }
-    Ok(())
-}
-
-#[test]
-fn refusals(rt: HostRuntime) -> Result<(), Fail> {
-    let alloc = rt.alloc();
-    let one = b"P1 1 1 1".as_slice();
-    let table = [
-        ("analyse pbm nofile none", Outcome::ReadFault),
-        ("check pbm nofile a.pbm", Outcome::ReadFault),
-        ("check pbm a.pbm nofile", Outcome::ReadFault),
-        ("check pbm a.pbm", Outcome::Usage),
-        ("analyse pbm a.pbm zzz", Outcome::Usage),
-        ("analyse raw 0 2 2 a none", Outcome::Usage),
-        ("trial pbm 01 4", Outcome::Usage),
-        ("", Outcome::Usage),
-    ];
-    for (line, outcome) in table {
-        let mut desk = desk(alloc, one, &[], &[])?;
-        assert_eq!(rt; ran(alloc, line, &mut desk)?, outcome);
-        assert_eq!(rt; desk.output().len(), 0);
-    }
-    let mut desk = desk(alloc, one, &[2], &[])?;
-    assert_eq!(rt;
-        ran(alloc, "analyse pbm a.pbm none", &mut desk)?,
-        Outcome::ReadFault
-    );
     Ok(())
 }
