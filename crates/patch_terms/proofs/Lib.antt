@@ -1,0 +1,4 @@
+pub mod PointLists
+pub mod FullPatches
+pub mod ListPushes
+pub mod Places

@@ -2,7 +2,7 @@
 //! Weights are judged by `shape_refute`, which knows nothing of how they are found.
 use super::*;
 use shape_refute::{Naive, holds, is_proper, refutes};
-use shape_space::P2;
+use shape_space::{P2, P3};
 
 // Three points up a diagonal and two along a row.
 const BEND: [P2; 5] = [
@@ -51,6 +51,19 @@ fn no_pair_leaves_slopes(rt: HostRuntime) {
         Ok(Solved::Slopes(s)) => {
             assert!(rt; is_proper::<P2>(&line_of(&s, 0)));
         }
+        _ => assert!(rt; false),
+    }
+}
+
+#[test]
+fn a_pair_of_space_clashes(rt: HostRuntime) {
+    let points = [
+        P3 { x: 0, y: 0, z: 0 },
+        P3 { x: 0, y: 1, z: 1 },
+        P3 { x: 1, y: 0, z: 2 },
+    ];
+    match solve(rt.alloc(), &points, 2, &[Pair { low: 0, high: 2 }]) {
+        Ok(Solved::Clash(why)) => assert!(rt; refutes(&points, 2, &why)),
         _ => assert!(rt; false),
     }
 }

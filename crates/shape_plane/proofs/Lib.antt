@@ -1,0 +1,12 @@
+pub mod Holding
+pub mod Adding
+pub mod Longer
+pub mod Spreading
+pub mod Sorting
+pub mod Refusing
+pub mod Neighbours
+pub mod Going
+pub mod Partings
+pub mod Unmarks
+pub mod Visiting
+pub mod Exposing

@@ -1,0 +1,25 @@
+use Rattle.std.proofs.Common.{ℕ, sym, subst}
+use Rattle.shape_plane.specs.Trials.{spread_of, IsSpreading}
+use Rattle.shape_plane.proofs.Going.{going_more, going_in_box}
+use Rattle.shape_plane.proofs.Neighbours.{in_greatest}
+use Rattle.shape_plane.proofs.grow.spread_from.Goals as goal
+
+pub spread-requires-clause-within : goal.spread-requires-clause-within
+spread-requires-clause-within g c =
+    let w = c.requires.going in
+    in_greatest g.P.Point.MAX_SIDE (g.P.Point.coords c.sides-sides.result.lengths) (g.P.Point.coords c.point-p.result) c.args.left.now.sides c.sides-sides.result.in_range c.sides-sides.ensures.value
+    (going_in_box g.P.Point.DIM g.P.Pairing.NEAR_COUNT w.0 w.1 w.2 c.args.k c.args.growing.now c.args.left.now c.args.tried.now c.args.refused.now c.args.k (g.P.Point.coords c.point-p.result) w.3 c.point-p.ensures)
+
+pub returns : goal.returns
+returns g c = record {
+  going = λ t first p h.
+      going_more g.P.Point.DIM g.P.Pairing.NEAR_COUNT t first p c.args.k c.args.growing.now c.spread.new.growing (g.P.Point.coords c.point-p.result) c.args.left.now c.args.tried.now c.spread.new.left c.spread.new.tried c.args.refused.now c.spread.new.refused
+      h c.point-p.ensures c.in_ok-spread.ensures.axis c.in_ok-spread.ensures.later c.in_ok-spread.ensures.settled c.in_ok-spread.ensures.spreads;
+}
+
+pub spread-requires-clause-spreading : goal.spread-requires-clause-spreading
+spread-requires-clause-spreading g c =
+    let w = c.requires.going in (
+      w.1,
+      subst (λ (t : ℕ). IsSpreading g.P.Point.DIM t w.1 (spread_of c.args.growing.now.points c.args.left.now c.args.tried.now c.args.refused.now)) (sym w.3.axis) w.3.spreading,
+    )

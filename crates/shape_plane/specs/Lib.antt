@@ -1,0 +1,10 @@
+pub mod Extremes
+pub mod Verdicts
+pub mod Growth
+pub mod ToldAnew
+pub mod Trials
+pub mod Found
+pub mod Rounds
+pub mod Parting
+pub mod Unmarking
+pub mod Faces

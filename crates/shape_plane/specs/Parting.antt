@@ -1,0 +1,69 @@
+-- The exposed points of a face, patch by patch.
+-- In which order a patch grows belongs elsewhere.
+use Rattle.std.specs.Prelude.{◌≡◌, ◌⊎◌, ◌↔◌, ℕ, suc, ◌≤◌, List, [], ◌∷◌, ◌++◌, map, take, drop, length, slice_get, Some, IsTrue, AllPairs, Contains}
+use Rattle.shape_terms.specs.Points.{Point, raster_number}
+use Rattle.shape_terms.specs.Adjacency.{Near}
+use Rattle.shape_terms.specs.Steps.{Before}
+use Rattle.shape_terms.specs.Pictures.{Picture, at}
+use Rattle.shape_terms.specs.Naive.{IsNaiveFor}
+use Rattle.shape_terms.specs.Refutations.{Refutes}
+use Rattle.patch_terms.specs.Patches.{Patch, RefusedPoint, FoundPatch, Grows, points_of}
+
+-- a patch among the points of a face, after the patches before it
+pub record IsPart (t : ℕ) (face : Point → Type 0) (before : List Patch) (x : Patch) : Type 0 where
+  pub start : Point
+  pub first : slice_get x.points 0 ≡ Some start
+  pub there : face start
+  pub fresh : Contains (points_of before) start → ⊥
+  pub least : (q : Point) → face q → Before q start → Contains (points_of before) q
+  pub grows : Grows x.points
+  pub plane : IsNaiveFor t x.points x.plane
+
+-- the patches found so far, and the points that are left
+pub record IsParting (t : ℕ) (face : Point → Type 0) (parts : List Patch) (left : Picture) : Type 0 where
+  pub free : (q : Point) → IsTrue (at left q) → face q × (Contains (points_of parts) q → ⊥)
+  pub rest : (q : Point) → face q → IsTrue (at left q) ⊎ Contains (points_of parts) q
+  pub taken : (q : Point) → Contains (points_of parts) q → face q
+  pub once : AllPairs (λ p q. p ≡ q → ⊥) (points_of parts)
+  pub part : (k : ℕ) (x : Patch) → slice_get parts k ≡ Some x → IsPart t face (take k parts) x
+
+-- the refused points are, once and in raster order, the later points that are Near a point of the patch, each with weights that refute the patch with it put last
+pub record AreRefusedOf (d t : ℕ) (patch : Patch) (later : Point → Type 0) (refused : List RefusedPoint) : Type 0 where
+  pub rising : AllPairs (λ (a b : RefusedPoint). Before a.point b.point) refused
+  pub each : (q : Point) → Contains (map (λ (r : RefusedPoint). r.point) refused) q ↔ (later q × ((p : Point) × Contains patch.points p × Near q p))
+  pub weights : (k : ℕ) (r : RefusedPoint) → slice_get refused k ≡ Some r → Refutes d t (patch.points ++ r.point ∷ []) r.why
+
+-- the patches without their refused points
+abbrev pub patches_of : List FoundPatch → List Patch
+patches_of found = map (λ (x : FoundPatch). x.patch) found
+
+-- the point is left, or is one of these patches
+abbrev pub IsLaterPoint : Picture → List Patch → Point → Type 0
+IsLaterPoint left after q = IsTrue (at left q) ⊎ Contains (points_of after) q
+
+-- each patch has its refused points among the points that neither it nor a patch before it has
+pub record IsRefusing (d t : ℕ) (found : List FoundPatch) (left : Picture) : Type 0 where
+  pub each : (k : ℕ) (x : FoundPatch) → slice_get found k ≡ Some x → AreRefusedOf d t x.patch (IsLaterPoint left (patches_of (drop (suc k) found))) x.refused
+
+-- what a patch that has grown from the points that were left is
+pub record IsNewPart (t : ℕ) (left left' : Picture) (x : Patch) : Type 0 where
+  pub free : (q : Point) → IsTrue (at left' q) → IsTrue (at left q) × (Contains x.points q → ⊥)
+  pub rest : (q : Point) → IsTrue (at left q) → IsTrue (at left' q) ⊎ Contains x.points q
+  pub taken : (q : Point) → Contains x.points q → IsTrue (at left q)
+  pub once : AllPairs (λ p q. p ≡ q → ⊥) x.points
+  pub start : Point
+  pub first : slice_get x.points 0 ≡ Some start
+  pub there : IsTrue (at left start)
+  pub least : (q : Point) → IsTrue (at left q) → Before q start → ⊥
+  pub grows : Grows x.points
+  pub plane : IsNaiveFor t x.points x.plane
+
+-- the points of the box with raster numbers below i are left no more, and no point is marked as tried
+pub record IsVisited (d t : ℕ) (first : Picture) (i : ℕ) (found : List FoundPatch) (left tried : Picture) : Type 0 where
+  pub parting : IsParting t (λ q. IsTrue (at first q)) (patches_of found) left
+  pub refusing : IsRefusing d t found left
+  pub few : length found ≤ i
+  pub left_sides : left.sides ≡ first.sides
+  pub tried_sides : tried.sides ≡ first.sides
+  pub none : (q : Point) → IsTrue (at tried q) → ⊥
+  pub past : (q : Point) → IsTrue (at left q) → i ≤ raster_number first.sides q

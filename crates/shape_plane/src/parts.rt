@@ -1,0 +1,160 @@
+//! The patches that the points of a face fall into, each grown from the first point in raster order that is left.
+//! How a patch grows belongs elsewhere.
+ghost use Rattle.std.specs.Prelude.{◌≡◌, ◌<◌, ◌^◌, ◌+◌, ◌++◌, ◌∷◌, [], IsTrue, IfOk, Contains, map, length, ℕ, Some, slice_get};
+ghost use Rattle.shape_terms.specs.Points.{Point as Place, in_box, box_count};
+ghost use Rattle.shape_terms.specs.Pictures.{Picture, at};
+ghost use Rattle.shape_terms.specs.Steps.{Before};
+ghost use Rattle.patch_terms.specs.Patches.{FoundPatch};
+ghost use Rattle.shape_plane.specs.Parting.{IsNewPart, AreRefusedOf, IsVisited};
+ghost use Rattle.shape_plane.specs.Trials.{Refusal};
+
+use crate::grow::grow;
+use crate::patch::Patch;
+use crate::refusals::Refusals;
+use shape_adj::Pairing;
+use shape_grid::Grid;
+use shape_space::{NoMemory, Point};
+use std::alloc::Global;
+use std::marker::Model;
+
+// Takes the marks of refused points away again.
+fn unmark<P: Point>(tried: &mut Grid<P>, refused: &Refusals<P>)
+    requires marked { (q : Place) → IsTrue (at tried.old q)
+        → Contains (map (λ (r : Refusal). r.point) refused.now) q }
+    requires inside { (k : ℕ) (r : Refusal) → slice_get refused.now k ≡ Some r
+        → IsTrue (in_box tried.old.sides r.point) }
+    ensures none { (q : Place) → IsTrue (at tried.new q) → ⊥ }
+    ensures sides { tried.new.sides ≡ tried.old.sides }
+{
+    let _sides = tried.sides();
+    for i in 0..refused.len() {
+        tried.clear(refused.get(i).point);
+    }
+}
+
+// Grows a patch from a point that is left, before which none is.
+fn next_patch<P: Pairing>(
+    alloc: Global,
+    axis: usize,
+    p: P,
+    left: &mut Grid<P>,
+    tried: &mut Grid<P>,
+) -> Result<Patch<P>, NoMemory>
+    requires axis { axis < P.DIM }
+    requires left { IsTrue (at left.old (P.coords p)) }
+    requires sides { tried.old.sides ≡ left.old.sides }
+    requires none { (q : Place) → IsTrue (at tried.old q) → ⊥ }
+    requires least { (q : Place) → IsTrue (at left.old q) → Before q (P.coords p) → ⊥ }
+    ensures sides { IfOk result (λ _. tried.new.sides ≡ left.new.sides) }
+    ensures none { IfOk result (λ _. (q : Place) → IsTrue (at tried.new q) → ⊥) }
+    ensures left { IfOk result (λ _. left.new.sides ≡ left.old.sides) }
+    ensures cleared { IfOk result (λ _. IsTrue (at left.new (P.coords p)) → ⊥) }
+    ensures part { IfOk result (λ x. IsNewPart axis left.old left.new x.patch) }
+    ensures refused { IfOk result (λ x.
+        AreRefusedOf P.DIM axis x.patch (λ q. IsTrue (at left.new q)) x.refused) }
+{
+    let _sides = left.sides();
+    left.is_picture();
+    let mut grown = grow(alloc, axis, p, left, tried)?;
+    unmark(tried, &grown.refused);
+    grown.refused.sort();
+    Ok(Patch::new(grown.growing, grown.refused))
+}
+
+/// The patches of a face, in the order in which they have grown. Contracts see them as a list of patches with their refused points.
+#[derive(Drop)]
+pub struct Patches<P: Point> {
+    items: Vec<Patch<P>>,
+}
+
+impl<P: Point> Model for Patches<P> {
+    ghost use Rattle.std.specs.Prelude.{◌<◌, ◌^◌, List, length};
+    ghost use Rattle.patch_terms.specs.Patches.{FoundPatch};
+
+    ghost Value = { List FoundPatch };
+
+    ghost view = { λ s. s.items.items };
+
+    ghost invariant = { λ s. length s.items.items < 2 ^ 32 };
+}
+
+impl<P: Point> Patches<P> {
+    // None.
+    fn new(alloc: Global) -> Self
+        ensures { result ≡ [] }
+    {
+        Patches {
+            items: Vec::new(alloc),
+        }
+    }
+
+    // Puts a patch last.
+    fn push(&mut self, patch: Patch<P>) -> Result<(), NoMemory>
+        requires { length self.old < 2 ^ 31 }
+        ensures { IfOk result (λ _. self.new ≡ self.old ++ patch ∷ []) }
+    {
+        self.items.push(patch)?;
+        Ok(())
+    }
+
+    /// The number of patches.
+    pub fn len(&self) -> u32
+        ensures { result ≡ length self.now }
+    {
+        self.items.len() as u32
+    }
+
+    /// The patch at a place, from 0 on.
+    pub fn patch(&self, i: u32) -> &Patch<P>
+        requires { i < length self.now }
+        ensures { slice_get self.now i ≡ Some result.now }
+    {
+        &self.items[i as usize]
+    }
+}
+
+// Grows a patch from the point with a raster number, where it is left.
+fn visit<P: Pairing>(
+    alloc: Global,
+    axis: usize,
+    i: u32,
+    left: &mut Grid<P>,
+    tried: &mut Grid<P>,
+    found: &mut Patches<P>,
+) -> Result<(), NoMemory>
+    requires axis { axis < P.DIM }
+    requires place { i < box_count left.old.sides }
+    requires visited { (first : Picture)
+        × IsVisited P.DIM axis first i found.old left.old tried.old }
+    ensures sides { IfOk result (λ _. left.new.sides ≡ left.old.sides) }
+    ensures visited { (first : Picture)
+        → IsVisited P.DIM axis first i found.old left.old tried.old
+        → IfOk result (λ _. IsVisited P.DIM axis first (i + 1) found.new left.new tried.new) }
+{
+    left.is_picture();
+    let p = left.sides().unraster(i);
+    if left.has(p) {
+        let patch = next_patch(alloc, axis, p, left, tried)?;
+        found.push(patch)?;
+    }
+    Ok(())
+}
+
+/// The patches that all points of a grid fall into; none of them is left.
+pub fn parts_of<P: Pairing>(
+    alloc: Global,
+    axis: usize,
+    left: &mut Grid<P>,
+) -> Result<Patches<P>, NoMemory>
+    requires axis { axis < P.DIM }
+    ensures { IfOk result (λ found. (tried : Picture)
+        × IsVisited P.DIM axis left.old (box_count left.old.sides) found left.new tried) }
+{
+    let sides = left.sides();
+    let mut tried = Grid::new(alloc, sides)?;
+    let mut found = Patches::new(alloc);
+    for i in 0..sides.count() {
+        visit(alloc, axis, i, left, &mut tried, &mut found)?;
+    }
+    Ok(found)
+}
