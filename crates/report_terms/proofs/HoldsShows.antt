@@ -16,10 +16,12 @@ use Rattle.report_terms.specs.Lines.{Line, text_of, IsLineOf}
 use Rattle.report_terms.specs.ThinningLines.{PartsFact, event_of, events_of, kept_fact, kept_facts}
 use Rattle.report_terms.specs.Sections.{Section, rank, section_of, lines_of, CountsClaim, NearClaim, NamesRule, IsComplete, HasCome, GoodSoFar}
 use Rattle.report_terms.specs.ContourLines.{ContourClaim}
+use Rattle.report_terms.specs.FaceLines.{FaceClaim}
 use Rattle.report_terms.specs.Holds.{Holds}
 use Rattle.report_terms.specs.Shows.{parts_fact, ShowsParts, near_fact, ThinningShows, TextShows}
 use Rattle.report_terms.proofs.SectionLines.{stood}
 use Rattle.report_terms.proofs.ContoursShown.{lines_contours}
+use Rattle.report_terms.proofs.FacesShown.{lines_faces}
 use Rattle.report_terms.proofs.ListPushes.{get_last, take_front}
 use Rattle.report_terms.proofs.ThinningShown.{thinning_shown}
 use Rattle.report_terms.proofs.SectionLaws.{complete_kept, facts_of_section, claims_of_section}
@@ -107,15 +109,21 @@ contours_good X lines fields good one j l e =
     let s = stood (λ m. rank (section_of m) == 3) lines j l e in
     (subst (IsLineOf (length X.picture.sides)) (get_or_from_slice_get lines s.place l l s.there) (fields s.place l (slice_get_within lines s.place l s.there)), (claims_of_section X Section.Contours lines (omega arith) good one j l e).1)
 
+-- ---- faces
+
+-- each line of a face is good after the lines of faces before it
+faces_good : (X : Subject) (lines : List Line) → GoodSoFar X lines → IsComplete X Section.Heading lines → (j : ℕ) (l : Line) → slice_get (lines_of Section.Faces lines) j ≡ Some l → FaceClaim X.picture (take j (lines_of Section.Faces lines)) l
+faces_good X lines good one j l e = (claims_of_section X Section.Faces lines (omega arith) good one j l e).1
+
 -- ---- the thinning
 
 -- other lines give no event and no counts of points left
-no_event : (l : Line) → (rank (section_of l) == 4) ≡ false → event_of l ≡ None
+no_event : (l : Line) → (rank (section_of l) == 5) ≡ false → event_of l ≡ None
 no_event (Line.Del p) e = cc
 no_event (Line.Tip p) e = cc
 no_event _ e = refl
 
-no_kept : (l : Line) → (rank (section_of l) == 4) ≡ false → kept_fact l ≡ None
+no_kept : (l : Line) → (rank (section_of l) == 5) ≡ false → kept_fact l ≡ None
 no_kept (Line.Kept n o b) e = cc
 no_kept _ e = refl
 
@@ -147,6 +155,7 @@ holds_shows X text (lines, b) =
         parts = lines_parts X all b.good one (complete Section.Counted (omega arith));
         nears = lines_field X all b.good one (complete Section.Nearest (omega arith));
         contours = λ flat. lines_contours X.picture (length X.picture.sides) (lines_of Section.Contours all) (contours_good X all b.fields b.good one) ((complete Section.Contours (omega arith)).flat flat);
+        faces = λ solid. lines_faces X.picture (lines_of Section.Faces all) (faces_good X all b.good one) ((complete Section.Faces (omega arith)).solid solid);
         thinning = thinned.2;
       };
     }

@@ -20,3 +20,6 @@ pub mod CoverTaken
 pub mod CoverShown
 pub mod ListPushes
 pub mod Words
+pub mod FaceGroups
+pub mod FaceSaid
+pub mod FacesShown

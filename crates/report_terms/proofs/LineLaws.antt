@@ -10,7 +10,7 @@ use Rattle.report_terms.proofs.WordLists.{IsWord}
 use Rattle.report_terms.specs.Forms.{Form, is_same, signed, step, name, behind, ◌⨾◌, counted}
 use Rattle.report_terms.specs.Kinds.{count, weight, point, row, share, step_share, why, Kind, kinds, first_word, kind_word, form_of, Split, IsSplitOf, split_words, kind_among, read_kind, all_read, read_fields, read_line}
 use Rattle.report_terms.proofs.FormLaws.{IsForm, total, same_only, map_some, then_some, nothing_form, behind_form, both_form, times_form, counted_form, shaped_form, axes_form}
-use Rattle.report_terms.proofs.Words.{natural_form, letter_form, long_form, short_form, step_form, name_form}
+use Rattle.report_terms.proofs.Words.{natural_form, letter_form, long_form, short_form, sign_form, step_form, name_form}
 
 -- ---- fields
 
@@ -74,6 +74,10 @@ is_form d Kind.At = axes_form 2 d _ (point_form 2)
 is_form d Kind.Seg = axes_form 2 d _ (both_form _ _ count_form (both_form _ _ count_form (both_form _ _ (letter_form 2) (both_form _ _ (row_form 2) long_form))))
 is_form d Kind.Turn = axes_form 2 d _ (both_form _ _ (letter_form 2) (both_form _ _ count_form count_form))
 is_form d Kind.Cut = axes_form 2 d _ (both_form _ _ (letter_form 2) (why_form 2))
+is_form d Kind.Face = axes_form 3 d _ (both_form _ _ (letter_form 3) (both_form _ _ sign_form count_form))
+is_form d Kind.Patch = axes_form 3 d _ (both_form _ _ count_form (both_form _ _ (row_form 3) long_form))
+is_form d Kind.On = axes_form 3 d _ (point_form 3)
+is_form d Kind.Off = axes_form 3 d _ (both_form _ _ (point_form 3) (why_form 3))
 is_form d Kind.Del = point_form d
 is_form d Kind.Tip = point_form d
 is_form d Kind.Kept = both_form _ _ count_form (both_form _ _ count_form count_form)

@@ -12,8 +12,9 @@ use Rattle.std.proofs.lemmas.Bool.{ltb-true, lt-ltb, ne_eqb, and_parts, and_from
 use Rattle.std.proofs.lemmas.Bool.Decides.{nat_tests}
 use Rattle.std.proofs.lemmas.List.Elements.{All-head, All-tail, All-cons}
 use Rattle.shape_terms.specs.Refutations.{Step}
+use Rattle.patch_terms.specs.Patches.{Sense}
 use Rattle.report_terms.proofs.WordLists.{IsWord}
-use Rattle.report_terms.specs.Forms.{natural, signed, axis_letter, letter, step_word, IsStepIn, step, IsName, name, has_bits, signed_value, step_value, is_step_in, is_name}
+use Rattle.report_terms.specs.Forms.{natural, signed, axis_letter, letter, sense_word, sense_value, sign, step_word, IsStepIn, step, IsName, name, has_bits, signed_value, step_value, is_step_in, is_name}
 use Rattle.report_terms.proofs.FormLaws.{IsForm, one_form}
 
 digit_past_blank : (c : ℕ) → digit_value c < 10 → 32 < c
@@ -141,6 +142,24 @@ step_form d = one_form (IsStepIn d) (is_step_in d) step_word step_value 4 (recor
     few Step.Up = omega arith
     few (Step.Plus u) = omega arith
     few (Step.Minus u) = omega arith
+
+-- ---- senses
+
+pub sign_form : IsForm sign
+unfolding IsWord
+sign_form = one_form (λ s. Unit {0}) (λ s. true) sense_word sense_value 1 (record { passes = λ s a. refl; ranges = λ s e. tt; guesses = λ s a. guesses s; word = λ s a. word s; few = λ s a. few s })
+  where
+    guesses : (s : Sense) → sense_value (sense_word s) ≡ s
+    guesses Sense.Down = refl
+    guesses Sense.Upward = refl
+
+    word : (s : Sense) → IsWord (sense_word s)
+    word Sense.Down = (lit< tt, (lit< tt, tt))
+    word Sense.Upward = (lit< tt, (lit< tt, tt))
+
+    few : (s : Sense) → length (sense_word s) ≤ 1
+    few Sense.Down = omega arith
+    few Sense.Upward = omega arith
 
 -- ---- names
 

@@ -9,6 +9,7 @@ use Rattle.std.specs.Fmt.{decimal, signed_decimal}
 use Rattle.std.specs.Str.Parse.{digits_value}
 use Rattle.shape_terms.specs.Refutations.{Step}
 use Rattle.shape_terms.specs.Refutations.Step.{Up, Plus, Minus}
+use Rattle.patch_terms.specs.Patches.{Sense}
 
 -- what a reader of the front of words answers: the value, and the words that follow it
 abbrev pub Reads : Type 0 → Type 0
@@ -81,6 +82,17 @@ is_step_in d (Minus u) = nat_lt u d
 
 abbrev pub step : ℕ → Form Step
 step d = one_word (IsStepIn d) (is_step_in d) step_word step_value 4
+
+-- the sign of a sense, and the sense that is guessed of a word
+abbrev pub sense_word : Sense → List ℕ
+sense_word Sense.Down = codes "-"
+sense_word Sense.Upward = codes "+"
+
+abbrev pub sense_value : List ℕ → Sense
+sense_value w = if get_or w 0 0 == 43 then Sense.Upward else Sense.Down
+
+abbrev pub sign : Form Sense
+sign = one_word (λ s. Unit {0}) (λ s. true) sense_word sense_value 1
 
 -- 1 to 16 lower-case letters
 pub record IsName (word : List ℕ) : Type 0 where

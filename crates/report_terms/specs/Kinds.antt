@@ -5,7 +5,8 @@ use Rattle.std.specs.Option.{option_map, option_and_then}
 use Rattle.std.specs.Int.{w32, w64}
 use Rattle.shape_terms.specs.Points.{Point}
 use Rattle.shape_terms.specs.Refutations.{Share, StepShare, Refutation}
-use Rattle.report_terms.specs.Forms.{Form, is_same, natural, signed, letter, step, name, nothing, behind, ◌⨾◌, times, counted, shaped, of_axes}
+use Rattle.patch_terms.specs.Patches.{Sense}
+use Rattle.report_terms.specs.Forms.{Form, is_same, natural, signed, letter, sign, step, name, nothing, behind, ◌⨾◌, times, counted, shaped, of_axes}
 
 -- ---- fields
 
@@ -41,11 +42,11 @@ why d = shaped (λ p. record { low = p.0; high = p.1.0; steps = p.1.1 }) (λ r. 
 
 -- a kind of line
 pub data Kind : Type 0 where
-  Shape Parts Near Contour At Seg Turn Cut Del Tip Kept End : Kind
+  Shape Parts Near Contour At Seg Turn Cut Face Patch On Off Del Tip Kept End : Kind
 
 -- all kinds
 abbrev pub kinds : List Kind
-kinds = Kind.Shape ∷ Kind.Parts ∷ Kind.Near ∷ Kind.Contour ∷ Kind.At ∷ Kind.Seg ∷ Kind.Turn ∷ Kind.Cut ∷ Kind.Del ∷ Kind.Tip ∷ Kind.Kept ∷ Kind.End ∷ []
+kinds = Kind.Shape ∷ Kind.Parts ∷ Kind.Near ∷ Kind.Contour ∷ Kind.At ∷ Kind.Seg ∷ Kind.Turn ∷ Kind.Cut ∷ Kind.Face ∷ Kind.Patch ∷ Kind.On ∷ Kind.Off ∷ Kind.Del ∷ Kind.Tip ∷ Kind.Kept ∷ Kind.End ∷ []
 
 -- the word that a line of this kind begins with
 abbrev pub first_word : Kind → List ℕ
@@ -57,6 +58,10 @@ first_word Kind.At = codes "at"
 first_word Kind.Seg = codes "seg"
 first_word Kind.Turn = codes "turn"
 first_word Kind.Cut = codes "cut"
+first_word Kind.Face = codes "face"
+first_word Kind.Patch = codes "patch"
+first_word Kind.On = codes "on"
+first_word Kind.Off = codes "off"
 first_word Kind.Del = codes "del"
 first_word Kind.Tip = codes "tip"
 first_word Kind.Kept = codes "kept"
@@ -72,6 +77,10 @@ Fields Kind.At = Point
 Fields Kind.Seg = ℕ × (ℕ × (ℕ × (List ℤ × ℤ)))
 Fields Kind.Turn = ℕ × (ℕ × ℕ)
 Fields Kind.Cut = ℕ × Refutation
+Fields Kind.Face = ℕ × (Sense × ℕ)
+Fields Kind.Patch = ℕ × (List ℤ × ℤ)
+Fields Kind.On = Point
+Fields Kind.Off = Point × Refutation
 Fields Kind.Del = Point
 Fields Kind.Tip = Point
 Fields Kind.Kept = ℕ × (ℕ × ℕ)
@@ -92,6 +101,10 @@ form_of d Kind.At = of_axes 2 d (point 2)
 form_of d Kind.Seg = of_axes 2 d (count ⨾ count ⨾ letter 2 ⨾ row 2 ⨾ signed w64 63)
 form_of d Kind.Turn = of_axes 2 d (letter 2 ⨾ count ⨾ count)
 form_of d Kind.Cut = of_axes 2 d (letter 2 ⨾ why 2)
+form_of d Kind.Face = of_axes 3 d (letter 3 ⨾ sign ⨾ count)
+form_of d Kind.Patch = of_axes 3 d (count ⨾ row 3 ⨾ signed w64 63)
+form_of d Kind.On = of_axes 3 d (point 3)
+form_of d Kind.Off = of_axes 3 d (point 3 ⨾ why 3)
 form_of d Kind.Del = point d
 form_of d Kind.Tip = point d
 form_of d Kind.Kept = count ⨾ count ⨾ count

@@ -9,3 +9,5 @@ pub mod Shows
 pub mod Progress
 pub mod ContourLines
 pub mod ContourFacts
+pub mod FaceLines
+pub mod FaceFacts

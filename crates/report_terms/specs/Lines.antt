@@ -4,6 +4,7 @@ use Rattle.std.specs.Prelude.{ℕ, ℤ, List, [], ◌∷◌, ◌++◌, length, f
 use Rattle.std.specs.List.{join_with_byte}
 use Rattle.shape_terms.specs.Points.{Point}
 use Rattle.shape_terms.specs.Refutations.{Refutation}
+use Rattle.patch_terms.specs.Patches.{Sense}
 use Rattle.report_terms.specs.Kinds.{Kind, Fields, Split, IsSplitOf, split_words}
 
 -- a line of a report. The sides stand as a point; a picture of two sides is a `pbm`, one of three a `raw`
@@ -16,6 +17,10 @@ pub data Line : Type 0 where
   Seg : (first last axis : ℕ) → (a : List ℤ) → (mu : ℤ) → Line
   Turn : (axis i j : ℕ) → Line
   Cut : (axis : ℕ) → (why : Refutation) → Line
+  Face : (axis : ℕ) → (sense : Sense) → (points : ℕ) → Line
+  Patch : (points : ℕ) → (a : List ℤ) → (mu : ℤ) → Line
+  On : (p : Point) → Line
+  Off : (p : Point) → (why : Refutation) → Line
   Del : (p : Point) → Line
   Tip : (p : Point) → Line
   Kept : (points object background : ℕ) → Line
@@ -31,6 +36,10 @@ split (At p) = record { kind = Kind.At; fields = p }
 split (Seg b e t a mu) = record { kind = Kind.Seg; fields = (b, (e, (t, (a, mu)))) }
 split (Turn t i j) = record { kind = Kind.Turn; fields = (t, (i, j)) }
 split (Cut t why) = record { kind = Kind.Cut; fields = (t, why) }
+split (Face t sense n) = record { kind = Kind.Face; fields = (t, (sense, n)) }
+split (Patch k a mu) = record { kind = Kind.Patch; fields = (k, (a, mu)) }
+split (On p) = record { kind = Kind.On; fields = p }
+split (Off p why) = record { kind = Kind.Off; fields = (p, why) }
 split (Del p) = record { kind = Kind.Del; fields = p }
 split (Tip p) = record { kind = Kind.Tip; fields = p }
 split (Kept n o b) = record { kind = Kind.Kept; fields = (n, (o, b)) }
@@ -46,6 +55,10 @@ joined Kind.At p = At p
 joined Kind.Seg (b, (e, (t, (a, mu)))) = Seg b e t a mu
 joined Kind.Turn (t, (i, j)) = Turn t i j
 joined Kind.Cut (t, why) = Cut t why
+joined Kind.Face (t, (sense, n)) = Face t sense n
+joined Kind.Patch (k, (a, mu)) = Patch k a mu
+joined Kind.On p = On p
+joined Kind.Off (p, why) = Off p why
 joined Kind.Del p = Del p
 joined Kind.Tip p = Tip p
 joined Kind.Kept (n, (o, b)) = Kept n o b

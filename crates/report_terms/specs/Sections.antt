@@ -1,5 +1,5 @@
 -- The sections of a report, in their order, and when a line is good after the lines before it.
--- Each claim speaks of the heading and of the lines of its own section alone; what contours and the thinning claim stands in `ContourLines` and `ThinningLines`.
+-- Each claim speaks of the heading and of the lines of its own section alone; what contours, faces and the thinning claim stands in `ContourLines`, `FaceLines` and `ThinningLines`.
 use Rattle.std.specs.Prelude.{◌≡◌, ◌≢◌, ℕ, ◌<◌, ◌≤◌, ◌==◌, List, [], ◌∷◌, length, map, filter, take, slice_get, Some, pos, All}
 use Rattle.shape_terms.specs.Points.{Point}
 use Rattle.shape_terms.specs.Pictures.{Picture, object_points, Least}
@@ -9,15 +9,16 @@ use Rattle.thin_terms.specs.Shelves.{Named}
 use Rattle.report_terms.specs.Subjects.{Subject, IsOnShelf}
 use Rattle.report_terms.specs.Lines.{Line}
 use Rattle.report_terms.specs.ContourLines.{ContourClaim, ContoursComplete}
+use Rattle.report_terms.specs.FaceLines.{FaceClaim, FacesComplete}
 use Rattle.report_terms.specs.ThinningLines.{ThinningClaim, ThinningComplete}
 
 -- the sections of a report
 pub data Section : Type 0 where
-  Heading Counted Nearest Contours Thinned End : Section
+  Heading Counted Nearest Contours Faces Thinned End : Section
 
 -- all sections, in their order
 abbrev pub sections : List Section
-sections = Section.Heading ∷ Section.Counted ∷ Section.Nearest ∷ Section.Contours ∷ Section.Thinned ∷ Section.End ∷ []
+sections = Section.Heading ∷ Section.Counted ∷ Section.Nearest ∷ Section.Contours ∷ Section.Faces ∷ Section.Thinned ∷ Section.End ∷ []
 
 -- the place of a section among them
 abbrev pub rank : Section → ℕ
@@ -25,8 +26,9 @@ rank Section.Heading = 0
 rank Section.Counted = 1
 rank Section.Nearest = 2
 rank Section.Contours = 3
-rank Section.Thinned = 4
-rank Section.End = 5
+rank Section.Faces = 4
+rank Section.Thinned = 5
+rank Section.End = 6
 
 abbrev pub section_of : Line → Section
 section_of (Line.Shape _ _) = Section.Heading
@@ -37,6 +39,10 @@ section_of (Line.At _) = Section.Contours
 section_of (Line.Seg _ _ _ _ _) = Section.Contours
 section_of (Line.Turn _ _ _) = Section.Contours
 section_of (Line.Cut _ _) = Section.Contours
+section_of (Line.Face _ _ _) = Section.Faces
+section_of (Line.Patch _ _ _) = Section.Faces
+section_of (Line.On _) = Section.Faces
+section_of (Line.Off _ _) = Section.Faces
 section_of (Line.Del _) = Section.Thinned
 section_of (Line.Tip _) = Section.Thinned
 section_of (Line.Kept _ _ _) = Section.Thinned
@@ -71,6 +77,10 @@ NearsComplete X lines = length lines ≡ length (object_points X)
 abbrev pub FlatClaim : Picture → List Line → Line → Type 0
 FlatClaim X before l = (length X.sides ≡ 2) × ContourClaim X before l
 
+-- a line of a face is of a volume
+abbrev pub SolidClaim : Picture → List Line → Line → Type 0
+SolidClaim X before l = (length X.sides ≡ 3) × FaceClaim X before l
+
 -- the heading of a report names the rule on the shelf
 pub record NamesRule (shelf : List (Named Rule)) (heading : List Line) (rule : Rule) : Type 0 where
   pub sides : Point
@@ -84,6 +94,7 @@ SectionClaim X heading Section.Heading before l = (before ≡ []) × HeadingClai
 SectionClaim X heading Section.Counted before l = (before ≡ []) × CountsClaim X.picture l
 SectionClaim X heading Section.Nearest before l = NearClaim X.picture before l
 SectionClaim X heading Section.Contours before l = FlatClaim X.picture before l
+SectionClaim X heading Section.Faces before l = SolidClaim X.picture before l
 SectionClaim X heading Section.Thinned before l = (rule : Rule) × NamesRule X.shelf heading rule × ThinningClaim rule X.picture before l
 SectionClaim X heading Section.End before l = before ≡ []
 
@@ -92,12 +103,18 @@ pub record AllContours (X : Picture) (lines : List Line) : Type 0 where
   pub flat : length X.sides ≡ 2 → ContoursComplete X lines
   pub other : length X.sides ≢ 2 → lines ≡ []
 
+-- each of the six faces of a volume has its lines, and any other picture has no line of a face
+pub record AllFaces (X : Picture) (lines : List Line) : Type 0 where
+  pub solid : length X.sides ≡ 3 → FacesComplete X lines
+  pub other : length X.sides ≢ 3 → lines ≡ []
+
 -- the section's lines are complete
 abbrev pub SectionComplete : Subject → Section → List Line → Type 0
 SectionComplete X Section.Heading lines = length lines ≡ 1
 SectionComplete X Section.Counted lines = length lines ≡ 1
 SectionComplete X Section.Nearest lines = NearsComplete X.picture lines
 SectionComplete X Section.Contours lines = AllContours X.picture lines
+SectionComplete X Section.Faces lines = AllFaces X.picture lines
 SectionComplete X Section.Thinned lines = ThinningComplete lines
 SectionComplete X Section.End lines = length lines ≡ 1
 

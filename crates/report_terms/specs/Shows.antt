@@ -7,11 +7,14 @@ use Rattle.shape_terms.specs.Parts.{Counts}
 use Rattle.shape_terms.specs.Distances.{NearFact, IsField}
 use Rattle.shape_terms.specs.Contours.{Crack}
 use Rattle.shape_terms.specs.Traces.{Contour}
+use Rattle.patch_terms.specs.Patches.{Sense}
 use Rattle.thin_terms.specs.Simple.{IsSimple}
 use Rattle.thin_terms.specs.Thinning.{Rule, Event, Stage, ThinsTo, IsThinning}
 use Rattle.report_terms.specs.ContourFacts.{ContourFact, in_pairs, ContoursShow}
+use Rattle.report_terms.specs.FaceFacts.{PatchFact, FaceFact, FacesShow}
 use Rattle.report_terms.specs.Lines.{Line, text_of, IsLineOf}
 use Rattle.report_terms.specs.ContourLines.{contour_groups, point_of, segment_of, gap_of}
+use Rattle.report_terms.specs.FaceLines.{face_groups, patch_groups, on_point, off_point, plane_of}
 use Rattle.report_terms.specs.ThinningLines.{PartsFact, events_of, kept_facts}
 use Rattle.report_terms.specs.Subjects.{Subject}
 use Rattle.report_terms.specs.Sections.{Section, lines_of, NamesRule}
@@ -39,11 +42,21 @@ outline_of lines = record { start = start_of lines; points = filter_map point_of
 abbrev pub contour_fact : List Line → ContourFact
 contour_fact lines = record { outline = outline_of lines; segments = filter_map segment_of lines; gaps = in_pairs (filter_map gap_of lines) }
 
+-- what the lines of a patch say of it: its points with its plane, and the points that it refused
+abbrev pub patch_fact : List Line → PatchFact
+patch_fact lines = record { patch = record { points = filter_map on_point lines; plane = plane_of lines }; refused = filter_map off_point lines }
+
+-- what the lines of a face say of it: its axis and its sense, and its patches in order
+abbrev pub face_fact : List Line → FaceFact
+face_fact (Line.Face t sense n ∷ lines) = record { axis = t; sense = sense; patches = map patch_fact (patch_groups lines) }
+face_fact _ = record { axis = 0; sense = Sense.Down; patches = [] }
+
 -- the report's content: what its lines say, section by section
 pub record Content : Type 0 where
   pub parts : List PartsFact
   pub nears : List NearFact
   pub contours : List ContourFact
+  pub faces : List FaceFact
   pub events : List Event
   pub kept : List PartsFact
 
@@ -52,6 +65,7 @@ content_of lines = record {
   parts = filter_map parts_fact lines;
   nears = filter_map near_fact lines;
   contours = map contour_fact (contour_groups (lines_of Section.Contours lines));
+  faces = map face_fact (face_groups (lines_of Section.Faces lines));
   events = events_of lines;
   kept = kept_facts lines;
 }
@@ -77,11 +91,12 @@ pub record ThinningShows (X : Picture) (rule : Rule) (events : List Event) (kept
   pub counts : Counts stage.left left.points left.object left.background
   pub same : length X.values ≡ box_count X.sides → (n o b : ℕ) → Counts X n o b → (left.object ≡ o) × (left.background ≡ b)
 
--- the counts of the picture; each object point once, in raster order, with a nearest background point of the whole space; and the contours of a flat picture, each from its least crack and with its points and its cover; and the thinning by the rule
+-- the counts of the picture; each object point once, in raster order, with a nearest background point of the whole space; the contours of a flat picture, each from its least crack and with its points and its cover; the six faces of a volume, each with its partition into patches; and the thinning by the rule
 pub record Shows (X : Picture) (rule : Rule) (content : Content) : Type 0 where
   pub parts : ShowsParts X content.parts
   pub nears : IsField X content.nears
   pub contours : length X.sides ≡ 2 → ContoursShow X content.contours
+  pub faces : length X.sides ≡ 3 → FacesShow X content.faces
   pub thinning : ThinningShows X rule content.events content.kept
 
 -- the text is made of lines that show of the picture what they say, and of its thinning by the rule that they name

@@ -140,30 +140,19 @@ outlined_full X contours k m stretches lines c there all o = record {
 pub outlined_done : (X : Aim) (contours : List Contour) (lines : List Line) → HasOutlined X contours (length contours) lines → IsSurveyed 2 X lines
 outlined_done X contours lines h =
     let o = h.outlined in
+    let come = come_past X.subject Section.Contours Section.Faces lines refl o.come (record {
+      flat = λ flat. (contours, o.are, subst (IsFull contours) (sym o.stands) h.full, ap (λ (s : Standing). s.begun) o.stands ∙ h.begun);
+      other = λ other. absurd (other o.flat);
+    }) in
     record {
       axes = o.flat;
       few = omega arith;
       lines_good = o.lines_good;
-      come = come_past X.subject Section.Contours Section.Thinned lines refl o.come (record {
-        flat = λ flat. (contours, o.are, subst (IsFull contours) (sym o.stands) h.full, ap (λ (s : Standing). s.begun) o.stands ∙ h.begun);
-        other = λ other. absurd (other o.flat);
+      come = come_past X.subject Section.Faces Section.Thinned lines refl come (record {
+        solid = λ solid. absurd (omega (arith, o.flat, solid));
+        other = λ _. none_past Section.Contours Section.Faces lines (omega arith) o.come.order;
       });
       none = none_past Section.Contours Section.Thinned lines (omega arith) o.come.order;
-    }
-
--- a volume has no contours
-pub surveyed_solid : (X : Aim) (lines : List Line) → length X.subject.picture.sides ≡ 3 → IsGrowing X (length (object_points X.subject.picture)) lines → IsSurveyed 3 X lines
-surveyed_solid X lines axes h =
-    let come = come_past X.subject Section.Nearest Section.Contours lines refl h.come h.nears in
-    record {
-      axes = axes;
-      few = omega arith;
-      lines_good = h.lines_good;
-      come = come_past X.subject Section.Contours Section.Thinned lines refl come (record {
-        flat = λ flat. absurd (omega (arith, axes, flat));
-        other = λ _. none_past Section.Nearest Section.Contours lines (omega arith) h.come.order;
-      });
-      none = none_past Section.Nearest Section.Thinned lines (omega arith) h.come.order;
     }
 
 -- ---- the first cracks of contours

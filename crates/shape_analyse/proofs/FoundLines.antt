@@ -1,17 +1,18 @@
 -- The lines that are made of what is found of a contour: their fields are in range, and each segment stands in its place.
 -- Laws over what was found; the program stands in none.
 use Rattle.std.proofs.Common.{◌≡◌, ◌+◌, ◌<◌, ◌^◌, ℕ, zero, suc, ℤ, pos, negsuc, List, [], ◌∷◌, ◌++◌, length, take, refl, sym, ap, ◌∙◌, subst, arith}
-use Rattle.std.specs.Prelude.{◌*◌, FitsSigned, Some, nat_abs, slice_get, slice_index_or}
+use Rattle.std.specs.Prelude.{◌*◌, ◌≤◌, All, FitsSigned, Some, nat_abs, slice_get, slice_index_or}
 use Rattle.std.specs.Int.{w64}
 use Rattle.std.proofs.lemmas.List.{length-map, length-take-le}
 use Rattle.shape_terms.specs.Points.{Point}
 use Rattle.shape_terms.specs.Traces.{Contour}
 use Rattle.shape_terms.specs.Naive.{Naive}
-use Rattle.shape_terms.specs.Refutations.{Share, Step, StepShare, IsStepOf}
+use Rattle.shape_terms.specs.Refutations.{Share, Step, StepShare, Refutation, IsStepOf, Refutes}
 use Rattle.shape_terms.specs.Covers.{Evidence, IsEvidence, gap_run}
 use Rattle.report_terms.specs.Forms.{IsStepIn, counted}
-use Rattle.report_terms.specs.Kinds.{share, step_share}
+use Rattle.report_terms.specs.Kinds.{share, step_share, why}
 use Rattle.report_terms.specs.Lines.{Line, IsLineOf}
+use Rattle.shape_slope.specs.Pairs.{AreSmallWeights}
 use Rattle.shape_cover.specs.Found.{Found, stretches_of, found_at, IsCoverOf, IsShortLine, AreShortShares, IsShortEvidence}
 use Rattle.shape_analyse.specs.Growing.{Aim, IsOutlined, gap_line, at_contour, covered}
 use Rattle.shape_analyse.proofs.ContourGrowth.{outlined_segment, outlined_gap}
@@ -24,10 +25,10 @@ fits (negsuc n) h = record { sfits = omega arith }
 pub segment_fits : (b e t : ℕ) (line : Naive) → b < 2 ^ 32 → e < 2 ^ 32 → t < 2 → IsShortLine line → IsLineOf 2 (Line.Seg b e t line.a line.mu)
 segment_fits b e t line hb he ht s = (refl, (hb, (he, (ht, (record { axes = s.two; fits = λ i d l. fits _ (s.coefficients i d l) }, fits line.mu s.mu)))))
 
-step_in : (t : ℕ) (s : StepShare) → IsStepOf 2 t s.step → IsStepIn 2 s.step
-step_in t s h = step_cases t s.step h
+step_in : (d t : ℕ) (s : StepShare) → IsStepOf d t s.step → IsStepIn d s.step
+step_in d t s h = step_cases t s.step h
   where
-    step_cases : (t : ℕ) (s : Step) → IsStepOf 2 t s → IsStepIn 2 s
+    step_cases : (t : ℕ) (s : Step) → IsStepOf d t s → IsStepIn d s
     step_cases t Step.Up h = tt
     step_cases t (Step.Plus u) h = h.0
     step_cases t (Step.Minus u) h = h.0
@@ -39,8 +40,18 @@ shares_fit shares h = (h.few, λ i d l. (h.weights i d l, h.places i d l))
 pub gap_fits : (t : ℕ) (run : List Point) (v : Evidence) → t < 2 → IsEvidence t run v → IsShortEvidence v → IsLineOf 2 (gap_line t v)
 gap_fits t run (Evidence.Turned i j) ht h s = (refl, (ht, (s.0, s.1)))
 gap_fits t run (Evidence.Cut why) ht h s =
-    let steps : (counted 4 (step_share 2)).InRange why.steps = (s.few_steps, λ i d l. (s.steps i d l, step_in t (slice_index_or why.steps i d) (h.1.steps_of_axis i d l))) in
+    let steps : (counted 4 (step_share 2)).InRange why.steps = (s.few_steps, λ i d l. (s.steps i d l, step_in 2 t (slice_index_or why.steps i d) (h.1.steps_of_axis i d l))) in
     (refl, (ht, (shares_fit why.low s.low, (shares_fit why.high s.high, steps))))
+
+-- small weights that refute points of which there are few
+pub weights_fit : (d t : ℕ) (run : List Point) (r : Refutation) → length run ≤ 2 ^ 32 → Refutes d t run r → AreSmallWeights r → (why d).InRange r
+weights_fit d t run r few h small = (shares r.low small.few_low small.low h.low_places, (shares r.high small.few_high small.high h.high_places, (small.few_steps, λ i e l. (below i e l, step_in d t (slice_index_or r.steps i e) (h.steps_of_axis i e l)))))
+  where
+    shares : (ss : List Share) → length ss ≤ 4 → All (λ s. s.weight < 2 ^ 40) ss → All (λ s. s.place < length run) ss → (counted 4 share).InRange ss
+    shares ss n a b = (n, λ i e l. let w = a i e l in let p = b i e l in (omega (arith, w), omega (arith, p, few)))
+
+    below : (i : ℕ) (e : StepShare) → i < length r.steps → (slice_index_or r.steps i e).weight < 2 ^ 63
+    below i e l = let w = small.steps i e l in omega (arith, w)
 
 -- the stretches up to one more
 pub stretches_more : (found : List Found) (j : ℕ) → j < length found → take j (stretches_of found) ++ (found_at found j).stretch ∷ [] ≡ take (j + 1) (stretches_of found)

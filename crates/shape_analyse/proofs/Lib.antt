@@ -1,4 +1,5 @@
 pub mod Growth
 pub mod ContourGrowth
+pub mod FaceGrowth
 pub mod ThinningGrowth
 pub mod FoundLines

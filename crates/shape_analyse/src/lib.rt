@@ -4,6 +4,7 @@
 
 mod begin;
 mod contour;
+mod faces;
 mod outline;
 mod thinning;
 mod whole;

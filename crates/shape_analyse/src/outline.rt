@@ -1,4 +1,4 @@
-//! What stands between the nearest points and the thinning in a report: the contours of a flat picture.
+//! What stands between the nearest points and the thinning in a report: the contours of a flat picture, the faces of a volume.
 //! A further dimension is one more `impl` of `Outline`.
 ghost use Rattle.std.specs.Prelude.{◌≡◌, ℕ, List, OnOk};
 ghost use Rattle.thin_terms.specs.Thinning.{Rule};
@@ -6,6 +6,7 @@ ghost use Rattle.thin_terms.specs.Shelves.{Named};
 ghost use Rattle.shape_analyse.specs.Growing.{aim_of, HasNears, HasSurveyed};
 
 use crate::contour::add_contours;
+use crate::faces::add_faces;
 use shape_crack::contours;
 use shape_grid::Grid;
 use shape_report::Report;
@@ -32,8 +33,9 @@ impl Outline for P2 {
 }
 
 impl Outline for P3 {
-    fn add_outline(_alloc: Global, grid: &Grid<P3>, _report: &mut Report) -> Result<(), NoMemory> {
+    fn add_outline(alloc: Global, grid: &Grid<P3>, report: &mut Report) -> Result<(), NoMemory> {
         grid.is_picture();
+        add_faces(alloc, grid, report)?;
         Ok(())
     }
 }

@@ -105,8 +105,30 @@ fn a_volume(rt: HostRuntime) -> Result<(), Fail> {
         return Err(Fail::from(AllocError));
     };
     let bytes = report.text();
-    assert_eq!(rt; bytes.iter().filter(|&&c| c == b'\n').count(), 9);
     assert!(rt; bytes.starts_with(b"shape 1 raw 3 1 2 none\nparts 3 1 1\nnear 0 0 0 ".as_slice()));
-    assert!(rt; bytes.ends_with(b" 1\ndel 0 0 0\ndel 2 0 0\nkept 1 1 1\nend\n".as_slice()));
+    assert!(rt; bytes.ends_with(b"\non 2 0 0\ndel 0 0 0\ndel 2 0 0\nkept 1 1 1\nend\n".as_slice()));
+    // The first two letters of each line from the first face on.
+    let mut kinds = Vec::new(alloc);
+    for line in bytes.split(|&c| c == b'\n') {
+        if let (Some(first), Some(second)) = (line.first(), line.get(1)) {
+            kinds.push(*first)?;
+            kinds.push(*second)?;
+        }
+    }
+    let two_patches = b"fapaononofpaon";
+    let one_patch = b"fapaononon";
+    let mut faces = Vec::from_slice(alloc, b"shpanenene")?;
+    for part in [
+        two_patches.as_slice(),
+        two_patches,
+        one_patch,
+        one_patch,
+        two_patches,
+        two_patches,
+        b"dedekeen",
+    ] {
+        faces.extend_from_slice(part)?;
+    }
+    assert_eq!(rt; kinds.as_slice(), faces.as_slice());
     Ok(())
 }

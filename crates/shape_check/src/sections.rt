@@ -1,4 +1,4 @@
-//! The judges of nearest points and of contours, as judges of their sections.
+//! The judges of nearest points, of contours and of faces, as judges of their sections.
 //! Another section with a crate of its own is one more `impl`.
 ghost use Rattle.std.specs.Prelude.{◌≡◌};
 ghost use Rattle.report_terms.specs.Sections.{Section};
@@ -6,9 +6,10 @@ ghost use Rattle.report_terms.specs.Sections.{Section};
 use crate::judges::SectionJudge;
 use judge_cover::CoverJudge;
 use judge_field::FieldJudge;
+use judge_plane::PlaneJudge;
 use shape_report::Line;
 use shape_rules::EndRule;
-use shape_space::{NoMemory, P2, Point};
+use shape_space::{NoMemory, P2, P3, Point};
 
 impl<P: Point> SectionJudge<P> for FieldJudge<P> {
     ghost use Rattle.judge_field.specs.FieldState.{StandsFor, room_of};
@@ -51,5 +52,27 @@ impl SectionJudge<P2> for CoverJudge {
 
     fn is_done(&self) -> bool {
         CoverJudge::is_done(self)
+    }
+}
+
+impl SectionJudge<P3> for PlaneJudge {
+    ghost use Rattle.judge_plane.specs.PlaneState.{StandsFor, room_of};
+
+    ghost section = { Section.Faces };
+
+    ghost stands = { λ X by j now. StandsFor X j };
+
+    ghost room = { room_of };
+
+    fn rank() -> u8 {
+        4
+    }
+
+    fn take(&mut self, line: &Line<P3>, _rule: &mut dyn EndRule) -> Result<bool, NoMemory> {
+        Ok(PlaneJudge::take(self, line))
+    }
+
+    fn is_done(&self) -> bool {
+        PlaneJudge::is_done(self)
     }
 }

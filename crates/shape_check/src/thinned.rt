@@ -113,7 +113,7 @@ impl<P: SimpleMask> SectionJudge<P> for ThinnedJudge<P> {
     ghost room = { λ j. room_of j.events + (if j.kept then 0 else 1) };
 
     fn rank() -> u8 {
-        4
+        5
     }
 
     fn take(&mut self, line: &Line<P>, rule: &mut dyn EndRule) -> Result<bool, NoMemory> {

@@ -10,11 +10,12 @@ ghost use Rattle.shape_check.specs.Followed.{Thins};
 use crate::counts::{CountsJudge, PictureCounts};
 use crate::end::EndJudge;
 use crate::judges::Row;
-use crate::outline::NoContours;
+use crate::outline::{NoContours, NoFaces};
 use crate::then::Then;
 use crate::thinned::{ThinnedJudge, distances_of};
 use judge_cover::CoverJudge;
 use judge_field::FieldJudge;
+use judge_plane::PlaneJudge;
 use judge_thin::ThinJudge;
 use shape_adj::parts;
 use shape_grid::Grid;
@@ -73,14 +74,20 @@ fn wait_for<P: SimpleMask>(alloc: Global, grid: &Grid<P>) -> Result<Common<P>, N
 pub type Flat = Then<
     P2,
     CountsJudge,
-    Then<P2, FieldJudge<P2>, Then<P2, CoverJudge, Then<P2, ThinnedJudge<P2>, EndJudge>>>,
+    Then<
+        P2,
+        FieldJudge<P2>,
+        Then<P2, CoverJudge, Then<P2, NoFaces, Then<P2, ThinnedJudge<P2>, EndJudge>>>,
+    >,
 >;
 
 impl Row<P2> for Flat {
     fn begin(alloc: Global, grid: &Grid<P2>) -> Result<Flat, NoMemory> {
         let common = wait_for(alloc, grid)?;
         let cover = CoverJudge::new(alloc, grid)?;
+        grid.is_picture();
         let row = Then::new(common.thinned, EndJudge { taken: false });
+        let row = Then::new(NoFaces, row);
         let row = Then::new(cover, row);
         let row = Then::new(common.field, row);
         Ok(Then::new(common.counts, row))
@@ -93,14 +100,20 @@ impl Row<P2> for Flat {
 pub type Solid = Then<
     P3,
     CountsJudge,
-    Then<P3, FieldJudge<P3>, Then<P3, NoContours, Then<P3, ThinnedJudge<P3>, EndJudge>>>,
+    Then<
+        P3,
+        FieldJudge<P3>,
+        Then<P3, NoContours, Then<P3, PlaneJudge, Then<P3, ThinnedJudge<P3>, EndJudge>>>,
+    >,
 >;
 
 impl Row<P3> for Solid {
     fn begin(alloc: Global, grid: &Grid<P3>) -> Result<Solid, NoMemory> {
         let common = wait_for(alloc, grid)?;
+        let plane = PlaneJudge::new(alloc, grid)?;
         grid.is_picture();
         let rest = Then::new(common.thinned, EndJudge { taken: false });
+        let rest = Then::new(plane, rest);
         let rest = Then::new(NoContours, rest);
         let rest = Then::new(common.field, rest);
         Ok(Then::new(common.counts, rest))

@@ -3,9 +3,10 @@
 use Rattle.std.specs.Prelude.{ℤ, List, take}
 use Rattle.report_terms.specs.Lines as Terms
 use Rattle.shape_rules.specs.Names.{word_of}
+use Rattle.shape_refute.specs.Senses.{sense_of}
 use Rattle.shape_refute.specs.Weights.{refutation_of}
 use Rattle.shape_report.specs.declared.line.Line.{Line}
-use Rattle.shape_report.specs.declared.line.Line.TheVariants.{Shape, Parts, Near, Contour, At, Seg, Turn, Cut, Del, Tip, Kept, End}
+use Rattle.shape_report.specs.declared.line.Line.TheVariants.{Shape, Parts, Near, Contour, At, Seg, Turn, Cut, Face, Patch, On, Off, Del, Tip, Kept, End}
 
 -- the line, where `coords` gives the coordinates of a point; the lines of segments are of flat pictures alone
 abbrev pub line_of : {P : Type 0} → (P → List ℤ) → Line P → Terms.Line
@@ -17,6 +18,10 @@ line_of coords (At p) = Terms.Line.At (coords p)
 line_of coords (Seg b e n) = Terms.Line.Seg b e n.axis (take 2 n.a) n.mu
 line_of coords (Turn t i j) = Terms.Line.Turn t i j
 line_of coords (Cut t why) = Terms.Line.Cut t (refutation_of why)
+line_of coords (Face t sense n) = Terms.Line.Face t (sense_of sense) n
+line_of coords (Patch k a mu) = Terms.Line.Patch k (take 3 a) mu
+line_of coords (On p) = Terms.Line.On (coords p)
+line_of coords (Off p why) = Terms.Line.Off (coords p) (refutation_of why)
 line_of coords (Del p) = Terms.Line.Del (coords p)
 line_of coords (Tip p) = Terms.Line.Tip (coords p)
 line_of coords (Kept n o b) = Terms.Line.Kept n o b

@@ -2,13 +2,15 @@
 //! A further kind of field is one more function here; which fields a line has is told in `read`.
 ghost use Rattle.std.specs.Prelude.{◌≡◌, [], ◌∷◌, pos, take, drop, IfSome};
 ghost use Rattle.std.specs.Int.{w32, w64};
-ghost use Rattle.report_terms.specs.Forms.{natural, signed, letter, name};
+ghost use Rattle.report_terms.specs.Forms.{natural, signed, letter, sign, name};
 ghost use Rattle.shape_rules.specs.Names.{word_of};
+ghost use Rattle.shape_refute.specs.Senses.{sense_of};
 ghost use Rattle.report_terms.specs.Kinds.{count, weight, point, row};
 ghost use Rattle.shape_report.specs.Reading.{ReadsForm, ReadsNumberWord};
 
 use crate::words::Words;
 use shape_desk::read_number;
+use shape_refute::Sense;
 use shape_rules::Name;
 use shape_space::Point;
 
@@ -60,7 +62,7 @@ pub(crate) fn signed(words: &mut Words) -> Option<i64>
 }
 
 // Reads the letter of an axis of the plane.
-pub(crate) fn axis(words: &mut Words) -> Option<u8>
+pub(crate) fn flat_axis(words: &mut Words) -> Option<u8>
     ensures { ReadsForm (λ t. t) (letter 2) words.old words.new result }
 {
     match words.next_word()? {
@@ -70,14 +72,47 @@ pub(crate) fn axis(words: &mut Words) -> Option<u8>
     }
 }
 
+// Reads the letter of an axis of space.
+pub(crate) fn solid_axis(words: &mut Words) -> Option<u8>
+    ensures { ReadsForm (λ t. t) (letter 3) words.old words.new result }
+{
+    match words.next_word()? {
+        b"x" => Some(0),
+        b"y" => Some(1),
+        b"z" => Some(2),
+        _ => None,
+    }
+}
+
+// Reads the sign of a sense.
+pub(crate) fn sense(words: &mut Words) -> Option<Sense>
+    ensures { ReadsForm sense_of sign words.old words.new result }
+{
+    match words.next_word()? {
+        b"-" => Some(Sense::Minus),
+        b"+" => Some(Sense::Plus),
+        _ => None,
+    }
+}
+
 // Reads the coefficients of a line of the plane.
-pub(crate) fn coefficients(words: &mut Words) -> Option<[i64; 3]>
+pub(crate) fn flat_coefficients(words: &mut Words) -> Option<[i64; 3]>
     ensures form { ReadsForm (λ a. take 2 a) (row 2) words.old words.new result }
     ensures third { IfSome result (λ a. drop 2 a ≡ pos 0 ∷ []) }
 {
     let x = signed(words)?;
     let y = signed(words)?;
     Some([x, y, 0])
+}
+
+// Reads the coefficients of a plane.
+pub(crate) fn solid_coefficients(words: &mut Words) -> Option<[i64; 3]>
+    ensures { ReadsForm (λ a. take 3 a) (row 3) words.old words.new result }
+{
+    let x = signed(words)?;
+    let y = signed(words)?;
+    let z = signed(words)?;
+    Some([x, y, z])
 }
 
 // Reads a name.

@@ -3,7 +3,7 @@
 ghost use Rattle.std.specs.Prelude.{◌≡◌};
 ghost use Rattle.report_terms.specs.Sections.{rank, section_of};
 
-use shape_refute::{Naive, Refutation};
+use shape_refute::{Naive, Refutation, Sense};
 use shape_rules::Name;
 use shape_space::Point;
 
@@ -60,6 +60,29 @@ pub enum Line<P> {
         axis: u8,
         why: Refutation,
     },
+    /// The next face of a volume: its axis (0 for x, 1 for y, 2 for z), its sense, and the number of its exposed points.
+    Face {
+        axis: u8,
+        sense: Sense,
+        points: u32,
+    },
+    /// The next patch of the face: the number of its points, and the coefficients and the lower bound of a plane that holds
+    /// them.
+    Patch {
+        points: u32,
+        a: [i64; 3],
+        mu: i64,
+    },
+    /// The next point of the patch.
+    On {
+        p: P,
+    },
+    /// The next point, in raster order, that touches the patch and is none of it, and weights that refute the points of the
+    /// patch with this one put last.
+    Off {
+        p: P,
+        why: Refutation,
+    },
     /// The next point that the thinning deletes.
     Del {
         p: P,
@@ -94,10 +117,14 @@ impl<P: Point> Line<P> {
             Line::Seg { .. } => 3,
             Line::Turn { .. } => 3,
             Line::Cut { .. } => 3,
-            Line::Del { .. } => 4,
-            Line::Tip { .. } => 4,
-            Line::Kept { .. } => 4,
-            Line::End => 5,
+            Line::Face { .. } => 4,
+            Line::Patch { .. } => 4,
+            Line::On { .. } => 4,
+            Line::Off { .. } => 4,
+            Line::Del { .. } => 5,
+            Line::Tip { .. } => 5,
+            Line::Kept { .. } => 5,
+            Line::End => 6,
         }
     }
 }

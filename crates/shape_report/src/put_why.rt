@@ -1,4 +1,4 @@
-//! The weights of a `cut` line, put behind a text.
+//! The weights of a `cut` or an `off` line, put behind a text.
 //! A further kind of step is one more case of `put_step`; what weights show is no matter here.
 ghost use Rattle.std.specs.Prelude.{◌≡◌, ◌≤◌, ◌+◌, ◌++◌, [], ◌∷◌, length};
 ghost use Rattle.report_terms.specs.Forms.{counted, step};
@@ -37,8 +37,8 @@ fn put_shares(shares: &Shares, text: &mut Text)
 // Puts the word of a step behind a blank.
 fn put_step(one: Step, text: &mut Text)
     requires room { length text.old + 5 ≤ 1024 }
-    requires axis { (step 2).InRange (shift_of one) }
-    ensures text { text.new ≡ text.old ++ behind_blanks ((step 2).words (shift_of one)) }
+    requires axis { (step 3).InRange (shift_of one) }
+    ensures text { text.new ≡ text.old ++ behind_blanks ((step 3).words (shift_of one)) }
     ensures room { length text.new ≤ length text.old + 5 }
 {
     match one {
@@ -57,8 +57,8 @@ fn put_step(one: Step, text: &mut Text)
 // Puts a weight and a step.
 fn put_step_share(one: StepShare, text: &mut Text)
     requires room { length text.old + 42 ≤ 1024 }
-    requires range { (step_share 2).InRange (step_share_of one) }
-    ensures text { text.new ≡ text.old ++ behind_blanks ((step_share 2).words (step_share_of one)) }
+    requires range { (step_share 3).InRange (step_share_of one) }
+    ensures text { text.new ≡ text.old ++ behind_blanks ((step_share 3).words (step_share_of one)) }
     ensures room { length text.new ≤ length text.old + 42 }
 {
     text.weight(one.weight);
@@ -68,9 +68,9 @@ fn put_step_share(one: StepShare, text: &mut Text)
 // Puts the number of steps, and each with its weight.
 fn put_step_shares(shares: &StepShares, text: &mut Text)
     requires room { length text.old + 189 ≤ 1024 }
-    requires range { (counted 4 (step_share 2)).InRange shares.now }
+    requires range { (counted 4 (step_share 3)).InRange shares.now }
     ensures text { text.new ≡ text.old ++ behind_blanks
-        ((counted 4 (step_share 2)).words shares.now) }
+        ((counted 4 (step_share 3)).words shares.now) }
     ensures room { length text.new ≤ length text.old + 189 }
 {
     text.count(shares.len() as u32);
@@ -82,9 +82,9 @@ fn put_step_shares(shares: &StepShares, text: &mut Text)
 // Puts the words of weights, each behind a blank.
 pub(crate) fn put_why(weights: &Refutation, text: &mut Text)
     requires room { length text.old + 567 ≤ 1024 }
-    requires range { (why 2).InRange (refutation_of weights.now) }
+    requires range { (why 3).InRange (refutation_of weights.now) }
     ensures text { text.new ≡ text.old ++ behind_blanks
-        ((why 2).words (refutation_of weights.now)) }
+        ((why 3).words (refutation_of weights.now)) }
     ensures room { length text.new ≤ length text.old + 567 }
 {
     put_shares(&weights.low, text);

@@ -7,7 +7,10 @@ ghost use Rattle.report_terms.specs.Lines.{IsLineOf, spelling};
 ghost use Rattle.shape_report.specs.LineOf.{line_of};
 ghost use Rattle.shape_report.specs.Reading.{HasNoThird, ReadsKind, ReadsFields, ReadsLine};
 
-use crate::field::{axis, coefficients, count, name, point, side, signed, weight};
+use crate::field::{
+    count, flat_axis, flat_coefficients, name, point, sense, side, signed, solid_axis,
+    solid_coefficients, weight,
+};
 use crate::kind::kind;
 use crate::line::Line;
 use crate::why::read_why;
@@ -89,8 +92,8 @@ fn seg<P: Point>(words: &mut Words) -> Option<Line<P>>
     }
     let first = count(words)?;
     let last = count(words)?;
-    let axis = axis(words)?;
-    let a = coefficients(words)?;
+    let axis = flat_axis(words)?;
+    let a = flat_coefficients(words)?;
     let mu = signed(words)?;
     Some(Line::Seg {
         first,
@@ -106,7 +109,7 @@ fn turn<P: Point>(words: &mut Words) -> Option<Line<P>>
     if P::DIM != 2 {
         return None;
     }
-    let axis = axis(words)?;
+    let axis = flat_axis(words)?;
     let i = count(words)?;
     let j = count(words)?;
     Some(Line::Turn { axis, i, j })
@@ -119,9 +122,62 @@ fn cut<P: Point>(words: &mut Words) -> Option<Line<P>>
     if P::DIM != 2 {
         return None;
     }
-    let axis = axis(words)?;
-    let why = read_why(words)?;
+    let axis = flat_axis(words)?;
+    let why = read_why(words, 2)?;
     Some(Line::Cut { axis, why })
+}
+
+// Reads the fields of a `face` line. It is a line of volumes alone.
+fn face<P: Point>(words: &mut Words) -> Option<Line<P>>
+    ensures { ReadsKind P.DIM P.coords Kind.Face words.old words.new result }
+{
+    if P::DIM != 3 {
+        return None;
+    }
+    let axis = solid_axis(words)?;
+    let sense = sense(words)?;
+    let points = count(words)?;
+    Some(Line::Face {
+        axis,
+        sense,
+        points,
+    })
+}
+
+// Reads the fields of a `patch` line. It is a line of volumes alone.
+fn patch<P: Point>(words: &mut Words) -> Option<Line<P>>
+    ensures { ReadsKind P.DIM P.coords Kind.Patch words.old words.new result }
+{
+    if P::DIM != 3 {
+        return None;
+    }
+    let points = count(words)?;
+    let a = solid_coefficients(words)?;
+    let mu = signed(words)?;
+    Some(Line::Patch { points, a, mu })
+}
+
+// Reads the fields of an `on` line. It is a line of volumes alone.
+fn on<P: Point>(words: &mut Words) -> Option<Line<P>>
+    ensures { ReadsKind P.DIM P.coords Kind.On words.old words.new result }
+{
+    if P::DIM != 3 {
+        return None;
+    }
+    let p = point(words)?;
+    Some(Line::On { p })
+}
+
+// Reads the fields of an `off` line. It is a line of volumes alone.
+fn off<P: Point>(words: &mut Words) -> Option<Line<P>>
+    ensures { ReadsKind P.DIM P.coords Kind.Off words.old words.new result }
+{
+    if P::DIM != 3 {
+        return None;
+    }
+    let p = point(words)?;
+    let why = read_why(words, 3)?;
+    Some(Line::Off { p, why })
 }
 
 // Reads the fields of a `del` line.
@@ -174,6 +230,14 @@ fn fields<P: Point>(word: &[u8], words: &mut Words) -> Option<Line<P>>
         turn(words)
     } else if word == b"cut".as_slice() {
         cut(words)
+    } else if word == b"face".as_slice() {
+        face(words)
+    } else if word == b"patch".as_slice() {
+        patch(words)
+    } else if word == b"on".as_slice() {
+        on(words)
+    } else if word == b"off".as_slice() {
+        off(words)
     } else if word == b"del".as_slice() {
         del(words)
     } else if word == b"tip".as_slice() {

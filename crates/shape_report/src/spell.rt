@@ -1,9 +1,10 @@
 //! The spelling of a line: its words, each behind a blank, put one after another.
 //! A further kind of line is one more case of `put_line` and a function that puts its words.
 ghost use Rattle.std.specs.Prelude.{◌≡◌, ◌≤◌, ◌<◌, [], length, take};
-ghost use Rattle.report_terms.specs.Kinds.{Kind, weight, form_of};
+ghost use Rattle.report_terms.specs.Kinds.{Kind, weight, why as why_form, form_of};
 ghost use Rattle.report_terms.specs.Lines.{split, IsLineOf, spelling};
 ghost use Rattle.shape_rules.specs.Names.{word_of};
+ghost use Rattle.shape_refute.specs.Senses.{sense_of};
 ghost use Rattle.shape_refute.specs.Weights.{refutation_of};
 ghost use Rattle.shape_report.specs.LineOf.{line_of};
 ghost use Rattle.shape_report.specs.Spelling.{kind_text, split_text};
@@ -13,7 +14,7 @@ use crate::line::Line;
 use crate::put_why::put_why;
 use crate::text::Text;
 use shape_desk::put_word;
-use shape_refute::{Naive, Refutation};
+use shape_refute::{Naive, Refutation, Sense};
 use shape_rules::Name;
 use shape_space::Point;
 
@@ -84,7 +85,7 @@ fn put_seg(first: u32, last: u32, line: &Naive, text: &mut Text)
     text.count(first);
     text.count(last);
     text.axis(line.axis);
-    text.coefficients(&line.a);
+    text.flat_coefficients(&line.a);
     text.signed(line.mu)
 }
 
@@ -108,6 +109,49 @@ fn put_cut(axis: u8, why: &Refutation, text: &mut Text)
 {
     text.put(b"cut");
     text.axis(axis);
+    put_why(why, text)
+}
+
+// Puts the words of a `face` line.
+fn put_face(axis: u8, sense: Sense, points: u32, text: &mut Text)
+    requires empty { text.old ≡ [] }
+    requires axis { axis < 3 }
+    ensures { text.new ≡ kind_text 3 Kind.Face (axis, (sense_of sense, points)) }
+{
+    text.put(b"face");
+    text.axis(axis);
+    text.sense(sense);
+    text.count(points)
+}
+
+// Puts the words of a `patch` line.
+fn put_patch(points: u32, a: &[i64; 3], mu: i64, text: &mut Text)
+    requires { text.old ≡ [] }
+    ensures { text.new ≡ kind_text 3 Kind.Patch (points, (take 3 a.now, mu)) }
+{
+    text.put(b"patch");
+    text.count(points);
+    text.solid_coefficients(a);
+    text.signed(mu)
+}
+
+// Puts the words of an `on` line.
+fn put_on<P: Point>(p: P, text: &mut Text)
+    requires { text.old ≡ [] }
+    ensures { text.new ≡ kind_text P.DIM Kind.On (P.coords p) }
+{
+    text.put(b"on");
+    text.point(p)
+}
+
+// Puts the words of an `off` line.
+fn put_off<P: Point>(p: P, why: &Refutation, text: &mut Text)
+    requires empty { text.old ≡ [] }
+    requires range { (why_form 3).InRange (refutation_of why.now) }
+    ensures { text.new ≡ kind_text P.DIM Kind.Off (P.coords p, refutation_of why.now) }
+{
+    text.put(b"off");
+    text.point(p);
     put_why(why, text)
 }
 
@@ -168,6 +212,14 @@ fn put_line<P: Point>(line: &Line<P>, text: &mut Text)
         } => put_seg(*first, *last, naive, text),
         Line::Turn { axis, i, j } => put_turn(*axis, *i, *j, text),
         Line::Cut { axis, why } => put_cut(*axis, why, text),
+        Line::Face {
+            axis,
+            sense,
+            points,
+        } => put_face(*axis, *sense, *points, text),
+        Line::Patch { points, a, mu } => put_patch(*points, a, *mu, text),
+        Line::On { p } => put_on(*p, text),
+        Line::Off { p, why } => put_off(*p, why, text),
         Line::Del { p } => put_del(*p, text),
         Line::Tip { p } => put_tip(*p, text),
         Line::Kept {

@@ -1,8 +1,9 @@
-//! A small report that is built and written; and lines that are read and spelled again.
+//! A small report that is built and written; and lines that are read and spelled again, of the plane and of space.
 use super::*;
 use shape_desk::MemoryDesk;
+use shape_refute::Sense;
 use shape_rules::Name;
-use shape_space::P2;
+use shape_space::{P2, P3};
 use std::alloc::AllocError;
 use std::test::Fail;
 
@@ -85,4 +86,75 @@ seg 1 4 y -1 3 0\nturn x 2 7\ncut y 2 1 0 1 4 1 2 2 0\ncut x 0 1 7 1 3 5 up 6 up
         assert!(rt; report.add(&line).is_ok());
     }
     assert_eq!(rt; report.text(), text);
+}
+
+#[test]
+fn lines_of_faces_are_read_and_written(rt: HostRuntime) {
+    let alloc = rt.alloc();
+    let text = b"shape 1 raw 3 1 2 none\nface x - 3\npatch 2 1 0 -1 0\non 0 0 0\non 1 0 1\n\
+off 2 0 0 1 1 0 1 1 2 1 1 up\nface z + 3\noff 2 0 0 2 1 0 1 2 1 2 1 0\noff -1 7 2 0 1 7 1 2 5 up-z 6 up+x\nend\n"
+        .as_slice();
+    let mut report = Report::new(alloc);
+    for text in [
+        "shape 1 raw 3 1 2 none",
+        "face x - 3",
+        "patch 2 1 0 -1 0",
+        "on 0 0 0",
+        "on 1 0 1",
+        "off 2 0 0 1 1 0 1 1 2 1 1 up",
+        "face z + 3",
+        "off 2 0 0 2 1 0 1 2 1 2 1 0",
+        "off -1 7 2 0 1 7 1 2 5 up-z 6 up+x",
+        "end",
+    ] {
+        let Some(line) = read_claim::<P3>(text.as_bytes()) else {
+            panic!(rt; "no line: {text}")
+        };
+        assert!(rt; report.add(&line).is_ok());
+    }
+    assert_eq!(rt; report.text(), text);
+}
+
+#[test]
+fn lines_of_faces_are_of_volumes(rt: HostRuntime) {
+    assert!(rt;
+        matches!(
+            read_claim::<P3>(b"face y + 3"),
+            Some(Line::Face {
+                axis: 1,
+                sense: Sense::Plus,
+                points: 3
+            })
+        )
+    );
+    assert!(rt;
+        matches!(
+            read_claim::<P3>(b"patch 2 1 0 -1 7"),
+            Some(Line::Patch {
+                points: 2,
+                a: [1, 0, -1],
+                mu: 7
+            })
+        )
+    );
+    for text in [
+        "face x - 3",
+        "patch 2 1 0 0",
+        "on 0 0",
+        "off 2 0 1 1 0 1 1 2 1 1 up",
+    ] {
+        assert!(rt; read_claim::<P2>(text.as_bytes()).is_none(), "{text}");
+    }
+    for text in [
+        "face w - 3",
+        "face x = 3",
+        "face x -3",
+        "patch 2 1 0 -1",
+        "on 0 0",
+        "off 2 0 0 1 1 0 1 1 2 1 1",
+        "contour 0 0 0 3 4 0",
+        "cut z 0 0 0",
+    ] {
+        assert!(rt; read_claim::<P3>(text.as_bytes()).is_none(), "{text}");
+    }
 }

@@ -3,11 +3,13 @@
 ghost use Rattle.std.specs.Prelude.{◌≡◌, ◌≤◌, ◌<◌, ◌+◌, ◌++◌, [], ◌∷◌, length, take};
 ghost use Rattle.std.specs.Int.{w32, w64};
 ghost use Rattle.std.specs.Fmt.{signed_decimal};
-ghost use Rattle.report_terms.specs.Forms.{natural, signed, axis_letter, letter};
+ghost use Rattle.report_terms.specs.Forms.{natural, signed, axis_letter, letter, sign};
 ghost use Rattle.report_terms.specs.Kinds.{count, weight, point, row};
+ghost use Rattle.shape_refute.specs.Senses.{sense_of};
 ghost use Rattle.shape_report.specs.Spelling.{behind_blanks};
 
 use shape_desk::{put_number, put_word};
+use shape_refute::Sense;
 use shape_space::Point;
 use std::marker::Model;
 
@@ -113,29 +115,52 @@ impl Text {
         self.number(i64::from(n))
     }
 
-    /// Puts the letter of an axis of the plane.
+    /// Puts the letter of an axis.
     pub fn letter(&mut self, axis: u8)
         requires room { length self.old + 1 ≤ 1024 }
-        requires axis { axis < 2 }
+        requires axis { axis < 3 }
         ensures text { self.new ≡ self.old ++ axis_letter axis ∷ [] }
         ensures room { length self.new ≤ length self.old + 1 }
     {
         self.put(&[b'x' + axis])
     }
 
-    /// Puts the letter of an axis of the plane behind a blank.
+    /// Puts the letter of an axis behind a blank.
     pub fn axis(&mut self, axis: u8)
         requires room { length self.old + 2 ≤ 1024 }
-        requires axis { axis < 2 }
-        ensures text { self.new ≡ self.old ++ behind_blanks ((letter 2).words axis) }
+        requires axis { axis < 3 }
+        ensures text { self.new ≡ self.old ++ behind_blanks ((letter 3).words axis) }
         ensures room { length self.new ≤ length self.old + 2 }
     {
         self.put(b" ");
         self.letter(axis)
     }
 
+    /// Puts the sign of a sense behind a blank.
+    pub fn sense(&mut self, sense: Sense)
+        requires { length self.old + 2 ≤ 1024 }
+        ensures text { self.new ≡ self.old ++ behind_blanks (sign.words (sense_of sense)) }
+        ensures room { length self.new ≤ length self.old + 2 }
+    {
+        match sense {
+            Sense::Minus => self.put(b" -"),
+            Sense::Plus => self.put(b" +"),
+        }
+    }
+
+    /// Puts the coefficients of a plane, each behind a blank.
+    pub fn solid_coefficients(&mut self, a: &[i64; 3])
+        requires { length self.old + 63 ≤ 1024 }
+        ensures text { self.new ≡ self.old ++ behind_blanks ((row 3).words (take 3 a.now)) }
+        ensures room { length self.new ≤ length self.old + 63 }
+    {
+        self.number(a[0]);
+        self.number(a[1]);
+        self.number(a[2])
+    }
+
     /// Puts the coefficients of a line of the plane, each behind a blank.
-    pub fn coefficients(&mut self, a: &[i64; 3])
+    pub fn flat_coefficients(&mut self, a: &[i64; 3])
         requires { length self.old + 42 ≤ 1024 }
         ensures text { self.new ≡ self.old ++ behind_blanks ((row 2).words (take 2 a.now)) }
         ensures room { length self.new ≤ length self.old + 42 }

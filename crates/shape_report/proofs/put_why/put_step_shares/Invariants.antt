@@ -7,6 +7,6 @@ use Rattle.shape_report.proofs.put_why.put_step_shares.Given as goal
 
 abbrev pub invariant-loop-i : goal.invariant-loop-i
 invariant-loop-i l = record {
-  text : l.text ≡ l.fn.text ++ behind_blanks (decimal (length l.shares) ∷ flat_map (step_share 2).words (take l.i l.shares));
+  text : l.text ≡ l.fn.text ++ behind_blanks (decimal (length l.shares) ∷ flat_map (step_share 3).words (take l.i l.shares));
   room : length l.text ≤ length l.fn.text + 21 + 42 * l.i;
 }

@@ -1,4 +1,7 @@
-use Rattle.std.proofs.Common.{subst, refl}
+use Rattle.std.proofs.Common.{subst, refl, ap, ◌∙◌, take}
+use Rattle.std.proofs.Math.Facts.{to_z-of_z}
+use Rattle.report_terms.specs.Kinds.{Kind}
+use Rattle.shape_report.specs.Spelling.{kind_text}
 use Rattle.report_terms.specs.Lines.{IsLineOf}
 use Rattle.shape_report.specs.LineOf.{line_of}
 use Rattle.shape_report.proofs.spell.put_line.Goals as goal
@@ -14,6 +17,12 @@ put_turn-requires-clause-axis g c = (subst (λ l. IsLineOf g.P.Point.DIM (line_o
 
 pub put_cut-requires-clause-range : goal.put_cut-requires-clause-range
 put_cut-requires-clause-range g c = let r = (subst (λ l. IsLineOf g.P.Point.DIM (line_of g.P.Point.coords l)) c.in-Cut.is c.requires.range).1 in (refl, r)
+
+pub put_face-requires-clause-axis : goal.put_face-requires-clause-axis
+put_face-requires-clause-axis g c = (subst (λ l. IsLineOf g.P.Point.DIM (line_of g.P.Point.coords l)) c.in-Face.is c.requires.range).1.0
+
+pub put_off-requires-clause-range : goal.put_off-requires-clause-range
+put_off-requires-clause-range g c = (subst (λ l. IsLineOf g.P.Point.DIM (line_of g.P.Point.coords l)) c.in-Off.is c.requires.range).1.1
 
 pub returns-in-Shape : goal.returns-in-Shape
 returns-in-Shape g c = rw c.in-Shape.is c.put_shape.ensures
@@ -38,6 +47,21 @@ returns-in-Turn g c = rw c.in-Turn.is c.put_turn.ensures
 
 pub returns-in-Cut : goal.returns-in-Cut
 returns-in-Cut g c = rw c.in-Cut.is c.put_cut.ensures
+
+pub returns-in-Face : goal.returns-in-Face
+returns-in-Face g c = rw c.in-Face.is c.put_face.ensures
+
+pub returns-in-Patch : goal.returns-in-Patch
+returns-in-Patch g c =
+    let l = c.in-Patch in
+    let same = to_z-of_z (subst (λ x. IsLineOf g.P.Point.DIM (line_of g.P.Point.coords x)) l.is c.requires.range).1.1.1 in
+    rw l.is (c.put_patch.ensures ∙ ap (λ z. kind_text 3 Kind.Patch (l.points, (take 3 l.a, z))) same)
+
+pub returns-in-On : goal.returns-in-On
+returns-in-On g c = rw c.in-On.is c.put_on.ensures
+
+pub returns-in-Off : goal.returns-in-Off
+returns-in-Off g c = rw c.in-Off.is c.put_off.ensures
 
 pub returns-in-Del : goal.returns-in-Del
 returns-in-Del g c = rw c.in-Del.is c.put_del.ensures

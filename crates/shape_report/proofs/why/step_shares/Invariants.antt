@@ -5,6 +5,6 @@ use Rattle.shape_report.proofs.why.step_shares.Given as goal
 
 abbrev pub invariant-loop : goal.invariant-loop
 invariant-loop l = record {
-  read : HasRead (step_share 2) l.len l.counter l.initial.words l.words l.shares;
+  read : HasRead (step_share l.dim) l.len l.counter l.initial.words l.words l.shares;
   count : length l.shares ≡ l.counter;
 }

@@ -1,0 +1,160 @@
+-- Exposed points by tests, how many there are, and which is the first that is left.
+-- Laws over pictures and points.
+use Rattle.std.proofs.Common.{◌≡◌, ℕ, zero, suc, ◌+◌, ◌<◌, ◌≤◌, Bool, true, false, ap, sym, ◌∙◌, refl, subst, arith, inl, inr, List, [], ◌∷◌, ◌++◌, length, take, map}
+use Rattle.std.specs.Prelude.{◌↔◌, IsTrue, not, filter, Contains, ℤ, pos, negsuc, ◌+ℤ◌}
+use Rattle.std.proofs.lemmas.Int.{ints}
+use Rattle.std.proofs.lemmas.Bool.{cond-true, cond-false, cases_Bool, and_parts}
+use Rattle.std.proofs.lemmas.List.{length-append, take_all, take_more}
+use Rattle.std.proofs.lemmas.List.Elements.{filter-append}
+use native.Mathlib.Decide.{ℕ_discrete}
+use Rattle.shape_terms.specs.Points.{Point, AreSides, sides_of, in_box, box_count, box_points, raster_number, raster_point}
+use Rattle.shape_terms.specs.Adjacency.{moved, side_point}
+use Rattle.shape_terms.specs.Pictures.{Picture, at, object_points}
+use Rattle.shape_terms.specs.FramedBox.{IsWithin}
+use Rattle.shape_terms.proofs.FramedBoxes.{box_point_within}
+use Rattle.shape_terms.proofs.Members.{Contains-filter}
+use Rattle.shape_terms.proofs.SameCycles.{head_in, later_in, in_cases, in_none}
+use Rattle.shape_terms.proofs.Boxes.{raster_below, raster_point-raster_number}
+use Rattle.shape_terms.proofs.BoxLists.{length-box_points, get_or-box_points}
+use Rattle.patch_terms.specs.Patches.{sense_step}
+use Rattle.patch_terms.proofs.PointLists.{is_there}
+use Rattle.report_terms.specs.FaceFacts.{face_axis, face_sense}
+use Rattle.judge_plane.specs.Exposure.{exposed_at, IsLeft, AreTakenBelow}
+
+-- what a filter keeps passes the test and was there
+kept : {A : Type 0} (test : A → Bool) (xs : List A) (x : A) → Contains (filter test xs) x → (test x ≡ true) × Contains xs x
+kept test [] x c = absurd (in_none x c)
+kept test (y ∷ xs) x c = elim (cases_Bool (test y)) [
+  | inl t ↦
+      elim (in_cases y (filter test xs) x (subst (λ l. Contains l x) (cond-true (test y) (y ∷ filter test xs) (filter test xs) t) c)) [
+        | inl e ↦ (ap test (sym e) ∙ t, subst (Contains (y ∷ xs)) e (head_in y xs))
+        | inr m ↦ (let r = kept test xs x m in (r.0, later_in y xs x r.1))
+      ]
+  | inr f ↦ (let r = kept test xs x (subst (λ l. Contains l x) (cond-false (test y) (y ∷ filter test xs) (filter test xs) f) c) in (r.0, later_in y xs x r.1))
+]
+
+pub in_of_at : (X : Picture) (p : Point) → at X p ≡ true → IsTrue (in_box X.sides p)
+in_of_at X p e = (and_parts (in_box X.sides p) _ e).0
+
+sides_back : (sides : List ℕ) → sides_of (map pos sides) ≡ sides
+sides_back [] = refl
+sides_back (n ∷ sides) = ap (λ l. n ∷ l) (sides_back sides)
+
+-- a point of the box leaves room for its neighbours
+pub near_within : (X : Picture) (p : Point) → AreSides (pos 128) (map pos X.sides) → IsTrue (in_box X.sides p) → IsWithin (negsuc 1) (pos 4096) p
+near_within X p range inside k l =
+    let w = box_point_within (pos 128) (map pos X.sides) p range (omega (arith, ints)) (subst (λ s. IsTrue (in_box s p)) (sym (sides_back X.sides)) inside) k l in
+    (let a = w.0 in omega (arith, ints), w.1)
+
+zero_right : (n : ℤ) → n +ℤ pos 0 ≡ n
+zero_right n = omega (arith, ints)
+
+-- the neighbour of a point over a face is its side neighbour with the face's number
+pub side_face : (x y z : ℤ) (f : ℕ) → f < 6 → side_point (x ∷ y ∷ z ∷ []) f ≡ moved (x ∷ y ∷ z ∷ []) (sense_step (face_axis f) (face_sense f))
+side_face x y z zero h = λ i. (x +ℤ negsuc 0) ∷ zero_right y i ∷ zero_right z i ∷ []
+side_face x y z (suc zero) h = λ i. (x +ℤ pos 1) ∷ zero_right y i ∷ zero_right z i ∷ []
+side_face x y z (suc (suc zero)) h = λ i. (x +ℤ pos 0) ∷ (y +ℤ negsuc 0) ∷ zero_right z i ∷ []
+side_face x y z (suc (suc (suc zero))) h = λ i. (x +ℤ pos 0) ∷ (y +ℤ pos 1) ∷ zero_right z i ∷ []
+side_face x y z (suc (suc (suc (suc zero)))) h = refl
+side_face x y z (suc (suc (suc (suc (suc zero))))) h = refl
+side_face x y z (suc (suc (suc (suc (suc (suc f)))))) h = absurd (omega arith)
+
+module _ (X : Picture) (face : ℕ) where
+  -- an exposed point is an object point that has background over the face
+  pub exposed_yes : (p : Point) → at X p ≡ true → at X (moved p (sense_step (face_axis face) (face_sense face))) ≡ false → Contains (exposed_at X face) p
+  exposed_yes p e f =
+      let inside = in_of_at X p e in
+      let there : Contains (box_points X.sides) p = (raster_number X.sides p, (let l = raster_below X.sides p inside in let n = length-box_points X.sides in omega arith), get_or-box_points X.sides (raster_number X.sides p) p (raster_below X.sides p inside) ∙ raster_point-raster_number X.sides p inside) in
+      Contains-filter (λ q. not (at X (moved q (sense_step (face_axis face) (face_sense face))))) (object_points X) p (Contains-filter (at X) (box_points X.sides) p there e) (ap not f)
+
+  pub exposed_only : (p : Point) → Contains (exposed_at X face) p → (at X p ≡ true) × (at X (moved p (sense_step (face_axis face) (face_sense face))) ≡ false)
+  exposed_only p c =
+      let r = kept (λ q. not (at X (moved q (sense_step (face_axis face) (face_sense face))))) (object_points X) p c in
+      let o = kept (at X) (box_points X.sides) p r.1 in
+      (o.0, from_not (at X (moved p (sense_step (face_axis face) (face_sense face)))) r.0)
+    where
+      from_not : (b : Bool) → not b ≡ true → b ≡ false
+      from_not true e = cc
+      from_not false e = refl
+
+  pub exposed_in : (p : Point) → Contains (exposed_at X face) p → IsTrue (in_box X.sides p)
+  exposed_in p c = in_of_at X p (exposed_only p c).0
+
+  -- the answer of the two tests
+  pub exposed_tests : (p q : Point) (b c : Bool) → b ≡ at X p → b ≡ true → c ≡ at X q → q ≡ moved p (sense_step (face_axis face) (face_sense face)) → IsTrue (not c) ↔ Contains (exposed_at X face) p
+  exposed_tests p q b true d t e n = ((λ f. cc), λ h. (let r = (exposed_only p h).1 in let k : at X q ≡ false = ap (at X) n ∙ r in cc))
+  exposed_tests p q b false d t e n = ((λ f. exposed_yes p (sym d ∙ t) (ap (at X) (sym n) ∙ sym e)), λ h. refl)
+
+  pub exposed_none : (p : Point) (b : Bool) → b ≡ at X p → b ≡ false → IsTrue b ↔ Contains (exposed_at X face) p
+  exposed_none p b d f = ((λ t. cc), λ h. (let r = (exposed_only p h).0 in d ∙ r))
+
+  -- ---- how many
+
+  -- the exposed points among these
+  pub among : List Point → List Point
+  among xs = filter (λ p. not (at X (moved p (sense_step (face_axis face) (face_sense face))))) (filter (at X) xs)
+
+  pub among_all : length (among (box_points X.sides)) ≡ length (exposed_at X face)
+  unfolding among
+  among_all = refl
+
+  pub among_none : length (among []) ≡ 0
+  unfolding among
+  among_none = refl
+
+  among_append : (xs ys : List Point) → among (xs ++ ys) ≡ among xs ++ among ys
+  unfolding among
+  among_append xs ys =
+      let over : Point → Bool = λ p. not (at X (moved p (sense_step (face_axis face) (face_sense face)))) in
+      ap (filter over) (filter-append (at X) xs ys) ∙ filter-append over (filter (at X) xs) (filter (at X) ys)
+
+  among_one : (p : Point) → Contains (exposed_at X face) p → length (among (p ∷ [])) ≡ 1
+  unfolding among
+  among_one p c =
+      let r = exposed_only p c in
+      let over : Point → Bool = λ p. not (at X (moved p (sense_step (face_axis face) (face_sense face)))) in
+      ap (λ l. length (filter over l)) (cond-true (at X p) (p ∷ []) [] r.0) ∙ ap length (cond-true (over p) (p ∷ []) [] (ap not r.1))
+
+  among_other : (p : Point) → (Contains (exposed_at X face) p → ⊥) → length (among (p ∷ [])) ≡ 0
+  unfolding among
+  among_other p n =
+      let over : Point → Bool = λ p. not (at X (moved p (sense_step (face_axis face) (face_sense face)))) in
+      elim (cases_Bool (at X p)) [
+        | inr f ↦ ap (λ l. length (filter over l)) (cond-false (at X p) (p ∷ []) [] f)
+        | inl t ↦ ap (λ l. length (filter over l)) (cond-true (at X p) (p ∷ []) [] t) ∙ elim (cases_Bool (at X (moved p (sense_step (face_axis face) (face_sense face))))) [
+          | inl u ↦ ap length (cond-false (over p) (p ∷ []) [] (ap not u))
+          | inr v ↦ absurd (n (exposed_yes p t v))
+        ]
+      ]
+
+  next_point : (i : ℕ) → i < box_count X.sides → take (i + 1) (box_points X.sides) ≡ take i (box_points X.sides) ++ raster_point X.sides i ∷ []
+  next_point i l = take_more (box_points X.sides) i [] (omega (arith, length-box_points X.sides)) ∙ ap (λ p. take i (box_points X.sides) ++ p ∷ []) (get_or-box_points X.sides i [] l)
+
+  pub count_yes : (i n : ℕ) → i < box_count X.sides → n ≡ length (among (take i (box_points X.sides))) → Contains (exposed_at X face) (raster_point X.sides i) → n + 1 ≡ length (among (take (i + 1) (box_points X.sides)))
+  count_yes i n l e c =
+      let a = ap (λ xs. length (among xs)) (next_point i l) ∙ ap length (among_append (take i (box_points X.sides)) (raster_point X.sides i ∷ [])) ∙ length-append (among (take i (box_points X.sides))) (among (raster_point X.sides i ∷ [])) in
+      omega (arith, a, e, among_one (raster_point X.sides i) c)
+
+  pub count_no : (i n : ℕ) → i < box_count X.sides → n ≡ length (among (take i (box_points X.sides))) → (Contains (exposed_at X face) (raster_point X.sides i) → ⊥) → n ≡ length (among (take (i + 1) (box_points X.sides)))
+  count_no i n l e c =
+      let a = ap (λ xs. length (among xs)) (next_point i l) ∙ ap length (among_append (take i (box_points X.sides)) (raster_point X.sides i ∷ [])) ∙ length-append (among (take i (box_points X.sides))) (among (raster_point X.sides i ∷ [])) in
+      omega (arith, a, e, among_other (raster_point X.sides i) c)
+
+  pub count_end : (i n : ℕ) → box_count X.sides ≤ i → n ≡ length (among (take i (box_points X.sides))) → n ≡ length (exposed_at X face)
+  count_end i n l e = e ∙ ap (λ xs. length (among xs)) (take_all i (box_points X.sides) (omega (arith, length-box_points X.sides))) ∙ among_all
+
+  -- ---- the first that is left
+
+  pub none_left : (taken : List Point) (i : ℕ) → AreTakenBelow X face taken i → i < box_count X.sides → (IsLeft (exposed_at X face) taken (raster_point X.sides i) → ⊥) → AreTakenBelow X face taken (i + 1)
+  none_left taken i below l n q c lower = elim (ℕ_discrete (raster_number X.sides q) i) [
+    | no d ↦ below q c (omega arith)
+    | yes e ↦
+        let same : q ≡ raster_point X.sides i = sym (raster_point-raster_number X.sides q (exposed_in q c)) ∙ ap (raster_point X.sides) e in
+        elim (is_there taken q) [
+          | yes t ↦ t
+          | no m ↦ absurd (n (record { there = subst (Contains (exposed_at X face)) same c; left = λ t. m (subst (Contains taken) (sym same) t) }))
+        ]
+  ]
+
+  pub all_taken : (taken : List Point) (i n : ℕ) → AreTakenBelow X face taken i → n ≤ i → AreTakenBelow X face taken n
+  all_taken taken i n below l q c lower = below q c (omega arith)

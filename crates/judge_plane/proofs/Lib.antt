@@ -1,0 +1,7 @@
+pub mod Placing
+pub mod Exposing
+pub mod Rounds
+pub mod Rising
+pub mod Touching
+pub mod Steps
+pub mod Standings

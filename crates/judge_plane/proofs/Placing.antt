@@ -1,0 +1,137 @@
+-- The places that are kept for listed points: when a point is listed, one more is, and when all are taken away.
+-- Laws over lists of points and of numbers.
+use Rattle.std.proofs.Common.{◌≡◌, ◌≢◌, ℕ, suc, ◌+◌, ◌<◌, ◌≤◌, false, ap, sym, ◌∙◌, subst, arith, inl, inr, List, [], ◌∷◌, ◌++◌, length, map, set, get_or, Some}
+use Rattle.std.specs.Prelude.{slice_get, slice_index, AllPairs, Contains, IsTrue}
+use Rattle.std.proofs.lemmas.List.{length-set, get_or-set_same, get_or-set_other, get_or_default}
+use Rattle.std.proofs.lemmas.List.Elements.{Contains-get_or, Contains-push_cases}
+use Rattle.std.proofs.lemmas.Option.{slice_get-get_or, slice_get_within}
+use native.Mathlib.Decide.{ℕ_discrete}
+use Rattle.shape_terms.specs.Points.{Point, in_box, box_count, raster_number, raster_point}
+use Rattle.shape_terms.proofs.Boxes.{raster_below, raster_point-raster_number, raster_number-raster_point}
+use Rattle.shape_terms.proofs.Members.{Contains-map}
+use Rattle.shape_terms.proofs.Pigeon.{pigeon}
+use Rattle.report_terms.proofs.ListPushes.{get_push, get_last}
+use Rattle.judge_plane.specs.Listings.{ArePlaced, IsPlaceOf}
+use Rattle.patch_terms.proofs.Places.{place_of, of_place, place_push}
+
+-- points of one number are one
+pub same_number : (sides : List ℕ) (p q : Point) → IsTrue (in_box sides p) → IsTrue (in_box sides q) → raster_number sides p ≡ raster_number sides q → p ≡ q
+same_number sides p q h k e = sym (raster_point-raster_number sides p h) ∙ ap (raster_point sides) e ∙ raster_point-raster_number sides q k
+
+module _ (sides : List ℕ) (points : List Point) (places : List ℕ) (h : ArePlaced sides points places) where
+  -- no more points are listed than the box has
+  pub few_placed : length points ≤ box_count sides
+  few_placed = pigeon (box_count sides) (length points) (λ i. raster_number sides (get_or points i []))
+      (λ i l. raster_below sides (get_or points i []) (h.inside (get_or points i []) (Contains-get_or points i [] l)))
+      (λ i j li lj e.
+      let a = h.placed i (get_or points i []) (slice_get-get_or points i [] li) in
+      let b = h.placed j (get_or points j []) (slice_get-get_or points j [] lj) in
+      let c : suc i ≡ suc j = sym a ∙ ap (slice_index places) e ∙ b in
+      omega arith)
+
+  -- no point is listed twice
+  pub apart_placed : AllPairs (λ p q. p ≢ q) points
+  apart_placed i j d l m e =
+      let a = h.placed i (get_or points i d) (slice_get-get_or points i d (omega arith)) in
+      let b = h.placed j (get_or points j d) (slice_get-get_or points j d m) in
+      let c : suc i ≡ suc j = sym a ∙ ap (λ p. slice_index places (raster_number sides p)) e ∙ b in
+      omega arith
+
+  -- a point outside the box is not listed
+  pub none_outside : (p : Point) → in_box sides p ≡ false → Contains points p → ⊥
+  none_outside p e c = let t = h.inside p c in cc
+
+  -- the number that is kept for a point of the box
+  pub read_place : (p : Point) (n place : ℕ) → IsTrue (in_box sides p) → n ≡ raster_number sides p → place ≡ get_or places n place → place ≡ slice_index places (raster_number sides p)
+  read_place p n place inside e r = r ∙ get_or_default places n place 0 (omega (arith, e, raster_below sides p inside, h.all)) ∙ ap (slice_index places) e
+
+  -- nor is one whose number is 0
+  pub none_placed : (p : Point) (place : ℕ) → place ≡ slice_index places (raster_number sides p) → place ≡ 0 → Contains points p → ⊥
+  none_placed p place e z c =
+      let k = place_of points p c in
+      let s : suc k.0 ≡ 0 = sym (h.placed k.0 p k.1) ∙ sym e ∙ z in
+      absurd (omega arith)
+
+  -- and any other stands one place before its number
+  pub there_placed : (p : Point) (place i : ℕ) → IsTrue (in_box sides p) → place ≡ slice_index places (raster_number sides p) → place ≡ suc i → IsPlaceOf points (i) p
+  there_placed p place i inside e s = record {
+    there = h.named (raster_number sides p) i (raster_below sides p inside) (sym e ∙ s) ∙ ap Some (raster_point-raster_number sides p inside);
+    only = λ j there. (let t : suc j ≡ suc i = sym (h.placed j p there) ∙ sym e ∙ s in omega arith);
+  }
+
+  -- one more point
+  pub placed_more : (p : Point) (n : ℕ) → IsTrue (in_box sides p) → (Contains points p → ⊥) → n ≡ suc (length points) → ArePlaced sides (points ++ p ∷ []) (set places (raster_number sides p) n)
+  placed_more p n inside new count = record {
+    all = length-set places (raster_number sides p) n ∙ h.all;
+    inside = λ q c. elim (Contains-push_cases points p q c) [ inl o ↦ h.inside q o | inr e ↦ subst (λ z. IsTrue (in_box sides z)) e inside ];
+    placed = λ i q e. elim (get_push points p i q e) [
+      | inl o ↦
+          let other : raster_number sides q ≢ raster_number sides p = λ s. new (subst (Contains points) (same_number sides q p (h.inside q (of_place points i q o.0)) inside s) (of_place points i q o.0)) in
+          get_or-set_other places (raster_number sides p) (raster_number sides q) n 0 other ∙ h.placed i q o.0
+      | inr o ↦
+          ap (λ z. slice_index (set places (raster_number sides p) n) (raster_number sides z)) (sym o.0)
+          ∙ get_or-set_same places (raster_number sides p) n 0 (omega (arith, h.all, raster_below sides p inside))
+          ∙ count ∙ ap suc (sym o.2)
+    ];
+    named = λ k i l e. elim (ℕ_discrete k (raster_number sides p)) [
+      | yes s ↦
+          let v : suc i ≡ n = sym e ∙ ap (slice_index (set places (raster_number sides p) n)) s ∙ get_or-set_same places (raster_number sides p) n 0 (omega (arith, h.all, raster_below sides p inside)) in
+          let at : i ≡ length points = omega (arith, v, count) in
+          ap (slice_get (points ++ p ∷ [])) at ∙ get_last points p ∙ ap Some (sym (raster_point-raster_number sides p inside) ∙ ap (raster_point sides) (sym s))
+      | no d ↦ place_push points (p ∷ []) i (raster_point sides k) (h.named k i l (sym (get_or-set_other places (raster_number sides p) k n 0 d) ∙ e))
+    ];
+  }
+
+-- the points before a place are taken away
+pub record ArePlacedFrom (sides : List ℕ) (points : List Point) (i : ℕ) (places : List ℕ) : Type 0 where
+  pub all : length places ≡ box_count sides
+  pub named : (k j : ℕ) → k < box_count sides → slice_index places k ≡ suc j → (i ≤ j) × (slice_get points j ≡ Some (raster_point sides k))
+
+pub from_first : (sides : List ℕ) (points : List Point) (places : List ℕ) → ArePlaced sides points places → ArePlacedFrom sides points 0 places
+from_first sides points places h = record { all = h.all; named = λ k j l e. (omega arith, h.named k j l e) }
+
+pub from_next : (sides : List ℕ) (points : List Point) (i : ℕ) (places : List ℕ) (p : Point) → slice_get points i ≡ Some p → IsTrue (in_box sides p) → ArePlacedFrom sides points i places → ArePlacedFrom sides points (i + 1) (set places (raster_number sides p) 0)
+from_next sides points i places p there inside h = record {
+  all = length-set places (raster_number sides p) 0 ∙ h.all;
+  named = λ k j l e. elim (ℕ_discrete k (raster_number sides p)) [
+    | yes s ↦
+        let v : suc j ≡ 0 = sym e ∙ ap (slice_index (set places (raster_number sides p) 0)) s ∙ get_or-set_same places (raster_number sides p) 0 0 (omega (arith, h.all, raster_below sides p inside)) in
+        absurd (omega arith)
+    | no d ↦
+        let r = h.named k j l (sym (get_or-set_other places (raster_number sides p) k 0 0 d) ∙ e) in
+        elim (ℕ_discrete j i) [
+          | yes s ↦
+              let q : Some p ≡ Some (raster_point sides k) = sym there ∙ ap (slice_get points) (sym s) ∙ r.1 in
+              let e2 : p ≡ raster_point sides k = cc in
+              absurd (d (sym (back sides k l) ∙ ap (raster_number sides) (sym e2)))
+          | no o ↦ ((let le = r.0 in apart i j le o), r.1)
+        ]
+  ];
+}
+  where
+    back : (sides : List ℕ) (k : ℕ) → k < box_count sides → raster_number sides (raster_point sides k) ≡ k
+    back sides k l = raster_number-raster_point sides k l
+
+    apart : (i j : ℕ) → i ≤ j → j ≢ i → i + 1 ≤ j
+    apart i j l n = omega arith
+
+pub from_end : (sides : List ℕ) (points : List Point) (i : ℕ) (places : List ℕ) → length points ≤ i → ArePlacedFrom sides points i places → ArePlaced sides [] places
+from_end sides points i places l h = record {
+  all = h.all;
+  inside = λ p c. absurd (let m = c.1 in omega arith);
+  placed = λ k p e. cc;
+  named = λ k j m e. (let r = h.named k j m e in absurd (let s = slice_get_within points j (raster_point sides k) r.1 in omega (arith, r.0, s, l)));
+}
+
+-- nothing is listed where all numbers are 0
+pub none_listed : (sides : List ℕ) (places : List ℕ) → length places ≡ box_count sides → ((k : ℕ) → slice_index places k ≡ 0) → ArePlaced sides [] places
+none_listed sides places all zeros = record {
+  all = all;
+  inside = λ p c. absurd (let m = c.1 in omega arith);
+  placed = λ k p e. cc;
+  named = λ k j m e. absurd (let s : suc j ≡ 0 = sym e ∙ zeros k in omega arith);
+}
+
+-- an element of a list of the program's points, as a point
+pub item_there : {A : Type 0} (f : A → Point) (xs : List A) (k : ℕ) (x : A) → k < length xs → x ≡ get_or xs k x → Contains (map f xs) (f x)
+item_there f xs k x l e = Contains-map f xs x (k, l, sym e)

@@ -1,0 +1,4 @@
+pub mod Terms
+pub mod Listings
+pub mod Exposure
+pub mod PlaneState

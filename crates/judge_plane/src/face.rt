@@ -1,0 +1,67 @@
+//! The exposed points of a face of a volume: which they are, how many, and which is the first that is left.
+//! Faces go by their numbers: x -, x +, y -, y +, z -, z +, from 0 on, as the side neighbours of a point do.
+ghost use Rattle.std.specs.Prelude.{◌≡◌, ◌<◌, ◌≤◌, ◌^◌, ◌↔◌, IsTrue, MatchOption, Contains, length};
+ghost use Rattle.shape_terms.specs.Points.{in_box, box_count, raster_point};
+ghost use Rattle.judge_plane.specs.Terms.{point_of};
+ghost use Rattle.judge_plane.specs.Exposure.{exposed_at, IsLeft, AreTakenBelow};
+
+use crate::listed::Listed;
+use shape_adj::Pairing;
+use shape_grid::Grid;
+use shape_space::P3;
+
+/// There are so many faces.
+pub(crate) const FACES: u32 = 6;
+
+/// Whether a point is exposed in a face.
+pub(crate) fn is_exposed(grid: &Grid<P3>, face: u32, p: P3) -> bool
+    requires { face < 6 }
+    ensures answer { IsTrue result ↔ Contains (exposed_at grid.now face) (point_of p) }
+    ensures inside { IsTrue result → IsTrue (in_box grid.now.sides (point_of p)) }
+{
+    grid.is_picture();
+    grid.has(p) && !grid.has(p.side(face as usize))
+}
+
+/// The number of exposed points of a face. It looks at each point of the grid once.
+pub(crate) fn count_exposed(grid: &Grid<P3>, face: u32) -> u32
+    requires { face < 6 }
+    ensures value { result ≡ length (exposed_at grid.now face) }
+    ensures few { result ≤ 2 ^ 23 }
+{
+    let sides = grid.sides();
+    let mut count: u32 = 0;
+    for i in 0..sides.count() {
+        if is_exposed(grid, face, sides.unraster(i)) {
+            count += 1;
+        }
+    }
+    count
+}
+
+/// Whether a point is exposed in a face and not taken.
+pub(crate) fn is_left(grid: &Grid<P3>, face: u32, taken: &Listed, p: P3) -> bool
+    requires { face < 6 }
+    ensures answer { IsTrue result ↔ IsLeft (exposed_at grid.now face) taken.now.points (point_of p) }
+    ensures inside { IsTrue result → IsTrue (in_box grid.now.sides (point_of p)) }
+{
+    is_exposed(grid, face, p) && !taken.has(p)
+}
+
+/// The raster number of the first point of a face that is left, where all with smaller numbers than `from` are taken.
+pub(crate) fn first_left(grid: &Grid<P3>, face: u32, taken: &Listed, from: u32) -> Option<u32>
+    requires face { face < 6 }
+    requires below { AreTakenBelow grid.now face taken.now.points from }
+    ensures first { MatchOption result (AreTakenBelow grid.now face taken.now.points (box_count grid.now.sides))
+        (λ i. AreTakenBelow grid.now face taken.now.points i
+        × IsLeft (exposed_at grid.now face) taken.now.points (raster_point grid.now.sides i)
+        × (i < box_count grid.now.sides)) }
+{
+    let sides = grid.sides();
+    for i in from..sides.count() {
+        if is_left(grid, face, taken, sides.unraster(i)) {
+            return Some(i);
+        }
+    }
+    None
+}

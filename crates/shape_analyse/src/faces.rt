@@ -1,0 +1,146 @@
+//! The lines of the faces of a volume: each with its patches, their points, and the points that each refused.
+//! What is found of a face comes from `shape_plane`.
+ghost use Rattle.std.specs.Prelude.{◌≡◌, ◌<◌, ◌+◌, ◌^◌, ℕ, List, Some, slice_get, OnOk, length};
+ghost use Rattle.shape_terms.specs.Pictures.{Picture};
+ghost use Rattle.patch_terms.specs.Patches.{FoundPatch, points_of};
+ghost use Rattle.report_terms.specs.FaceFacts.{face_axis, face_sense};
+ghost use Rattle.shape_refute.specs.Senses.{sense_of};
+ghost use Rattle.shape_analyse.specs.Growing.{Aim, IsTextOf};
+ghost use Rattle.shape_analyse.specs.Facing.{IsFacing, HasFaces, HasPatches, AreFound, IsSomePatch, IsSomeFace, points_before, patches_of, at_patch};
+
+use shape_grid::Grid;
+use shape_plane::{Patch, Patches, patches};
+use shape_refute::Sense;
+use shape_report::{Line, Report};
+use shape_space::{NoMemory, P3};
+use std::alloc::Global;
+
+// Adds the `patch` line.
+fn add_head(patch: &Patch<P3>, report: &mut Report) -> Result<(), NoMemory>
+    ensures { (X : Aim) (f : ℕ) (found : List FoundPatch) (k : ℕ)
+        → AreFound X f found → slice_get found k ≡ Some patch.now
+        → IsTextOf (HasPatches X f found k) report.old → OnOk result
+        (IsTextOf (IsFacing X (at_patch f (points_before found k) patch.now 0 0)) report.new) }
+{
+    let plane = patch.naive();
+    let a = plane.a;
+    let line: Line<P3> = Line::Patch {
+        points: patch.len(),
+        a,
+        mu: plane.mu,
+    };
+    report.add(&line)?;
+    Ok(())
+}
+
+// Adds the points of a patch.
+fn add_points(patch: &Patch<P3>, report: &mut Report) -> Result<(), NoMemory>
+    ensures { (X : Aim) (f : ℕ) (found : List FoundPatch) (k : ℕ)
+        → AreFound X f found → slice_get found k ≡ Some patch.now
+        → IsTextOf (IsFacing X (at_patch f (points_before found k) patch.now 0 0)) report.old
+        → OnOk result (IsTextOf (IsFacing X (at_patch f (points_before found k) patch.now
+        (length patch.now.patch.points) 0)) report.new) }
+{
+    for j in 0..patch.len() {
+        report.add(&Line::On { p: patch.point(j) })?;
+    }
+    Ok(())
+}
+
+// Adds the points that a patch refused.
+fn add_refused(patch: &Patch<P3>, report: &mut Report) -> Result<(), NoMemory>
+    requires { IsSomePatch patch.now }
+    ensures { (X : Aim) (f : ℕ) (found : List FoundPatch) (k : ℕ)
+        → AreFound X f found → slice_get found k ≡ Some patch.now
+        → IsTextOf (IsFacing X (at_patch f (points_before found k) patch.now
+        (length patch.now.patch.points) 0)) report.old
+        → OnOk result (IsTextOf (IsFacing X (at_patch f (points_before found k) patch.now
+        (length patch.now.patch.points) (length patch.now.refused))) report.new) }
+{
+    for m in 0..patch.refused() {
+        let (p, why) = patch.refusal(m);
+        report.add(&Line::Off { p, why })?;
+    }
+    Ok(())
+}
+
+// Adds all lines of a patch.
+fn add_patch(patch: &Patch<P3>, report: &mut Report) -> Result<(), NoMemory>
+    requires { IsSomePatch patch.now }
+    ensures { (X : Aim) (f : ℕ) (found : List FoundPatch) (k : ℕ)
+        → AreFound X f found → slice_get found k ≡ Some patch.now
+        → IsTextOf (HasPatches X f found k) report.old
+        → OnOk result (IsTextOf (HasPatches X f found (k + 1)) report.new) }
+{
+    add_head(patch, report)?;
+    add_points(patch, report)?;
+    add_refused(patch, report)?;
+    Ok(())
+}
+
+// The number of points of all patches.
+fn exposed_points(found: &Patches<P3>) -> u32
+    requires { IsSomeFace found.now }
+    ensures { result ≡ length (points_of (patches_of found.now)) }
+{
+    let mut n = 0;
+    for k in 0..found.len() {
+        n += found.patch(k).len();
+    }
+    n
+}
+
+// Adds the lines of each patch.
+fn add_patches(found: &Patches<P3>, report: &mut Report) -> Result<(), NoMemory>
+    requires { IsSomeFace found.now }
+    ensures { (X : Aim) (f : ℕ) → AreFound X f found.now
+        → IsTextOf (HasPatches X f found.now 0) report.old
+        → OnOk result (IsTextOf (HasPatches X f found.now (length found.now)) report.new) }
+{
+    for k in 0..found.len() {
+        add_patch(found.patch(k), report)?;
+    }
+    Ok(())
+}
+
+// Adds the lines of the face with a number.
+fn add_face(alloc: Global, grid: &Grid<P3>, face: u8, report: &mut Report) -> Result<(), NoMemory>
+    requires { face < 6 }
+    ensures { (X : Aim) → X.subject.picture ≡ grid.now → IsTextOf (HasFaces X face) report.old
+        → OnOk result (IsTextOf (HasFaces X (face + 1)) report.new) }
+{
+    grid.is_picture();
+    let axis = face / 2;
+    let sense = sense_in(face);
+    let found = patches(alloc, grid, axis as usize, sense)?;
+    let line: Line<P3> = Line::Face {
+        axis,
+        sense,
+        points: exposed_points(&found),
+    };
+    report.add(&line)?;
+    add_patches(&found, report)?;
+    Ok(())
+}
+
+// The sense of the face with a number.
+fn sense_in(face: u8) -> Sense
+    ensures { sense_of result ≡ face_sense face }
+{
+    if face % 2 == 0 {
+        Sense::Minus
+    } else {
+        Sense::Plus
+    }
+}
+
+// Adds the lines of all faces.
+pub(crate) fn add_faces(alloc: Global, grid: &Grid<P3>, report: &mut Report) -> Result<(), NoMemory>
+    ensures { (X : Aim) → X.subject.picture ≡ grid.now → IsTextOf (HasFaces X 0) report.old
+        → OnOk result (IsTextOf (HasFaces X 6) report.new) }
+{
+    for face in 0..6 {
+        add_face(alloc, grid, face, report)?;
+    }
+    Ok(())
+}
