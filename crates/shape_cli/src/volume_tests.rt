@@ -28,6 +28,23 @@ fn one_voxel(rt: HostRuntime) -> Result<(), Fail> {
 }
 
 #[test]
+fn full_and_blank_volumes(rt: HostRuntime) -> Result<(), Fail> {
+    let alloc = rt.alloc();
+    let mut full = desk(alloc, [255u8; 8].as_slice(), &[], &[])?;
+    let outcome = ran(alloc, "analyse raw 2 2 2 a.pbm none", &mut full)?;
+    assert_eq!(rt; outcome, Outcome::Done);
+    let begin = b"shape 1 raw 2 2 2 none\nparts 8 1 1\nnear 0 0 0 ".as_slice();
+    assert!(rt; full.output().starts_with(begin));
+    let mut blank = desk(alloc, [0u8; 8].as_slice(), &[], &[])?;
+    let outcome = ran(alloc, "analyse raw 2 2 2 a.pbm none", &mut blank)?;
+    assert_eq!(rt; outcome, Outcome::Done);
+    let report = b"shape 1 raw 2 2 2 none\nparts 0 0 1\nface x - 0\nface x + 0\nface y - 0\n\
+        face y + 0\nface z - 0\nface z + 0\nkept 0 0 1\nend\n";
+    assert_eq!(rt; blank.output(), report.as_slice());
+    Ok(())
+}
+
+#[test]
 fn refused_volumes(rt: HostRuntime) -> Result<(), Fail> {
     let alloc = rt.alloc();
     let table = [

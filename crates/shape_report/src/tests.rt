@@ -127,16 +127,11 @@ fn lines_of_faces_are_of_volumes(rt: HostRuntime) {
             })
         )
     );
-    assert!(rt;
-        matches!(
-            read_claim::<P3>(b"patch 2 1 0 -1 7"),
-            Some(Line::Patch {
-                points: 2,
-                a: [1, 0, -1],
-                mu: 7
-            })
-        )
-    );
+    let Some(Line::Patch { points, a, mu }) = read_claim::<P3>(b"patch 2 1 0 -1 7") else {
+        assert!(rt; false, "this is a line");
+        return;
+    };
+    assert_eq!(rt; (points, a[0], a[1], a[2], mu), (2, 1, 0, -1, 7));
     for text in [
         "face x - 3",
         "patch 2 1 0 0",
