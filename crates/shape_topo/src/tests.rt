@@ -42,25 +42,18 @@ fn numbers_of_masks(rt: HostRuntime) {
     }
 }
 
-// The bit of a near neighbour in space, by the step to it.
-fn bit(x: usize, y: usize, z: usize) -> u32 {
-    let n = x + 3 * y + 9 * z;
-    let k = if n > 13 { n - 1 } else { n };
-    1u32 << k.min(31) as u32
-}
-
 #[test]
 fn a_tunnel_in_space(rt: HostRuntime) {
-    // all near neighbours are object but +x, +x+y, +x+y+z, +y+z and +z
-    let dark = bit(2, 1, 1) | bit(2, 2, 1) | bit(2, 2, 2) | bit(1, 2, 2) | bit(1, 1, 2);
-    let mask = (0x3ffffff & !dark) % 0x4000000;
+    // all near neighbours are object but +x, +x+y, +z, +y+z and +x+y+z, by their numbers
+    let mask = 0x3ffffffu32 & !(1u32 << 13 | 1u32 << 16 | 1u32 << 21 | 1u32 << 24 | 1u32 << 25);
+    let mask = mask % 0x4000000;
     assert_eq!(rt;
         (object_number::<P3>(mask), background_number::<P3>(mask)),
         (1, 2)
     );
     assert!(rt; !P3::simple_mask(mask));
-    // with a side neighbour of both, the two are one
-    let joined = mask & !bit(2, 1, 2) % 0x4000000;
+    // with +x+z, which is beside +x and +z, the two components of the background are one
+    let joined = (mask & !(1u32 << 22)) % 0x4000000;
     assert_eq!(rt;
         (object_number::<P3>(joined), background_number::<P3>(joined)),
         (1, 1)
