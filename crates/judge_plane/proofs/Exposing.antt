@@ -41,9 +41,9 @@ sides_back [] = refl
 sides_back (n ∷ sides) = ap (λ l. n ∷ l) (sides_back sides)
 
 -- a point of the box leaves room for its neighbours
-pub near_within : (X : Picture) (p : Point) → AreSides (pos 128) (map pos X.sides) → IsTrue (in_box X.sides p) → IsWithin (negsuc 1) (pos 4096) p
+pub near_within : (X : Picture) (p : Point) → AreSides (pos 192) (map pos X.sides) → IsTrue (in_box X.sides p) → IsWithin (negsuc 1) (pos 4096) p
 near_within X p range inside k l =
-    let w = box_point_within (pos 128) (map pos X.sides) p range (omega (arith, ints)) (subst (λ s. IsTrue (in_box s p)) (sym (sides_back X.sides)) inside) k l in
+    let w = box_point_within (pos 192) (map pos X.sides) p range (omega (arith, ints)) (subst (λ s. IsTrue (in_box s p)) (sym (sides_back X.sides)) inside) k l in
     (let a = w.0 in omega (arith, ints), w.1)
 
 zero_right : (n : ℤ) → n +ℤ pos 0 ≡ n

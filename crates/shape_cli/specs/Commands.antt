@@ -32,7 +32,7 @@ source_of (Asked.Check source report) = source
 
 -- the greatest side of a volume
 abbrev pub most_volume_side : ℕ
-most_volume_side = 128
+most_volume_side = 192
 
 -- the sides that the words of a source give are those of a volume
 abbrev pub HasSides : Source → Type 0

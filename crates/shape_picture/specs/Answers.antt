@@ -29,11 +29,11 @@ HasFault F bytes = (f : PictureFault) × F.has_fault f bytes
 
 -- the greatest side of a plain PBM
 abbrev pub most_side : ℕ
-most_side = 1024
+most_side = 2048
 
 -- how many bytes a plain PBM has at most, up to and with its last pixel
 abbrev pub most_bytes : ℕ
-most_bytes = 2 ^ 25
+most_bytes = 2 ^ 26
 
 -- some front of the bytes spells the picture
 abbrev pub SpellsPicture : ℕ → ℕ → Picture → List ℕ → Type 0

@@ -21,7 +21,7 @@ use std::alloc::Global;
 pub const MOST_SIDE: u32 = P2::MAX_SIDE as u32;
 
 /// How many bytes a plain PBM has at most, up to and with its last pixel.
-pub const MOST_BYTES: u64 = 1 << 25;
+pub const MOST_BYTES: u64 = 1 << 26;
 
 // Takes the next byte of a picture that is not complete.
 fn next_byte<D: Desk>(at: u64, bytes: &mut ByteReader, desk: &mut D) -> Result<u8, PictureError>

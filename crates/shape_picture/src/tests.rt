@@ -67,7 +67,7 @@ fn count(alloc: Global, bytes: &[u8]) -> Option<u32> {
 #[test]
 fn faults(rt: HostRuntime) -> Result<(), Fail> {
     let alloc = rt.alloc();
-    let cases: [(&[u8], PictureFault); 16] = [
+    let cases: [(&[u8], PictureFault); 17] = [
         (b"", PictureFault::Short { at: 0 }),
         (b"P1 0", PictureFault::Short { at: 4 }),
         (b"P1 3 1 1 0", PictureFault::Short { at: 10 }),
@@ -78,7 +78,8 @@ fn faults(rt: HostRuntime) -> Result<(), Fail> {
         (b"P1 0x", PictureFault::BadNumber { at: 4 }),
         (b"P1 0 3 ", PictureFault::ZeroSide),
         (b"P1 0#", PictureFault::ZeroSide),
-        (b"P1 1025 1 1", PictureFault::SideTooLarge { value: 1025 }),
+        (b"P1 2049 1 1", PictureFault::SideTooLarge { value: 2049 }),
+        (b"P1 1025 1 1", PictureFault::Short { at: 11 }),
         (b"P1 99999 1", PictureFault::SideTooLarge { value: 9999 }),
         (b"P1 1 1 x", PictureFault::BadByte { at: 7 }),
         (b"P1 2 1 0 2", PictureFault::BadByte { at: 9 }),
@@ -114,8 +115,8 @@ fn pictures(rt: HostRuntime) -> Result<(), Fail> {
 #[test]
 fn widest(rt: HostRuntime) -> Result<(), Fail> {
     let alloc = rt.alloc();
-    let mut widest = Vec::from_slice(alloc, b"P1 1024 1 ")?;
-    for _ in 0..1024u32 {
+    let mut widest = Vec::from_slice(alloc, b"P1 2048 1 ")?;
+    for _ in 0..2048u32 {
         widest.push(b'0')?;
     }
     assert_eq!(rt; count(alloc, &widest), Some(0));

@@ -67,9 +67,9 @@ impl Point for P2 {
 
     const DIM: usize = 2;
 
-    ghost MAX_SIDE = { pos 1024 };
+    ghost MAX_SIDE = { pos 2048 };
 
-    const MAX_SIDE: i32 = 1024;
+    const MAX_SIDE: i32 = 2048;
 
     ghost coords = { λ p. p.x ∷ p.y ∷ [] };
 

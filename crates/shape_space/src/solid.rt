@@ -22,9 +22,9 @@ impl Point for P3 {
 
     const DIM: usize = 3;
 
-    ghost MAX_SIDE = { pos 128 };
+    ghost MAX_SIDE = { pos 192 };
 
-    const MAX_SIDE: i32 = 128;
+    const MAX_SIDE: i32 = 192;
 
     ghost coords = { λ p. p.x ∷ p.y ∷ p.z ∷ [] };
 

@@ -30,13 +30,13 @@ fn a_solid_box(rt: HostRuntime) {
     assert!(rt; q < p && q.with(2, 4) > p && P3::origin().with(1, 1) == P3 { x: 0, y: 1, z: 0 });
     assert!(rt;
         Sides::try_new(P3 {
-            x: 128,
+            x: 192,
             y: 1,
-            z: 128
+            z: 192
         })
         .is_some()
     );
-    assert!(rt; Sides::try_new(P3 { x: 1, y: 1, z: 129 }).is_none());
+    assert!(rt; Sides::try_new(P3 { x: 1, y: 1, z: 193 }).is_none());
     assert!(rt; Sides::try_new(P3 { x: 1, y: 0, z: 1 }).is_none());
 }
 
@@ -65,8 +65,8 @@ fn a_flat_box(rt: HostRuntime) {
     }
     assert_eq!(rt; sides.unraster(4), P2 { x: 1, y: 1 });
     assert_eq!(rt; dot(&[3, -5, 7], p), 1);
-    assert!(rt; Sides::try_new(P2 { x: 1024, y: 1 }).is_some());
-    assert!(rt; Sides::try_new(P2 { x: 1025, y: 1 }).is_none());
+    assert!(rt; Sides::try_new(P2 { x: 2048, y: 1 }).is_some());
+    assert!(rt; Sides::try_new(P2 { x: 2049, y: 1 }).is_none());
     assert!(rt; Sides::try_new(P2 { x: 1, y: 0 }).is_none());
 }
 
