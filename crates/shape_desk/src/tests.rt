@@ -5,6 +5,7 @@ use crate::desk::{Desk, Failed, Place};
 use crate::line::{LineFault, LineReader};
 use crate::memory::MemoryDesk;
 use crate::number::read_number;
+use crate::steady::SteadyDesk;
 use crate::text::{put_all, put_line, put_number, put_word};
 use std::alloc::Global;
 use std::test::Fail;
@@ -135,5 +136,26 @@ fn ends_at_the_last_line_feed(rt: HostRuntime) -> Result<(), Fail> {
         assert_eq!(rt; reader.next_line(&mut desk), want);
         assert_eq!(rt; reader.line(), b"c".as_slice());
     }
+    Ok(())
+}
+
+#[test]
+fn reads_a_report_twice(rt: HostRuntime) -> Result<(), Fail> {
+    let alloc = rt.alloc();
+    let picture = Vec::from_slice(alloc, b"P1")?;
+    let report = Vec::from_slice(alloc, b"ab\nc\n")?;
+    let mut desk = SteadyDesk::new(picture, report);
+    for _ in 0..2 {
+        let mut reader = LineReader::new(alloc)?;
+        assert_eq!(rt; reader.next_line(&mut desk), Ok(Some(2)));
+        assert_eq!(rt; reader.next_line(&mut desk), Ok(Some(1)));
+        assert_eq!(rt; reader.line(), b"c".as_slice());
+        assert_eq!(rt; reader.next_line(&mut desk), Ok(None));
+        assert_eq!(rt; put_all(b"end", &mut desk), Ok(()));
+        desk.begin(Place::Report, b"any")?;
+    }
+    let mut buf = [0; 4];
+    assert_eq!(rt; desk.read(Place::Picture, &mut buf), Ok(2));
+    assert_eq!(rt; buf, [b'P', b'1', 0, 0]);
     Ok(())
 }
