@@ -1,6 +1,6 @@
 -- A file spells at most one picture or has at most one fault, and not both: each answer is read off one state.
 -- The law's second half, which the machine of `Machine` decides.
-use Rattle.std.proofs.Common.{◌≡◌, ℕ, zero, suc, ◌+◌, ◌*◌, ◌<◌, ◌≤◌, Bool, true, false, List, [], ◌∷◌, ◌++◌, length, map, take, drop, Some, All, refl, sym, ap, ◌∙◌, subst, inl, inr, ⊎_elim, arith}
+use Rattle.std.proofs.Common.{◌≡◌, ℕ, zero, suc, ◌+◌, ◌*◌, ◌<◌, ◌≤◌, Bool, true, false, List, [], ◌∷◌, ◌++◌, length, map, flat_map, take, drop, Some, All, refl, sym, ap, ◌∙◌, subst, inl, inr, ⊎_elim, arith}
 use Rattle.std.specs.Prelude.{◌||◌, ◌==◌, ◌⊎◌, IsTrue, slice_get}
 use Rattle.std.proofs.lemmas.Bool.{cases_lt}
 use Rattle.std.proofs.lemmas.Option.{slice_get_within, get_or_from_slice_get}
@@ -11,8 +11,11 @@ use Rattle.shape_terms.specs.Points.{box_count}
 use Rattle.shape_terms.specs.Pictures.{Picture}
 use Rattle.shape_picture.specs.declared.fault.PictureFault.{PictureFault}
 use Rattle.shape_picture.specs.declared.fault.PictureFault.TheVariants as fault
-use Rattle.shape_picture.specs.Plain.{is_white, is_pixel, pixel_code, pixels_of, number_value, Plain, PlainFault, DecidesFault}
+use Rattle.shape_picture.specs.declared.header.Form.{Form}
+use Rattle.shape_picture.specs.declared.header.Form.TheVariants.{Plain, Packed}
+use Rattle.shape_picture.specs.Pbm.{is_white, pixel_code, holds_pixels, holders, holder_count, row_bytes, row_pixels, number_value, HoldValues, Pbm, PbmFault, DecidesFault}
 use Rattle.shape_picture.proofs.Grammar.{some_pixels, times_one, pixels_of-pixel}
+use Rattle.shape_picture.proofs.RowBytes.{same_rows, length-concat, some_bytes}
 use Rattle.shape_picture.proofs.ByteSteps.{byte_at}
 use Rattle.shape_picture.proofs.Machine.{State, run, state_of, onward, run_full, run_stop, IsOpenState}
 use Rattle.shape_picture.proofs.FrontStates.{of_pixel, heading_run, in_raster_run, open_of, decided_step}
@@ -54,6 +57,33 @@ same_by_parts f a c b d x y = cc
 pub same_picture : (X Y : Picture) → X.sides ≡ Y.sides → X.values ≡ Y.values → X ≡ Y
 same_picture X Y s c = same_by_parts (λ s c. record { sides = s; values = c }) X.sides Y.sides X.values Y.values s c
 
+-- ---- bytes that hold pixels
+
+-- they hold the values of one picture
+same_values : (form : Form) (w h : ℕ) (bytes : List ℕ) (xs ys : List Bool) → HoldValues form w h bytes xs → HoldValues form w h bytes ys → xs ≡ ys
+same_values Plain w h bytes xs ys a b = codes_injective xs ys (sym a ∙ b)
+same_values Packed w h bytes xs ys a b =
+    let rows = same_rows (row_bytes w) a.rows b.rows a.row_length b.row_length (a.as_many ∙ sym b.as_many) (sym a.bytes_are ∙ b.bytes_are) in
+    a.values_are ∙ ap (flat_map (row_pixels w)) rows ∙ sym b.values_are
+
+-- how many they are
+count_holders : (form : Form) (w h : ℕ) (bytes : List ℕ) (xs : List Bool) → HoldValues form w h bytes xs → length xs ≡ w * h → length bytes ≡ holder_count form w h
+count_holders Plain w h bytes xs a l = ap length a ∙ length-map xs pixel_code ∙ l
+count_holders Packed w h bytes xs a l = ap length a.bytes_are ∙ length-concat (row_bytes w) a.rows a.row_length ∙ ap (λ (n : ℕ). n * row_bytes w) a.as_many
+
+some_holders : (form : Form) (w h : ℕ) → 1 ≤ w → 1 ≤ h → 0 < holder_count form w h
+some_holders Plain w h a b = some_pixels w h a b
+some_holders Packed w h a b = some_pixels h (row_bytes w) b (some_bytes w a)
+
+holders-push : (form : Form) (raster : List ℕ) (c : ℕ) → holds_pixels form c ≡ true → holders form (raster ++ c ∷ []) ≡ holders form raster ++ c ∷ []
+holders-push Plain raster c e = pixels_of-pixel raster c (of_pixel c e).0
+holders-push Packed raster c e = refl
+
+last_part : (form : Form) (raster : List ℕ) → 0 < length (holders form raster) → Last raster
+last_part Plain [] l = absurd (omega arith)
+last_part Packed [] l = absurd (omega arith)
+last_part form (x ∷ raster) l = last_of x raster
+
 module _ (limit longest : ℕ) (bytes : List ℕ) where
   -- the state after as many bytes as are looked at
   abbrev end_state : State
@@ -61,79 +91,80 @@ module _ (limit longest : ℕ) (bytes : List ℕ) where
 
   -- ---- a picture
 
-  -- the state's pixels are all those of the picture
+  -- the bytes of the state hold all pixels of the picture
   record IsWholePicture (X : Picture) (s : State) : Type 0 where
+    form : Form
     w : ℕ
     h : ℕ
-    pixels : List ℕ
-    is : s ≡ State.AtRaster false w h pixels
-    full : w * h ≤ length pixels
+    held : List ℕ
+    is : s ≡ State.AtRaster form false w h held
+    full : holder_count form w h ≤ length held
     sides : X.sides ≡ w ∷ h ∷ []
-    values : pixels ≡ map pixel_code X.values
+    values : HoldValues form w h held X.values
 
-  whole_pixels : (X : Picture) (m : ℕ) (p : Plain limit longest bytes X m) → length (pixels_of p.raster) ≡ number_value p.width * number_value p.height
-  whole_pixels X m p = ap length p.values ∙ length-map X.values pixel_code ∙ p.filled ∙ ap box_count p.sides ∙ times_one (number_value p.width) (number_value p.height)
+  whole_holders : (X : Picture) (m : ℕ) (p : Pbm limit longest bytes X m) → length (holders p.form p.raster) ≡ holder_count p.form (number_value p.width) (number_value p.height)
+  whole_holders X m p =
+      count_holders p.form (number_value p.width) (number_value p.height) (holders p.form p.raster) X.values p.values (p.filled ∙ ap box_count p.sides ∙ times_one (number_value p.width) (number_value p.height))
 
-  -- from the last pixel on
-  whole_from : (X : Picture) (m n : ℕ) → Plain limit longest bytes X m → m ≤ n → IsWholePicture X (state_of limit (take n bytes))
+  -- from the last byte on
+  whole_from : (X : Picture) (m n : ℕ) → Pbm limit longest bytes X m → m ≤ n → IsWholePicture X (state_of limit (take n bytes))
   whole_from X m n p l =
-      let e = whole_pixels X m p in
+      let e = whole_holders X m p in
       let w = number_value p.width in
       let h = number_value p.height in
       let split : take n bytes ≡ take m bytes ++ drop m (take n bytes) = sym (take-append-drop m (take n bytes)) ∙ ap (λ (x : List ℕ). x ++ drop m (take n bytes)) (take-take m n bytes l) in
       record {
+        form = p.form;
         w = w;
         h = h;
-        pixels = pixels_of p.raster;
+        held = holders p.form p.raster;
         is = ap (state_of limit) split ∙ onward limit (take m bytes) (drop m (take n bytes))
-            ∙ ap (λ (s : State). run limit (length (take m bytes)) s (drop m (take n bytes))) (in_raster_run limit (take m bytes) p.width p.height p.raster p.front (omega arith))
-            ∙ run_full limit (drop m (take n bytes)) (length (take m bytes)) w h false (pixels_of p.raster) (omega arith);
-        full = omega arith;
+            ∙ ap (λ (s : State). run limit (length (take m bytes)) s (drop m (take n bytes))) (in_raster_run limit p.form (take m bytes) p.width p.height p.raster p.front (omega (arith, e)))
+            ∙ run_full limit p.form (drop m (take n bytes)) (length (take m bytes)) w h false (holders p.form p.raster) (omega (arith, e));
+        full = omega (arith, e);
         sides = p.sides;
         values = p.values;
       }
 
   whole_not_open : (X : Picture) (s : State) → IsWholePicture X s → IsOpenState limit s → ⊥
-  whole_not_open X s h o = let l = subst (IsOpenState limit) h.is o in omega (arith, h.full)
+  whole_not_open X s h o = let l = subst (IsOpenState limit) h.is o in omega (arith, l, h.full)
 
   same_whole : (X Y : Picture) (s : State) → IsWholePicture X s → IsWholePicture Y s → X ≡ Y
   same_whole X Y s a b =
-      let e : State.AtRaster false a.w a.h a.pixels ≡ State.AtRaster false b.w b.h b.pixels = sym a.is ∙ b.is in
+      let e : State.AtRaster a.form false a.w a.h a.held ≡ State.AtRaster b.form false b.w b.h b.held = sym a.is ∙ b.is in
+      let f : a.form ≡ b.form = cc in
       let w : a.w ≡ b.w = cc in
       let h : a.h ≡ b.h = cc in
-      let p : a.pixels ≡ b.pixels = cc in
-      same_picture X Y (a.sides ∙ rw (w, h) (sym b.sides)) (codes_injective X.values Y.values (sym a.values ∙ p ∙ b.values))
+      let p : a.held ≡ b.held = cc in
+      same_picture X Y (a.sides ∙ rw (w, h) (sym b.sides)) (same_values b.form b.w b.h b.held X.values Y.values (rw (← f, ← w, ← h, ← p) a.values) b.values)
 
-  -- before the last pixel
-  last_part : (raster : List ℕ) → 0 < length (pixels_of raster) → Last raster
-  last_part [] l = absurd (omega arith)
-  last_part (x ∷ raster) l = last_of x raster
-
-  open_last : (X : Picture) (m : ℕ) (p : Plain limit longest bytes X m) → IsOpenState limit (state_of limit (take p.last.0 bytes))
+  -- before the last byte
+  open_last : (X : Picture) (m : ℕ) (p : Pbm limit longest bytes X m) → IsOpenState limit (state_of limit (take p.last.0 bytes))
   open_last X m p =
       let k = p.last.0 in
       let c = p.last.2.0 in
       let i = p.front in
       let w = number_value p.width in
       let h = number_value p.height in
-      let e = whole_pixels X m p in
-      let some = some_pixels w h i.in_height.width_done.value.0 i.height_done.value.0 in
-      let r = last_part p.raster (omega arith) in
-      let head = i.before ++ i.gap ++ r.front in
+      let e = whole_holders X m p in
+      let some = some_holders p.form w h i.in_height.width_done.value.0 i.height_done.value.0 in
+      let r = last_part p.form p.raster (omega (arith, e, some)) in
+      let head = i.before ++ i.ending ++ r.front in
       let km : k + 1 ≡ m = p.last.1 in
-      let split : take m bytes ≡ head ++ r.last ∷ [] = i.front_is ∙ ap (λ (x : List ℕ). i.before ++ i.gap ++ x) r.is ∙ sym (append_assoc (i.before ++ i.gap) r.front (r.last ∷ [])) in
+      let split : take m bytes ≡ head ++ r.last ∷ [] = i.front_is ∙ ap (λ (x : List ℕ). i.before ++ i.ending ++ x) r.is ∙ sym (append_assoc (i.before ++ i.ending) r.front (r.last ∷ [])) in
       let within : k < length bytes = slice_get_within bytes k c p.last.2.1 in
-      let full : length (take m bytes) ≡ m = length-take-le m bytes (omega arith) in
-      let len : length head ≡ k = omega (arith, ap length split, length_push head r.last) in
-      let got : slice_get (head ++ r.last ∷ []) k ≡ Some c = ap (λ (x : List ℕ). slice_get x k) (sym split) ∙ got_taken bytes k m (omega arith) ∙ p.last.2.1 in
+      let full : length (take m bytes) ≡ m = length-take-le m bytes (omega (arith, within, km)) in
+      let len : length head ≡ k = omega (arith, ap length split, length_push head r.last, full, km) in
+      let got : slice_get (head ++ r.last ∷ []) k ≡ Some c = ap (λ (x : List ℕ). slice_get x k) (sym split) ∙ got_taken bytes k m (omega (arith, km)) ∙ p.last.2.1 in
       let same : r.last ≡ c = got_last head r.last k c len got in
-      let pixel : is_pixel r.last ≡ true = rw same p.last.2.2 in
-      let before : take k bytes ≡ head = sym (take-take k m bytes (omega arith)) ∙ ap (take k) split ∙ take_at head (r.last ∷ []) k len in
-      let pixels : pixels_of p.raster ≡ pixels_of r.front ++ r.last ∷ [] = ap pixels_of r.is ∙ pixels_of-pixel r.front r.last (of_pixel r.last pixel).0 in
-      let one_less : length (pixels_of r.front) + 1 ≡ w * h = sym (length_push (pixels_of r.front) r.last) ∙ sym (ap length pixels) ∙ e in
-      let all : All (λ c. IsTrue (is_pixel c || is_white c)) r.front = All-same (λ c. IsTrue (is_pixel c || is_white c)) r.front (take (length r.front) p.raster) (sym (ap (take (length r.front)) r.is ∙ take_at r.front (r.last ∷ []) (length r.front) refl)) (All-take (λ c. IsTrue (is_pixel c || is_white c)) (length r.front) p.raster i.bytes) in
-      let state : state_of limit (take k bytes) ≡ State.AtRaster false w h (pixels_of r.front) = ap (state_of limit) before ∙ heading_run limit i.before p.width p.height i.gap r.front i.in_height i.height_done i.is_gap all (omega (arith, one_less)) in
-      let less : length (pixels_of r.front) < w * h = omega (arith, one_less) in
+      let holds : holds_pixels p.form r.last ≡ true = rw same p.last.2.2 in
+      let before : take k bytes ≡ head = sym (take-take k m bytes (omega (arith, km))) ∙ ap (take k) split ∙ take_at head (r.last ∷ []) k len in
+      let held : holders p.form p.raster ≡ holders p.form r.front ++ r.last ∷ [] = ap (holders p.form) r.is ∙ holders-push p.form r.front r.last holds in
+      let one_less : length (holders p.form r.front) + 1 ≡ holder_count p.form w h = sym (length_push (holders p.form r.front) r.last) ∙ sym (ap length held) ∙ e in
+      let P = λ (c : ℕ). IsTrue (holds_pixels p.form c || is_white c) in
+      let all : All P r.front = All-same P r.front (take (length r.front) p.raster) (sym (ap (take (length r.front)) r.is ∙ take_at r.front (r.last ∷ []) (length r.front) refl)) (All-take P (length r.front) p.raster i.bytes) in
+      let state : state_of limit (take k bytes) ≡ State.AtRaster p.form false w h (holders p.form r.front) = ap (state_of limit) before ∙ heading_run limit p.form i.before p.width p.height i.ending r.front i.in_height i.height_done i.ends_header all (omega (arith, one_less)) in
+      let less : length (holders p.form r.front) < holder_count p.form w h = omega (arith, one_less) in
       subst (IsOpenState limit) (sym state) less
 
   -- ---- a fault
@@ -149,7 +180,7 @@ module _ (limit longest : ℕ) (bytes : List ℕ) where
       ap (state_of limit) (r ∙ ap (λ (x : List ℕ). x ++ c ∷ rest) t) ∙ onward limit (take i bytes) (c ∷ rest)
       ∙ ap (λ (s : State). run limit (length (take i bytes) + 1) s rest) (decided_step limit (take i bytes) c f d) ∙ run_stop limit rest (length (take i bytes) + 1) f
 
-  ends : (f : PictureFault) → PlainFault limit longest bytes f → Ends f
+  ends : (f : PictureFault) → PbmFault limit longest bytes f → Ends f
   ends (fault.Short n) (e, l, u) =
       let t : take longest bytes ≡ bytes = take_all longest bytes (omega arith) in
       inr (rw t (open_of limit bytes u), inl (omega arith, ap fault.Short e))
@@ -158,22 +189,22 @@ module _ (limit longest : ℕ) (bytes : List ℕ) where
 
   -- ---- the laws
 
-  pub one_picture : (X Y : Picture) (m n : ℕ) → Plain limit longest bytes X m → Plain limit longest bytes Y n → X ≡ Y
+  pub one_picture : (X Y : Picture) (m n : ℕ) → Pbm limit longest bytes X m → Pbm limit longest bytes Y n → X ≡ Y
   one_picture X Y m n p q = same_whole X Y end_state (whole_from X m longest p p.short) (whole_from Y n longest q q.short)
 
-  not_later : (X Y : Picture) (m n : ℕ) → Plain limit longest bytes X m → Plain limit longest bytes Y n → m < n → ⊥
+  not_later : (X Y : Picture) (m n : ℕ) → Pbm limit longest bytes X m → Pbm limit longest bytes Y n → m < n → ⊥
   not_later X Y m n p q l =
       let k = q.last.0 in
       whole_not_open X (state_of limit (take k bytes)) (whole_from X m k p (omega (arith, q.last.1))) (open_last Y n q)
 
-  pub one_length : (X Y : Picture) (m n : ℕ) → Plain limit longest bytes X m → Plain limit longest bytes Y n → m ≡ n
+  pub one_length : (X Y : Picture) (m n : ℕ) → Pbm limit longest bytes X m → Pbm limit longest bytes Y n → m ≡ n
   one_length X Y m n p q =
       ⊎_elim (λ l. absurd (not_later X Y m n p q l)) (λ l. ⊎_elim (λ k. absurd (not_later Y X n m q p k)) (λ k. omega arith) (cases_lt n m)) (cases_lt m n)
 
-  pub not_both : (X : Picture) (m : ℕ) (f : PictureFault) → Plain limit longest bytes X m → PlainFault limit longest bytes f → ⊥
+  pub not_both : (X : Picture) (m : ℕ) (f : PictureFault) → Pbm limit longest bytes X m → PbmFault limit longest bytes f → ⊥
   not_both X m f p g =
       let w = whole_from X m longest p p.short in
-      ⊎_elim (λ e. let k : State.AtRaster false w.w w.h w.pixels ≡ State.AtFault f = sym w.is ∙ e in cc) (λ o. whole_not_open X end_state w o.0) (ends f g)
+      ⊎_elim (λ e. let k : State.AtRaster w.form false w.w w.h w.held ≡ State.AtFault f = sym w.is ∙ e in cc) (λ o. whole_not_open X end_state w o.0) (ends f g)
 
   same_fault : (f g : PictureFault) → Ends f → Ends g → f ≡ g
   same_fault f g (inl a) (inl b) = let e : State.AtFault f ≡ State.AtFault g = sym a ∙ b in cc
@@ -184,5 +215,5 @@ module _ (limit longest : ℕ) (bytes : List ℕ) where
   same_fault f g (inr (o, inr a)) (inr (p, inl b)) = absurd (omega (arith, a.0, b.0))
   same_fault f g (inr (o, inr a)) (inr (p, inr b)) = a.1 ∙ sym b.1
 
-  pub one_fault : (f g : PictureFault) → PlainFault limit longest bytes f → PlainFault limit longest bytes g → f ≡ g
+  pub one_fault : (f g : PictureFault) → PbmFault limit longest bytes f → PbmFault limit longest bytes g → f ≡ g
   one_fault f g a b = same_fault f g (ends f a) (ends g b)

@@ -1,8 +1,11 @@
 pub mod Ahead
 pub mod Grammar
 pub mod HeaderSteps
+pub mod ValueSteps
 pub mod ByteSteps
 pub mod RasterSteps
+pub mod RowBytes
+pub mod RowSteps
 pub mod SomeAnswer
 pub mod Machine
 pub mod FrontStates

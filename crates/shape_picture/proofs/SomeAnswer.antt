@@ -1,30 +1,34 @@
 -- A file spells a picture or has a fault: the machines are run over it, and each state's meaning is kept.
 -- The law's first half; the second is `AtMostOne`.
-use Rattle.std.proofs.Common.{◌≡◌, ℕ, ◌+◌, ◌*◌, ◌<◌, ◌≤◌, Bool, false, List, [], ◌∷◌, ◌++◌, length, Some, Ok, Err, Result, refl, sym, ap, ◌∙◌, subst, inl, inr, ⊎_elim, arith}
+use Rattle.std.proofs.Common.{◌≡◌, ℕ, ◌+◌, ◌-◌, ◌*◌, ◌<◌, ◌≤◌, Bool, false, List, [], ◌∷◌, ◌++◌, length, take, replicate, flat_map, Some, Ok, Err, Result, refl, sym, ap, ◌∙◌, subst, inl, inr, ⊎_elim, arith}
 use Rattle.std.specs.Prelude.{◌⊎◌}
 use Rattle.std.proofs.lemmas.Bool.{cases_lt}
 use Rattle.std.proofs.lemmas.List.{append_assoc, length_push}
 use Rattle.shape_terms.specs.Pictures.{Picture, blank}
 use Rattle.shape_picture.specs.declared.fault.PictureFault.{PictureFault}
 use Rattle.shape_picture.specs.declared.fault.PictureFault.TheVariants as fault
+use Rattle.shape_picture.specs.declared.header.Form.TheVariants.{Plain, Packed}
 use Rattle.shape_picture.specs.declared.header.Header.{Header}
 use Rattle.shape_picture.specs.declared.header.Header.TheVariants as header
 use Rattle.shape_picture.specs.declared.header.Progress.{Progress}
 use Rattle.shape_picture.specs.declared.header.Progress.TheVariants as progress
 use Rattle.shape_picture.specs.declared.raster.Piece.{Piece}
 use Rattle.shape_picture.specs.declared.raster.Piece.TheVariants as piece
-use Rattle.shape_picture.specs.Plain.{number_value, Plain, IsUnfinished}
+use Rattle.shape_picture.specs.Pbm.{number_value, bits_of, row_pixels, Pbm, IsUnfinished}
 use Rattle.shape_picture.specs.Header.{HeaderReached, StepAnswer, header_step}
-use Rattle.shape_picture.specs.Raster.{PictureSoFar, PieceAnswer, piece_of}
-use Rattle.shape_picture.specs.Answers.{plain, SpellsSome, HasFault}
+use Rattle.shape_picture.specs.Raster.{PictureSoFar, PieceAnswer, piece_of, byte_pixels, RowsSoFar}
+use Rattle.shape_picture.specs.Answers.{pbm, SpellsSome, HasFault}
 use Rattle.shape_picture.proofs.HeaderSteps.{step_answer, unfinished}
 use Rattle.shape_picture.proofs.ByteSteps.{short_fault, long_fault, byte_fault}
-use Rattle.shape_picture.proofs.RasterSteps.{piece_answer, raster_unfinished, gap_next, pixel_next, put_value, spelled, pixels_start}
+use Rattle.shape_picture.proofs.ValueSteps.{put_value}
+use Rattle.shape_picture.proofs.RasterSteps.{piece_answer, raster_unfinished, gap_next, pixel_next, pixel_spelled, pixels_start}
+use Rattle.shape_picture.proofs.RowBytes.{room_left}
+use Rattle.shape_picture.proofs.RowSteps.{rows_start, rows_unfinished, rows_next, rows_spelled}
 
 module _ (limit longest : ℕ) (bytes : List ℕ) where
   -- the bytes have an answer
   abbrev HasAnswer : Type 0
-  HasAnswer = SpellsSome (plain limit longest) bytes ⊎ HasFault (plain limit longest) bytes
+  HasAnswer = SpellsSome (pbm limit longest) bytes ⊎ HasFault (pbm limit longest) bytes
 
   one_more : (front rest : List ℕ) (c : ℕ) → bytes ≡ front ++ c ∷ rest → bytes ≡ (front ++ c ∷ []) ++ rest
   one_more front rest c e = e ∙ sym (append_assoc front (c ∷ []) rest)
@@ -50,8 +54,8 @@ module _ (limit longest : ℕ) (bytes : List ℕ) where
       let Y : Picture = record { sides = X.sides; values = put_value X.values n b } in
       ⊎_elim (λ m. go Y false (n + 1) (front ++ c ∷ []) (pixel_next limit X Y comment n front b h c g refl refl m) (omega (arith, length_push front c)) e)
       (λ m.
-      let k : n + 1 ≡ number_value h.width * number_value h.height = omega (arith, h.fewer) in
-      inl (Y, (length front + 1, subst (λ (x : List ℕ). Plain limit longest x Y (length front + 1)) (sym e) (spelled limit X Y comment n front b longest rest h c g refl refl k l))))
+      let k : n + 1 ≡ number_value h.width * number_value h.height = omega (arith, h.first.fewer, m) in
+      inl (Y, (length front + 1, subst (λ (x : List ℕ). Pbm limit longest x Y (length front + 1)) (sym e) (pixel_spelled limit X Y comment n front b h c g refl refl longest rest k l))))
       (cases_lt (n + 1) (number_value h.width * number_value h.height))
 
   from_raster : (rest : List ℕ) → FromRaster rest
@@ -60,6 +64,28 @@ module _ (limit longest : ℕ) (bytes : List ℕ) where
       let go = from_raster rest in
       or_long front (c ∷ rest) e l (raster_unfinished limit h) (λ m. by_piece rest go X comment n front c h m (one_more front rest c e) (piece_of comment n (length front) c) (piece_answer limit h (length front) c refl))
 
+  -- what the rest of the rows gives
+  abbrev FromRows : List ℕ → Type 0
+  FromRows rest = (X : Picture) (n : ℕ) (front : List ℕ) → RowsSoFar limit X n front → length front ≤ longest → bytes ≡ front ++ rest → HasAnswer
+
+  by_byte : (rest : List ℕ) → FromRows rest → (X : Picture) (n : ℕ) (front : List ℕ) (c : ℕ) → RowsSoFar limit X n front → length front < longest → bytes ≡ (front ++ c ∷ []) ++ rest → HasAnswer
+  by_byte rest go X n front c h l e =
+      let w = number_value h.width in
+      let t = w * number_value h.height in
+      let p = byte_pixels w n in
+      let known = flat_map (row_pixels w) h.rows ++ flat_map bits_of h.row in
+      let Y : Picture = record { sides = X.sides; values = (known ++ take p (bits_of c)) ++ replicate (t - (n + p)) false } in
+      let k : n + p ≤ t = room_left w (number_value h.height) n (omega (arith, h.begun)) h.first.fewer in
+      ⊎_elim (λ m. go Y (n + p) (front ++ c ∷ []) (rows_next limit X Y n p front c h refl refl refl m) (omega (arith, length_push front c, l)) e)
+      (λ m. inl (Y, (length front + 1, subst (λ (x : List ℕ). Pbm limit longest x Y (length front + 1)) (sym e) (rows_spelled limit X Y n p front c h refl longest rest refl refl (omega (arith, k, m)) l))))
+      (cases_lt (n + p) t)
+
+  from_rows : (rest : List ℕ) → FromRows rest
+  from_rows [] X n front h l e = ended front e l (rows_unfinished limit h)
+  from_rows (c ∷ rest) X n front h l e =
+      let go = from_rows rest in
+      or_long front (c ∷ rest) e l (rows_unfinished limit h) (λ m. by_byte rest go X n front c h m (one_more front rest c e))
+
   -- what the rest of the file gives from within the header
   abbrev FromHeader : List ℕ → Type 0
   FromHeader rest = (s : Header) (front : List ℕ) → HeaderReached limit s front → length front ≤ longest → bytes ≡ front ++ rest → HasAnswer
@@ -67,7 +93,10 @@ module _ (limit longest : ℕ) (bytes : List ℕ) where
   by_step : (rest : List ℕ) → FromHeader rest → (front : List ℕ) (c : ℕ) → length front < longest → bytes ≡ (front ++ c ∷ []) ++ rest → (r : Result Progress PictureFault) → StepAnswer limit front c r → HasAnswer
   by_step rest go front c l e (Err f) d = inr (f, byte_fault limit longest (Some bytes) (Some rest) front c f (ap Some e) l d)
   by_step rest go front c l e (Ok (progress.More s)) h = go s (front ++ c ∷ []) h (omega (arith, length_push front c)) e
-  by_step rest go front c l e (Ok (progress.Done w h)) k =
+  by_step rest go front c l e (Ok (progress.Done Packed w h)) k =
+      let n = w ∷ h ∷ [] in
+      from_rows rest (blank n) 0 (front ++ c ∷ []) (rows_start limit w h (blank n) n (front ++ c ∷ []) k refl refl) (omega (arith, length_push front c)) e
+  by_step rest go front c l e (Ok (progress.Done Plain w h)) k =
       let n = w ∷ h ∷ [] in
       from_raster rest (blank n) false 0 (front ++ c ∷ []) (pixels_start limit w h (blank n) n (front ++ c ∷ []) k refl refl) (omega (arith, length_push front c)) e
 

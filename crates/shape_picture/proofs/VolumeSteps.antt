@@ -17,7 +17,7 @@ use Rattle.shape_picture.specs.Answers.{raw, SpellsSome, HasFault, ReadStopped, 
 use Rattle.shape_picture.specs.Parts.{BytesTaken, VolumeSoFar}
 use Rattle.shape_picture.proofs.AtMostOne.{same_picture}
 use Rattle.shape_picture.proofs.ByteSteps.{taken_within}
-use Rattle.shape_picture.proofs.RasterSteps.{put_value, values_next}
+use Rattle.shape_picture.proofs.ValueSteps.{put_value, values_next}
 
 -- ---- the law
 

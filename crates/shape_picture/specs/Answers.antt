@@ -8,7 +8,7 @@ use Rattle.shape_desk.specs.Line.{IfTold}
 use Rattle.shape_picture.specs.declared.fault.PictureFault.{PictureFault}
 use Rattle.shape_picture.specs.declared.fault.PictureError.{PictureError}
 use Rattle.shape_picture.specs.declared.fault.PictureError.TheVariants as error
-use Rattle.shape_picture.specs.Plain.{Plain, PlainFault}
+use Rattle.shape_picture.specs.Pbm.{Pbm, PbmFault}
 use Rattle.shape_picture.specs.Raw.{Raw, RawFault}
 
 -- ---- formats
@@ -27,21 +27,21 @@ SpellsSome F bytes = (X : Picture) × F.spells X bytes
 abbrev pub HasFault : Format → List ℕ → Type 0
 HasFault F bytes = (f : PictureFault) × F.has_fault f bytes
 
--- the greatest side of a plain PBM
+-- the greatest side of a PBM
 abbrev pub most_side : ℕ
 most_side = 2048
 
--- how many bytes a plain PBM has at most, up to and with its last pixel
+-- how many bytes a PBM has at most, up to and with its last pixel or the last byte of its last row
 abbrev pub most_bytes : ℕ
 most_bytes = 2 ^ 26
 
 -- some front of the bytes spells the picture
 abbrev pub SpellsPicture : ℕ → ℕ → Picture → List ℕ → Type 0
-SpellsPicture limit longest X bytes = (m : ℕ) × Plain limit longest bytes X m
+SpellsPicture limit longest X bytes = (m : ℕ) × Pbm limit longest bytes X m
 
--- plain PBM with these limits
-abbrev pub plain : ℕ → ℕ → Format
-plain limit longest = record { spells = SpellsPicture limit longest; has_fault = λ f bytes. PlainFault limit longest bytes f; most = longest }
+-- PBM with these limits
+abbrev pub pbm : ℕ → ℕ → Format
+pbm limit longest = record { spells = SpellsPicture limit longest; has_fault = λ f bytes. PbmFault limit longest bytes f; most = longest }
 
 -- raw volumes of these sides: at most one byte is taken behind the last point's
 abbrev pub raw : List ℕ → Format

@@ -1,4 +1,4 @@
-pub mod Plain
+pub mod Pbm
 pub mod Raw
 pub mod Answers
 pub mod Bytes

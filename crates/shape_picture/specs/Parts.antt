@@ -1,16 +1,14 @@
 -- What the parts of the reader say of the bytes taken so far.
 -- `all` are the bytes left before the first of them, `left` those on the desk now and `ahead` those read ahead.
-use Rattle.std.specs.Prelude.{◌≡◌, ℕ, ◌+◌, ◌≤◌, Bool, List, [], ◌∷◌, ◌++◌, length, Option, None, Some, Result, Ok, Err, map, replicate, ◌-◌, false}
+use Rattle.std.specs.Prelude.{◌≡◌, ℕ, ◌+◌, ◌≤◌, List, [], ◌∷◌, ◌++◌, length, Option, None, Some, Result, Ok, Err, map, replicate, ◌-◌, false}
 use Rattle.shape_terms.specs.Pictures.{Picture}
 use Rattle.shape_desk.specs.Desk.{Rose, Takes, IsEnd}
 use Rattle.shape_desk.specs.Line.{ahead_of}
-use Rattle.shape_picture.specs.declared.plain.Heading.{Heading}
-use Rattle.shape_picture.specs.declared.header.Header.{Header}
+use Rattle.shape_picture.specs.declared.pbm.Heading.{Heading}
 use Rattle.shape_picture.specs.declared.header.Coming.TheVariants as coming
 use Rattle.shape_picture.specs.declared.fault.PictureError.{PictureError}
-use Rattle.shape_picture.specs.Answers.{plain, raw, ReadStopped}
-use Rattle.shape_picture.specs.Header.{HeaderReached, IsInGap}
-use Rattle.shape_picture.specs.Raster.{PictureSoFar}
+use Rattle.shape_picture.specs.Answers.{pbm, raw, ReadStopped}
+use Rattle.shape_picture.specs.Header.{IsInGap}
 use Rattle.shape_picture.specs.Raw.{is_object}
 use Rattle.shape_terms.specs.Points.{box_count}
 
@@ -29,30 +27,18 @@ NextTaken longest at all left ahead front before now (Err e) = BytesTaken longes
 -- one byte more was taken, or the reading stopped
 abbrev pub NextByteAnswer : ℕ → ℕ → ℕ → Option (List ℕ) → Option (List ℕ) → List ℕ → List ℕ → ℕ → ℕ → Result ℕ PictureError → Type 0
 NextByteAnswer limit longest at all left ahead front before now (Ok c) = BytesTaken longest (at + 1) all left ahead (front ++ c ∷ [])
-NextByteAnswer limit longest at all left ahead front before now (Err e) = ReadStopped (plain limit longest) all left before now e
+NextByteAnswer limit longest at all left ahead front before now (Err e) = ReadStopped (pbm limit longest) all left before now e
 
--- the header's bytes so far
-pub record HeaderSoFar (limit longest at : ℕ) (header : Header) (all left : Option (List ℕ)) (ahead : List ℕ) : Type 0 where
+-- the first `at` of all bytes were taken, and P holds of them
+pub record FrontTaken (P : List ℕ → Type 0) (longest at : ℕ) (all left : Option (List ℕ)) (ahead : List ℕ) : Type 0 where
   pub front : List ℕ
-  pub reached : HeaderReached limit header front
+  pub known : P front
   pub taken : BytesTaken longest at all left ahead front
 
--- the whole header and the first piece of the gap after it
-pub record HeaderTaken (limit longest : ℕ) (h : Heading) (all left : Option (List ℕ)) (ahead : List ℕ) : Type 0 where
-  pub front : List ℕ
-  pub in_gap : IsInGap limit (coming.Raster h.width h.height) front
-  pub taken : BytesTaken longest h.at all left ahead front
-
--- the whole header was read, or the reading stopped
+-- the whole header was read, by the form `P1` up to the first piece of the gap that ends it, or the reading stopped
 abbrev pub HeaderAnswer : ℕ → ℕ → Option (List ℕ) → Option (List ℕ) → List ℕ → ℕ → ℕ → Result Heading PictureError → Type 0
-HeaderAnswer limit longest all left ahead before now (Ok h) = HeaderTaken limit longest h all left ahead
-HeaderAnswer limit longest all left ahead before now (Err e) = ReadStopped (plain limit longest) all left before now e
-
--- the raster's pixels so far
-pub record RasterSoFar (limit longest at : ℕ) (X : Picture) (comment : Bool) (n : ℕ) (all left : Option (List ℕ)) (ahead : List ℕ) : Type 0 where
-  pub front : List ℕ
-  pub pixels : PictureSoFar limit X comment n front
-  pub taken : BytesTaken longest at all left ahead front
+HeaderAnswer limit longest all left ahead before now (Ok h) = FrontTaken (IsInGap h.form limit (coming.Raster h.width h.height)) longest h.at all left ahead
+HeaderAnswer limit longest all left ahead before now (Err e) = ReadStopped (pbm limit longest) all left before now e
 
 -- the values of the first points of a volume so far; the other values are still background
 pub record VolumeSoFar (sides : List ℕ) (at : ℕ) (X : Picture) (all left : Option (List ℕ)) (ahead : List ℕ) : Type 0 where

@@ -1,5 +1,5 @@
 //! What can be wrong with the bytes of a picture, and why a call gave none.
-//! A further format brings its own faults; the exact place of each is said in `specs/Plain.antt` and `specs/Raw.antt`.
+//! A further format brings its own faults; the exact place of each is said in `specs/Pbm.antt` and `specs/Raw.antt`.
 use thiserror::Error;
 
 /// What is wrong with the bytes of a picture. The first byte that decides, in file order, decides the fault.
@@ -7,7 +7,7 @@ use thiserror::Error;
 /// Places of bytes count from 0.
 #[derive(Clone, Copy, Debug, PartialEq, Eq)]
 pub enum PictureFault {
-    /// One of the first three bytes is not `P`, `1`, and white space or the `#` of a comment, in turn.
+    /// One of the first three bytes is not `P`, `1` or `4`, and white space or the `#` of a comment, in turn.
     NotPlain,
     /// The byte at this place can follow in no header.
     BadNumber { at: u64 },
@@ -15,9 +15,9 @@ pub enum PictureFault {
     ZeroSide,
     /// The digits of a side so far have this value, the first that passes the greatest side.
     SideTooLarge { value: u32 },
-    /// The byte at this place of the raster is neither a pixel nor white space.
+    /// The byte at this place of a raster of the form `P1` is neither a pixel nor white space.
     BadByte { at: u64 },
-    /// The file ends before the last pixel: this is its length.
+    /// The file ends before the last pixel, or the last byte of the last row: this is its length.
     Short { at: u64 },
     /// The picture is not complete after the greatest number of bytes.
     TooLong,

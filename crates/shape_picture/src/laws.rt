@@ -1,12 +1,12 @@
-//! What holds of plain PBM and of raw volumes whatever reads them.
+//! What holds of PBM and of raw volumes whatever reads them.
 //! These are laws alone: the calls do nothing, what counts is their clauses.
 ghost use Rattle.std.specs.Prelude.{◌≡◌, ◌⊎◌, ◌&&◌, get_or, ℕ, List};
 ghost use Rattle.shape_terms.specs.Points.{Point, in_box, raster_number};
 ghost use Rattle.shape_terms.specs.Pictures.{Picture, at};
 ghost use Rattle.shape_picture.specs.declared.fault.PictureFault.{PictureFault};
-ghost use Rattle.shape_picture.specs.Plain.{Plain, PlainFault};
+ghost use Rattle.shape_picture.specs.Pbm.{Pbm, PbmFault};
 ghost use Rattle.shape_picture.specs.Raw.{Raw, RawFault, is_object};
-ghost use Rattle.shape_picture.specs.Answers.{plain, raw, SpellsSome, HasFault};
+ghost use Rattle.shape_picture.specs.Answers.{pbm, raw, SpellsSome, HasFault};
 
 /// The bytes of a file spell exactly one picture, by exactly one front, or they have exactly one fault.
 ///
@@ -14,14 +14,14 @@ ghost use Rattle.shape_picture.specs.Answers.{plain, raw, SpellsSome, HasFault};
 /// where it is due. This is a law alone: the call does nothing.
 pub fn one_answer()
     ensures some { (limit longest : ℕ) (bytes : List ℕ)
-        → SpellsSome (plain limit longest) bytes ⊎ HasFault (plain limit longest) bytes }
+        → SpellsSome (pbm limit longest) bytes ⊎ HasFault (pbm limit longest) bytes }
     ensures not_both { (limit longest : ℕ) (bytes : List ℕ)
         (X : Picture) (m : ℕ) (f : PictureFault)
-        → Plain limit longest bytes X m → PlainFault limit longest bytes f → ⊥ }
+        → Pbm limit longest bytes X m → PbmFault limit longest bytes f → ⊥ }
     ensures one_picture { (limit longest : ℕ) (bytes : List ℕ) (X Y : Picture) (m n : ℕ)
-        → Plain limit longest bytes X m → Plain limit longest bytes Y n → (X ≡ Y) × (m ≡ n) }
+        → Pbm limit longest bytes X m → Pbm limit longest bytes Y n → (X ≡ Y) × (m ≡ n) }
     ensures one_fault { (limit longest : ℕ) (bytes : List ℕ) (f g : PictureFault)
-        → PlainFault limit longest bytes f → PlainFault limit longest bytes g → f ≡ g }
+        → PbmFault limit longest bytes f → PbmFault limit longest bytes g → f ≡ g }
 {}
 
 /// The bytes of a file spell exactly one volume of given sides, or they have exactly one fault.

@@ -1,4 +1,4 @@
-//! The raster of a plain PBM as a machine that takes one byte after another, and the grid that it fills.
+//! The raster of the form `P1` as a machine that takes one byte after another, and the grid that it fills.
 //! Its steps are those of `specs/Raster.antt`; what they mean for the grammar is proved in `proofs/RasterSteps.antt`.
 ghost use Rattle.std.specs.Prelude.{◌≡◌, ◌<◌, slice_set, if◌then◌else◌, true};
 ghost use Rattle.shape_terms.specs.Points.{box_count};

@@ -2,7 +2,7 @@
 ghost use Rattle.std.specs.Prelude.{◌<◌, ◌^◌, true, None};
 
 use crate::fault::{PictureError, PictureFault};
-use crate::plain::{MOST_BYTES, read_plain};
+use crate::pbm::{MOST_BYTES, read_pbm};
 use shape_desk::{Desk, Failed, MemoryDesk, Place};
 use shape_grid::Grid;
 use shape_space::P2;
@@ -46,7 +46,7 @@ fn read(
     if desk.begin(Place::Picture, b"f").is_err() {
         return Err(PictureError::ReadFault);
     }
-    read_plain(alloc, &mut desk)
+    read_pbm(alloc, &mut desk)
 }
 
 fn fault(alloc: Global, bytes: &[u8]) -> Option<PictureError> {
@@ -67,15 +67,19 @@ fn count(alloc: Global, bytes: &[u8]) -> Option<u32> {
 #[test]
 fn faults(rt: HostRuntime) -> Result<(), Fail> {
     let alloc = rt.alloc();
-    let cases: [(&[u8], PictureFault); 17] = [
+    let cases: [(&[u8], PictureFault); 21] = [
         (b"", PictureFault::Short { at: 0 }),
         (b"P1 0", PictureFault::Short { at: 4 }),
         (b"P1 3 1 1 0", PictureFault::Short { at: 10 }),
         (b"P1 1 1 #1", PictureFault::Short { at: 9 }),
-        (b"P4 1 1 x", PictureFault::NotPlain),
+        (b"P4\n3 2\n\xA0", PictureFault::Short { at: 8 }),
+        (b"P5 1 1 0", PictureFault::NotPlain),
         (b"P1x", PictureFault::NotPlain),
         (b"P1 2x2 1", PictureFault::BadNumber { at: 4 }),
         (b"P1 0x", PictureFault::BadNumber { at: 4 }),
+        (b"P4 1 1x", PictureFault::BadNumber { at: 6 }),
+        (b"P4 1 1#\nx", PictureFault::BadNumber { at: 8 }),
+        (b"P4 1 1#\n1", PictureFault::BadNumber { at: 8 }),
         (b"P1 0 3 ", PictureFault::ZeroSide),
         (b"P1 0#", PictureFault::ZeroSide),
         (b"P1 2049 1 1", PictureFault::SideTooLarge { value: 2049 }),
@@ -101,6 +105,17 @@ fn pictures(rt: HostRuntime) -> Result<(), Fail> {
     );
     assert_eq!(rt; count(alloc, b"P1 1 1 #c\n1#"), Some(1));
     assert_eq!(rt; count(alloc, b"P1\t1\r\n01 1"), Some(1));
+    for bytes in [b"P4 1 1\n\n".as_slice(), b"P4 1 1#\n\n\n", b"P4 1 1 x"] {
+        assert_eq!(rt; count(alloc, bytes), Some(0));
+    }
+    match read(alloc, b"P4\n# made by a paint program\n3 2\n\xA0\x7F", 3, 0) {
+        Ok(grid) => {
+            assert_eq!(rt; grid.count(), 4);
+            assert!(rt; grid.has(P2 { x: 0, y: 0 }) && grid.has(P2 { x: 2, y: 0 }));
+            assert!(rt; grid.has(P2 { x: 1, y: 1 }) && grid.has(P2 { x: 2, y: 1 }));
+        }
+        Err(_) => assert!(rt; false),
+    }
     match read(alloc, b"P1 3 2 011 001", 512, 0) {
         Ok(grid) => {
             assert_eq!(rt; grid.count(), 3);
@@ -135,7 +150,7 @@ fn failed_reads(rt: HostRuntime) -> Result<(), Fail> {
     Ok(())
 }
 
-// A picture of one pixel: some bytes, so many blanks, and then `1` without end. It tells nothing.
+// A file of some bytes and then so many line ends, which are not held. The desk tells nothing.
 #[derive(Drop)]
 pub(crate) struct Blanks {
     pub(crate) head: &'static [u8],
@@ -171,12 +186,8 @@ impl Desk for Blanks {
             self.at += 1;
             return Ok(1);
         }
-        if self.blanks == 0 {
-            buf[0] = b'1';
-            return Ok(1);
-        }
         let count = buf.len().min(self.blanks as usize);
-        buf[..count].fill(b' ');
+        buf[..count].fill(b'\n');
         self.blanks -= count as u64;
         Ok(count)
     }
@@ -186,30 +197,28 @@ impl Desk for Blanks {
     }
 }
 
-// What is read of so many bytes, blanks behind the head and one pixel last.
-fn read_long(alloc: Global, head: &'static [u8], length: u64) -> Result<Grid<P2>, PictureError> {
-    let blanks = length.saturating_sub(head.len() as u64).saturating_sub(1);
+// The fault of a file with so many bytes, `P1` and then line ends.
+fn long_fault(alloc: Global, length: u64) -> Option<PictureError> {
     let mut desk = Blanks {
-        head,
+        head: b"P1",
         at: 0,
-        blanks,
+        blanks: length.saturating_sub(2),
     };
-    read_plain(alloc, &mut desk)
+    match read_pbm(alloc, &mut desk) {
+        Ok(_) => None,
+        Err(error) => Some(error),
+    }
 }
 
 #[test]
 fn longest(rt: HostRuntime) -> Result<(), Fail> {
     let alloc = rt.alloc();
-    match read_long(alloc, b"P1 1 1 ", MOST_BYTES) {
-        Ok(grid) => assert_eq!(rt; grid.count(), 1),
-        Err(_) => assert!(rt; false),
-    }
-    let too_long = PictureError::Bad(PictureFault::TooLong);
-    for head in [b"P1 1 1 ".as_slice(), b"P1".as_slice()] {
-        match read_long(alloc, head, MOST_BYTES + 1) {
-            Ok(_) => assert!(rt; false),
-            Err(error) => assert_eq!(rt; error, too_long),
-        }
-    }
+    let short = PictureFault::Short { at: 33554432 };
+    assert_eq!(rt; long_fault(alloc, 33554432), Some(PictureError::Bad(short)));
+    let too_long = PictureFault::TooLong;
+    assert_eq!(rt;
+        long_fault(alloc, MOST_BYTES),
+        Some(PictureError::Bad(too_long))
+    );
     Ok(())
 }

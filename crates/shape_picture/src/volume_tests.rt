@@ -82,7 +82,7 @@ fn endless(rt: HostRuntime) -> Result<(), Fail> {
     let mut desk = Blanks {
         head: b"",
         at: 0,
-        blanks: 0,
+        blanks: u64::MAX,
     };
     let Some(sides) = Sides::try_new(P3 { x: 2, y: 2, z: 2 }) else {
         return Err(Fail::from(AllocError));

@@ -1,7 +1,7 @@
 use Rattle.shape_desk.specs.declared.desk.Place.TheVariants.{Picture}
 use Rattle.shape_picture.specs.Answers.{most_side, most_bytes}
 use Rattle.shape_picture.proofs.ByteSteps.{ends_short, ends_failed}
-use Rattle.shape_picture.proofs.plain.next_byte.Goals as goal
+use Rattle.shape_picture.proofs.pbm.next_byte.Goals as goal
 
 pub returns-in-Ok-Some-clause-answer : goal.returns-in-Ok-Some-clause-answer
 returns-in-Ok-Some-clause-answer g c = λ all front t u. (rw c.in-Ok-Some.field-0-is at c.in-Ok-Some.ensures.taken) all front t

@@ -1,26 +1,28 @@
-//! Reading a plain PBM byte by byte: the header, then the pixels into a grid.
+//! Reading a PBM byte by byte: the header, then the pixels into a grid.
 //! No function holds the file; each takes one byte at most, or loops over one that does.
 ghost use Rattle.std.specs.Prelude.{◌≡◌, ◌+◌, ◌≤◌, ◌<◌, [], ◌∷◌, true, false, Option, List, ℕ};
 ghost use Rattle.shape_terms.specs.Points.{sides_of};
 ghost use Rattle.shape_desk.specs.Desk.{OnlyReadsAt};
 ghost use Rattle.shape_desk.specs.declared.desk.Place.TheVariants.{Picture};
-ghost use Rattle.shape_picture.specs.Answers.{most_side, most_bytes, plain, PictureAnswer};
-ghost use Rattle.shape_picture.specs.Plain.{IsUnfinished};
-ghost use Rattle.shape_picture.specs.Parts.{BytesTaken, NextByteAnswer, HeaderAnswer, RasterSoFar};
+ghost use Rattle.shape_picture.specs.Answers.{most_side, most_bytes, pbm, PictureAnswer};
+ghost use Rattle.shape_picture.specs.Pbm.{IsUnfinished};
+ghost use Rattle.shape_picture.specs.Raster.{PictureSoFar, RowsSoFar};
+ghost use Rattle.shape_picture.specs.Parts.{BytesTaken, FrontTaken, NextByteAnswer, HeaderAnswer};
 
 use crate::bytes::ByteReader;
 use crate::fault::{PictureError, PictureFault};
-use crate::header::{Header, Progress, step};
+use crate::header::{Form, Header, Progress, step};
 use crate::raster::{Piece, piece_at, put};
+use crate::rows::{pixels_ahead, put_bits};
 use shape_desk::{Desk, Place};
 use shape_grid::Grid;
 use shape_space::{P2, Point, Sides};
 use std::alloc::Global;
 
-/// The greatest side of a plain PBM.
+/// The greatest side of a PBM.
 pub const MOST_SIDE: u32 = P2::MAX_SIDE as u32;
 
-/// How many bytes a plain PBM has at most, up to and with its last pixel.
+/// How many bytes a PBM has at most, up to and with its last pixel or the last byte of its last row.
 pub const MOST_BYTES: u64 = 1 << 26;
 
 // Takes the next byte of a picture that is not complete.
@@ -41,9 +43,10 @@ fn next_byte<D: Desk>(at: u64, bytes: &mut ByteReader, desk: &mut D) -> Result<u
     }
 }
 
-// The sides of a picture and how many bytes its header and the gap after it have so far.
+// The form and the sides of a picture, and how many bytes were taken with its header.
 #[derive(Clone, Copy)]
 struct Heading {
+    form: Form,
     width: u32,
     height: u32,
     at: u64,
@@ -67,7 +70,8 @@ fn read_header<D: Desk>(bytes: &mut ByteReader, desk: &mut D) -> Result<Heading,
         };
         match step(MOST_SIDE, at, header, c) {
             Err(fault) => return Err(PictureError::Bad(fault)),
-            Ok(Progress::Done(width, height)) => return Ok(Heading {
+            Ok(Progress::Done(form, width, height)) => return Ok(Heading {
+                form,
                 width,
                 height,
                 at: at + 1,
@@ -98,7 +102,7 @@ fn box_of(width: u32, height: u32) -> Sides<P2>
     }
 }
 
-// Reads the pixels.
+// Reads the pixels of the form `P1`.
 fn read_raster<D: Desk>(
     from: u64,
     mut grid: Grid<P2>,
@@ -107,9 +111,9 @@ fn read_raster<D: Desk>(
 ) -> Result<Grid<P2>, PictureError>
     requires begun { (D.state desk.old).begun Picture ≡ true }
     ensures answer { (all : Option (List ℕ))
-        → RasterSoFar most_side most_bytes from grid false 0 all
+        → FrontTaken (PictureSoFar most_side grid false 0) most_bytes from all
         ((D.state desk.old).left Picture) bytes.old
-        → PictureAnswer (plain most_side most_bytes) all ((D.state desk.new).left Picture)
+        → PictureAnswer (pbm most_side most_bytes) all ((D.state desk.new).left Picture)
         (D.state desk.old).read_faults (D.state desk.new).read_faults result }
     ensures reads { OnlyReadsAt Picture (D.state desk.old) (D.state desk.new) }
 {
@@ -142,13 +146,49 @@ fn read_raster<D: Desk>(
     Err(PictureError::Bad(PictureFault::TooLong))
 }
 
-/// Reads the plain PBM at the front of the picture's place.
+// Reads the rows of the form `P4`.
+fn read_rows<D: Desk>(
+    heading: Heading,
+    mut grid: Grid<P2>,
+    bytes: &mut ByteReader,
+    desk: &mut D,
+) -> Result<Grid<P2>, PictureError>
+    requires begun { (D.state desk.old).begun Picture ≡ true }
+    requires sides { grid.sides ≡ heading.width ∷ heading.height ∷ [] }
+    requires some_width { 1 ≤ heading.width }
+    ensures answer { (all : Option (List ℕ))
+        → FrontTaken (RowsSoFar most_side grid 0) most_bytes heading.at all
+        ((D.state desk.old).left Picture) bytes.old
+        → PictureAnswer (pbm most_side most_bytes) all ((D.state desk.new).left Picture)
+        (D.state desk.old).read_faults (D.state desk.new).read_faults result }
+    ensures reads { OnlyReadsAt Picture (D.state desk.old) (D.state desk.new) }
+{
+    let total = grid.sides().count();
+    let mut at = heading.at;
+    let mut count: u32 = 0;
+    while at < MOST_BYTES {
+        let c = match next_byte(at, bytes, desk) {
+            Ok(c) => c,
+            Err(error) => return Err(error),
+        };
+        let pixels = pixels_ahead(heading.width, count);
+        put_bits(&mut grid, count, c, pixels);
+        at += 1;
+        count += pixels;
+        if count == total {
+            return Ok(grid);
+        }
+    }
+    Err(PictureError::Bad(PictureFault::TooLong))
+}
+
+/// Reads the PBM at the front of the picture's place, in the form `P1` or `P4`.
 ///
-/// What follows the last pixel is not looked at, but may have been taken from the desk. It takes memory for 512 bytes
-/// and the grid.
-pub fn read_plain<D: Desk>(alloc: Global, desk: &mut D) -> Result<Grid<P2>, PictureError>
+/// What follows the last pixel, or the last byte of the last row, is not looked at, but may have been taken from the desk.
+/// It takes memory for 512 bytes and the grid.
+pub fn read_pbm<D: Desk>(alloc: Global, desk: &mut D) -> Result<Grid<P2>, PictureError>
     requires { (D.state desk.old).begun Picture ≡ true }
-    ensures answer { PictureAnswer (plain most_side most_bytes)
+    ensures answer { PictureAnswer (pbm most_side most_bytes)
         ((D.state desk.old).left Picture) ((D.state desk.new).left Picture)
         (D.state desk.old).read_faults (D.state desk.new).read_faults result }
     ensures reads { OnlyReadsAt Picture (D.state desk.old) (D.state desk.new) }
@@ -158,8 +198,12 @@ pub fn read_plain<D: Desk>(alloc: Global, desk: &mut D) -> Result<Grid<P2>, Pict
         Err(_) => return Err(PictureError::NoMemory),
     };
     let heading = read_header(&mut bytes, desk)?;
-    match Grid::new(alloc, box_of(heading.width, heading.height)) {
-        Ok(grid) => read_raster(heading.at, grid, &mut bytes, desk),
-        Err(_) => Err(PictureError::NoMemory),
+    let grid = match Grid::new(alloc, box_of(heading.width, heading.height)) {
+        Ok(grid) => grid,
+        Err(_) => return Err(PictureError::NoMemory),
+    };
+    match heading.form {
+        Form::Plain => read_raster(heading.at, grid, &mut bytes, desk),
+        Form::Packed => read_rows(heading, grid, &mut bytes, desk),
     }
 }

@@ -1,0 +1,48 @@
+use Rattle.std.proofs.Common.{sym, subst, arith}
+use Rattle.shape_desk.specs.declared.desk.Place.TheVariants.{Picture}
+use Rattle.shape_desk.proofs.Writes.{OnlyReadsAt-more}
+use Rattle.shape_picture.specs.Answers.{most_side, most_bytes, pbm}
+use Rattle.shape_picture.specs.Header.{StepAnswer}
+use Rattle.shape_picture.proofs.HeaderSteps.{step_answer, unfinished}
+use Rattle.shape_picture.proofs.ByteSteps.{stops_long, stops_bad, stops_earlier}
+use Rattle.shape_picture.proofs.pbm.read_header.Goals as goal
+
+pub returns-in-Err-clause-answer : goal.returns-in-Err-clause-answer
+returns-in-Err-clause-answer g c =
+    let i = c.loop-at.invariant.0 in
+    stops_earlier (pbm most_side most_bytes) _ _ _ _ _ _ c.loop-at.invariant.1.only.later (c.in-Err.ensures.answer ((g.D.Desk.state c.args.desk.now).left Picture) i.front i.taken (unfinished most_side c.loop-at.header i.front i.known))
+
+pub returns-in-Err-step-clause-answer : goal.returns-in-Err-step-clause-answer
+returns-in-Err-step-clause-answer g c =
+    let i = c.loop-at.invariant.0 in
+    let all = (g.D.Desk.state c.args.desk.now).left Picture in
+    let t = c.in-Ok.ensures.answer all i.front i.taken (unfinished most_side c.loop-at.header i.front i.known) in
+    stops_bad most_side most_bytes c.loop-at.at all _ _ i.front c.in-Ok.c _ _ c.in-Err-step.fault t (omega (arith, i.taken.many, c.loop-at-test.true))
+    (subst (λ x. StepAnswer most_side i.front c.in-Ok.c x) (sym c.in-Err-step.ensures) (step_answer most_side c.loop-at.at c.loop-at.header i.front c.in-Ok.c (sym i.taken.many) i.known))
+
+pub returns-in-Ok-Done-clause-answer : goal.returns-in-Ok-Done-clause-answer
+returns-in-Ok-Done-clause-answer g c =
+    let i = c.loop-at.invariant.0 in
+    let e = rw c.in-Ok-Done.field-0-is at c.in-Ok-Done.ensures in
+    record {
+      front = _;
+      known = subst (λ x. StepAnswer most_side i.front c.in-Ok.c x) (sym e) (step_answer most_side c.loop-at.at c.loop-at.header i.front c.in-Ok.c (sym i.taken.many) i.known);
+      taken = c.in-Ok.ensures.answer ((g.D.Desk.state c.args.desk.now).left Picture) i.front i.taken (unfinished most_side c.loop-at.header i.front i.known);
+    }
+
+pub loop-at-preserved : goal.loop-at-preserved
+loop-at-preserved g c =
+    let i = c.loop-at.invariant.0 in
+    let e = rw c.in-Ok-More.field-0-is at c.in-Ok-More.ensures in (
+      record {
+        front = _;
+        known = subst (λ x. StepAnswer most_side i.front c.in-Ok.c x) (sym e) (step_answer most_side c.loop-at.at c.loop-at.header i.front c.in-Ok.c (sym i.taken.many) i.known);
+        taken = c.in-Ok.ensures.answer ((g.D.Desk.state c.args.desk.now).left Picture) i.front i.taken (unfinished most_side c.loop-at.header i.front i.known);
+      },
+      OnlyReadsAt-more c.loop-at.invariant.1 c.in-Ok.ensures.reads,
+    )
+
+pub returns-clause-answer : goal.returns-clause-answer
+returns-clause-answer g c =
+    let i = c.loop-at.invariant.0 in
+    stops_long most_side most_bytes c.loop-at.at ((g.D.Desk.state c.args.desk.now).left Picture) ((g.D.Desk.state c.loop-at.desk).left Picture) c.loop-at.bytes i.front (g.D.Desk.state c.args.desk.now).read_faults (g.D.Desk.state c.loop-at.desk).read_faults i.taken c.loop-at-test.false (unfinished most_side c.loop-at.header i.front i.known)
