@@ -5,3 +5,4 @@ pub mod OneLine
 pub mod FirstLine
 pub mod Distances
 pub mod ThinningJudged
+pub mod CutTexts

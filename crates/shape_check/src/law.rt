@@ -1,11 +1,12 @@
 //! What the answers of a check mean, as laws that callers can cite: what counts are the clauses.
 //! A further law is one more function with an empty body.
-ghost use Rattle.std.specs.Prelude.{◌≡◌, ◌≢◌, ℕ, List, Some, Result, Ok, Err};
+ghost use Rattle.std.specs.Prelude.{◌≡◌, ◌≢◌, ◌+◌, ◌++◌, [], ℕ, List, Some, Result, Ok, Err};
 ghost use Rattle.shape_desk.specs.Desk.{Rose};
 ghost use Rattle.report_terms.specs.Subjects.{Subject};
 ghost use Rattle.report_terms.specs.Holds.{Holds, FirstBad};
 ghost use Rattle.report_terms.specs.Shows.{TextShows};
 ghost use Rattle.shape_check.specs.Checks.{Answer, Checks};
+ghost use Rattle.shape_check.specs.Texts.{line_ends};
 ghost use Rattle.shape_check.specs.declared.answer.CheckFault.TheVariants.{NoMemory};
 ghost use Rattle.shape_check.specs.declared.answer.Judgement.TheVariants.{Yes};
 
@@ -21,6 +22,20 @@ pub fn holding_shows()
 pub fn one_first_bad()
     ensures { (X : Subject) (text : List ℕ) (k m : ℕ) → FirstBad X text k
         → FirstBad X text m → k ≡ m }
+{}
+
+/// A report that was cut is bad in the line that the cut fell in, the first that has no line end, or that is not there.
+///
+/// Where line ends are left of it, they end good lines.
+pub fn cut_reports_are_bad()
+    ensures { (X : Subject) (front more : List ℕ) → Holds X (front ++ more) → more ≢ []
+        → FirstBad X front (line_ends front + 1) }
+{}
+
+/// A report with some bytes behind it is bad in the line behind its last.
+pub fn longer_reports_are_bad()
+    ensures { (X : Subject) (text more : List ℕ) → Holds X text → more ≢ []
+        → FirstBad X (text ++ more) (line_ends text + 1) }
 {}
 
 /// A report that holds is answered `Yes`, where memory was found and no count of faults rose.

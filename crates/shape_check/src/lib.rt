@@ -8,7 +8,7 @@ mod counts;
 mod end;
 mod heading;
 mod judges;
-mod law;
+pub mod law;
 mod next;
 mod outline;
 mod sections;
@@ -18,9 +18,3 @@ mod whole;
 
 pub use answer::{CheckFault, Judgement};
 pub use check::{check_flat, check_solid};
-pub use law::{holding_is_answered, holding_shows, one_first_bad};
-
-#[cfg(test)]
-mod tests;
-#[cfg(test)]
-mod volume_tests;
