@@ -2,12 +2,11 @@
 //! All that it decides is decided by `shape_cli::run`.
 #![tactic(auto)]
 
-mod host;
 mod shelf;
 
-use host::HostDesk;
+use host_desk::HostDesk;
 use shape_cli::{Outcome, run};
-use shape_rules::{CurveEnds, NoEnds};
+use shape_rules::{CurveEnds, FewEnds, NoEnds};
 use shelf::shelf;
 use std::env::{self, Env};
 use std::fs::Files;
@@ -41,13 +40,16 @@ fn complain<R: Eprint>(rt: &R, outcome: Outcome) -> io::Result<()> {
     }
 }
 
-// Runs the words by the rules `none` and `curve`.
+// Runs the words by the rules `none`, `curve` and `few`; the last marks two points at most.
 fn run_words<R: Files + Print + AllocGlobal>(rt: &R, words: &[Vec<u8>]) -> Outcome {
     let alloc = rt.alloc();
-    let (Ok(none), Ok(curve)) = (Box::new(alloc, NoEnds), Box::new(alloc, CurveEnds)) else {
+    let none = Box::new(alloc, NoEnds);
+    let curve = Box::new(alloc, CurveEnds);
+    let few = Box::new(alloc, FewEnds::new(2));
+    let (Ok(none), Ok(curve), Ok(few)) = (none, curve, few) else {
         return Outcome::NoMemory;
     };
-    match shelf(alloc, none, curve) {
+    match shelf(alloc, none, curve, few) {
         Ok(shelf) => run(alloc, words, &mut HostDesk::new(rt), shelf),
         Err(_) => Outcome::NoMemory,
     }

@@ -7,15 +7,17 @@ use shape_rules::{EndRule, Entry, Name, Shelf};
 use shape_space::NoMemory;
 use std::alloc::Global;
 
-/// A shelf with the rules `none` and `curve`.
+/// A shelf with the rules `none`, `curve` and `few`.
 pub fn shelf(
     alloc: Global,
     none: Box<dyn EndRule>,
     curve: Box<dyn EndRule>,
+    few: Box<dyn EndRule>,
 ) -> Result<Shelf, NoMemory>
-    ensures { IfOk result (λ s. names_of s ≡ codes "none" ∷ codes "curve" ∷ []) }
+    ensures { IfOk result (λ s. names_of s ≡ codes "none" ∷ codes "curve" ∷ codes "few" ∷ []) }
 {
-    let (Some(first), Some(second)) = (Name::new(b"none"), Name::new(b"curve")) else {
+    let names = (Name::new(b"none"), Name::new(b"curve"), Name::new(b"few"));
+    let (Some(first), Some(second), Some(third)) = names else {
         unreachable!()
     };
     let mut rules: Vec<Entry> = Vec::new(alloc);
@@ -26,6 +28,10 @@ pub fn shelf(
     rules.push(Entry {
         name: second,
         rule: curve,
+    })?;
+    rules.push(Entry {
+        name: third,
+        rule: few,
     })?;
     Ok(Shelf::new(rules))
 }

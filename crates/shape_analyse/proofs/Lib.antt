@@ -3,3 +3,4 @@ pub mod ContourGrowth
 pub mod FaceGrowth
 pub mod ThinningGrowth
 pub mod FoundLines
+pub mod TallyGrowth

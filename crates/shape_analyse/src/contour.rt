@@ -1,6 +1,6 @@
 //! The lines of the contours of a flat picture: each with its points, its segments, and the evidence for the gaps between these.
 //! What is found of a contour comes from `shape_crack` and `shape_cover`.
-ghost use Rattle.std.specs.Prelude.{◌≡◌, ◌≤◌, ◌<◌, ◌+◌, ◌*◌, ℕ, List, [], ◌∷◌, ◌++◌, Some, slice_get, OnOk, length, All};
+ghost use Rattle.std.specs.Prelude.{◌≡◌, ◌≤◌, ◌<◌, ◌+◌, ◌*◌, ◌^◌, ℕ, List, [], ◌∷◌, ◌++◌, Some, slice_get, IfOk, OnOk, length, All};
 ghost use Rattle.shape_terms.specs.Traces.{Contour as Trace};
 ghost use Rattle.report_terms.specs.Lines.{line_text, IsLineOf};
 ghost use Rattle.shape_report.specs.LineOf.{line_of};
@@ -8,6 +8,7 @@ ghost use Rattle.shape_crack.specs.Terms.{point_of};
 ghost use Rattle.shape_refute.specs.Evidences.{evidence_of};
 ghost use Rattle.shape_cover.specs.Found.{IsCoverOf};
 ghost use Rattle.shape_analyse.specs.Growing.{Aim, HasOutlined, IsTextOf, Stands, IsSomeCover, gap_line, outlined, covered};
+ghost use Rattle.shape_analyse.specs.Tallies.{HasSegments, HaveCovers};
 
 use shape_cover::{Cover, cover};
 use shape_crack::{Contour, Contours};
@@ -96,33 +97,39 @@ fn add_gaps(cover: &Cover, report: &mut Report) -> Result<(), NoMemory>
     Ok(())
 }
 
-// Adds all lines of a contour.
-fn add_contour(alloc: Global, contour: &Contour, report: &mut Report) -> Result<(), NoMemory>
+// Adds all lines of a contour, and tells the number of its segments.
+fn add_contour(alloc: Global, contour: &Contour, report: &mut Report) -> Result<u32, NoMemory>
     requires side { contour.now.start.side < 4 }
-    ensures { (X : Aim) (contours : List Trace) (k : ℕ)
+    ensures segments { IfOk result (HasSegments contour.now) }
+    ensures few { IfOk result (λ n. n ≤ 2 ^ 24) }
+    ensures text { (X : Aim) (contours : List Trace) (k : ℕ)
         → slice_get contours k ≡ Some contour.now
         → IsTextOf (HasOutlined X contours k) report.old
         → OnOk result (IsTextOf (HasOutlined X contours (k + 1)) report.new) }
 {
+    contour.is_closed_path();
     let cover = cover(alloc, contour)?;
-    add_outline(contour, cover.len(), report)?;
+    let segments = cover.len();
+    add_outline(contour, segments, report)?;
     add_segments(&cover, report)?;
     add_gaps(&cover, report)?;
-    Ok(())
+    Ok(segments)
 }
 
-// Adds the lines of each contour.
+// Adds the lines of each contour, and tells the number of all segments.
 pub(crate) fn add_contours(
     alloc: Global,
     contours: &Contours,
     report: &mut Report,
-) -> Result<(), NoMemory>
+) -> Result<u64, NoMemory>
     requires sides { All (λ c. c.start.side < 4) contours.now }
-    ensures { (X : Aim) → IsTextOf (HasOutlined X contours.now 0) report.old
+    ensures segments { IfOk result (HaveCovers contours.now) }
+    ensures text { (X : Aim) → IsTextOf (HasOutlined X contours.now 0) report.old
         → OnOk result (IsTextOf (HasOutlined X contours.now (length contours.now)) report.new) }
 {
+    let mut segments: u64 = 0;
     for k in 0..contours.len() {
-        add_contour(alloc, contours.contour(k), report)?;
+        segments += u64::from(add_contour(alloc, contours.contour(k), report)?);
     }
-    Ok(())
+    Ok(segments)
 }

@@ -1,11 +1,12 @@
 //! The lines of the faces of a volume: each with its patches, their points, and the points that each refused.
 //! What is found of a face comes from `shape_plane`.
-ghost use Rattle.std.specs.Prelude.{◌≡◌, ◌<◌, ◌+◌, ◌^◌, ℕ, List, Some, slice_get, OnOk, length};
+ghost use Rattle.std.specs.Prelude.{◌≡◌, ◌<◌, ◌+◌, ◌^◌, ℕ, List, Some, slice_get, IfOk, OnOk, length};
 ghost use Rattle.shape_terms.specs.Pictures.{Picture};
 ghost use Rattle.patch_terms.specs.Patches.{FoundPatch, points_of};
 ghost use Rattle.report_terms.specs.FaceFacts.{face_axis, face_sense};
 ghost use Rattle.shape_refute.specs.Senses.{sense_of};
 ghost use Rattle.shape_analyse.specs.Growing.{Aim, IsTextOf};
+ghost use Rattle.shape_analyse.specs.Tallies.{exposed_in, exposed_count};
 ghost use Rattle.shape_analyse.specs.Facing.{IsFacing, HasFaces, HasPatches, AreFound, IsSomePatch, IsSomeFace, points_before, patches_of, at_patch};
 
 use shape_grid::Grid;
@@ -103,24 +104,27 @@ fn add_patches(found: &Patches<P3>, report: &mut Report) -> Result<(), NoMemory>
     Ok(())
 }
 
-// Adds the lines of the face with a number.
-fn add_face(alloc: Global, grid: &Grid<P3>, face: u8, report: &mut Report) -> Result<(), NoMemory>
+// Adds the lines of the face with a number, and tells the number of its exposed points.
+fn add_face(alloc: Global, grid: &Grid<P3>, face: u8, report: &mut Report) -> Result<u32, NoMemory>
     requires { face < 6 }
-    ensures { (X : Aim) → X.subject.picture ≡ grid.now → IsTextOf (HasFaces X face) report.old
+    ensures exposed { IfOk result (λ n. n ≡ exposed_in grid.now face) }
+    ensures few { IfOk result (λ n. n < 2 ^ 32) }
+    ensures text { (X : Aim) → X.subject.picture ≡ grid.now → IsTextOf (HasFaces X face) report.old
         → OnOk result (IsTextOf (HasFaces X (face + 1)) report.new) }
 {
     grid.is_picture();
     let axis = face / 2;
     let sense = sense_in(face);
     let found = patches(alloc, grid, axis as usize, sense)?;
+    let points = exposed_points(&found);
     let line: Line<P3> = Line::Face {
         axis,
         sense,
-        points: exposed_points(&found),
+        points,
     };
     report.add(&line)?;
     add_patches(&found, report)?;
-    Ok(())
+    Ok(points)
 }
 
 // The sense of the face with a number.
@@ -134,13 +138,19 @@ fn sense_in(face: u8) -> Sense
     }
 }
 
-// Adds the lines of all faces.
-pub(crate) fn add_faces(alloc: Global, grid: &Grid<P3>, report: &mut Report) -> Result<(), NoMemory>
-    ensures { (X : Aim) → X.subject.picture ≡ grid.now → IsTextOf (HasFaces X 0) report.old
+// Adds the lines of all faces, and tells the number of exposed points of all.
+pub(crate) fn add_faces(
+    alloc: Global,
+    grid: &Grid<P3>,
+    report: &mut Report,
+) -> Result<u64, NoMemory>
+    ensures exposed { IfOk result (λ n. n ≡ exposed_count grid.now 6) }
+    ensures text { (X : Aim) → X.subject.picture ≡ grid.now → IsTextOf (HasFaces X 0) report.old
         → OnOk result (IsTextOf (HasFaces X 6) report.new) }
 {
+    let mut exposed: u64 = 0;
     for face in 0..6 {
-        add_face(alloc, grid, face, report)?;
+        exposed += u64::from(add_face(alloc, grid, face, report)?);
     }
-    Ok(())
+    Ok(exposed)
 }

@@ -6,10 +6,9 @@ mod begin;
 mod contour;
 mod faces;
 mod outline;
+mod tally;
 mod thinning;
 mod whole;
 
+pub use tally::{Analysis, Extent, Tally};
 pub use whole::{analyse_flat, analyse_solid};
-
-#[cfg(test)]
-mod tests;

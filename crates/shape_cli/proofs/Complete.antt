@@ -9,63 +9,78 @@ use Rattle.report_terms.specs.Holds.{Holds, FirstBad}
 use Rattle.shape_desk.specs.Desk.{Files, DeskState, Rose}
 use Rattle.shape_picture.specs.declared.fault.PictureFault.{PictureFault}
 use Rattle.report_terms.specs.Subjects.{subject_of}
-use Rattle.shape_cli.specs.Commands.{Source, Asked, file_of, source_of}
-use Rattle.shape_cli.specs.Runs.{OfFile, HasFault, IsPictureOf, IsReport, Answers, Lacks, Ran}
+use Rattle.shape_cli.specs.Commands.{Source, Asked, file_of, OfSource, IfSource}
+use Rattle.shape_cli.specs.Runs.{IsFaultOf, IsReport, Answers, Lacks, Ran}
 use Rattle.shape_cli.specs.Complete.{FileIs, FindsPicture, FindsSome, FindsFault, FindsRest, HasNoFault, IsAnswer}
 use Rattle.shape_cli.specs.declared.outcome.Outcome.{Outcome}
 use Rattle.shape_cli.specs.declared.outcome.Outcome.TheVariants as outcome
 use Rattle.shape_cli.proofs.Sources.{meet, told, not_missing, is_told, not_faulty, not_picture, its_fault, its_picture, finds_some, is_there}
 
 module _ (shelf : List (Named Rule)) where
-  -- an answer tells of a picture
-  tells : (c : Asked) (files : Option Files) (o : Outcome) (text : List ℕ) → Answers shelf c files o text → (X : Picture) × IsPictureOf files (source_of c) X
-  tells (Asked.Analyse source rule) files outcome.Done text a = (a.0, a.1)
-  tells (Asked.Check source report) files outcome.Yes text a = (a.1.0, a.1.1)
-  tells (Asked.Check source report) files (outcome.No k) text a = (a.1.0, a.1.1)
-  tells (Asked.Analyse source rule) files _ text a = absurd a
-  tells (Asked.Check source report) files _ text a = absurd a
-
   -- a command that finds all lacks nothing
-  not_lacking : (c : Asked) (files : Option Files) → FindsSome files (source_of c) → FindsRest c files → Lacks c files → ⊥
+  not_lacking : (c : Asked) (files : Option Files) → IfSource c (FindsSome files) → FindsRest c files → Lacks c files → ⊥
   not_lacking (Asked.Analyse source rule) files s r m = not_missing files (file_of source) _ (is_told files (file_of source) _ s) m
   not_lacking (Asked.Check source report) files s r (inl m) = not_missing files (file_of source) _ (is_told files (file_of source) _ s) m
   not_lacking (Asked.Check source report) files s r (inr m) = not_missing files report _ (is_told files report _ r) m.0
+  not_lacking (Asked.Trial kind seed side) files s r m = m
 
-  pub answers : (c : Asked) (old new : DeskState) (o : Outcome) → Ran shelf c old new o → FindsSome old.files (source_of c) → FindsRest c old.files → HasNoFault old new → IsAnswer c o ⊎ (o ≡ outcome.NoMemory)
+  -- a source that is there and accepted has no fault
+  has_none : (c : Asked) (files : Option Files) (f : PictureFault) → IfSource c (FindsSome files) → OfSource c (λ source. IsFaultOf files source f) → ⊥
+  has_none (Asked.Analyse source rule) files f s h = not_faulty files source f s h
+  has_none (Asked.Check source report) files f s h = not_faulty files source f s h
+  has_none (Asked.Trial kind seed side) files f s h = h
+
+  pub answers : (c : Asked) (old new : DeskState) (o : Outcome) → Ran shelf c old new o → IfSource c (FindsSome old.files) → FindsRest c old.files → HasNoFault old new → IsAnswer c o ⊎ (o ≡ outcome.NoMemory)
   answers c old new outcome.NoMemory r s t h = inr refl
   answers c old new outcome.Usage r s t h = absurd r
   answers c old new outcome.WriteFault r s t h = absurd (h.write r.cause)
-  answers c old new (outcome.Picture f) r s t h = absurd (not_faulty old.files (source_of c) f s r.0)
-  answers c old new outcome.ReadFault (inl rose, w) s t h = absurd (h.read rose)
-  answers c old new outcome.ReadFault (inr l, w) s t h = absurd (not_lacking c old.files s t l)
+  answers c old new (outcome.Picture f) r s t h = absurd (has_none c old.files f s r.0)
+  answers c old new outcome.ReadFault (reads, inl rose, w) s t h = absurd (h.read rose)
+  answers c old new outcome.ReadFault (reads, inr l, w) s t h = absurd (not_lacking c old.files s t l)
   answers (Asked.Analyse source rule) old new outcome.Done r s t h = inl tt
   answers (Asked.Analyse source rule) old new outcome.Yes r s t h = absurd r.right
   answers (Asked.Analyse source rule) old new (outcome.No k) r s t h = absurd r.right
   answers (Asked.Check source report) old new outcome.Done r s t h = absurd r.right
   answers (Asked.Check source report) old new outcome.Yes r s t h = inl tt
   answers (Asked.Check source report) old new (outcome.No k) r s t h = inl tt
+  answers (Asked.Trial kind seed side) old new outcome.Done r s t h = inl tt
+  answers (Asked.Trial kind seed side) old new outcome.Yes r s t h = absurd r.right
+  answers (Asked.Trial kind seed side) old new (outcome.No k) r s t h = absurd r.right
 
-  -- a source with a fault is there, and is no picture
-  not_without : (c : Asked) (files : Option Files) (f : PictureFault) → FindsFault files (source_of c) f → Lacks c files → ⊥
+  -- ---- a source with a fault is there, and is no picture
+
+  not_without : (c : Asked) (files : Option Files) (f : PictureFault) → OfSource c (λ source. FindsFault files source f) → Lacks c files → ⊥
   not_without (Asked.Analyse source rule) files f h m = not_missing files (file_of source) _ (is_told files (file_of source) _ h) m
   not_without (Asked.Check source report) files f h (inl m) = not_missing files (file_of source) _ (is_told files (file_of source) _ h) m
   not_without (Asked.Check source report) files f h (inr m) = not_picture files source f m.1.0 h m.1.1
+  not_without (Asked.Trial kind seed side) files f h m = m
 
-  not_told : (c : Asked) (files : Option Files) (f : PictureFault) (o : Outcome) (text : List ℕ) → FindsFault files (source_of c) f → Answers shelf c files o text → ⊥
-  not_told c files f o text h a = let t = tells c files o text a in not_picture files (source_of c) f t.0 h t.1
+  not_told : (c : Asked) (files : Option Files) (f : PictureFault) (o : Outcome) (text : List ℕ) → OfSource c (λ source. FindsFault files source f) → Answers shelf c files o text → ⊥
+  not_told (Asked.Analyse source rule) files f outcome.Done text h a = not_picture files source f a.0 h a.1
+  not_told (Asked.Check source report) files f outcome.Yes text h a = not_picture files source f a.1.0 h a.1.1
+  not_told (Asked.Check source report) files f (outcome.No k) text h a = not_picture files source f a.1.0 h a.1.1
+  not_told (Asked.Analyse source rule) files f _ text h a = absurd a
+  not_told (Asked.Check source report) files f _ text h a = absurd a
+  not_told (Asked.Trial kind seed side) files f o text h a = absurd h
 
-  pub refuses : (c : Asked) (old new : DeskState) (o : Outcome) (f : PictureFault) → Ran shelf c old new o → FindsFault old.files (source_of c) f → (Rose old.read_faults new.read_faults → ⊥) → (o ≡ outcome.Picture f) ⊎ (o ≡ outcome.NoMemory)
+  the_fault : (c : Asked) (files : Option Files) (f g : PictureFault) → OfSource c (λ source. FindsFault files source f) → OfSource c (λ source. IsFaultOf files source g) → g ≡ f
+  the_fault (Asked.Analyse source rule) files f g h k = its_fault files source f g h k
+  the_fault (Asked.Check source report) files f g h k = its_fault files source f g h k
+  the_fault (Asked.Trial kind seed side) files f g h k = absurd h
+
+  pub refuses : (c : Asked) (old new : DeskState) (o : Outcome) (f : PictureFault) → Ran shelf c old new o → OfSource c (λ source. FindsFault old.files source f) → (Rose old.read_faults new.read_faults → ⊥) → (o ≡ outcome.Picture f) ⊎ (o ≡ outcome.NoMemory)
   refuses c old new outcome.NoMemory f r h n = inr refl
   refuses c old new outcome.Usage f r h n = absurd r
-  refuses c old new (outcome.Picture g) f r h n = inl (ap (λ x. outcome.Picture x) (its_fault old.files (source_of c) f g h r.0))
-  refuses c old new outcome.ReadFault f (inl rose, w) h n = absurd (n rose)
-  refuses c old new outcome.ReadFault f (inr l, w) h n = absurd (not_without c old.files f h l)
+  refuses c old new (outcome.Picture g) f r h n = inl (ap (λ x. outcome.Picture x) (the_fault c old.files f g h r.0))
+  refuses c old new outcome.ReadFault f (reads, inl rose, w) h n = absurd (n rose)
+  refuses c old new outcome.ReadFault f (reads, inr l, w) h n = absurd (not_without c old.files f h l)
   refuses c old new outcome.Done f r h n = absurd (not_told c old.files f outcome.Done r.text h r.right)
   refuses c old new outcome.Yes f r h n = absurd (not_told c old.files f outcome.Yes r.text h r.right)
   refuses c old new (outcome.No k) f r h n = absurd (not_told c old.files f (outcome.No k) r.text h r.right)
   refuses c old new outcome.WriteFault f r h n = absurd (not_told c old.files f r.outcome r.text h r.right)
 
-  -- a command that lacks a file has no answer, and its source no fault
+  -- ---- a command that lacks a file has no answer, and its source no fault
+
   no_answer : (c : Asked) (files : Option Files) (o : Outcome) (text : List ℕ) → Lacks c files → Answers shelf c files o text → ⊥
   no_answer (Asked.Analyse source rule) files outcome.Done text m a = not_missing files (file_of source) _ a.1 m
   no_answer (Asked.Check source report) files outcome.Yes text (inl m) a = not_missing files (file_of source) _ a.1.1 m
@@ -74,11 +89,13 @@ module _ (shelf : List (Named Rule)) where
   no_answer (Asked.Check source report) files (outcome.No k) text (inr m) a = not_missing files report _ a.1.2 m.0
   no_answer (Asked.Analyse source rule) files _ text m a = absurd a
   no_answer (Asked.Check source report) files _ text m a = absurd a
+  no_answer (Asked.Trial kind seed side) files o text m a = m
 
-  no_fault : (c : Asked) (files : Option Files) (f : PictureFault) → Lacks c files → OfFile files (file_of (source_of c)) (HasFault (source_of c) f) → ⊥
+  no_fault : (c : Asked) (files : Option Files) (f : PictureFault) → Lacks c files → OfSource c (λ source. IsFaultOf files source f) → ⊥
   no_fault (Asked.Analyse source rule) files f m h = not_missing files (file_of source) _ h m
   no_fault (Asked.Check source report) files f (inl m) h = not_missing files (file_of source) _ h m
   no_fault (Asked.Check source report) files f (inr m) h = not_picture files source f m.1.0 (told files report (file_of source) _ m.0 h) m.1.1
+  no_fault (Asked.Trial kind seed side) files f m h = m
 
   pub lacks : (c : Asked) (old new : DeskState) (o : Outcome) → Ran shelf c old new o → Lacks c old.files → (o ≡ outcome.ReadFault) ⊎ (o ≡ outcome.NoMemory)
   lacks c old new outcome.NoMemory r m = inr refl

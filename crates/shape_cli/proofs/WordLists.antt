@@ -19,21 +19,20 @@ by_last xs i d n e =
     let none : drop (suc i) xs ≡ [] = drop_all (suc i) xs (omega arith) in
     split_at xs i d (omega arith) ∙ rw (sym e, none) refl
 
--- a list by its first two items, those between, and its last
-by_ends : {T : Type 0} (xs : List T) (a b d : T) → 3 ≤ length xs → a ≡ get_or xs 0 a → b ≡ get_or xs 1 b → d ≡ get_or xs (length xs - 1) d → xs ≡ a ∷ b ∷ (take ((length xs - 1) - 2) (drop 2 xs) ++ d ∷ [])
-by_ends [] a b d l e f g = absurd (omega arith)
-by_ends (x ∷ []) a b d l e f g = absurd (omega arith)
-by_ends {T = T'} (x ∷ y ∷ xs) a b d l e f g =
+-- a list by its first item, those between, and its last
+by_ends : {T : Type 0} (xs : List T) (a d : T) → 2 ≤ length xs → a ≡ get_or xs 0 a → d ≡ get_or xs (length xs - 1) d → xs ≡ a ∷ (take ((length xs - 1) - 1) (drop 1 xs) ++ d ∷ [])
+by_ends [] a d l e g = absurd (omega arith)
+by_ends {T = T'} (x ∷ xs) a d l e g =
     let i : ℕ = length xs - 1 in
-    let n : length (x ∷ y ∷ xs) - 1 ≡ suc (suc i) = omega arith in
-    let m : (length (x ∷ y ∷ xs) - 1) - 2 ≡ i = omega arith in
-    let h : d ≡ get_or xs i d = g ∙ ap (λ (k : ℕ). get_or (x ∷ y ∷ xs) k d) n in
+    let n : length (x ∷ xs) - 1 ≡ suc i = omega arith in
+    let m : (length (x ∷ xs) - 1) - 1 ≡ i = omega arith in
+    let h : d ≡ get_or xs i d = g ∙ ap (λ (k : ℕ). get_or (x ∷ xs) k d) n in
     let r : xs ≡ take i xs ++ d ∷ [] = by_last xs i d (omega arith) h in
-    ap (λ (q : List T'). x ∷ y ∷ q) r ∙ rw (e, f, m) refl
+    ap (λ (q : List T'). x ∷ q) r ∙ rw (e, m) refl
 
 -- what is made of each item, for the middle by itself
-pub made_of_parts : {T : Type 0} (f : T → List ℕ) (xs : List T) (a b d : T) → 3 ≤ length xs → a ≡ get_or xs 0 a → b ≡ get_or xs 1 b → d ≡ get_or xs (length xs - 1) d
-    → f a ∷ ((f b ∷ map f (take ((length xs - 1) - 2) (drop 2 xs))) ++ f d ∷ []) ≡ map f xs
-made_of_parts f xs a b d l p q r =
-    let middle = take ((length xs - 1) - 2) (drop 2 xs) in
-    ap (λ (m : List (List ℕ)). f a ∷ f b ∷ m) (sym (map-append f middle (d ∷ []))) ∙ ap (map f) (sym (by_ends xs a b d l p q r))
+pub made_of_parts : {T : Type 0} (f : T → List ℕ) (xs : List T) (a d : T) → 2 ≤ length xs → a ≡ get_or xs 0 a → d ≡ get_or xs (length xs - 1) d
+    → f a ∷ (map f (take ((length xs - 1) - 1) (drop 1 xs)) ++ f d ∷ []) ≡ map f xs
+made_of_parts f xs a d l p r =
+    let middle = take ((length xs - 1) - 1) (drop 1 xs) in
+    ap (λ (m : List (List ℕ)). f a ∷ m) (sym (map-append f middle (d ∷ []))) ∙ ap (map f) (sym (by_ends xs a d l p r))

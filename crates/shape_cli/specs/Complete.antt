@@ -32,6 +32,7 @@ FindsFault files source f = FileIs files (file_of source) (HasFault source f)
 abbrev pub FindsRest : Asked → Option Files → Type 0
 FindsRest (Asked.Analyse source rule) files = ⊤
 FindsRest (Asked.Check source report) files = FileIs files report (λ _. ⊤)
+FindsRest (Asked.Trial kind seed side) files = ⊤
 
 -- no count rose
 pub record HasNoFault (old new : DeskState) : Type 0 where
@@ -43,6 +44,7 @@ abbrev pub IsAnswer : Asked → Outcome → Type 0
 IsAnswer (Asked.Analyse source rule) outcome.Done = ⊤
 IsAnswer (Asked.Check source report) outcome.Yes = ⊤
 IsAnswer (Asked.Check source report) (outcome.No k) = ⊤
+IsAnswer (Asked.Trial kind seed side) outcome.Done = ⊤
 IsAnswer _ _ = ⊥
 
 -- what `run` ensures, over the rules on the shelf, the words, the desk before and now, and the outcome

@@ -22,7 +22,7 @@ status_of outcome.WriteFault = 5
 status_of outcome.NoMemory = 6
 
 abbrev pub fault_message : PictureFault → List ℕ
-fault_message fault.NotPlain = codes "not a plain PBM"
+fault_message fault.NotPlain = codes "not a PBM"
 fault_message (fault.BadNumber i) = codes "bad header byte at"
 fault_message fault.ZeroSide = codes "a side is zero"
 fault_message (fault.SideTooLarge v) = codes "a side is too large:"

@@ -9,11 +9,13 @@ use Rattle.report_terms.specs.Subjects.{Subject, subject_of}
 use Rattle.report_terms.specs.Holds.{Holds, HoldsBy, FirstBad}
 use Rattle.report_terms.specs.Shows.{TextShows}
 use Rattle.shape_desk.specs.Desk.{Files, DeskState, Rose, IsMissing, Puts, PutsFront}
+use Rattle.shape_desk.specs.declared.desk.Place.{Place}
 use Rattle.shape_desk.specs.declared.desk.Place.TheVariants.{Report}
-use Rattle.shape_picture.specs.Answers.{Format, most_side, most_bytes, plain, raw}
+use Rattle.shape_picture.specs.Answers.{Format, most_side, most_bytes, pbm, raw}
 use Rattle.shape_picture.specs.declared.fault.PictureFault.{PictureFault}
 use Rattle.shape_check.specs.Checks.{TakesFew}
-use Rattle.shape_cli.specs.Commands.{Source, Asked, file_of, source_of}
+use Rattle.shape_cli.specs.Commands.{Source, Asked, file_of, OfSource}
+use Rattle.shape_cli.specs.Trials.{IsTrialLine}
 use Rattle.shape_cli.specs.declared.outcome.Outcome.{Outcome}
 use Rattle.shape_cli.specs.declared.outcome.Outcome.TheVariants as outcome
 
@@ -26,7 +28,7 @@ OfFile (Some files) name P = MatchOption (files name) ⊥ P
 
 -- the format of a source's file
 abbrev pub format_of : Source → Format
-format_of (Source.Pbm file) = plain most_side most_bytes
+format_of (Source.Pbm file) = pbm most_side most_bytes
 format_of (Source.Raw x y z file) = raw (x ∷ y ∷ z ∷ [])
 
 -- the bytes of a source's file spell the picture
@@ -67,19 +69,26 @@ abbrev pub Answers : List (Named Rule) → Asked → Option Files → Outcome �
 Answers shelf (Asked.Analyse source rule) files outcome.Done text = OfPicture files source (λ X. HoldsBy (subject_of X shelf) rule text)
 Answers shelf (Asked.Check source report) files outcome.Yes text = (text ≡ yes_text) × OfPicture files source (λ X. OfFile files report (IsReport (subject_of X shelf)))
 Answers shelf (Asked.Check source report) files (outcome.No k) text = (text ≡ no_text k) × OfPicture files source (λ X. OfFile files report (λ bytes. FirstBad (subject_of X shelf) bytes k))
+Answers shelf (Asked.Trial kind seed side) files outcome.Done text = IsTrialLine shelf kind seed side text
 Answers shelf _ files _ text = ⊥
 
 -- a file that the command reads is missing; that of the report is read where there is a picture
 abbrev pub Lacks : Asked → Option Files → Type 0
 Lacks (Asked.Analyse source rule) files = IsMissing files (file_of source)
 Lacks (Asked.Check source report) files = IsMissing files (file_of source) ⊎ (IsMissing files report × OfPicture files source (λ X. ⊤))
+Lacks (Asked.Trial kind seed side) files = ⊥
+
+-- the command reads files
+abbrev pub ReadsFiles : Asked → Type 0
+ReadsFiles c = OfSource c (λ source. ⊤)
 
 -- ---- runs
 
--- of a report, good lines for the picture and at most 2048 bytes more were taken, and the rest is left at its place
+-- of a report, good lines for the picture and at most 2048 bytes more were taken, and the rest is left at its place; a trial took nothing
 abbrev pub TookFew : List (Named Rule) → Asked → DeskState → DeskState → Type 0
 TookFew shelf (Asked.Analyse source rule) old new = ⊤
 TookFew shelf (Asked.Check source report) old new = OfPicture old.files source (λ X. OfFile old.files report (λ bytes. TakesFew (subject_of X shelf) bytes (new.left Report)))
+TookFew shelf (Asked.Trial kind seed side) old new = (p : Place) → new.left p ≡ old.left p
 
 -- the whole answer was written
 pub record Answered (shelf : List (Named Rule)) (c : Asked) (old new : DeskState) (o : Outcome) : Type 0 where
@@ -104,8 +113,8 @@ IsSilent old new = new.written ≡ old.written
 -- what a run of the command did, outcome by outcome, where these rules are on the shelf
 abbrev pub Ran : List (Named Rule) → Asked → DeskState → DeskState → Outcome → Type 0
 Ran shelf c old new outcome.Usage = ⊥
-Ran shelf c old new (outcome.Picture f) = IsFaultOf old.files (source_of c) f × IsSilent old new
-Ran shelf c old new outcome.ReadFault = (Rose old.read_faults new.read_faults ⊎ Lacks c old.files) × IsSilent old new
+Ran shelf c old new (outcome.Picture f) = OfSource c (λ source. IsFaultOf old.files source f) × IsSilent old new
+Ran shelf c old new outcome.ReadFault = ReadsFiles c × (Rose old.read_faults new.read_faults ⊎ Lacks c old.files) × IsSilent old new
 Ran shelf c old new outcome.NoMemory = IsSilent old new
 Ran shelf c old new outcome.WriteFault = CutShort shelf c old new
 Ran shelf c old new outcome.Done = Answered shelf c old new outcome.Done

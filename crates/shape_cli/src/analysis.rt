@@ -1,10 +1,12 @@
 //! The command `analyse`: the picture, then its report, then the output.
 //! The report is built whole before its first byte is written.
 ghost use Rattle.std.specs.Prelude.{◌≡◌, ◌<◌, ℕ, List, Some, IfOk, length, slice_get};
-ghost use Rattle.thin_terms.specs.Shelves.{names_of};
+ghost use Rattle.thin_terms.specs.Shelves.{names_of, rules_of};
+ghost use Rattle.thin_terms.specs.Thinning.{Rule};
 ghost use Rattle.report_terms.specs.Subjects.{subject_of};
 ghost use Rattle.report_terms.specs.Holds.{HoldsBy};
 ghost use Rattle.shape_rules.specs.Ruled.{rules_on};
+ghost use Rattle.shape_analyse.specs.Tallies.{IsTallyOf};
 ghost use Rattle.shape_cli.specs.Commands.{Asked, read_source};
 ghost use Rattle.shape_cli.specs.Parts.{picture_of};
 ghost use Rattle.shape_cli.specs.Runs.{Ran, KeepsFiles};
@@ -12,24 +14,28 @@ ghost use Rattle.shape_cli.specs.Runs.{Ran, KeepsFiles};
 use crate::outcome::{Outcome, refused};
 use crate::picture::{Image, open_picture};
 use crate::words::Source;
-use shape_analyse::{analyse_flat, analyse_solid};
+use shape_analyse::{Analysis, analyse_flat, analyse_solid};
 use shape_desk::Desk;
-use shape_report::{Report, write_report};
+use shape_report::write_report;
 use shape_rules::Shelf;
 use shape_space::NoMemory;
 use std::alloc::Global;
 
-// The report of a picture by the rule with a number.
-fn report_of(
+// The analysis of a picture by the rule with a number.
+pub(crate) fn analysis_of(
     alloc: Global,
     image: &Image,
     shelf: &mut Shelf,
     which: usize,
-) -> Result<Report, NoMemory>
+) -> Result<Analysis, NoMemory>
     requires { which < length shelf.old }
     ensures holds { (name : List ℕ) → slice_get (names_of shelf.old) which ≡ Some name
-        → IfOk result (HoldsBy
-        (subject_of (picture_of image.now) (rules_on opening marks next shelf.old)) name) }
+        → IfOk result (λ a. HoldsBy
+        (subject_of (picture_of image.now) (rules_on opening marks next shelf.old)) name a.report) }
+    ensures tallied { (rule : Rule)
+        → slice_get (rules_of (rules_on opening marks next shelf.old)) which ≡ Some rule
+        → IfOk result (λ a. IsTallyOf (picture_of image.now) rule a.tally) }
+    ensures kept { rules_on opening marks next shelf.new ≡ rules_on opening marks next shelf.old }
 {
     match image {
         Image::Flat(grid) => analyse_flat(alloc, grid, shelf, which),
@@ -56,11 +62,11 @@ pub(crate) fn analyse_file<D: Desk>(
         Ok(image) => image,
         Err(error) => return refused(error),
     };
-    let report = match report_of(alloc, &image, shelf, which) {
-        Ok(report) => report,
+    let analysis = match analysis_of(alloc, &image, shelf, which) {
+        Ok(analysis) => analysis,
         Err(_) => return Outcome::NoMemory,
     };
-    match write_report(&report, desk) {
+    match write_report(&analysis.report, desk) {
         Ok(()) => Outcome::Done,
         Err(_) => Outcome::WriteFault,
     }

@@ -8,16 +8,15 @@ ghost use Rattle.report_terms.specs.Holds.{Holds};
 ghost use Rattle.shape_desk.specs.Desk.{DeskState, Rose};
 ghost use Rattle.shape_picture.specs.declared.fault.PictureFault.{PictureFault};
 ghost use Rattle.report_terms.specs.Subjects.{subject_of};
-ghost use Rattle.shape_cli.specs.Commands.{Source, Asked, HasSides, IsInRange, source_of, words_of};
+ghost use Rattle.shape_cli.specs.Commands.{Source, Asked, HasNumbers, IsInRange, OfSource, IfSource, words_of};
 ghost use Rattle.shape_cli.specs.Runs.{Lacks, Ran};
 ghost use Rattle.shape_cli.specs.Complete.{FileIs, FindsPicture, FindsSome, FindsFault, FindsRest, HasNoFault, IsAnswer, HasRun};
 ghost use Rattle.shape_cli.specs.Landed.{SaysOutcome, ComesOut};
 ghost use Rattle.shape_cli.specs.declared.outcome.Outcome.{Outcome};
 
-/// Words spell one command at most with sides of a volume, and it is the one of which `run` speaks.
+/// Words spell one command at most with numbers in range, and it is the one of which `run` speaks.
 pub fn words_are_of_one_command()
-    ensures one { (c d : Asked) → HasSides (source_of c) → HasSides (source_of d)
-        → words_of c ≡ words_of d → c ≡ d }
+    ensures one { (c d : Asked) → HasNumbers c → HasNumbers d → words_of c ≡ words_of d → c ≡ d }
     ensures ran { (shelf : List (Named Rule)) (words : List (List ℕ))
         (old new : DeskState) (o : Outcome) (c : Asked)
         → HasRun shelf words old new o → IsInRange (names_of shelf) c
@@ -26,15 +25,16 @@ pub fn words_are_of_one_command()
 
 /// What a run owes, but for want of memory.
 ///
-/// A source that is there and accepted, and all other files there, give an answer where no count rose. A source that is
-/// there and has a fault gives that fault where no count of reads rose. A missing file is a failed read.
+/// A source that is there and accepted, and all other files there, give an answer where no count rose; a trial has none
+/// and needs none. A source that is there and has a fault gives that fault where no count of reads rose. A missing file is
+/// a failed read.
 pub fn runs_are_complete()
     ensures answers { (shelf : List (Named Rule)) (c : Asked) (old new : DeskState) (o : Outcome)
-        → Ran shelf c old new o → FindsSome old.files (source_of c) → FindsRest c old.files
+        → Ran shelf c old new o → IfSource c (FindsSome old.files) → FindsRest c old.files
         → HasNoFault old new → IsAnswer c o ⊎ (o ≡ Outcome.NoMemory) }
     ensures refuses { (shelf : List (Named Rule)) (c : Asked) (old new : DeskState)
         (o : Outcome) (f : PictureFault)
-        → Ran shelf c old new o → FindsFault old.files (source_of c) f
+        → Ran shelf c old new o → OfSource c (λ source. FindsFault old.files source f)
         → (Rose old.read_faults new.read_faults → ⊥)
         → (o ≡ Outcome.Picture f) ⊎ (o ≡ Outcome.NoMemory) }
     ensures lacks { (shelf : List (Named Rule)) (c : Asked) (old new : DeskState) (o : Outcome)

@@ -7,18 +7,10 @@ mod laws;
 mod outcome;
 mod picture;
 mod top;
+mod trial;
 mod verdict;
 mod words;
 
 pub use laws::{outcomes_speak, runs_are_complete, verdicts_are_right, words_are_of_one_command};
 pub use outcome::Outcome;
 pub use top::run;
-
-#[cfg(test)]
-mod refusal_tests;
-#[cfg(test)]
-mod report_tests;
-#[cfg(test)]
-mod test_runs;
-#[cfg(test)]
-mod volume_tests;

@@ -76,7 +76,7 @@ fn fault_text(fault: PictureFault) -> &'static str
     ensures { result.now ≡ fault_message fault }
 {
     match fault {
-        PictureFault::NotPlain => "not a plain PBM",
+        PictureFault::NotPlain => "not a PBM",
         PictureFault::BadNumber { at: _ } => "bad header byte at",
         PictureFault::ZeroSide => "a side is zero",
         PictureFault::SideTooLarge { value: _ } => "a side is too large:",

@@ -11,7 +11,7 @@ ghost use Rattle.shape_cli.specs.Runs.{format_of};
 use crate::words::Source;
 use shape_desk::{Desk, Place};
 use shape_grid::Grid;
-use shape_picture::{PictureError, read_plain, read_raw};
+use shape_picture::{PictureError, read_pbm, read_raw};
 use shape_space::{P2, P3};
 use std::alloc::Global;
 
@@ -35,7 +35,7 @@ fn read_image<D: Desk>(
     ensures reads { OnlyReadsAt Picture (D.state desk.old) (D.state desk.new) }
 {
     match source {
-        Source::Pbm { .. } => Ok(Image::Flat(read_plain(alloc, desk)?)),
+        Source::Pbm { .. } => Ok(Image::Flat(read_pbm(alloc, desk)?)),
         Source::Raw { sides, .. } => Ok(Image::Solid(read_raw(alloc, desk, sides)?)),
     }
 }

@@ -1,4 +1,4 @@
-//! The top call: what the words ask for is done by `analysis` or `verdict`.
+//! The top call: what the words ask for is done by `analysis`, `verdict` or `trial`.
 //! What each outcome means for the desk stands in `specs/Runs.antt`.
 ghost use Rattle.std.specs.Prelude.{◌≡◌, ◌↔◌, ◌⊎◌};
 ghost use Rattle.thin_terms.specs.Shelves.{names_of};
@@ -8,6 +8,7 @@ ghost use Rattle.shape_cli.specs.Runs.{Ran, KeepsFiles};
 
 use crate::analysis::analyse_file;
 use crate::outcome::Outcome;
+use crate::trial::try_seed;
 use crate::verdict::check_file;
 use crate::words::{Command, read_words};
 use shape_desk::Desk;
@@ -16,10 +17,10 @@ use std::alloc::Global;
 
 /// Does what the words of a command line say, without the program's name.
 ///
-/// The words are judged first, without memory and without the desk; then the picture is read; then, for a check, the
-/// report; then the output is written. Want of memory may be answered at any time after the words.
+/// The words are judged first, without memory and without the desk; then the picture is read, or made of a seed; then, for a
+/// check, the report is read; then the output is written. Want of memory may be answered at any time after the words.
 /// Of a report that got its verdict, the bytes of its good lines were taken, and at most 2048 more.
-/// The rule of an analysis is one on the shelf; a check goes by the rule that the report names.
+/// The rule of an analysis is one on the shelf, that of a trial the last; a check goes by the rule that the report names.
 pub fn run<D: Desk>(alloc: Global, words: &[Vec<u8>], desk: &mut D, mut shelf: Shelf) -> Outcome
     ensures usage { (result ≡ Outcome.Usage)
         ↔ IsNoForm (names_of (rules_on opening marks next shelf)) (texts words.now) }
@@ -35,6 +36,9 @@ pub fn run<D: Desk>(alloc: Global, words: &[Vec<u8>], desk: &mut D, mut shelf: S
         }
         Some(Command::Check { source, report }) => {
             check_file(alloc, source, report, &mut shelf, desk)
+        }
+        Some(Command::Trial { kind, seed, side }) => {
+            try_seed(alloc, kind, seed, side, &mut shelf, desk)
         }
         None => Outcome::Usage,
     }

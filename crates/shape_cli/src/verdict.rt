@@ -21,7 +21,7 @@ use shape_rules::Shelf;
 use std::alloc::Global;
 
 // Checks the report that is begun against a picture.
-fn check_image<D: Desk>(
+pub(crate) fn check_image<D: Desk>(
     alloc: Global,
     image: &Image,
     desk: &mut D,

@@ -51,6 +51,13 @@ impl Report {
         Ok(())
     }
 
+    /// The text as bytes of their own.
+    pub fn into_text(self) -> Vec<u8>
+        ensures { result.items ≡ self }
+    {
+        self.text
+    }
+
     /// The text so far.
     pub fn text(&self) -> &[u8]
         ensures { result.now ≡ self.now }

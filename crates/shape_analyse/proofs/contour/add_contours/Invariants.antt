@@ -1,5 +1,8 @@
+use Rattle.std.proofs.Common.{◌*◌, ◌≤◌, take}
 use Rattle.shape_analyse.specs.Growing.{Aim, HasOutlined, IsTextOf}
+use Rattle.shape_analyse.specs.Tallies.{HaveCovers}
 use Rattle.shape_analyse.proofs.contour.add_contours.Given as goal
 
 abbrev pub invariant-loop-k : goal.invariant-loop-k
-invariant-loop-k l = (X : Aim) → IsTextOf (HasOutlined X l.contours 0) l.fn.report → IsTextOf (HasOutlined X l.contours l.k) l.report
+invariant-loop-k l = ((X : Aim) → IsTextOf (HasOutlined X l.contours 0) l.fn.report → IsTextOf (HasOutlined X l.contours l.k) l.report)
+    × HaveCovers (take l.k l.contours) l.segments × (l.segments ≤ l.k * 16777216)

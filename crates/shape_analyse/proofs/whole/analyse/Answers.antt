@@ -1,8 +1,10 @@
-use Rattle.std.proofs.Common.{length, refl, sym, ◌∙◌}
+use Rattle.std.proofs.Common.{length, refl, sym, ap, subst, ◌∙◌}
 use Rattle.shape_terms.specs.Pictures.{object_points}
 use Rattle.shape_rules.specs.Names.{word_of}
 use Rattle.shape_rules.proofs.Ruled.{rules_same, rule_there, others_same}
+use Rattle.shape_analyse.specs.Tallies.{HasThinning}
 use Rattle.shape_analyse.proofs.ThinningGrowth.{renamed}
+use Rattle.shape_analyse.proofs.TallyGrowth.{rule_at, has_thinning}
 use Rattle.shape_analyse.proofs.whole.analyse.Goals as goal
 
 pub returns-in_err-thinning-clause-kept : goal.returns-in_err-thinning-clause-kept
@@ -33,6 +35,20 @@ returns-clause-holds g c = λ name there.
     let X = c.args.grid.now in
     let counts = c.in_ok-thinning.ensures.kept (length (object_points X)) c.in_ok-counted.counted.object c.in_ok-counted.counted.background c.in_ok-counted.ensures in
     let nears = c.in_ok-report.ensures.grown _ _ on in
-    let surveyed = c.in_ok-add_outline.ensures _ _ _ nears in
+    let surveyed = c.in_ok-extent.ensures.text _ _ _ nears in
     let holds = c.in_ok-add_thinning.ensures _ _ run.1 refl counts surveyed in
     renamed _ _ _ _ (sym c.name.ensures ∙ there) holds
+
+pub returns-clause-tallied : goal.returns-clause-tallied
+returns-clause-tallied g c = λ rule there.
+    let run = c.in_ok-thinning.ensures.thinning in
+    let X = c.args.grid.now in
+    let same = rule_at _ _ _ c.args.shelf.now c.args.which c.rule.result.now rule c.rule.ensures.value there in
+    let t = c.in_ok-thinning.thinning in
+    let left = c.count-2.ensures ∙ ap (λ y. length (object_points y)) c.left.ensures in
+    let found = has_thinning _ X t.left t.events run.0 _ c.len.result c.count-2.result run.1 c.len.ensures left in
+    record {
+      counts = rw c.count.ensures c.in_ok-counted.ensures;
+      extent = c.in_ok-extent.ensures.extent;
+      thinning = subst (λ r. HasThinning r X c.len.result c.count-2.result) same found;
+    }

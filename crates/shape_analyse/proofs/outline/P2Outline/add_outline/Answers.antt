@@ -8,11 +8,14 @@ use Rattle.shape_analyse.proofs.outline.P2Outline.add_outline.Goals as goal
 pub add_contours-requires : goal.add_contours-requires
 add_contours-requires c = record { sides = contour_starts c.args.grid.now c.in_ok-contours.contours c.in_ok-contours.ensures }
 
-pub returns : goal.returns
-returns c =
+pub returns-clause-extent : goal.returns-clause-extent
+returns-clause-extent c = (c.is_picture.ensures.picture.axes, record { contours = c.in_ok-contours.contours; are = c.in_ok-contours.ensures; n_is = c.len.ensures; covers = c.in_ok-segments.ensures.segments })
+
+pub returns-clause-text : goal.returns-clause-text
+returns-clause-text c =
     let X = c.args.grid.now in
     let contours = c.in_ok-contours.contours in
     λ shelf name by h.
     let aim = aim_of X shelf name by in
     let none = text_as (λ lines g. outlined_none aim (length (object_points X)) lines contours g refl c.is_picture.ensures.picture.axes c.in_ok-contours.ensures) h in
-    text_as (λ lines o. outlined_done aim contours lines o) (c.in_ok-add_contours.ensures aim none)
+    text_as (λ lines o. outlined_done aim contours lines o) (c.in_ok-segments.ensures.text aim none)

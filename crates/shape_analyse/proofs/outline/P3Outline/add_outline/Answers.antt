@@ -4,8 +4,11 @@ use Rattle.shape_analyse.proofs.Growth.{text_as}
 use Rattle.shape_analyse.proofs.FaceGrowth.{faces_none, surveyed_solid}
 use Rattle.shape_analyse.proofs.outline.P3Outline.add_outline.Goals as goal
 
-pub returns : goal.returns
-returns c = λ shelf name by h.
+pub returns-clause-extent : goal.returns-clause-extent
+returns-clause-extent c = (c.is_picture.ensures.picture.axes, c.in_ok-exposed.ensures.exposed)
+
+pub returns-clause-text : goal.returns-clause-text
+returns-clause-text c = λ shelf name by h.
     let aim = aim_of c.args.grid.now shelf name by in
     let none = text_as (λ lines g. faces_none aim lines c.is_picture.ensures.picture.axes g) h in
-    text_as (λ lines g. surveyed_solid aim lines g) (c.in_ok-add_faces.ensures aim refl none)
+    text_as (λ lines g. surveyed_solid aim lines g) (c.in_ok-exposed.ensures.text aim refl none)

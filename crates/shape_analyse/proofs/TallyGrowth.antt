@@ -1,0 +1,51 @@
+-- How the numbers of a picture grow: by a contour with its cover, and by a face.
+-- Laws of the definitions of `Tallies`, over plain variables.
+use Rattle.std.proofs.Common.{◌≡◌, ℕ, zero, suc, ◌+◌, Bool, List, [], ◌∷◌, ◌++◌, Some, length, take, refl, ap, sym, ◌∙◌, arith, rules}
+use Rattle.std.specs.Prelude.{slice_get}
+use Rattle.std.specs.List.{range_with_len}
+use Rattle.std.proofs.lemmas.List.Sums.{sum_by_push}
+use Rattle.std.proofs.lemmas.List.FromFn.{map-range_with_len_more}
+use Rattle.std.proofs.lemmas.List.{map-id}
+use Rattle.std.proofs.lemmas.Slice.Zip.{all_zipped_more}
+use Rattle.patch_terms.proofs.ListPushes.{take_next}
+use Rattle.shape_terms.specs.Points.{Point}
+use Rattle.shape_terms.specs.Pictures.{Picture, object_points}
+use Rattle.thin_terms.specs.Thinning.{Facts, Rule, Event, IsThinning, rule_by}
+use Rattle.thin_terms.specs.Shelves.{Named, rules_of}
+use Rattle.shape_rules.specs.Ruled.{rules_on}
+use Rattle.shape_terms.specs.Traces.{Contour}
+use Rattle.shape_terms.specs.Covers.{Stretch, IsCover}
+use Rattle.shape_analyse.specs.Tallies.{HasSegments, HaveCovers, HasThinning, exposed_in, exposed_count}
+
+pub no_covers : HaveCovers [] 0
+no_covers = record { covers = []; each = search rules; segments_are = refl }
+
+pub covers_more : (contours : List Contour) (k m n : ℕ) (c : Contour) → slice_get contours k ≡ Some c → HaveCovers (take k contours) m → HasSegments c n → HaveCovers (take (k + 1) contours) (m + n)
+covers_more contours k m n c there have more =
+    let e : k + 1 ≡ suc k = omega arith in
+    let all : HaveCovers (take k contours ++ c ∷ []) (m + n) = record {
+      covers = have.covers ++ more.0 ∷ [];
+      each = all_zipped_more (λ (c : Contour) (cover : List Stretch). IsCover c.points cover) (take k contours) have.covers c more.0 have.each more.1;
+      segments_are = omega (arith, have.segments_are, more.2, sum_by_push length have.covers more.0);
+    } in
+    rw (e, ← take_next contours k c there) all
+
+range_push : (k : ℕ) → range_with_len 0 (k + 1) ≡ range_with_len 0 k ++ k ∷ []
+range_push k = sym (map-id (range_with_len 0 (k + 1))) ∙ map-range_with_len_more (λ n. n) 0 k k (omega arith) ∙ ap (λ ns. ns ++ k ∷ []) (map-id (range_with_len 0 k))
+
+pub exposed_more : (X : Picture) (k : ℕ) → exposed_count X (k + 1) ≡ exposed_count X k + exposed_in X k
+exposed_more X k = rw (range_push k) (sum_by_push (exposed_in X) (range_with_len 0 k) k)
+
+-- the rule in a place of a shelf is the one that stands there
+pub rule_at : {R : Type 0} (opening : R → List ℕ) (marks : R → List ℕ → Facts → Bool) (next : R → List ℕ → Facts → List ℕ) (shelf : List (Named R)) (i : ℕ) (r : R) (rule : Rule)
+    → slice_get (rules_of shelf) i ≡ Some r → slice_get (rules_of (rules_on opening marks next shelf)) i ≡ Some rule → rule_by (opening r) (marks r) (next r) ≡ rule
+rule_at opening marks next [] i r rule a b = cc
+rule_at opening marks next (e ∷ es) zero r rule a b =
+    let same : e.rule ≡ r = cc in
+    let told : rule_by (opening e.rule) (marks e.rule) (next e.rule) ≡ rule = cc in
+    sym (ap (λ s. rule_by (opening s) (marks s) (next s)) same) ∙ told
+rule_at opening marks next (e ∷ es) (suc i) r rule a b = rule_at opening marks next es i r rule a b
+
+-- a thinning tells how many events it has and how many points it leaves
+pub has_thinning : (rule : Rule) (X left : Picture) (events : List Event) (marked : List Point) (state : List ℕ) (n kept : ℕ) → IsThinning rule X events (record { left = left; marked = marked; state = state }) → n ≡ length events → kept ≡ length (object_points left) → HasThinning rule X n kept
+has_thinning rule X left events marked state n kept t e k = record { events = events; stage = record { left = left; marked = marked; state = state }; thinning = t; n_is = e; kept_are = k }

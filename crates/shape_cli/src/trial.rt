@@ -1,0 +1,132 @@
+//! The command `trial`: a picture that a seed gives, its report, the check of this report, and a line of numbers.
+//! Files play no part in it, so its line is the same on every machine; the numbers are those that the analysis tells.
+ghost use Rattle.std.specs.Prelude.{◌≡◌, IfOk};
+ghost use Rattle.std.specs.String.{string_bytes};
+ghost use Rattle.report_terms.specs.Holds.{Holds};
+ghost use Rattle.report_terms.specs.Subjects.{subject_of};
+ghost use Rattle.shape_rules.specs.Ruled.{rules_on};
+ghost use Rattle.shape_cli.specs.Commands.{Asked, AreTrial, read_kind};
+ghost use Rattle.shape_cli.specs.Parts.{picture_of};
+ghost use Rattle.shape_cli.specs.Runs.{Ran, KeepsFiles};
+ghost use Rattle.shape_cli.specs.Trials.{IsTriedBy, trial_picture, counted_text, thinned_text, trial_text};
+
+use crate::analysis::analysis_of;
+use crate::outcome::Outcome;
+use crate::picture::Image;
+use crate::verdict::check_image;
+use crate::words::Kind;
+use shape_analyse::{Extent, Tally};
+use shape_check::{CheckFault, Judgement};
+use shape_desk::{Desk, SteadyDesk, put_all};
+use shape_report::Report;
+use shape_rules::Shelf;
+use shape_space::NoMemory;
+use std::alloc::{AllocError, Global};
+use trial_picture::make_picture;
+
+// The picture that a seed gives.
+fn image_of(alloc: Global, kind: Kind, seed: u32, side: u32) -> Result<Image, NoMemory>
+    requires { AreTrial (read_kind kind) seed side }
+    ensures { IfOk result (λ v. picture_of v ≡ trial_picture (read_kind kind) seed side) }
+{
+    match kind {
+        Kind::Flat => Ok(Image::Flat(make_picture(alloc, seed, side)?)),
+        Kind::Solid => Ok(Image::Solid(make_picture(alloc, seed, side)?)),
+    }
+}
+
+// Checks a report that holds of the picture.
+fn confirm(alloc: Global, image: &Image, report: Report, shelf: &mut Shelf) -> Result<(), NoMemory>
+    requires { Holds
+        (subject_of (picture_of image.now) (rules_on opening marks next shelf.old)) report }
+{
+    let mut desk = SteadyDesk::new(Vec::new(alloc), report.into_text());
+    match check_image(alloc, image, &mut desk, shelf) {
+        Ok(Judgement::Yes) => Ok(()),
+        // A report that holds gets no other verdict, and this desk does not fail.
+        Ok(Judgement::No { .. }) => unreachable!(),
+        Err(CheckFault::ReadFault) => unreachable!(),
+        Err(CheckFault::NoMemory) => Err(NoMemory),
+    }
+}
+
+// The numbers of the picture that a seed gives, by the last rule on the shelf, once its report got yes.
+fn tally_of(
+    alloc: Global,
+    kind: Kind,
+    seed: u32,
+    side: u32,
+    shelf: &mut Shelf,
+) -> Result<Tally, NoMemory>
+    requires { AreTrial (read_kind kind) seed side }
+    ensures { IfOk result
+        (IsTriedBy (rules_on opening marks next shelf.old) (read_kind kind) seed side) }
+{
+    shelf.has_names();
+    let last = shelf.len() - 1;
+    let image = image_of(alloc, kind, seed, side)?;
+    let analysis = analysis_of(alloc, &image, shelf, last)?;
+    confirm(alloc, &image, analysis.report, shelf)?;
+    Ok(analysis.tally)
+}
+
+// The seed, the side and what was counted of the picture.
+fn counted(alloc: Global, seed: u32, side: u32, tally: Tally) -> Result<String, AllocError>
+    ensures { IfOk result (λ s. string_bytes s ≡ counted_text seed side tally) }
+{
+    let points = tally.points;
+    let object = tally.parts.object;
+    let background = tally.parts.background;
+    format!(in alloc; "{seed} {side} points {points} parts {object} {background}")
+}
+
+// What was counted of the thinning, and the verdict.
+fn thinned(alloc: Global, tally: Tally) -> Result<String, AllocError>
+    ensures { IfOk result (λ s. string_bytes s ≡ thinned_text tally) }
+{
+    let events = tally.events;
+    let kept = tally.kept;
+    format!(in alloc; " events {events} kept {kept} yes\n")
+}
+
+// The line of a trial.
+fn line_of(alloc: Global, seed: u32, side: u32, tally: Tally) -> Result<String, AllocError>
+    ensures { IfOk result (λ s. string_bytes s ≡ trial_text seed side tally tally.extent) }
+{
+    let head = counted(alloc, seed, side, tally)?;
+    let end = thinned(alloc, tally)?;
+    match tally.extent {
+        Extent::Contours { contours, segments } => {
+            format!(in alloc; "trial pbm {head} contours {contours} segments {segments}{end}")
+        }
+        Extent::Faces { exposed } => format!(in alloc; "trial raw {head} exposed {exposed}{end}"),
+    }
+}
+
+// Makes, analyses and checks the picture that a seed gives, and writes the line.
+pub(crate) fn try_seed<D: Desk>(
+    alloc: Global,
+    kind: Kind,
+    seed: u32,
+    side: u32,
+    shelf: &mut Shelf,
+    desk: &mut D,
+) -> Outcome
+    requires { AreTrial (read_kind kind) seed side }
+    ensures ran { Ran (rules_on opening marks next shelf.old)
+        (Asked.Trial (read_kind kind) seed side) (D.state desk.old) (D.state desk.new) result }
+    ensures kept { KeepsFiles (D.state desk.old) (D.state desk.new) }
+{
+    let tally = match tally_of(alloc, kind, seed, side, shelf) {
+        Ok(tally) => tally,
+        Err(_) => return Outcome::NoMemory,
+    };
+    let line = match line_of(alloc, seed, side, tally) {
+        Ok(line) => line,
+        Err(_) => return Outcome::NoMemory,
+    };
+    match put_all(line.as_bytes(), desk) {
+        Ok(()) => Outcome::Done,
+        Err(_) => Outcome::WriteFault,
+    }
+}
