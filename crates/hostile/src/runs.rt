@@ -1,0 +1,93 @@
+//! What these tests share: cases over two files in memory, and runs by the rules of the program.
+//! No test stands here.
+use shape_cli::{Outcome, run};
+use shape_desk::MemoryDesk;
+use shape_rules::{CurveEnds, EndRule, Entry, FewEnds, Name, NoEnds, Shelf};
+use std::alloc::{AllocError, Global};
+use std::test::Fail;
+
+/// The words of a command, and the files `a` and `b` that it may read.
+#[derive(Clone, Copy)]
+pub struct Case<'a> {
+    pub line: &'a str,
+    pub picture: &'a [u8],
+    pub report: &'a [u8],
+}
+
+/// How a desk fails: the calls with these numbers, where 0 is none, and no call moves more bytes than a piece.
+#[derive(Clone, Copy)]
+pub struct Fault {
+    pub bad_read: u64,
+    pub bad_write: u64,
+    pub piece: usize,
+}
+
+/// A desk with the files of a case.
+pub fn desk_of(alloc: Global, case: Case<'_>, fault: Fault) -> Result<MemoryDesk, Fail> {
+    let mut files = Vec::new(alloc);
+    files.push((b"a".to_vec(alloc)?, case.picture.to_vec(alloc)?))?;
+    files.push((b"b".to_vec(alloc)?, case.report.to_vec(alloc)?))?;
+    let mut bad_reads = Vec::new(alloc);
+    bad_reads.push(fault.bad_read)?;
+    let mut bad_writes = Vec::new(alloc);
+    bad_writes.push(fault.bad_write)?;
+    let piece = fault.piece.max(1);
+    match MemoryDesk::new(alloc, files, bad_reads, bad_writes, piece, 9000) {
+        Ok(desk) => Ok(desk),
+        Err(_) => Err(Fail::from(AllocError)),
+    }
+}
+
+// A shelf with these rules under the names of the program.
+fn shelf(
+    alloc: Global,
+    none: Box<dyn EndRule>,
+    curve: Box<dyn EndRule>,
+    few: Box<dyn EndRule>,
+) -> Result<Shelf, Fail> {
+    let names = (Name::new(b"none"), Name::new(b"curve"), Name::new(b"few"));
+    let (Some(first), Some(second), Some(third)) = names else {
+        return Err(Fail::from(AllocError));
+    };
+    let mut rules: Vec<Entry> = Vec::new(alloc);
+    rules.push(Entry {
+        name: first,
+        rule: none,
+    })?;
+    rules.push(Entry {
+        name: second,
+        rule: curve,
+    })?;
+    rules.push(Entry {
+        name: third,
+        rule: few,
+    })?;
+    Ok(Shelf::new(rules))
+}
+
+/// What the words of a command line come to over a desk, with a new shelf.
+pub fn ran(alloc: Global, line: &str, desk: &mut MemoryDesk) -> Result<Outcome, Fail> {
+    let mut words = Vec::new(alloc);
+    for word in line.split_whitespace() {
+        words.push(word.as_bytes().to_vec(alloc)?)?;
+    }
+    let shelf = shelf(
+        alloc,
+        Box::new(alloc, NoEnds)?,
+        Box::new(alloc, CurveEnds)?,
+        Box::new(alloc, FewEnds::new(2))?,
+    )?;
+    Ok(run(alloc, &words, desk, shelf))
+}
+
+/// The outcome of a case over a desk that does not fail, and what it wrote.
+pub fn answer(alloc: Global, case: Case<'_>) -> Result<(Outcome, Vec<u8>), Fail> {
+    let fault = Fault {
+        bad_read: 0,
+        bad_write: 0,
+        piece: 500,
+    };
+    let mut desk = desk_of(alloc, case, fault)?;
+    let outcome = ran(alloc, case.line, &mut desk)?;
+    Ok((outcome, desk.output().to_vec(alloc)?))
+}

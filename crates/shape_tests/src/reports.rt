@@ -1,0 +1,296 @@
+//! Reports of flat pictures that are known from outside, and their checks.
+//! A further picture is one more row of a table.
+ghost use Rattle.std.specs.Prelude.{◌==◌, [], ◌∷◌, if◌then◌else◌, slice_index};
+
+use crate::runs::{checked, checked_by, desk, ran, shelf, words};
+use shape_cli::{Outcome, run};
+use shape_desk::MemoryDesk;
+use shape_rules::{EndRule, Facts, NoEnds};
+use std::alloc::{AllocError, Global};
+use std::test::Fail;
+
+#[test]
+fn one_pixel(rt: HostRuntime) -> Result<(), Fail> {
+    let alloc = rt.alloc();
+    let mut desk = desk(alloc, b"P1 1 1 1", &[], &[])?;
+    let outcome = ran(alloc, "analyse pbm a.pbm none", &mut desk)?;
+    assert_eq!(rt; outcome, Outcome::Done);
+    let text = desk.output();
+    assert!(rt; text.starts_with(b"shape 1 pbm 1 1 none\nparts 1 1 1\nnear 0 0 ".as_slice()));
+    assert!(rt; text.ends_with(b" 0\nturn x 0 0\nturn y 0 0\nkept 1 1 1\nend\n".as_slice()));
+    Ok(())
+}
+
+#[test]
+fn reports_of_one_pixel(rt: HostRuntime) -> Result<(), Fail> {
+    let alloc = rt.alloc();
+    let table = [
+        (
+            b"shape 1 pbm 1 1 none\nparts 1 1 1\nnear 0 0 0 -1 1\ncontour 0 0 0 1 1\nat 0 0\nseg 0 0 y 0 1 0\nturn x 0 0\nturn y 0 0\nkept 1 1 1\nend\n".as_slice(),
+            Outcome::Yes,
+        ),
+        (
+            b"shape 1 pbm 1 1 none\nparts 1 1 1\nnear 0 0 1 0 1\ncontour 0 0 0 1 1\nat 0 0\nseg 0 0 y 0 1 0\nturn x 0 0\nturn y 0 0\nkept 1 1 1\nend\n".as_slice(),
+            Outcome::Yes,
+        ),
+        (
+            b"shape 1 pbm 1 1 none\nparts 1 1 1\nnear 0 0 0 -1 2\ncontour 0 0 0 1 1\nat 0 0\nseg 0 0 y 0 1 0\nturn x 0 0\nturn y 0 0\nkept 1 1 1\nend\n".as_slice(),
+            Outcome::No { line: 3 },
+        ),
+        (
+            b"shape 1 pbm 1 1 none\nparts 1 1 1\nnear 00 0 0 -1 1\ncontour 0 0 0 1 1\nat 0 0\nseg 0 0 y 0 1 0\nturn x 0 0\nturn y 0 0\nkept 1 1 1\nend\n".as_slice(),
+            Outcome::No { line: 3 },
+        ),
+        (
+            b"shape 1 pbm 1 1 none\nparts 1 1 1\nnear 0 0 0 -1 1\nend\n".as_slice(),
+            Outcome::No { line: 4 },
+        ),
+        (
+            b"shape 1 pbm 1 1 none\nparts 1 1 1\nnear 0 0 0 -1 1\ncontour 0 0 0 1 1\nat 0 0\nseg 0 0 y 0 1 0\nturn x 0 0\nturn y 0 0\nkept 1 1 1\n".as_slice(),
+            Outcome::No { line: 10 },
+        ),
+        (
+            b"shape 1 pbm 1 1 none\nparts 1 1 1\nnear 0 0 0 -1 1\ncontour 0 0 0 1 1\nat 0 0\nseg 0 0 y 0 1 0\nturn x 0 0\nturn y 0 0\nkept 1 1 1\nend".as_slice(),
+            Outcome::No { line: 10 },
+        ),
+        (
+            b"shape 1 pbm 1 1 none\nparts 1 1 1\nnear 0 0 0 -1 1\ncontour 0 0 0 1 1\nat 0 0\nseg 0 0 y 0 1 0\nturn x 0 0\nturn y 0 0\nkept 1 1 1\nend\nx".as_slice(),
+            Outcome::No { line: 11 },
+        ),
+        (
+            b"shape 1 pbm 1 1 none\nparts 1 1 2\nnear 0 0 0 -1 1\ncontour 0 0 0 1 1\nat 0 0\nseg 0 0 y 0 1 0\nturn x 0 0\nturn y 0 0\nkept 1 1 1\nend\n".as_slice(),
+            Outcome::No { line: 2 },
+        ),
+        (
+            b"shape 1 pbm 1 1 zzz\nparts 1 1 1\nnear 0 0 0 -1 1\ncontour 0 0 0 1 1\nat 0 0\nseg 0 0 y 0 1 0\nturn x 0 0\nturn y 0 0\nkept 1 1 1\nend\n".as_slice(),
+            Outcome::No { line: 1 },
+        ),
+        (
+            b"shape 1 pbm 1 1 none\r\nparts 1 1 1\r\nnear 0 0 0 -1 1\r\nend\r\n".as_slice(),
+            Outcome::No { line: 1 },
+        ),
+        (b"".as_slice(), Outcome::No { line: 1 }),
+    ];
+    for (report, outcome) in table {
+        assert_eq!(rt; checked(alloc, b"P1 1 1 1", report)?, outcome);
+    }
+    Ok(())
+}
+
+#[test]
+fn counts_of_parts(rt: HostRuntime) -> Result<(), Fail> {
+    let alloc = rt.alloc();
+    let table = [
+        (
+            b"P1 2 2 0000".as_slice(),
+            b"shape 1 pbm 2 2 none\nparts 0 0 1\nkept 0 0 1\nend\n".as_slice(),
+        ),
+        (
+            b"P1 2 2 1001".as_slice(),
+            b"shape 1 pbm 2 2 none\nparts 2 1 1\nnear ".as_slice(),
+        ),
+        (
+            b"P1 3 3 111 101 111".as_slice(),
+            b"shape 1 pbm 3 3 none\nparts 8 1 2\nnear ".as_slice(),
+        ),
+    ];
+    for (picture, lines) in table {
+        let mut desk = desk(alloc, picture, &[], &[])?;
+        assert_eq!(rt;
+            ran(alloc, "analyse pbm a.pbm none", &mut desk)?,
+            Outcome::Done
+        );
+        assert!(rt; desk.output().starts_with(lines));
+    }
+    Ok(())
+}
+
+// A drawing of 64 by 48 as a paint program writes it: a comment, pixel lines of 70 characters, and text behind the last.
+fn drawing(alloc: Global) -> Result<Vec<u8>, Fail> {
+    let mut bytes = b"P1\n# made by a paint program\n64 48\n"
+        .as_slice()
+        .to_vec(alloc)?;
+    for i in 0..3072u32 {
+        let (x, y) = (i % 64, i / 64);
+        let is_object = 10 <= x && x < 54 && 8 <= y && y < 40;
+        bytes.push(if is_object { b'1' } else { b'0' })?;
+        if i % 70 == 69 {
+            bytes.push(b'\n')?;
+        }
+    }
+    bytes.extend_from_slice(b"\nend of drawing\n")?;
+    Ok(bytes)
+}
+
+#[test]
+fn a_drawing(rt: HostRuntime) -> Result<(), Fail> {
+    let alloc = rt.alloc();
+    let mut files = Vec::new(alloc);
+    files.push((b"a.pbm".to_vec(alloc)?, drawing(alloc)?))?;
+    let Ok(mut desk) = MemoryDesk::new(alloc, files, Vec::new(alloc), Vec::new(alloc), 500, 90000)
+    else {
+        return Err(Fail::from(AllocError));
+    };
+    assert_eq!(rt;
+        ran(alloc, "analyse pbm a.pbm none", &mut desk)?,
+        Outcome::Done
+    );
+    let text = desk.output();
+    assert!(rt; text.starts_with(b"shape 1 pbm 64 48 none\nparts 1408 1 1\nnear 10 8 ".as_slice()));
+    assert!(rt; text.ends_with(b"\nkept 1 1 1\nend\n".as_slice()));
+    let mut nears = Vec::new(alloc);
+    let mut events = Vec::new(alloc);
+    let mut has_middle = false;
+    for line in text.split(|&c| c == b'\n') {
+        if line.starts_with(b"near ") {
+            nears.push(())?;
+        }
+        if line.starts_with(b"del ") {
+            events.push(())?;
+        }
+        if line == b"near 31 23 31 7 256".as_slice() {
+            has_middle = true;
+        }
+    }
+    assert_eq!(rt; nears.len(), 1408);
+    assert_eq!(rt; events.len(), 1407);
+    assert!(rt; has_middle);
+    Ok(())
+}
+
+#[test]
+fn thinnings(rt: HostRuntime) -> Result<(), Fail> {
+    let alloc = rt.alloc();
+    let table = [
+        (
+            "analyse pbm a.pbm none",
+            b"P1 3 3 111 111 111".as_slice(),
+            b"del 0 0\ndel 1 0\ndel 2 0\ndel 0 1\ndel 2 1\ndel 0 2\ndel 1 2\ndel 2 2\nkept 1 1 1\nend\n".as_slice(),
+        ),
+        (
+            "analyse pbm a.pbm curve",
+            b"P1 3 3 111 111 111".as_slice(),
+            b"del 0 0\ndel 1 0\ndel 2 0\ndel 0 1\ndel 2 1\ndel 0 2\ndel 1 2\ntip 2 2\ntip 1 1\nkept 2 1 1\nend\n".as_slice(),
+        ),
+        (
+            "analyse pbm a.pbm none",
+            b"P1 2 2 1001".as_slice(),
+            b"\ndel 0 0\nkept 1 1 1\nend\n".as_slice(),
+        ),
+        (
+            "analyse pbm a.pbm none",
+            b"P1 3 3 111 101 111".as_slice(),
+            b"\ndel 0 0\ndel 2 0\ndel 0 2\ndel 2 2\nkept 4 1 2\nend\n".as_slice(),
+        ),
+    ];
+    for (line, picture, end) in table {
+        let mut desk = desk(alloc, picture, &[], &[])?;
+        assert_eq!(rt; ran(alloc, line, &mut desk)?, Outcome::Done);
+        assert!(rt; desk.output().ends_with(end));
+        assert_eq!(rt; checked(alloc, picture, desk.output())?, Outcome::Yes);
+    }
+    Ok(())
+}
+
+// Marks at every second question.
+#[derive(Drop)]
+struct Alternate {
+    turn: u64,
+}
+
+impl EndRule for Alternate {
+    ghost state = { λ r. r.turn ∷ [] };
+
+    ghost opening = { λ r. 0 ∷ [] };
+
+    ghost marks = { λ r s f. slice_index s 0 == 1 };
+
+    ghost next = { λ r s f. (if slice_index s 0 == 1 then 0 else 1) ∷ [] };
+
+    fn reset(&mut self) {
+        self.turn = 0;
+    }
+
+    fn keep(&mut self, _facts: &Facts) -> bool {
+        let marks = self.turn == 1;
+        self.turn = if marks { 0 } else { 1 };
+        marks
+    }
+}
+
+#[test]
+fn a_rule_of_the_caller(rt: HostRuntime) -> Result<(), Fail> {
+    let alloc = rt.alloc();
+    let picture = b"P1 3 3 111111111".as_slice();
+    let mut desk = desk(alloc, picture, &[], &[])?;
+    let words = words(alloc, "analyse pbm a.pbm curve")?;
+    let first = shelf(
+        alloc,
+        Box::new(alloc, NoEnds)?,
+        Box::new(alloc, Alternate { turn: 1 })?,
+        Box::new(alloc, NoEnds)?,
+    )?;
+    assert_eq!(rt; run(alloc, &words, &mut desk, first), Outcome::Done);
+    let end =
+        b"\ndel 0 0\ntip 1 0\ndel 2 0\ntip 0 1\ndel 2 1\ntip 0 2\ndel 1 2\ntip 2 2\nkept 5 1 1\nend\n";
+    assert!(rt; desk.output().ends_with(end.as_slice()));
+    let second = shelf(
+        alloc,
+        Box::new(alloc, NoEnds)?,
+        Box::new(alloc, Alternate { turn: 1 })?,
+        Box::new(alloc, NoEnds)?,
+    )?;
+    assert_eq!(rt;
+        checked_by(
+            alloc,
+            "check pbm a.pbm a.report",
+            picture,
+            desk.output(),
+            second
+        )?,
+        Outcome::Yes
+    );
+    Ok(())
+}
+
+#[test]
+fn analyses_are_checked(rt: HostRuntime) -> Result<(), Fail> {
+    let alloc = rt.alloc();
+    let pictures = [
+        b"P1 # c\n1 1 1".as_slice(),
+        b"P1 4 3 000000000000".as_slice(),
+        b"P1 4 3 111111111111".as_slice(),
+        b"P1 4 3 101001011010".as_slice(),
+        b"P1 5 5 11111 10001 10101 10001 11111".as_slice(),
+    ];
+    for picture in pictures {
+        let mut desk = desk(alloc, picture, &[], &[])?;
+        assert_eq!(rt;
+            ran(alloc, "analyse pbm a.pbm none", &mut desk)?,
+            Outcome::Done
+        );
+        assert_eq!(rt; checked(alloc, picture, desk.output())?, Outcome::Yes);
+    }
+    Ok(())
+}
+
+#[test]
+fn a_segment_left_out(rt: HostRuntime) -> Result<(), Fail> {
+    let alloc = rt.alloc();
+    let picture = b"P1 2 2 1111".as_slice();
+    let mut desk = desk(alloc, picture, &[], &[])?;
+    assert_eq!(rt;
+        ran(alloc, "analyse pbm a.pbm none", &mut desk)?,
+        Outcome::Done
+    );
+    let mut report = Vec::new(alloc);
+    for line in desk.output().split(|&c| c == b'\n') {
+        if !line.is_empty() && !line.starts_with(b"seg 1 2 ") {
+            report.extend_from_slice(line)?;
+            report.push(b'\n')?;
+        }
+    }
+    let want = Outcome::No { line: 15 };
+    assert_eq!(rt; checked(alloc, picture, &report)?, want);
+    Ok(())
+}
