@@ -1,0 +1,10 @@
+pub mod RunLaws
+pub mod LayerLaws
+pub mod Contours
+pub mod Deleting
+pub mod NextAnswers
+pub mod Headings
+pub mod Reading
+pub mod Going
+pub mod Files
+pub mod Holding

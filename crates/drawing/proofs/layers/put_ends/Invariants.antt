@@ -1,0 +1,8 @@
+use Rattle.std.proofs.Common.{◌≡◌, ◌++◌, take}
+use Rattle.std.specs.List.{flat_map}
+use Rattle.drawing.specs.Seen.{all_strokes}
+use Rattle.drawing.specs.Svg.{ends_text}
+use Rattle.drawing.proofs.layers.put_ends.Given as goal
+
+abbrev pub invariant-loop-s : goal.invariant-loop-s
+invariant-loop-s l = l.svg ≡ l.initial.svg ++ flat_map ends_text (all_strokes (take l.s-index l.strokes))

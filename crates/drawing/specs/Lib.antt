@@ -1,0 +1,12 @@
+pub mod Runs
+pub mod Object
+pub mod Outlines
+pub mod Skeleton
+pub mod Svg
+pub mod Seen
+pub mod Standing
+pub mod Reports
+pub mod Next
+pub mod Going
+pub mod Answers
+pub mod Outcomes

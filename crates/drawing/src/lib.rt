@@ -1,0 +1,25 @@
+//! The drawing of a report of a flat picture, as an SVG: the object by its depths, the segments of its contours, and its skeleton.
+//! A drawing judges no claim; a further layer is one more file, which says what it takes of a line and what it draws.
+#![tactic(auto)]
+
+mod fault;
+mod heading;
+mod law;
+mod layers;
+mod next;
+mod outcome;
+mod outlines;
+mod pixels;
+mod read;
+mod runs;
+mod skeleton;
+mod sketch;
+mod svg;
+mod top;
+
+pub use law::holding_is_drawn;
+pub use outcome::Outcome;
+pub use top::run;
+
+#[cfg(test)]
+mod tests;
