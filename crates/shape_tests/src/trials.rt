@@ -99,8 +99,7 @@ fn trials_come_again(rt: HostRuntime) -> Result<(), Fail> {
     for (line, want) in [
         (
             "trial pbm 7 64",
-            b"trial pbm 7 64 points 769 parts 5 1 contours 5 segments 44 events 766 kept 5 yes\n"
-                .as_slice(),
+            b"trial pbm 7 64 points 769 parts 5 1 contours 5 segments 44 events 766 kept 5 yes\n".as_slice(),
         ),
         (
             "trial raw 7 12",
