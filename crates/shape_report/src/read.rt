@@ -215,40 +215,54 @@ fn fields<P: Point>(word: &[u8], words: &mut Words) -> Option<Line<P>>
     ensures { ReadsFields P.DIM P.coords word.now words.old words.new result }
 {
     if word == b"shape".as_slice() {
-        shape(words)
-    } else if word == b"parts".as_slice() {
-        parts(words)
-    } else if word == b"near".as_slice() {
-        near(words)
-    } else if word == b"contour".as_slice() {
-        contour(words)
-    } else if word == b"at".as_slice() {
-        at(words)
-    } else if word == b"seg".as_slice() {
-        seg(words)
-    } else if word == b"turn".as_slice() {
-        turn(words)
-    } else if word == b"cut".as_slice() {
-        cut(words)
-    } else if word == b"face".as_slice() {
-        face(words)
-    } else if word == b"patch".as_slice() {
-        patch(words)
-    } else if word == b"on".as_slice() {
-        on(words)
-    } else if word == b"off".as_slice() {
-        off(words)
-    } else if word == b"del".as_slice() {
-        del(words)
-    } else if word == b"tip".as_slice() {
-        tip(words)
-    } else if word == b"kept".as_slice() {
-        kept(words)
-    } else if word == b"end".as_slice() {
-        Some(Line::End)
-    } else {
-        None
+        return shape(words);
     }
+    if word == b"parts".as_slice() {
+        return parts(words);
+    }
+    if word == b"near".as_slice() {
+        return near(words);
+    }
+    if word == b"contour".as_slice() {
+        return contour(words);
+    }
+    if word == b"at".as_slice() {
+        return at(words);
+    }
+    if word == b"seg".as_slice() {
+        return seg(words);
+    }
+    if word == b"turn".as_slice() {
+        return turn(words);
+    }
+    if word == b"cut".as_slice() {
+        return cut(words);
+    }
+    if word == b"face".as_slice() {
+        return face(words);
+    }
+    if word == b"patch".as_slice() {
+        return patch(words);
+    }
+    if word == b"on".as_slice() {
+        return on(words);
+    }
+    if word == b"off".as_slice() {
+        return off(words);
+    }
+    if word == b"del".as_slice() {
+        return del(words);
+    }
+    if word == b"tip".as_slice() {
+        return tip(words);
+    }
+    if word == b"kept".as_slice() {
+        return kept(words);
+    }
+    if word == b"end".as_slice() {
+        return Some(Line::End);
+    }
+    None
 }
 
 // Reads the words of a line.
