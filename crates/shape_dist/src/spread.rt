@@ -5,7 +5,7 @@ ghost use Rattle.shape_dist.specs.declared.found.Found.{Found};
 ghost use Rattle.shape_dist.specs.Spreads.{found, moved, square_in, AreSmall, IsSpreadAt, HasSpread};
 
 use crate::found::Found;
-use crate::lowest::envelope;
+use shape_envelope::envelope;
 use shape_space::{NoMemory, Row, Steps};
 use std::alloc::Global;
 use std::sync::ledger::Ledger;

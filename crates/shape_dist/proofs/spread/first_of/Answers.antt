@@ -1,5 +1,5 @@
 use Rattle.std.proofs.Common.{arith}
-use Rattle.shape_dist.proofs.LineSteps.{line_inside}
+use Rattle.shape_envelope.proofs.LineNumbers.{line_inside}
 use Rattle.shape_dist.proofs.spread.first_of.Goals as goal
 
 pub overflow_add-result : goal.overflow_add-result

@@ -1,6 +1,7 @@
 use Rattle.std.proofs.Common.{◌+◌, ◌*◌, ◌<◌, ap, ◌∙◌, sym, arith}
 use Rattle.shape_dist.specs.Spreads.{found}
-use Rattle.shape_dist.proofs.LineSteps.{line_inside, line_place, line_low, line_high, number_of_line, spread_more}
+use Rattle.shape_envelope.proofs.LineNumbers.{line_inside, line_place, line_low, line_high, number_of_line}
+use Rattle.shape_dist.proofs.LineSteps.{spread_more}
 use Rattle.shape_dist.proofs.spread.spread.Goals as goal
 
 pub spread_line-requires-clause-inside : goal.spread_line-requires-clause-inside

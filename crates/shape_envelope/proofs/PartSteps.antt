@@ -7,7 +7,7 @@ use Rattle.std.proofs.lemmas.Bool.{cases_lt, cases_eq}
 use Rattle.std.proofs.lemmas.Option.{same_Some}
 use Rattle.std.proofs.lemmas.List.{get_or_past}
 use Rattle.shape_terms.specs.Rows.{cell, height, IsFirstBetter, IsLowest}
-use Rattle.shape_dist.specs.Parts.{IsLowestBefore, Wins, AreParts, IsCut, IsSettled, AreBuilt}
+use Rattle.shape_envelope.specs.Parts.{IsLowestBefore, Wins, AreParts, IsCut, IsSettled, AreBuilt}
 use Rattle.shape_terms.proofs.Parabolas.{better_from, better_before}
 
 -- ---- the last part

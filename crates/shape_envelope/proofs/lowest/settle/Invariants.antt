@@ -1,6 +1,6 @@
 use Rattle.std.proofs.Common.{◌+◌, ◌≤◌, length}
-use Rattle.shape_dist.specs.Parts.{IsCut}
-use Rattle.shape_dist.proofs.lowest.settle.Given as goal
+use Rattle.shape_envelope.specs.Parts.{IsCut}
+use Rattle.shape_envelope.proofs.lowest.settle.Given as goal
 
 abbrev pub invariant-loop-kept : goal.invariant-loop-kept
 invariant-loop-kept g l = record {

@@ -1,6 +1,6 @@
 use Rattle.std.proofs.Common.{ℕ, ◌+◌, ◌<◌, ◌≤◌, length, get_or, pos}
 use Rattle.shape_terms.specs.Rows.{IsLowest}
-use Rattle.shape_dist.proofs.lowest.read_out.Given as goal
+use Rattle.shape_envelope.proofs.lowest.read_out.Given as goal
 
 abbrev pub invariant-loop-x : goal.invariant-loop-x
 invariant-loop-x l = record {

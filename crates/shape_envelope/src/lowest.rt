@@ -2,7 +2,7 @@
 //! The envelope is kept in parts, each with the place that is lowest in it and the first place of the row where it is.
 ghost use Rattle.std.specs.Prelude.{◌≡◌, ◌+◌, ◌*◌, ◌<◌, ◌≤◌, ◌↔◌, ℕ, pos, ◌≤ℤ◌, ◌<ℤ◌, true, false, None, Option, List, IsSome, IfOk, length, slice_index, EachIndex, slice_set};
 ghost use Rattle.shape_terms.specs.Rows.{cell, IsLowest};
-ghost use Rattle.shape_dist.specs.Parts.{AreBuilt, AreParts, IsCut, IsSettled};
+ghost use Rattle.shape_envelope.specs.Parts.{AreBuilt, AreParts, IsCut, IsSettled};
 
 use shape_space::{NoMemory, Row, Steps};
 use std::alloc::Global;

@@ -1,7 +1,7 @@
 use Rattle.std.proofs.Common.{◌≡◌, ◌+◌, ◌-◌, arith}
-use Rattle.shape_dist.proofs.PartSteps.{written_more}
-use Rattle.shape_dist.proofs.lowest.read_out.Goals as goal
-use Rattle.shape_dist.proofs.lowest.read_out.Goals.{else-starts-k-via-then-starts-k+else-k-gt0, else-starts-k-via-else-starts-k}
+use Rattle.shape_envelope.proofs.PartSteps.{written_more}
+use Rattle.shape_envelope.proofs.lowest.read_out.Goals as goal
+use Rattle.shape_envelope.proofs.lowest.read_out.Goals.{else-starts-k-via-then-starts-k+else-k-gt0, else-starts-k-via-else-starts-k}
 
 pub loop-x-preserved-then-k-gt0 : goal.loop-x-preserved-then-k-gt0
 loop-x-preserved-then-k-gt0 c =

@@ -2,8 +2,8 @@ use Rattle.std.proofs.Common.{◌≡◌, ◌-◌, ℕ, true, false, arith, rules
 use Rattle.std.specs.Prelude.{ℤ, pos, ◌≤ℤ◌, ◌<ℤ◌}
 use lib.Signed.{lt_z}
 use Rattle.std.proofs.lemmas.Int.{ints, to_z-of_z}
-use Rattle.shape_dist.proofs.PartSteps.{settled, settled_none, cut_more}
-use Rattle.shape_dist.proofs.lowest.settle.Goals as goal
+use Rattle.shape_envelope.proofs.PartSteps.{settled, settled_none, cut_more}
+use Rattle.shape_envelope.proofs.lowest.settle.Goals as goal
 
 before : (s : ℕ) (x : ℤ) → Fits w32 s → FitsSigned w64 x → lt_z (to_z w64 s) (to_z w64 (of_z w64 x)) ≡ true → pos s <ℤ x
 before s x l f h = let e : lt_z (to_z w64 s) x ≡ true = rw (to_z-of_z w64 x f) at h in omega (arith, ints)

@@ -1,7 +1,7 @@
 use Rattle.std.proofs.Common.{arith}
 use Rattle.shape_terms.specs.Rows.{cell}
-use Rattle.shape_dist.proofs.PartSteps.{built_more, built_empty, none_by}
-use Rattle.shape_dist.proofs.lowest.add_place.Goals as goal
+use Rattle.shape_envelope.proofs.PartSteps.{built_more, built_empty, none_by}
+use Rattle.shape_envelope.proofs.lowest.add_place.Goals as goal
 
 pub returns-then-not-filled-clause-built : goal.returns-then-not-filled-clause-built
 returns-then-not-filled-clause-built g c =

@@ -1,6 +1,6 @@
 use Rattle.std.proofs.Common.{◌+◌, ◌*◌, ◌≤◌, length}
-use Rattle.shape_dist.specs.Parts.{AreBuilt}
-use Rattle.shape_dist.proofs.lowest.build.Given as goal
+use Rattle.shape_envelope.specs.Parts.{AreBuilt}
+use Rattle.shape_envelope.proofs.lowest.build.Given as goal
 
 abbrev pub invariant-loop-j : goal.invariant-loop-j
 invariant-loop-j g l = record {
