@@ -1,10 +1,10 @@
 //! The lines of one axis: along each the least that its places give each of them, which the lower envelope of their squares tells.
-ghost use Rattle.std.specs.Prelude.{◌≡◌, ◌+◌, ◌*◌, ◌/◌, ◌%◌, ◌<◌, ◌≤◌, ◌^◌, ℕ, IfOk, Some, length, slice_index};
+ghost use Rattle.std.specs.Prelude.{◌≡◌, ◌+◌, ◌*◌, ◌<◌, ◌≤◌, ◌^◌, ℕ, IfOk, Some, length, slice_index};
 ghost use Rattle.shape_terms.specs.Rows.{cell};
 ghost use Rattle.shape_terms.specs.AxisLines.{gap};
 ghost use Rattle.judge_field.specs.Scanned.{IsLeastAlong, HasScanned};
 
-use shape_envelope::envelope;
+use shape_envelope::{envelope, line_count, line_start};
 use shape_space::{NoMemory, Row, Steps};
 use std::alloc::Global;
 use std::sync::ledger::Ledger;
@@ -97,25 +97,6 @@ fn scan_line<L: Ledger>(
     Ok(())
 }
 
-// The number of the first place of a line.
-fn first_of(t: u32, before: u32, side: u32, behind: u32) -> u32
-    requires line { t < before * behind }
-    requires some { 1 ≤ side }
-    requires few { before * (side * behind) < 2 ^ 31 }
-    ensures { result ≡ t % before + before * (side * (t / before)) }
-{
-    t % before + before * (side * (t / before))
-}
-
-// The number of lines.
-fn lines(before: u32, side: u32, behind: u32) -> u32
-    requires some { 1 ≤ side }
-    requires few { before * (side * behind) < 2 ^ 31 }
-    ensures { result ≡ before * behind }
-{
-    before * behind
-}
-
 /// Scans each line of an axis, where `before` numbers the points on the axes before it, and `behind` those on the axes behind it.
 pub fn scan_lines<L: Ledger>(
     alloc: Global,
@@ -135,8 +116,8 @@ pub fn scan_lines<L: Ledger>(
     requires long { length next.old ≡ length squares.now }
     ensures { IfOk result (λ _. HasScanned before side behind squares.now next.new) }
 {
-    for t in 0..lines(before, side, behind) {
-        let start = first_of(t, before, side, behind) as usize;
+    for t in 0..line_count(before, side, behind) {
+        let start = line_start(t, before, side, behind) as usize;
         scan_line(alloc, next, squares, start, before as usize, side, steps)?;
     }
     Ok(())

@@ -1,6 +1,6 @@
 use Rattle.std.proofs.Common.{arith}
 use Rattle.shape_envelope.proofs.LineNumbers.{line_inside}
-use Rattle.shape_dist.proofs.spread.first_of.Goals as goal
+use Rattle.shape_envelope.proofs.axis.line_start.Goals as goal
 
 pub overflow_add-result : goal.overflow_add-result
 overflow_add-result c =
