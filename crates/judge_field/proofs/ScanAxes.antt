@@ -3,8 +3,8 @@
 use Rattle.std.proofs.Common.{◌≡◌, inl, inr, ℕ, ◌+◌, ◌*◌, ◌-◌, ◌/◌, ◌<◌, ◌≤◌, ◌^◌, false, List, [], ◌∷◌, ◌++◌, length, get_or, refl, sym, ap, ◌∙◌, subst, arith, mul_comm}
 use Rattle.std.specs.Prelude.{IsTrue}
 use Rattle.std.proofs.lemmas.Bool.{cases_Bool, cases_lt, cases_eq}
-use Rattle.std.proofs.lemmas.List.{get_or_push, get_or_append_left, get_or_past, length_push}
-use Rattle.std.proofs.lemmas.Nat.{mod-mul-add}
+use Rattle.std.proofs.lemmas.List.{get_or_push, get_or_append_left, get_or_past}
+use Rattle.std.proofs.lemmas.Nat.{mod-mul-add, div-mul-add}
 use Rattle.shape_terms.specs.Points.{Point, box_count, in_box, squared_distance}
 use Rattle.shape_terms.specs.Pictures.{Picture, at}
 use Rattle.shape_terms.specs.FramedBox.{framed_sides, framed_point}
@@ -16,6 +16,7 @@ use Rattle.shape_terms.specs.AxisLines.{place, gap, apart, IsBare}
 use Rattle.shape_terms.proofs.FramedLines.{distance_same}
 use Rattle.shape_terms.proofs.AxisPlaces.{place_of, place_line, place_high, place_below, same_digits}
 use Rattle.shape_terms.proofs.FramedEnds.{level_all, in_box_in_frame}
+use Rattle.judge_field.proofs.ScanSteps.{along_small}
 use Rattle.judge_field.specs.Scanned.{IsLeastSquare, IsLeastAlong, HasScanned, HasBare, AreSquaresOn, digit, line_start, IsScannedAt, IsFirstSquare}
 
 -- ---- a number's place on its line
@@ -36,25 +37,6 @@ line_is c w low x high y l h =
     moved : (c w low x high y : ℕ) → place c w low x high - x * c + y * c ≡ place c w low y high
     moved c w low x high y = omega arith
 
-some_side : (w x : ℕ) → x < w → 0 < w
-some_side w x l = omega arith
-
--- what a scan of the line of i owes
-pub line_facts : (c w rows i : ℕ) → i < c * (w * rows) → (digit c w i < w) × (digit c w i * c ≤ i) × ((y : ℕ) → y < w → line_start c w i + y * c < c * (w * rows))
-line_facts c w rows i l =
-    let p = place_of c w rows i l in
-    let d : digit c w i ≡ p.x = ap (digit c w) p.is ∙ digit_is c w p.low p.x p.high p.low_below p.x_below in
-    let m : p.x * c ≤ i = subst (λ n. p.x * c ≤ n) (sym p.is) (own c w p.low p.x p.high) in (
-      subst (λ n. n < w) (sym d) p.x_below,
-      subst (λ n. n * c ≤ i) (sym d) m,
-      λ y h.
-          let e : line_start c w i + y * c ≡ place c w p.low y p.high = ap (λ n. line_start c w n + y * c) p.is ∙ line_is c w p.low p.x p.high y p.low_below p.x_below in
-          subst (λ n. n < c * (w * rows)) (sym e) (place_below c w rows p.low y p.high p.low_below h p.high_below),
-    )
-  where
-    own : (c w low x high : ℕ) → x * c ≤ place c w low x high
-    own c w low x high = omega arith
-
 along_same : (a b : ℕ → ℕ) (w x s : ℕ) → ((y : ℕ) → y < w → a y ≡ b y) → IsLeastAlong a w x s → IsLeastAlong b w x s
 along_same a b w x s same t = record {
   y = t.y;
@@ -70,6 +52,35 @@ scanned c w rows n old new e all low x high l h k =
     let d = digit_is c w low x high l h in
     along_same (λ y. get_or old (line_start c w i + y * c) 0) (λ y. get_or old (place c w low y high) 0) w x (get_or new i 0) (λ y m. ap (λ j. get_or old j 0) (line_is c w low x high y l h))
     (subst (λ x. IsLeastAlong (λ y. get_or old (line_start c w i + y * c) 0) w x (get_or new i 0)) d t)
+
+-- and back again, at each number
+pub scanned_each : (c w rows n : ℕ) (old new : List ℕ) → n ≡ c * (w * rows) → HasScanned c w rows old new → (i : ℕ) → i < n → IsScannedAt c w old i (get_or new i 0)
+scanned_each c w rows n old new e scan i l =
+    let p = place_of c w rows i (subst (λ m. i < m) e l) in
+    subst (λ i. IsScannedAt c w old i (get_or new i 0)) (sym p.is) (
+    let j = place c w p.low p.x p.high in
+    let d = digit_is c w p.low p.x p.high p.low_below p.x_below in
+    along_same (λ y. get_or old (place c w p.low y p.high) 0) (λ y. get_or old (line_start c w j + y * c) 0) w (digit c w j) (get_or new j 0) (λ y m. ap (λ k. get_or old k 0) (sym (line_is c w p.low p.x p.high y p.low_below p.x_below)))
+    (subst (λ x. IsLeastAlong (λ y. get_or old (place c w p.low y p.high) 0) w x (get_or new j 0)) (sym d) (scan p.low p.x p.high p.low_below p.x_below p.high_below))
+    )
+
+-- the squares stay small
+pub scanned_small : (c w rows n m : ℕ) (old new : List ℕ) → n ≡ c * (w * rows) → length new ≡ n → HasScanned c w rows old new → ((i : ℕ) → get_or old i 0 ≤ m) → (i : ℕ) → get_or new i 0 ≤ m
+scanned_small c w rows n m old new e long scan small i = elim (cases_lt i n) [
+  | inl l ↦
+      let p = place_of c w rows i (subst (λ m. i < m) e l) in
+      subst (λ i. get_or new i 0 ≤ m) (sym p.is) (along_small (λ y. get_or old (place c w p.low y p.high) 0) w p.x (get_or new (place c w p.low p.x p.high) 0) m (scan p.low p.x p.high p.low_below p.x_below p.high_below) p.x_below (small (place c w p.low p.x p.high)))
+  | inr l ↦ omega (arith, get_or_past new i 0 (omega arith))
+]
+
+-- how often an axis is repeated, from the number of all places
+pub rows_of : (c w rows n : ℕ) → 0 < c → 1 ≤ w → n ≡ c * (w * rows) → n ≡ c * (w * (n / c / w))
+rows_of c w rows n some side e =
+    let a : n ≡ (w * rows) * c + 0 = omega (arith, e, mul_comm c (w * rows)) in
+    let b : w * rows ≡ rows * w + 0 = omega (arith, mul_comm w rows) in
+    let d : n / c ≡ w * rows = ap (λ m. m / c) a ∙ div-mul-add (w * rows) c 0 some in
+    let f : n / c / w ≡ rows = ap (λ m. m / w) (d ∙ b) ∙ div-mul-add rows w 0 side in
+    rw f e
 
 -- ---- one axis more
 
@@ -172,13 +183,4 @@ pub pushed_each : (P : ℕ → ℕ → Type 0) (xs : List ℕ) (s i : ℕ) → l
 pushed_each P xs s i e all one j l = elim (cases_eq j i) [
   | inl same ↦ subst (λ n. P n (get_or (xs ++ s ∷ []) n 0)) (sym same) (subst (P i) (sym (get_or_push xs s 0 i e)) one)
   | inr other ↦ subst (P j) (sym (get_or_append_left xs (s ∷ []) 0 j (omega arith))) (all j (omega arith))
-]
-
-pub pushed_small : (m : ℕ) (xs : List ℕ) (s : ℕ) → ((j : ℕ) → get_or xs j 0 ≤ m) → s ≤ m → (j : ℕ) → get_or (xs ++ s ∷ []) j 0 ≤ m
-pushed_small m xs s all one j = elim (cases_lt j (length xs)) [
-  | inl l ↦ omega (arith, all j, get_or_append_left xs (s ∷ []) 0 j l)
-  | inr l ↦ elim (cases_eq j (length xs)) [
-    | inl same ↦ subst (λ n. get_or (xs ++ s ∷ []) n 0 ≤ m) (sym same) (omega (arith, get_or_push xs s 0 (length xs) refl, one))
-    | inr other ↦ omega (arith, get_or_past (xs ++ s ∷ []) j 0 (omega (arith, length_push xs s)))
-  ]
 ]

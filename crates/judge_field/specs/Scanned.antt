@@ -17,13 +17,6 @@ pub record IsLeastAlong (line : ℕ → ℕ) (w x s : ℕ) : Type 0 where
   pub reached : s ≡ line y + gap x y * gap x y
   pub least : (z : ℕ) → z < w → s ≤ line z + gap x z * gap x z
 
--- the same so far: at the places from low to below high
-pub record IsLeastFrom (line : ℕ → ℕ) (w x low high s : ℕ) : Type 0 where
-  pub y : ℕ
-  pub inside : y < w
-  pub reached : s ≡ line y + gap x y * gap x y
-  pub least : (z : ℕ) → low ≤ z → z < high → s ≤ line z + gap x z * gap x z
-
 -- the digit of i on an axis with c numbers before it and w on it, and the number of the first place of its line
 abbrev pub digit : ℕ → ℕ → ℕ → ℕ
 digit c w i = (i / c) % w
@@ -38,6 +31,10 @@ IsScannedAt c w old i s = IsLeastAlong (λ y. slice_index old (line_start c w i 
 -- each line of w squares, c places apart, was scanned
 abbrev pub HasScanned : ℕ → ℕ → ℕ → List ℕ → List ℕ → Type 0
 HasScanned c w rows old new = (low x high : ℕ) → low < c → x < w → high < rows → IsLeastAlong (λ y. slice_index old (place c w low y high)) w x (slice_index new (place c w low x high))
+
+-- the lines before number t were
+abbrev pub HasScannedTo : ℕ → ℕ → ℕ → ℕ → List ℕ → List ℕ → Type 0
+HasScannedTo c w rows t old new = (low x high : ℕ) → low < c → x < w → high < rows → low + c * high < t → IsLeastAlong (λ y. slice_index old (place c w low y high)) w x (slice_index new (place c w low x high))
 
 -- a background point at a squared distance from i, with the same digits behind the first ones, which count to c
 pub record HasBare (X : Picture) (c i s : ℕ) : Type 0 where

@@ -1,94 +1,124 @@
-//! One line of squares: the least that its places give one of them, by two scans that go away from it.
-//! A scan stops where the square of the way alone reaches the least so far.
-ghost use Rattle.std.specs.Prelude.{◌≡◌, ◌⊎◌, ◌+◌, ◌*◌, ◌-◌, ◌<◌, ◌≤◌, ◌^◌, ℕ, length, slice_index};
-ghost use Rattle.judge_field.specs.Scanned.{IsLeastAlong, IsLeastFrom};
+//! The lines of one axis: along each the least that its places give each of them, which the lower envelope of their squares tells.
+ghost use Rattle.std.specs.Prelude.{◌≡◌, ◌+◌, ◌*◌, ◌<◌, ◌≤◌, ◌^◌, ℕ, IfOk, Some, length, slice_index};
+ghost use Rattle.shape_terms.specs.Rows.{cell};
+ghost use Rattle.shape_terms.specs.AxisLines.{gap};
+ghost use Rattle.judge_field.specs.Scanned.{IsLeastAlong, HasScanned};
 
-// The lesser of the least so far and what a place gives at the end of a way.
-fn lesser(best: u32, square: u32, way: u32) -> u32
+use shape_envelope::{envelope, line_count, line_start};
+use shape_space::{NoMemory, Row, Steps};
+use std::alloc::Global;
+use std::sync::ledger::Ledger;
+
+// The squares of a line as a row.
+fn row_of(
+    alloc: Global,
+    squares: &[u32],
+    start: usize,
+    step: usize,
+    side: u32,
+) -> Result<Row, NoMemory>
+    requires some { 1 ≤ side }
+    requires near { side ≤ 4096 }
+    requires inside { (y : ℕ) → y < side → start + y * step < length squares.now }
+    requires few { length squares.now < 2 ^ 32 }
+    ensures long { IfOk result (λ r. length r ≡ side) }
+    ensures same { IfOk result (λ r. (y : ℕ) → y < side
+        → cell r y ≡ Some (slice_index squares.now (start + y * step))) }
+{
+    let mut row = Row::new(alloc, side)?;
+    for y in 0..side {
+        row.set(y, Some(squares[start + y as usize * step] as u64));
+    }
+    Ok(row)
+}
+
+// What the place y of a line gives its place x.
+fn given(square: u32, x: u32, y: u32) -> u32
     requires small { square ≤ 2 ^ 26 }
-    requires near { way ≤ 4096 }
-    ensures old { result ≤ best }
-    ensures new { result ≤ square + way * way }
-    ensures one { (result ≡ best) ⊎ (result ≡ square + way * way) }
+    requires x_near { x < 4096 }
+    requires y_near { y < 4096 }
+    ensures { result ≡ square + gap x y * gap x y }
 {
-    let other = square + way * way;
-    if other < best { other } else { best }
+    let way = x.abs_diff(y);
+    square + way * way
 }
 
-// What the place x and the two ends of its line give it: the ends lie in the frame, so no scan goes on far behind them.
-fn first_look(squares: &[u32], start: usize, step: usize, side: u32, x: u32) -> u32
-    requires place { x < side }
-    requires near { side ≤ 4096 }
-    requires inside { (y : ℕ) → y < side → start + y * step < length squares.now }
+// Gives each place of a line what its lowest place gives it.
+fn store(next: &mut [u32], squares: &[u32], start: usize, step: usize, lowest: &[u32])
+    requires apart { 0 < step }
+    requires near { length lowest.now ≤ 4096 }
+    requires inside { (y : ℕ) → y < length lowest.now → start + y * step < length squares.now }
     requires few { length squares.now < 2 ^ 32 }
+    requires long { length next.old ≡ length squares.now }
+    requires there { (x : ℕ) → x < length lowest.now
+        → slice_index lowest.now x < length lowest.now }
     requires small { (i : ℕ) → slice_index squares.now i ≤ 2 ^ 26 }
-    ensures { IsLeastFrom (λ y. slice_index squares.now (start + y * step))
-        side x x (x + 1) result }
+    ensures on_line { (x : ℕ) → x < length lowest.now → slice_index next.new (start + x * step)
+        ≡ slice_index squares.now (start + slice_index lowest.now x * step)
+        + gap x (slice_index lowest.now x) * gap x (slice_index lowest.now x) }
+    ensures others { (i : ℕ) → ((x : ℕ) → x < length lowest.now → i ≡ start + x * step → ⊥)
+        → slice_index next.new i ≡ slice_index next.old i }
 {
-    let last = side - 1;
-    let own = squares[start + x as usize * step];
-    let best = lesser(own, squares[start], x);
-    lesser(best, squares[start + last as usize * step], last - x)
-}
-
-// The least of what the places from x on give it.
-fn scan_up(squares: &[u32], start: usize, step: usize, side: u32, x: u32) -> u32
-    requires place { x < side }
-    requires near { side ≤ 4096 }
-    requires inside { (y : ℕ) → y < side → start + y * step < length squares.now }
-    requires few { length squares.now < 2 ^ 32 }
-    requires small { (i : ℕ) → slice_index squares.now i ≤ 2 ^ 26 }
-    ensures { IsLeastFrom (λ y. slice_index squares.now (start + y * step)) side x x side result }
-{
-    let mut best = first_look(squares, start, step, side, x);
-    for y in x + 1..side {
-        let way = y - x;
-        if best <= way * way {
-            return best;
-        }
-        best = lesser(best, squares[start + y as usize * step], way);
+    for x in 0..lowest.len() {
+        let y = lowest[x];
+        next[start + x * step] = given(squares[start + y as usize * step], x as u32, y);
     }
-    best
 }
 
-// The least of what all places give x, where `best` is the least of what those from x on give it.
-fn scan_down(squares: &[u32], start: usize, step: usize, side: u32, x: u32, best: u32) -> u32
-    requires place { x < side }
+// Gives each place of a line the least of what its places give it.
+fn scan_line<L: Ledger>(
+    alloc: Global,
+    next: &mut [u32],
+    squares: &[u32],
+    start: usize,
+    step: usize,
+    side: u32,
+    steps: &mut Steps<L>,
+) -> Result<(), NoMemory>
+    requires apart { 0 < step }
+    requires some { 1 ≤ side }
     requires near { side ≤ 4096 }
     requires inside { (y : ℕ) → y < side → start + y * step < length squares.now }
     requires few { length squares.now < 2 ^ 32 }
+    requires long { length next.old ≡ length squares.now }
     requires small { (i : ℕ) → slice_index squares.now i ≤ 2 ^ 26 }
-    requires best { IsLeastFrom (λ y. slice_index squares.now (start + y * step))
-        side x x side best }
-    ensures { IsLeastFrom (λ y. slice_index squares.now (start + y * step)) side x 0 side result }
+    ensures on_line { IfOk result (λ _. (x : ℕ) → x < side
+        → IsLeastAlong (λ y. slice_index squares.now (start + y * step)) side x
+        (slice_index next.new (start + x * step))) }
+    ensures others { IfOk result (λ _. (i : ℕ) → ((x : ℕ) → x < side → i ≡ start + x * step → ⊥)
+        → slice_index next.new i ≡ slice_index next.old i) }
 {
-    let mut best = best;
-    for y in (0..x).rev() {
-        let way = x - y;
-        if best <= way * way {
-            return best;
-        }
-        best = lesser(best, squares[start + y as usize * step], way);
+    let row = row_of(alloc, squares, start, step, side)?;
+    let mut lowest = vec![in alloc; 0u32; side as usize]?;
+    if !envelope(alloc, &row, &mut lowest, steps)? {
+        unreachable!();
     }
-    best
+    store(next, squares, start, step, &lowest);
+    Ok(())
 }
 
-/// The least of what the places of a line give one of them.
-pub fn least_at(squares: &[u32], start: usize, step: usize, side: u32, x: u32) -> u32
-    requires place { x < side }
+/// Scans each line of an axis, where `before` numbers the points on the axes before it, and `behind` those on the axes behind it.
+pub fn scan_lines<L: Ledger>(
+    alloc: Global,
+    next: &mut [u32],
+    squares: &[u32],
+    before: u32,
+    side: u32,
+    behind: u32,
+    steps: &mut Steps<L>,
+) -> Result<(), NoMemory>
+    requires whole { length squares.now ≡ before * (side * behind) }
+    requires apart { 0 < before }
+    requires some { 1 ≤ side }
     requires near { side ≤ 4096 }
-    requires inside { (y : ℕ) → y < side → start + y * step < length squares.now }
-    requires few { length squares.now < 2 ^ 32 }
+    requires few { length squares.now < 2 ^ 31 }
     requires small { (i : ℕ) → slice_index squares.now i ≤ 2 ^ 26 }
-    ensures least { IsLeastAlong (λ y. slice_index squares.now (start + y * step)) side x result }
-    ensures small { result ≤ 2 ^ 26 }
+    requires long { length next.old ≡ length squares.now }
+    ensures { IfOk result (λ _. HasScanned before side behind squares.now next.new) }
 {
-    scan_down(
-        squares,
-        start,
-        step,
-        side,
-        x,
-        scan_up(squares, start, step, side, x),
-    )
+    for t in 0..line_count(before, side, behind) {
+        let start = line_start(t, before, side, behind) as usize;
+        scan_line(alloc, next, squares, start, before as usize, side, steps)?;
+    }
+    Ok(())
 }

@@ -1,17 +1,18 @@
-//! The squared distances of the points of a picture to the background, by plain scans along each axis.
+//! The squared distances of the points of a picture to the background, found along each axis in turn.
 //! On the first axes a point's square is the least over the background points that differ from it on these alone.
-ghost use Rattle.std.specs.Prelude.{◌≡◌, ◌+◌, ◌*◌, ◌-◌, ◌<◌, ◌≤◌, ◌^◌, ℕ, IsTrue, IfOk, length, slice_index};
+ghost use Rattle.std.specs.Prelude.{◌≡◌, ◌*◌, ◌<◌, ◌≤◌, ◌^◌, ℕ, IsTrue, IfOk, length, slice_index};
 ghost use Rattle.shape_terms.specs.Points.{box_count};
 ghost use Rattle.shape_terms.specs.Pictures.{at};
 ghost use Rattle.shape_terms.specs.FramedBox.{framed_sides};
-ghost use Rattle.judge_field.specs.Scanned.{IsLeastSquare, IsFirstSquare, IsScannedAt, HasScanned, AreSquaresOn, HasTwo};
+ghost use Rattle.judge_field.specs.Scanned.{IsLeastSquare, IsFirstSquare, IsScannedAt, AreSquaresOn, HasTwo};
 
 use crate::first::scan_first;
-use crate::line::least_at;
+use crate::line::scan_lines;
 use shape_grid::Grid;
-use shape_space::{NoMemory, Point};
+use shape_space::{NoMemory, Point, Steps};
 use std::alloc::Global;
-use std::marker::Model;
+use std::marker::{Brand, Model};
+use std::sync::ledger::{Blank, Ledger};
 
 // A square that no two points of a framed box are apart.
 const FAR: u32 = 67108864;
@@ -65,25 +66,14 @@ fn first_squares<P: Point>(alloc: Global, grid: &Grid<P>) -> Result<Vec<u32>, No
     Ok(squares)
 }
 
-// The least of what its line gives a framed point, where `before` counts the points on the axes before that of the line.
-fn scan_at(squares: &[u32], i: u32, before: u32, side: u32) -> u32
-    requires whole { (rows : ℕ) × (length squares.now ≡ before * (side * rows)) }
-    requires inside { i < length squares.now }
-    requires apart { 0 < before }
-    requires some { 1 ≤ side }
-    requires near { side ≤ 4096 }
-    requires few { length squares.now < 2 ^ 31 }
-    requires small { (i : ℕ) → slice_index squares.now i ≤ 2 ^ 26 }
-    ensures least { IsScannedAt before side squares.now i result }
-    ensures small { result ≤ 2 ^ 26 }
-{
-    let x = (i / before) % side;
-    let start = i - x * before;
-    least_at(squares, start as usize, before as usize, side, x)
-}
-
 // The squares on one axis more.
-fn scan_axis(alloc: Global, squares: &[u32], before: u32, side: u32) -> Result<Vec<u32>, NoMemory>
+fn scan_axis<L: Ledger>(
+    alloc: Global,
+    squares: &[u32],
+    before: u32,
+    side: u32,
+    steps: &mut Steps<L>,
+) -> Result<Vec<u32>, NoMemory>
     requires whole { (rows : ℕ) × (length squares.now ≡ before * (side * rows)) }
     requires apart { 0 < before }
     requires some { 1 ≤ side }
@@ -95,16 +85,20 @@ fn scan_axis(alloc: Global, squares: &[u32], before: u32, side: u32) -> Result<V
         → IsScannedAt before side squares.now i (slice_index v.items i)) }
     ensures small { IfOk result (λ v. (i : ℕ) → slice_index v.items i ≤ 2 ^ 26) }
 {
-    let n = squares.len() as u32;
-    let mut next = Vec::with_capacity(alloc, n as usize)?;
-    for i in 0..n {
-        next.push(scan_at(squares, i, before, side))?;
-    }
+    let behind = squares.len() as u32 / before / side;
+    let mut next = vec![in alloc; 0u32; squares.len()]?;
+    scan_lines(alloc, &mut next, squares, before, side, behind, steps)?;
     Ok(next)
 }
 
 // The squares on one axis more. Before the first axis each point has 0 or nothing, and its lines are looked along once from either end.
-fn scan_more(alloc: Global, squares: &[u32], before: u32, side: u32) -> Result<Vec<u32>, NoMemory>
+fn scan_more<L: Ledger>(
+    alloc: Global,
+    squares: &[u32],
+    before: u32,
+    side: u32,
+    steps: &mut Steps<L>,
+) -> Result<Vec<u32>, NoMemory>
     requires whole { (rows : ℕ) × (length squares.now ≡ before * (side * rows)) }
     requires apart { 0 < before }
     requires some { 1 ≤ side }
@@ -120,12 +114,16 @@ fn scan_more(alloc: Global, squares: &[u32], before: u32, side: u32) -> Result<V
     if before == 1 {
         scan_first(alloc, squares, side)
     } else {
-        scan_axis(alloc, squares, before, side)
+        scan_axis(alloc, squares, before, side, steps)
     }
 }
 
 // The squares on all axes.
-fn all_squares<P: Point>(alloc: Global, grid: &Grid<P>) -> Result<Vec<u32>, NoMemory>
+fn all_squares<P: Point, L: Ledger>(
+    alloc: Global,
+    grid: &Grid<P>,
+    steps: &mut Steps<L>,
+) -> Result<Vec<u32>, NoMemory>
     ensures long { IfOk result (λ v. length v.items ≡ box_count (framed_sides grid.now.sides)) }
     ensures squares { IfOk result (λ v. AreSquaresOn grid.now
         (box_count (framed_sides grid.now.sides)) v.items) }
@@ -135,11 +133,28 @@ fn all_squares<P: Point>(alloc: Global, grid: &Grid<P>) -> Result<Vec<u32>, NoMe
     let mut before: u32 = 1;
     for k in 0..P::DIM {
         let side = sides.framed_side(k);
-        let next = scan_more(alloc, &squares, before, side)?;
+        let next = scan_more(alloc, &squares, before, side, steps)?;
         squares = next;
         before *= side;
     }
     Ok(squares)
+}
+
+// The same, with a ledger for the steps.
+fn counted<P: Point, L: Ledger>(
+    alloc: Global,
+    grid: &Grid<P>,
+    blank: Blank,
+) -> Result<Vec<u32>, NoMemory>
+    requires name { blank.name ≡ L.name }
+    requires parts { blank.parts ≡ L.parts }
+    requires whole { blank.parts ≡ 1 }
+    ensures long { IfOk result (λ v. length v.items ≡ box_count (framed_sides grid.now.sides)) }
+    ensures squares { IfOk result (λ v. AreSquaresOn grid.now
+        (box_count (framed_sides grid.now.sides)) v.items) }
+{
+    let mut steps = Steps::<L>::new(blank);
+    all_squares(alloc, grid, &mut steps)
 }
 
 impl<P: Point> Scans<P> {
@@ -147,7 +162,7 @@ impl<P: Point> Scans<P> {
     pub fn new(alloc: Global, grid: &Grid<P>) -> Result<Scans<P>, NoMemory>
         ensures { IfOk result (λ s. s ≡ grid.now) }
     {
-        let squares = all_squares(alloc, grid)?;
+        let squares = counted::<P, Brand>(alloc, grid, Blank::new(1))?;
         let grid = grid.copy(alloc)?;
         Ok(Scans { grid, squares })
     }

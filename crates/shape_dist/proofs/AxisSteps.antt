@@ -2,7 +2,7 @@
 -- Laws over pictures, cells and numbers alone; how a line spreads belongs elsewhere.
 use Rattle.std.proofs.Common.{◌≡◌, ◌≢◌, ℕ, ◌+◌, ◌*◌, ◌/◌, ◌^◌, ◌<◌, ◌≤◌, inl, inr, List, length, set, get_or, refl, sym, ap, ◌∙◌, subst, below_more, get_or-set_same, get_or-set_other, arith}
 use Rattle.std.proofs.lemmas.Nat.{mul-le}
-use Rattle.std.specs.Prelude.{Option, Some, None, Result, Ok, Err, IfOk, ℤ, pos}
+use Rattle.std.specs.Prelude.{Option, Some, None, Result, Ok, Err, IfOk, pos}
 use Rattle.std.proofs.lemmas.Bool.{cases_lt}
 use Rattle.std.proofs.lemmas.List.{get_or_past}
 use Rattle.std.proofs.lemmas.Option.{same_Some}
@@ -12,6 +12,7 @@ use Rattle.shape_terms.specs.Pictures.{Picture}
 use Rattle.shape_terms.specs.FramedBox.{framed_sides}
 use Rattle.shape_terms.specs.AxisLines.{place, gap, apart, IsBare}
 use Rattle.shape_terms.proofs.AxisPlaces.{place_of, place_line, place_high, place_below, same_digits}
+use Rattle.shape_envelope.proofs.LineNumbers.{lowest_inside}
 use Rattle.shape_dist.specs.declared.found.Found.{Found}
 use Rattle.shape_dist.specs.Spreads.{found, IsLeastOfLine, IsSpreadAt, HasSpread, IsNearestOn, HasNearestOn, AreNearestOn, moved, square_in, AreSmall}
 
@@ -140,13 +141,6 @@ spread_of_copy line copy w x (Some g) same t = record {
   square = t.square;
   least = λ z h l e. t.least z h l (same z l ∙ e);
 }
-
--- a lowest place is a place of the row
-pub lowest_inside : (row : List (Option ℕ)) (x : ℤ) (i : ℕ) → IsLowest row x i → i < length row
-lowest_inside row x i t = elim (cases_lt i (length row)) [
-  | inl l ↦ l
-  | inr l ↦ let no : cell row i ≡ None = get_or_past row i None l in let yes = t.filled in cc
-]
 
 -- the whole line is empty
 pub empty_line : (cells line : List (Option Found)) (row : List (Option ℕ)) (base step w : ℕ) → ((y : ℕ) → y < w → found line y ≡ found cells (base + y * step)) → ((y : ℕ) → y < w → cell row y ≡ square_in (found line y)) → ((y : ℕ) → cell row y ≡ None)

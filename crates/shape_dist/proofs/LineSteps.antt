@@ -1,41 +1,14 @@
 -- One line more of an axis.
 -- Laws over cells and numbers alone.
-use Rattle.std.proofs.Common.{◌≡◌, ℕ, ◌+◌, ◌*◌, ◌/◌, ◌%◌, ◌<◌, inl, inr, List, refl, sym, ap, ◌∙◌, subst, arith, mul_comm}
+use Rattle.std.proofs.Common.{◌≡◌, ℕ, ◌+◌, ◌*◌, ◌/◌, ◌%◌, ◌<◌, inl, inr, List, refl, sym, ap, ◌∙◌, subst, arith}
 use Rattle.std.specs.Prelude.{Option}
 use Rattle.std.proofs.lemmas.Bool.{cases_eq}
-use Rattle.std.proofs.lemmas.Nat.{div_below, div-mul-add, mod-mul-add}
 use Rattle.shape_terms.specs.AxisLines.{place}
-use Rattle.shape_terms.proofs.AxisPlaces.{place_below, same_place}
+use Rattle.shape_terms.proofs.AxisPlaces.{same_place}
+use Rattle.shape_envelope.proofs.LineNumbers.{line_low, line_high, line_place, line_of_number, number_of_line, number_below}
 use Rattle.shape_dist.specs.declared.found.Found.{Found}
 use Rattle.shape_dist.specs.Spreads.{found, IsSpreadAt, HasSpread, HasSpreadTo}
 use Rattle.shape_dist.proofs.AxisSteps.{spread_of_copy}
-
-some_factor : (a b i : ℕ) → i < a * b → 0 < a
-some_factor a b i l = elim (cases_eq a 0) [
-  | inl z ↦ absurd (omega (arith, ap (λ n. n * b) z))
-  | inr some ↦ omega arith
-]
-
--- the line with a number
-pub line_low : (c rows t : ℕ) → t < c * rows → t % c < c
-line_low c rows t l = let s = some_factor c rows t l in omega arith
-
-pub line_high : (c rows t : ℕ) → t < c * rows → t / c < rows
-line_high c rows t l = div_below t c rows (some_factor c rows t l) (omega (arith, mul_comm c rows))
-
-pub line_place : (c w t x : ℕ) → (t % c + c * (w * (t / c))) + x * c ≡ place c w (t % c) x (t / c)
-line_place c w t x = omega arith
-
-pub line_inside : (c w rows t x : ℕ) → t < c * rows → x < w → (t % c + c * (w * (t / c))) + x * c < c * (w * rows)
-line_inside c w rows t x l h = omega (arith, place_below c w rows (t % c) x (t / c) (line_low c rows t l) h (line_high c rows t l))
-
-line_of_number : (c low high t : ℕ) → low < c → low + c * high ≡ t → (low ≡ t % c) × (high ≡ t / c)
-line_of_number c low high t l e =
-    let f : high * c + low ≡ t = omega (arith, mul_comm c high) in
-    (sym (mod-mul-add high c low l) ∙ ap (λ n. n % c) f, sym (div-mul-add high c low l) ∙ ap (λ n. n / c) f)
-
-pub number_of_line : (c t : ℕ) → t % c + c * (t / c) ≡ t
-number_of_line c t = omega arith
 
 pub spread_none : (c w rows : ℕ) (cells : List (Option Found)) → HasSpreadTo c w rows 0 cells cells
 spread_none c w rows cells = record {
@@ -44,9 +17,7 @@ spread_none c w rows cells = record {
 }
 
 pub spread_all : (c w rows n : ℕ) (old new : List (Option Found)) → n ≡ c * rows → HasSpreadTo c w rows n old new → HasSpread c w rows old new
-spread_all c w rows n old new e s low x high l h k =
-    let b = place_below c 1 rows low 0 high l (omega arith) k in
-    s.done low x high l h k (omega (arith, e, b))
+spread_all c w rows n old new e s low x high l h k = s.done low x high l h k (omega (arith, e, number_below c rows low high l k))
 
 pub spread_more : (c w rows t : ℕ) (old mid new : List (Option Found)) → t < c * rows → HasSpreadTo c w rows t old mid
     → ((x : ℕ) → x < w → IsSpreadAt (λ y. found mid ((t % c + c * (w * (t / c))) + y * c)) w x (found new ((t % c + c * (w * (t / c))) + x * c)))

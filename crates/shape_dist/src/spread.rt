@@ -1,11 +1,11 @@
 //! One axis: along each of its lines the cells spread by the lower envelope of their squares.
-ghost use Rattle.std.specs.Prelude.{◌≡◌, ◌+◌, ◌*◌, ◌/◌, ◌%◌, ◌<◌, ◌≤◌, ◌^◌, ℕ, IfSome, IfOk, Option, Some, List, length, slice_index};
+ghost use Rattle.std.specs.Prelude.{◌≡◌, ◌+◌, ◌*◌, ◌<◌, ◌≤◌, ◌^◌, ℕ, IfSome, IfOk, Option, Some, List, length, slice_index};
 ghost use Rattle.shape_terms.specs.Rows.{cell};
 ghost use Rattle.shape_dist.specs.declared.found.Found.{Found};
 ghost use Rattle.shape_dist.specs.Spreads.{found, moved, square_in, AreSmall, IsSpreadAt, HasSpread};
 
 use crate::found::Found;
-use crate::lowest::envelope;
+use shape_envelope::{envelope, line_count, line_start};
 use shape_space::{NoMemory, Row, Steps};
 use std::alloc::Global;
 use std::sync::ledger::Ledger;
@@ -154,25 +154,6 @@ fn spread_line<L: Ledger>(
     spread_copy(alloc, cells, base, step, &line, steps)
 }
 
-// The number of the first cell of a line.
-fn first_of(t: u32, before: u32, side: u32, behind: u32) -> u32
-    requires line { t < before * behind }
-    requires some { 1 ≤ side }
-    requires few { before * (side * behind) < 2 ^ 31 }
-    ensures { result ≡ t % before + before * (side * (t / before)) }
-{
-    t % before + before * (side * (t / before))
-}
-
-// The number of lines.
-fn lines(before: u32, side: u32, behind: u32) -> u32
-    requires some { 1 ≤ side }
-    requires few { before * (side * behind) < 2 ^ 31 }
-    ensures { result ≡ before * behind }
-{
-    before * behind
-}
-
 /// Lets the cells spread along one axis, where `before` numbers the points on the axes before it, and `behind` those on the axes behind it.
 pub fn spread<L: Ledger>(
     alloc: Global,
@@ -190,8 +171,8 @@ pub fn spread<L: Ledger>(
     requires small { AreSmall cells.old }
     ensures { IfOk result (λ _. HasSpread before side behind cells.old cells.new) }
 {
-    for t in 0..lines(before, side, behind) {
-        let base = first_of(t, before, side, behind) as usize;
+    for t in 0..line_count(before, side, behind) {
+        let base = line_start(t, before, side, behind) as usize;
         spread_line(alloc, cells, base, before as usize, side, steps)?;
     }
     Ok(())

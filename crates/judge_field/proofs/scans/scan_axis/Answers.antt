@@ -1,14 +1,23 @@
-use Rattle.std.proofs.Common.{◌≡◌, ◌++◌, ◌∷◌, [], ◌^◌, rules}
-use Rattle.judge_field.specs.Scanned.{IsScannedAt}
-use Rattle.judge_field.proofs.ScanAxes.{pushed_each, pushed_small}
+use Rattle.std.proofs.Common.{◌≡◌, length, ◌^◌, ◌/◌, arith, rules}
+use Rattle.std.proofs.lemmas.List.{take_at}
+use Rattle.judge_field.proofs.ScanAxes.{rows_of, scanned_each, scanned_small}
 use Rattle.judge_field.proofs.scans.scan_axis.Goals as goal
 
-pub loop-i-preserved : goal.loop-i-preserved
-loop-i-preserved c =
-    let items : c.push.new.self.items ≡ c.loop-i.next.items ++ c.scan_at.result ∷ [] = search rules in
-    let i = c.loop-i.invariant in
-    record {
-      long = search rules;
-      scanned = rw items (pushed_each (IsScannedAt c.args.before c.args.side c.args.squares.now) c.loop-i.next.items c.scan_at.result c.loop-i.i i.long i.scanned c.scan_at.ensures.least);
-      small = rw items (pushed_small (2 ^ 26) c.loop-i.next.items c.scan_at.result i.small c.scan_at.ensures.small);
-    }
+pub scan_lines-requires-clause-whole : goal.scan_lines-requires-clause-whole
+scan_lines-requires-clause-whole g c = rows_of c.args.before c.args.side c.requires.whole.0 (length c.args.squares.now) c.requires.apart c.requires.some c.requires.whole.1
+
+pub returns-clause-scanned : goal.returns-clause-scanned
+returns-clause-scanned g c =
+    let n = length c.args.squares.now in
+    let len : c.in_ok-next.next.len ≡ n = search rules in
+    let long : length c.scan_lines.new.next ≡ c.in_ok-next.next.len = omega (arith, c.scan_lines.auto.next, c.deref_mut.ensures.len) in
+    rw (take_at c.scan_lines.new.next _ c.in_ok-next.next.len long)
+    (scanned_each c.args.before c.args.side (n / c.args.before / c.args.side) n c.args.squares.now c.scan_lines.new.next (rows_of c.args.before c.args.side c.requires.whole.0 n c.requires.apart c.requires.some c.requires.whole.1) c.in_ok-scan_lines.ensures)
+
+pub returns-clause-small : goal.returns-clause-small
+returns-clause-small g c =
+    let n = length c.args.squares.now in
+    let len : c.in_ok-next.next.len ≡ n = search rules in
+    let long : length c.scan_lines.new.next ≡ c.in_ok-next.next.len = omega (arith, c.scan_lines.auto.next, c.deref_mut.ensures.len) in
+    rw (take_at c.scan_lines.new.next _ c.in_ok-next.next.len long)
+    (scanned_small c.args.before c.args.side (n / c.args.before / c.args.side) n (2 ^ 26) c.args.squares.now c.scan_lines.new.next (rows_of c.args.before c.args.side c.requires.whole.0 n c.requires.apart c.requires.some c.requires.whole.1) (omega arith) c.in_ok-scan_lines.ensures c.requires.small)

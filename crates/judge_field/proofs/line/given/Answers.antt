@@ -1,0 +1,9 @@
+use Rattle.std.proofs.Common.{arith}
+use Rattle.std.proofs.lemmas.Nat.{mul-le}
+use Rattle.judge_field.proofs.line.given.Goals as goal
+
+pub overflow_add-result : goal.overflow_add-result
+overflow_add-result c =
+    let way = c.abs_diff-way.result in
+    let m = mul-le way way 4096 4096 (omega arith) (omega arith) in
+    omega arith

@@ -1,0 +1,48 @@
+-- The lines of an axis, each with a number, and the places of a row.
+-- Laws over numbers and rows alone.
+use Rattle.std.proofs.Common.{◌≡◌, ℕ, ◌+◌, ◌*◌, ◌/◌, ◌%◌, ◌<◌, inl, inr, List, length, sym, ap, ◌∙◌, arith, mul_comm}
+use Rattle.std.specs.Prelude.{ℤ, Option, None}
+use Rattle.std.proofs.lemmas.Bool.{cases_lt, cases_eq}
+use Rattle.std.proofs.lemmas.List.{get_or_past}
+use Rattle.std.proofs.lemmas.Nat.{div_below, div-mul-add, mod-mul-add}
+use Rattle.shape_terms.specs.AxisLines.{place}
+use Rattle.shape_terms.specs.Rows.{cell, IsLowest}
+use Rattle.shape_terms.proofs.AxisPlaces.{place_below}
+
+some_factor : (a b i : ℕ) → i < a * b → 0 < a
+some_factor a b i l = elim (cases_eq a 0) [
+  | inl z ↦ absurd (omega (arith, ap (λ n. n * b) z))
+  | inr some ↦ omega arith
+]
+
+-- the line with a number
+pub line_low : (c rows t : ℕ) → t < c * rows → t % c < c
+line_low c rows t l = let s = some_factor c rows t l in omega arith
+
+pub line_high : (c rows t : ℕ) → t < c * rows → t / c < rows
+line_high c rows t l = div_below t c rows (some_factor c rows t l) (omega (arith, mul_comm c rows))
+
+pub line_place : (c w t x : ℕ) → (t % c + c * (w * (t / c))) + x * c ≡ place c w (t % c) x (t / c)
+line_place c w t x = omega arith
+
+pub line_inside : (c w rows t x : ℕ) → t < c * rows → x < w → (t % c + c * (w * (t / c))) + x * c < c * (w * rows)
+line_inside c w rows t x l h = omega (arith, place_below c w rows (t % c) x (t / c) (line_low c rows t l) h (line_high c rows t l))
+
+pub line_of_number : (c low high t : ℕ) → low < c → low + c * high ≡ t → (low ≡ t % c) × (high ≡ t / c)
+line_of_number c low high t l e =
+    let f : high * c + low ≡ t = omega (arith, mul_comm c high) in
+    (sym (mod-mul-add high c low l) ∙ ap (λ n. n % c) f, sym (div-mul-add high c low l) ∙ ap (λ n. n / c) f)
+
+pub number_of_line : (c t : ℕ) → t % c + c * (t / c) ≡ t
+number_of_line c t = omega arith
+
+-- the number of a line is below that of all lines
+pub number_below : (c rows low high : ℕ) → low < c → high < rows → low + c * high < c * rows
+number_below c rows low high l k = omega (arith, place_below c 1 rows low 0 high l (omega arith) k)
+
+-- a lowest place is a place of the row
+pub lowest_inside : (row : List (Option ℕ)) (x : ℤ) (i : ℕ) → IsLowest row x i → i < length row
+lowest_inside row x i t = elim (cases_lt i (length row)) [
+  | inl l ↦ l
+  | inr l ↦ let no : cell row i ≡ None = get_or_past row i None l in let yes = t.filled in cc
+]

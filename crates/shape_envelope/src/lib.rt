@@ -1,0 +1,12 @@
+//! The lower envelope of a row of parabolas, in time linear in the number of its cells, and the lines of an axis that rows are made of.
+//! It knows rows and no pictures, so the finder of distances and the checker of them both stand on it.
+#![tactic(auto)]
+
+mod axis;
+mod lowest;
+
+pub use axis::{line_count, line_start};
+pub use lowest::envelope;
+
+#[cfg(test)]
+mod tests;
