@@ -1,7 +1,7 @@
 //! The shelf of the program: the rules that a command line or a report may name.
 //! A further rule is one more entry, whose box the caller makes.
 ghost use Rattle.std.specs.Prelude.{◌≡◌, IfOk, codes, [], ◌∷◌};
-ghost use Rattle.thin_terms.specs.Shelves.{names_of};
+ghost use Rattle.thin_terms.specs.Shelves.{names_of, rules_of};
 
 use shape_rules::{EndRule, Entry, Name, Shelf};
 use shape_space::NoMemory;
@@ -14,7 +14,9 @@ pub fn shelf(
     curve: Box<dyn EndRule>,
     few: Box<dyn EndRule>,
 ) -> Result<Shelf, NoMemory>
-    ensures { IfOk result (λ s. names_of s ≡ codes "none" ∷ codes "curve" ∷ codes "few" ∷ []) }
+    ensures names { IfOk result (λ s. names_of s
+        ≡ codes "none" ∷ codes "curve" ∷ codes "few" ∷ []) }
+    ensures rules { IfOk result (λ s. rules_of s ≡ none ∷ curve ∷ few ∷ []) }
 {
     let names = (Name::new(b"none"), Name::new(b"curve"), Name::new(b"few"));
     let (Some(first), Some(second), Some(third)) = names else {
