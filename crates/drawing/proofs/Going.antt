@@ -14,7 +14,8 @@ use Rattle.drawing.specs.Svg.{given_sides, drawn}
 use Rattle.drawing.specs.Reports.{line_rank, BeginsWith, FirstBad, IsOfVolume}
 use Rattle.drawing.specs.Standing.{IsSketchOf}
 use Rattle.drawing.specs.Going.{GoingOn, IsAt, IsSketched, Sketches}
-use Rattle.drawing.specs.Next.{TakesClaim, IsBad, TakesHeading, LacksHeading, HeadingFails}
+use Rattle.shape_report.specs.Next.{TakesClaim, IsBad}
+use Rattle.drawing.specs.Heading.{TakesHeading, LacksHeading, HeadingFails}
 use Rattle.drawing.specs.Answers.{IsNoReport, IsDrawingOf, Refused}
 use Rattle.drawing.specs.declared.fault.DrawFault.{DrawFault}
 use Rattle.drawing.specs.declared.fault.DrawFault.TheVariants.{NotReport, Volume, ReadFault, NoMemory}
@@ -35,24 +36,24 @@ here (Some xs) bytes P e h = let f : xs ≡ bytes = cc in subst P f h
 
 module _ (text : List ℕ) (left : Option (List ℕ)) (s : Sketch) (r n : ℕ) (g : GoingOn text left (IsAt s r) n) where
   -- the next line is none
-  pub bad_line : IfTold left IsBad → FirstBad text n
+  pub bad_line : IfTold left (IsBad 2) → FirstBad text n
   bad_line bad =
-      let b = here left g.bytes IsBad g.told bad in
+      let b = here left g.bytes (IsBad 2) g.told bad in
       subst (FirstBad text) (sym g.number) (first_bad text g.lines g.bytes g.front (λ l rest t o. b.none l rest t) (λ front f z. b.some z))
 
   -- the next line comes too late
-  pub late_line : (l : Line) (new : Option (List ℕ)) → IfTold left (λ bytes. TakesClaim bytes new l) → line_rank l < r → FirstBad text n
+  pub late_line : (l : Line) (new : Option (List ℕ)) → IfTold left (λ bytes. TakesClaim 2 bytes new l) → line_rank l < r → FirstBad text n
   late_line l new taken late =
-      let t = here left g.bytes (λ bytes. TakesClaim bytes new l) g.told taken in
+      let t = here left g.bytes (λ bytes. TakesClaim 2 bytes new l) g.told taken in
       subst (FirstBad text) (sym g.number) (first_bad text g.lines g.bytes g.front
       (λ m rest u o. out_of_order g.lines m r g.follows.some g.follows.highest (subst (λ k. line_rank k < r) (one_line 2 g.bytes l m t.rest rest t.starts u).0 late) o)
       (λ front f z. no_line_at_end 2 g.bytes z l t.rest t.starts))
 
   -- the next line comes in order
-  pub one_more : (l : Line) (new : Option (List ℕ)) (s' : Sketch) → IfTold left (λ bytes. TakesClaim bytes new l) → r ≤ line_rank l
+  pub one_more : (l : Line) (new : Option (List ℕ)) (s' : Sketch) → IfTold left (λ bytes. TakesClaim 2 bytes new l) → r ≤ line_rank l
       → ((lines : List Line) → IsSketchOf lines s → IsSketchOf (lines ++ l ∷ []) s') → s'.sides ≡ s.sides → GoingOn text new (IsAt s' (line_rank l)) (n + 1)
   one_more l new s' taken order sketch same =
-      let t = here left g.bytes (λ bytes. TakesClaim bytes new l) g.told taken in
+      let t = here left g.bytes (λ bytes. TakesClaim 2 bytes new l) g.told taken in
       record {
         lines = g.lines ++ l ∷ [];
         bytes = t.rest;

@@ -14,7 +14,7 @@ use Rattle.report_terms.proofs.Spelled.{spelling_injective}
 use Rattle.report_terms.proofs.TextLines.{spelling_past}
 use Rattle.report_terms.proofs.Checking.{no_line_at_end, no_line_without_lf, no_line_too_long}
 use Rattle.drawing.specs.Reports.{IsHeading}
-use Rattle.drawing.specs.Next.{GivesSides, FlatHeading, SidesOf, LacksHeading, HeadingAnswer}
+use Rattle.drawing.specs.Heading.{GivesSides, FlatHeading, SidesOf, LacksHeading, HeadingAnswer}
 use Rattle.drawing.specs.declared.fault.DrawFault.{DrawFault}
 use Rattle.drawing.specs.declared.fault.DrawFault.TheVariants.{NotReport, Volume, ReadFault, NoMemory}
 

@@ -2,7 +2,6 @@ pub mod RunLaws
 pub mod LayerLaws
 pub mod Contours
 pub mod Deleting
-pub mod NextAnswers
 pub mod Headings
 pub mod Reading
 pub mod Going

@@ -5,7 +5,7 @@ ghost use Rattle.shape_desk.specs.Desk.{OnlyReadsAt};
 ghost use Rattle.shape_desk.specs.Line.{ahead_of};
 ghost use Rattle.shape_desk.specs.declared.desk.Place.TheVariants.{Report};
 ghost use Rattle.drawing.specs.Seen.{flat};
-ghost use Rattle.drawing.specs.Next.{FlatHeading, SolidHeading, SidesOf, HeadingAnswer};
+ghost use Rattle.drawing.specs.Heading.{FlatHeading, SolidHeading, SidesOf, HeadingAnswer};
 
 use crate::fault::DrawFault;
 use shape_desk::{Desk, LineFault, LineReader};

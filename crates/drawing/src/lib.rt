@@ -6,7 +6,6 @@ mod fault;
 mod heading;
 mod law;
 mod layers;
-mod next;
 mod outcome;
 mod outlines;
 mod pixels;

@@ -9,9 +9,9 @@ ghost use Rattle.drawing.specs.Answers.{Draws};
 
 use crate::fault::DrawFault;
 use crate::heading::read_heading;
-use crate::next::{Next, next_claim};
 use crate::sketch::Sketch;
 use shape_desk::{Desk, LineReader};
+use shape_report::{Next, next_claim};
 use std::alloc::Global;
 
 // The rank of `end`.
@@ -49,7 +49,7 @@ fn read_lines<D: Desk>(
                 }
                 return Err(DrawFault::NotReport { line });
             }
-            Err(fault) => return Err(fault),
+            Err(_) => return Err(DrawFault::ReadFault),
         }
     }
     Err(DrawFault::NoMemory)
@@ -67,17 +67,11 @@ pub(crate) fn draw<D: Desk>(alloc: Global, desk: &mut D) -> Result<Vec<u8>, Draw
     let Ok(mut reader) = LineReader::new(alloc) else {
         return Err(DrawFault::NoMemory);
     };
-    let sides = match read_heading(&mut reader, desk) {
-        Ok(sides) => sides,
-        Err(fault) => return Err(fault),
-    };
+    let sides = read_heading(&mut reader, desk)?;
     let Ok(mut sketch) = Sketch::new(alloc, sides) else {
         return Err(DrawFault::NoMemory);
     };
-    match read_lines(&mut sketch, &mut reader, desk) {
-        Ok(()) => (),
-        Err(fault) => return Err(fault),
-    }
+    read_lines(&mut sketch, &mut reader, desk)?;
     match sketch.draw(alloc) {
         Ok(svg) => Ok(svg),
         Err(_) => Err(DrawFault::NoMemory),

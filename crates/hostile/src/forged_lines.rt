@@ -29,37 +29,31 @@ fn replaced(
     Ok((text, number))
 }
 
+// A ring of eight pixels, and a volume of three voxels.
+const RING: &[u8] = b"P1 3 3 111 101 111";
+const THREE: &[u8] = &[1, 0, 1, 0, 1, 0];
+
+// Four weights that are as great as can be, for places and for steps.
+const MOST: &[u8] =
+    b" 4 9223372036854775807 0 9223372036854775807 0 9223372036854775807 0 9223372036854775807 0";
+const MOST_STEPS: &[u8] =
+    b" 4 9223372036854775807 up 9223372036854775807 up+y 9223372036854775807 up-y 9223372036854775807 up";
+
+// What is forged: by which words a picture is analysed and checked, how the line begins, and how it ends.
 // In the second row of each picture, both sums would be equal if they wrapped at 64 bits.
+const GREATEST: [((&str, &str), &[u8], &[u8], &[u8]); 4] = [
+    (OF_RING, RING, b"cut x", MOST_STEPS),
+    (OF_RING, RING, b"cut x", b" 1 4 up"),
+    (OF_THREE, THREE, b"off 2 0 0", MOST_STEPS),
+    (OF_THREE, THREE, b"off 2 0 0", b" 1 4 up"),
+];
+const OF_RING: (&str, &str) = ("analyse pbm a none", "check pbm a b");
+const OF_THREE: (&str, &str) = ("analyse raw 3 1 2 a none", "check raw 3 1 2 a b");
+
 #[test]
 fn the_greatest_weights(rt: HostRuntime) -> Result<(), Fail> {
     let alloc = rt.alloc();
-    let ring = b"P1 3 3 111 101 111".as_slice();
-    let three = [1u8, 0, 1, 0, 1, 0].as_slice();
-    let most =
-        b" 4 9223372036854775807 0 9223372036854775807 0 9223372036854775807 0 9223372036854775807 0".as_slice();
-    let table = [
-        (
-            ("analyse pbm a none", "check pbm a b", ring),
-            b"cut x".as_slice(),
-            b" 4 9223372036854775807 up 9223372036854775807 up+y 9223372036854775807 up-y 9223372036854775807 up".as_slice(),
-        ),
-        (
-            ("analyse pbm a none", "check pbm a b", ring),
-            b"cut x".as_slice(),
-            b" 1 4 up".as_slice(),
-        ),
-        (
-            ("analyse raw 3 1 2 a none", "check raw 3 1 2 a b", three),
-            b"off 2 0 0".as_slice(),
-            b" 4 9223372036854775807 up 9223372036854775807 up+y 9223372036854775807 up-y 9223372036854775807 up".as_slice(),
-        ),
-        (
-            ("analyse raw 3 1 2 a none", "check raw 3 1 2 a b", three),
-            b"off 2 0 0".as_slice(),
-            b" 1 4 up".as_slice(),
-        ),
-    ];
-    for ((analyse, check, picture), begin, steps) in table {
+    for ((analyse, check), picture, begin, steps) in GREATEST {
         let case = Case {
             line: analyse,
             picture,
@@ -68,8 +62,8 @@ fn the_greatest_weights(rt: HostRuntime) -> Result<(), Fail> {
         let (outcome, report) = answer(alloc, case)?;
         assert_eq!(rt; outcome, Outcome::Done);
         let mut forged = begin.to_vec(alloc)?;
-        forged.extend_from_slice(most)?;
-        forged.extend_from_slice(most)?;
+        forged.extend_from_slice(MOST)?;
+        forged.extend_from_slice(MOST)?;
         forged.extend_from_slice(steps)?;
         let (text, line) = replaced(alloc, &report, begin, &forged)?;
         assert!(rt; line > 3);

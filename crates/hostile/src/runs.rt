@@ -1,9 +1,9 @@
 //! What these tests share: cases over two files in memory, and runs by the rules of the program.
 //! No test stands here.
-use shape_cli::{Outcome, run};
+use shape_cli::{Outcome, run, shelf};
 use shape_desk::MemoryDesk;
-use shape_rules::{CurveEnds, EndRule, Entry, FewEnds, Name, NoEnds, Shelf};
-use std::alloc::{AllocError, Global};
+use shape_rules::{CurveEnds, FewEnds, NoEnds};
+use std::alloc::Global;
 use std::test::Fail;
 
 /// The words of a command, and the files `a` and `b` that it may read.
@@ -32,37 +32,9 @@ pub fn desk_of(alloc: Global, case: Case<'_>, fault: Fault) -> Result<MemoryDesk
     let mut bad_writes = Vec::new(alloc);
     bad_writes.push(fault.bad_write)?;
     let piece = fault.piece.max(1);
-    match MemoryDesk::new(alloc, files, bad_reads, bad_writes, piece, 9000) {
-        Ok(desk) => Ok(desk),
-        Err(_) => Err(Fail::from(AllocError)),
-    }
-}
-
-// A shelf with these rules under the names of the program.
-fn shelf(
-    alloc: Global,
-    none: Box<dyn EndRule>,
-    curve: Box<dyn EndRule>,
-    few: Box<dyn EndRule>,
-) -> Result<Shelf, Fail> {
-    let names = (Name::new(b"none"), Name::new(b"curve"), Name::new(b"few"));
-    let (Some(first), Some(second), Some(third)) = names else {
-        return Err(Fail::from(AllocError));
-    };
-    let mut rules: Vec<Entry> = Vec::new(alloc);
-    rules.push(Entry {
-        name: first,
-        rule: none,
-    })?;
-    rules.push(Entry {
-        name: second,
-        rule: curve,
-    })?;
-    rules.push(Entry {
-        name: third,
-        rule: few,
-    })?;
-    Ok(Shelf::new(rules))
+    Ok(MemoryDesk::new(
+        alloc, files, bad_reads, bad_writes, piece, 9000,
+    )?)
 }
 
 /// What the words of a command line come to over a desk, with a new shelf.

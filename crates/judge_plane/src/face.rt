@@ -2,16 +2,39 @@
 //! Faces go by their numbers: x -, x +, y -, y +, z -, z +, from 0 on, as the side neighbours of a point do.
 ghost use Rattle.std.specs.Prelude.{◌≡◌, ◌<◌, ◌≤◌, ◌^◌, ◌↔◌, IsTrue, MatchOption, Contains, length};
 ghost use Rattle.shape_terms.specs.Points.{in_box, box_count, raster_point};
+ghost use Rattle.shape_refute.specs.Senses.{sense_of};
+ghost use Rattle.report_terms.specs.FaceFacts.{face_axis, face_sense};
 ghost use Rattle.judge_plane.specs.Terms.{point_of};
 ghost use Rattle.judge_plane.specs.Exposure.{exposed_at, IsLeft, AreTakenBelow};
 
 use crate::listed::Listed;
 use shape_adj::Pairing;
 use shape_grid::Grid;
+use shape_refute::Sense;
 use shape_space::P3;
 
 /// There are so many faces.
 pub(crate) const FACES: u32 = 6;
+
+/// The axis of a face.
+pub(crate) fn axis_of(face: u32) -> u8
+    requires { face < 6 }
+    ensures value { result ≡ face_axis face }
+    ensures below { result < 3 }
+{
+    (face / 2) as u8
+}
+
+/// The sense of a face.
+pub(crate) fn sense_in(face: u32) -> Sense
+    ensures { sense_of result ≡ face_sense face }
+{
+    if face % 2 == 0 {
+        Sense::Minus
+    } else {
+        Sense::Plus
+    }
+}
 
 /// Whether a point is exposed in a face.
 pub(crate) fn is_exposed(grid: &Grid<P3>, face: u32, p: P3) -> bool
@@ -42,7 +65,8 @@ pub(crate) fn count_exposed(grid: &Grid<P3>, face: u32) -> u32
 /// Whether a point is exposed in a face and not taken.
 pub(crate) fn is_left(grid: &Grid<P3>, face: u32, taken: &Listed, p: P3) -> bool
     requires { face < 6 }
-    ensures answer { IsTrue result ↔ IsLeft (exposed_at grid.now face) taken.now.points (point_of p) }
+    ensures answer { IsTrue result
+        ↔ IsLeft (exposed_at grid.now face) taken.now.points (point_of p) }
     ensures inside { IsTrue result → IsTrue (in_box grid.now.sides (point_of p)) }
 {
     is_exposed(grid, face, p) && !taken.has(p)
@@ -52,7 +76,8 @@ pub(crate) fn is_left(grid: &Grid<P3>, face: u32, taken: &Listed, p: P3) -> bool
 pub(crate) fn first_left(grid: &Grid<P3>, face: u32, taken: &Listed, from: u32) -> Option<u32>
     requires face { face < 6 }
     requires below { AreTakenBelow grid.now face taken.now.points from }
-    ensures first { MatchOption result (AreTakenBelow grid.now face taken.now.points (box_count grid.now.sides))
+    ensures first { MatchOption result
+        (AreTakenBelow grid.now face taken.now.points (box_count grid.now.sides))
         (λ i. AreTakenBelow grid.now face taken.now.points i
         × IsLeft (exposed_at grid.now face) taken.now.points (raster_point grid.now.sides i)
         × (i < box_count grid.now.sides)) }

@@ -18,10 +18,9 @@ ghost use Rattle.report_terms.specs.FaceFacts.{face_axis, face_sense};
 ghost use Rattle.judge_plane.specs.Exposure.{exposed_at, AreTouching};
 ghost use Rattle.judge_plane.specs.PlaneState.{StandsFor, room_of, with_face, with_patch, with_on, with_off};
 
-use crate::face::{FACES, count_exposed, first_left, is_left};
+use crate::face::{FACES, axis_of, count_exposed, first_left, is_left, sense_in};
 use crate::listed::Listed;
-use crate::order::put_in_order;
-use crate::round::{gather, touches};
+use crate::round::{find_touching, touches};
 use shape_grid::Grid;
 use shape_refute::{Naive, Refutation, Sense, holds, is_proper};
 use shape_report::Line;
@@ -63,52 +62,15 @@ impl Model for PlaneJudge {
 
     ghost Value = { PlaneState };
 
-    ghost view = { λ j. state_of j.grid (record { begun = j.begun; exposed = j.exposed; start = j.start; declared = j.declared; cursor = j.cursor; refused = j.refused }) j.plane j.taken.points j.touching.items };
+    ghost view = { λ j. state_of j.grid (record {
+      begun = j.begun; exposed = j.exposed; start = j.start;
+      declared = j.declared; cursor = j.cursor; refused = j.refused;
+    }) j.plane j.taken.points j.touching.items };
 
-    ghost invariant = { λ j. IsKept j.grid (record { begun = j.begun; exposed = j.exposed; start = j.start; declared = j.declared; cursor = j.cursor; refused = j.refused }) j.plane j.taken j.list j.touching.items (vec_capacity j.touching) };
-}
-
-// The axis of a face.
-fn axis_of(face: u32) -> u8
-    requires { face < 6 }
-    ensures value { result ≡ face_axis face }
-    ensures below { result < 3 }
-{
-    (face / 2) as u8
-}
-
-// The sense of a face.
-fn sense_in(face: u32) -> Sense
-    ensures { sense_of result ≡ face_sense face }
-{
-    if face % 2 == 0 {
-        Sense::Minus
-    } else {
-        Sense::Plus
-    }
-}
-
-// Finds the numbers of the points that touch those taken from a place on.
-fn find_touching(
-    grid: &Grid<P3>,
-    face: u32,
-    taken: &Listed,
-    start: u32,
-    list: &mut Listed,
-    numbers: &mut Vec<u32>,
-)
-    requires face { face < 6 }
-    requires taken_box { taken.now.sides ≡ grid.now.sides }
-    requires list_box { list.old.sides ≡ grid.now.sides }
-    requires room { box_count grid.now.sides ≤ vec_capacity numbers.old }
-    ensures list_box { list.new.sides ≡ grid.now.sides }
-    ensures touching { AreTouching grid.now.sides (exposed_at grid.now face) taken.now.points
-        (drop start taken.now.points) numbers.new.items }
-    ensures few { length numbers.new.items ≤ box_count grid.now.sides }
-    ensures capacity { vec_capacity numbers.new ≡ vec_capacity numbers.old }
-{
-    gather(grid, face, taken, start, list);
-    put_in_order(grid, list, numbers);
+    ghost invariant = { λ j. IsKept j.grid (record {
+      begun = j.begun; exposed = j.exposed; start = j.start;
+      declared = j.declared; cursor = j.cursor; refused = j.refused;
+    }) j.plane j.taken j.list j.touching.items (vec_capacity j.touching) };
 }
 
 impl PlaneJudge {
@@ -192,8 +154,8 @@ impl PlaneJudge {
 
     // Takes a `patch` line.
     fn begin_patch(&mut self, points: u32, a: [i64; 3], mu: i64) -> bool
-        ensures answer { IsTrue result
-            ↔ IsPatchHead self.old.picture self.old.standing points (record { a = take 3 a; mu = mu }) }
+        ensures answer { IsTrue result ↔ IsPatchHead self.old.picture self.old.standing points
+            (record { a = take 3 a; mu = mu }) }
         ensures picture { self.new.picture ≡ self.old.picture }
         ensures next { OnTrue result (self.new.standing
             ≡ with_patch self.old.standing points (record { a = take 3 a; mu = mu })) }

@@ -31,12 +31,14 @@ impl Model for Listed {
 
     ghost view = { λ l. listing_of (sides_of (point_of l.sides.lengths)) (map point_of l.points.items) };
 
-    ghost invariant = { λ l. AreListed (sides_of (point_of l.sides.lengths)) (map point_of l.points.items) l.places.items (vec_capacity l.points) };
+    ghost invariant = { λ l. AreListed (sides_of (point_of l.sides.lengths))
+        (map point_of l.points.items) l.places.items (vec_capacity l.points) };
 }
 
 // Takes all points from the list.
 fn unlist(sides: &Sides<P3>, points: &mut Vec<P3>, places: &mut Vec<u32>)
-    requires { ArePlaced (sides_of (point_of sides.now.lengths)) (map point_of points.old.items) places.old.items }
+    requires { ArePlaced (sides_of (point_of sides.now.lengths))
+        (map point_of points.old.items) places.old.items }
     ensures placed { ArePlaced (sides_of (point_of sides.now.lengths)) [] places.new.items }
     ensures none { points.new.items ≡ [] }
     ensures capacity { vec_capacity points.new ≡ vec_capacity points.old }
@@ -80,7 +82,8 @@ impl Listed {
 
     /// The points are of the box, and no two of them are equal.
     pub(crate) fn is_listing(&self)
-        ensures inside { (p : Where) → Contains self.now.points p → IsTrue (in_box self.now.sides p) }
+        ensures inside { (p : Where) → Contains self.now.points p
+            → IsTrue (in_box self.now.sides p) }
         ensures apart { AllPairs (λ p q. p ≢ q) self.now.points }
     {
         let _ = &self.points;

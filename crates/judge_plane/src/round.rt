@@ -1,14 +1,15 @@
 //! The near neighbours of the points of a patch: whether a point touches it, and which points do.
 //! Each point has 26 of them.
-ghost use Rattle.std.specs.Prelude.{◌≡◌, ◌⊎◌, ◌<◌, ◌≤◌, ◌↔◌, [], IsTrue, Some, Contains, length, drop, slice_get};
-ghost use Rattle.shape_terms.specs.Points.{Point as Where, in_box};
+ghost use Rattle.std.specs.Prelude.{◌≡◌, ◌⊎◌, ◌<◌, ◌≤◌, ◌↔◌, [], IsTrue, Some, Contains, length, drop, slice_get, vec_capacity};
+ghost use Rattle.shape_terms.specs.Points.{Point as Where, in_box, box_count};
 ghost use Rattle.shape_terms.specs.Adjacency.{Near};
 ghost use Rattle.report_terms.specs.FaceLines.{IsTouching};
 ghost use Rattle.judge_plane.specs.Terms.{point_of};
-ghost use Rattle.judge_plane.specs.Exposure.{exposed_at, IsLeft, IsNearTo};
+ghost use Rattle.judge_plane.specs.Exposure.{exposed_at, AreTouching, IsLeft, IsNearTo};
 
 use crate::face::is_left;
 use crate::listed::Listed;
+use crate::order::put_in_order;
 use shape_adj::Pairing;
 use shape_grid::Grid;
 use shape_space::P3;
@@ -57,8 +58,8 @@ fn gather_round(grid: &Grid<P3>, face: u32, taken: &Listed, p: P3, list: &mut Li
     }
 }
 
-/// Lists the points that touch those taken from a place on.
-pub(crate) fn gather(grid: &Grid<P3>, face: u32, taken: &Listed, start: u32, list: &mut Listed)
+// Lists the points that touch those taken from a place on.
+fn gather(grid: &Grid<P3>, face: u32, taken: &Listed, start: u32, list: &mut Listed)
     requires face { face < 6 }
     requires taken_box { taken.now.sides ≡ grid.now.sides }
     requires list_box { list.old.sides ≡ grid.now.sides }
@@ -70,4 +71,27 @@ pub(crate) fn gather(grid: &Grid<P3>, face: u32, taken: &Listed, start: u32, lis
     for i in start..taken.len() {
         gather_round(grid, face, taken, taken.point(i), list);
     }
+}
+
+/// Finds the numbers of the points that touch those taken from a place on.
+pub(crate) fn find_touching(
+    grid: &Grid<P3>,
+    face: u32,
+    taken: &Listed,
+    start: u32,
+    list: &mut Listed,
+    numbers: &mut Vec<u32>,
+)
+    requires face { face < 6 }
+    requires taken_box { taken.now.sides ≡ grid.now.sides }
+    requires list_box { list.old.sides ≡ grid.now.sides }
+    requires room { box_count grid.now.sides ≤ vec_capacity numbers.old }
+    ensures list_box { list.new.sides ≡ grid.now.sides }
+    ensures touching { AreTouching grid.now.sides (exposed_at grid.now face) taken.now.points
+        (drop start taken.now.points) numbers.new.items }
+    ensures few { length numbers.new.items ≤ box_count grid.now.sides }
+    ensures capacity { vec_capacity numbers.new ≡ vec_capacity numbers.old }
+{
+    gather(grid, face, taken, start, list);
+    put_in_order(grid, list, numbers);
 }

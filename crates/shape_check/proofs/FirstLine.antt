@@ -17,7 +17,7 @@ use Rattle.report_terms.proofs.NamedRules.{one_named}
 use Rattle.report_terms.proofs.HeadingFirst.{past_heading}
 use Rattle.report_terms.proofs.Checking.{begins_none, begins_next, first_bad, one_line, no_line_at_end}
 use Rattle.shape_terms.proofs.Members.{Contains-map}
-use Rattle.shape_check.specs.Next.{TakesClaim, IsBad}
+use Rattle.shape_report.specs.Next.{TakesClaim, IsBad}
 use Rattle.shape_check.specs.Rows.{IsRuledBy, MayCome}
 use Rattle.shape_check.specs.Going.{GoingOn, BehindHeading}
 use Rattle.shape_rules.specs.Ruled.{rules_on}

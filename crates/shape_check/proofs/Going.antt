@@ -12,7 +12,7 @@ use Rattle.report_terms.specs.Holds.{BeginsWith, Holds, FirstBad}
 use Rattle.report_terms.proofs.Checking.{begins_none, begins_next, first_bad, no_line_at_end, one_line}
 use Rattle.shape_check.specs.Rows.{HasEnded}
 use Rattle.shape_check.specs.Going.{GoingOn}
-use Rattle.shape_check.specs.Next.{TakesClaim, IsBad}
+use Rattle.shape_report.specs.Next.{TakesClaim, IsBad}
 use Rattle.shape_check.specs.Checks.{Answer, Checks, TakesFew}
 use Rattle.shape_check.specs.declared.answer.CheckFault.TheVariants.{ReadFault, NoMemory}
 use Rattle.shape_check.specs.declared.answer.Judgement.TheVariants.{Yes, No}

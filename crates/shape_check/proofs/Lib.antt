@@ -1,4 +1,3 @@
-pub mod NextAnswers
 pub mod RowLaws
 pub mod Going
 pub mod OneLine

@@ -6,7 +6,7 @@ use Rattle.shape_desk.specs.Desk.{Rose}
 use Rattle.shape_desk.specs.Line.{IfTold}
 use Rattle.report_terms.specs.Lines.{Line}
 use Rattle.report_terms.specs.Progress.{StartsWithLine}
-use Rattle.shape_check.specs.Next.{TakesClaim}
+use Rattle.shape_report.specs.Next.{TakesClaim}
 use Rattle.shape_check.specs.declared.answer.CheckFault.{CheckFault}
 use Rattle.shape_check.specs.declared.answer.CheckFault.TheVariants.{ReadFault, NoMemory}
 

@@ -1,4 +1,3 @@
-pub mod Next
 pub mod Rows
 pub mod Entered
 pub mod Going

@@ -13,10 +13,10 @@ ghost use Rattle.shape_check.specs.Going.{GoingOn, BehindHeading};
 use crate::answer::{CheckFault, Judgement};
 use crate::heading::find_rule;
 use crate::judges::{Judges, Row};
-use crate::next::{Next, next_claim};
 use crate::whole::{Flat, Solid};
 use shape_desk::{Desk, LineReader};
 use shape_grid::Grid;
+use shape_report::{Next, next_claim};
 use shape_rules::{EndRule, Shelf};
 use shape_space::{NoMemory, P2, P3, Point};
 use std::alloc::Global;
@@ -64,7 +64,7 @@ fn check_lines<P: Point, R: Row<P>, D: Desk>(
                 }
                 return Ok(Judgement::No { line });
             }
-            Err(fault) => return Err(fault),
+            Err(_) => return Err(CheckFault::ReadFault),
         }
     }
 }

@@ -9,9 +9,8 @@ ghost use Rattle.shape_report.specs.LineOf.{line_of};
 ghost use Rattle.shape_check.specs.Heading.{IsHeading, IsNoHeading, HeadingAnswer};
 
 use crate::answer::CheckFault;
-use crate::next::{Next, next_claim};
 use shape_desk::{Desk, LineReader};
-use shape_report::Line;
+use shape_report::{Line, Next, next_claim};
 use shape_rules::Shelf;
 use shape_space::{Point, Sides};
 
@@ -54,6 +53,6 @@ pub(crate) fn find_rule<P: Point, D: Desk>(
     match next_claim(reader, desk) {
         Ok(Next::Claim(line)) => Ok(entry_of(sides, shelf, &line)),
         Ok(_) => Ok(None),
-        Err(fault) => Err(fault),
+        Err(_) => Err(CheckFault::ReadFault),
     }
 }

@@ -9,7 +9,6 @@ mod end;
 mod heading;
 mod judges;
 pub mod law;
-mod next;
 mod outline;
 mod sections;
 mod then;

@@ -6,6 +6,7 @@ mod analysis;
 mod laws;
 mod outcome;
 mod picture;
+mod rules;
 mod top;
 mod trial;
 mod verdict;
@@ -13,4 +14,5 @@ mod words;
 
 pub use laws::{outcomes_speak, runs_are_complete, verdicts_are_right, words_are_of_one_command};
 pub use outcome::Outcome;
+pub use rules::shelf;
 pub use top::run;

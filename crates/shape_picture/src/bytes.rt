@@ -71,14 +71,10 @@ impl ByteReader {
         if self.start < self.end {
             return Ok(());
         }
-        match fill(&mut self.buf, desk, most) {
-            Ok(count) => {
-                self.start = 0;
-                self.end = count;
-                Ok(())
-            }
-            Err(failed) => Err(failed),
-        }
+        let count = fill(&mut self.buf, desk, most)?;
+        self.start = 0;
+        self.end = count;
+        Ok(())
     }
 
     // Takes the next of the bytes that were read ahead.
@@ -108,10 +104,8 @@ impl ByteReader {
             (λ _. length self.new ≤ max (length self.old) most) }
         ensures reads { OnlyReadsAt Picture (D.state desk.old) (D.state desk.new) }
     {
-        match self.refill(desk, most) {
-            Ok(()) => Ok(self.pop()),
-            Err(failed) => Err(failed),
-        }
+        self.refill(desk, most)?;
+        Ok(self.pop())
     }
 
     /// Takes the next byte behind the first `at` of a file of which at most `longest` are taken.

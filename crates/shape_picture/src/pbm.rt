@@ -64,10 +64,7 @@ fn read_header<D: Desk>(bytes: &mut ByteReader, desk: &mut D) -> Result<Heading,
     let mut header = Header::Start;
     let mut at: u64 = 0;
     while at < MOST_BYTES {
-        let c = match next_byte(at, bytes, desk) {
-            Ok(c) => c,
-            Err(error) => return Err(error),
-        };
+        let c = next_byte(at, bytes, desk)?;
         match step(MOST_SIDE, at, header, c) {
             Err(fault) => return Err(PictureError::Bad(fault)),
             Ok(Progress::Done(form, width, height)) => return Ok(Heading {
@@ -122,10 +119,7 @@ fn read_raster<D: Desk>(
     let mut comment = false;
     let mut count: u32 = 0;
     while at < MOST_BYTES {
-        let c = match next_byte(at, bytes, desk) {
-            Ok(c) => c,
-            Err(error) => return Err(error),
-        };
+        let c = next_byte(at, bytes, desk)?;
         match piece_at(comment, count, at, c) {
             Err(fault) => return Err(PictureError::Bad(fault)),
             Ok(Piece::Gap(within)) => {
@@ -167,10 +161,7 @@ fn read_rows<D: Desk>(
     let mut at = heading.at;
     let mut count: u32 = 0;
     while at < MOST_BYTES {
-        let c = match next_byte(at, bytes, desk) {
-            Ok(c) => c,
-            Err(error) => return Err(error),
-        };
+        let c = next_byte(at, bytes, desk)?;
         let pixels = pixels_ahead(heading.width, count);
         put_bits(&mut grid, count, c, pixels);
         at += 1;

@@ -76,9 +76,8 @@ fn try_neighbour<P: Pairing>(
         → IfOk result (λ _. IsSpreading P.DIM growing.old.axis first
         (spread_of growing.new.points left.new tried.new refused.new)) }
 {
-    let _tried = tried.sides();
-    let _sides = left.sides();
     left.is_picture();
+    tried.is_picture();
     let q = p.near(n);
     if !left.has(q) || tried.has(q) {
         return Ok(());
@@ -143,7 +142,7 @@ fn spread_from<P: Pairing>(
         → IfOk result (λ _. IsGoing P.DIM P.NEAR_COUNT
         t first p (k + 1) growing.new left.new tried.new refused.new) }
 {
-    let _sides = left.sides();
+    left.is_picture();
     let p = growing.point(k);
     spread(growing, left, tried, refused, p)?;
     Ok(())
@@ -166,7 +165,7 @@ pub fn grow<P: Pairing>(
     ensures { IfOk result (λ s. IsGoing P.DIM P.NEAR_COUNT axis left.old (P.coords p)
         (length s.growing.points) s.growing left.new tried.new s.refused) }
 {
-    let _sides = left.sides();
+    left.is_picture();
     let mut growing = Growing::first(alloc, p, axis)?;
     left.clear(p);
     let mut refused = Refusals::new(alloc);

@@ -26,7 +26,7 @@ fn unmark<P: Point>(tried: &mut Grid<P>, refused: &Refusals<P>)
     ensures none { (q : Place) → IsTrue (at tried.new q) → ⊥ }
     ensures sides { tried.new.sides ≡ tried.old.sides }
 {
-    let _sides = tried.sides();
+    tried.is_picture();
     for i in 0..refused.len() {
         tried.clear(refused.get(i).point);
     }
@@ -53,7 +53,6 @@ fn next_patch<P: Pairing>(
     ensures refused { IfOk result (λ x.
         AreRefusedOf P.DIM axis x.patch (λ q. IsTrue (at left.new q)) x.refused) }
 {
-    let _sides = left.sides();
     left.is_picture();
     let mut grown = grow(alloc, axis, p, left, tried)?;
     unmark(tried, &grown.refused);

@@ -3,3 +3,4 @@ pub mod Numbers
 pub mod Fronts
 pub mod Claims
 pub mod SplitWords
+pub mod NextAnswers

@@ -6,6 +6,7 @@ mod field;
 mod kind;
 mod law;
 mod line;
+mod next;
 mod put_why;
 mod read;
 mod report;
@@ -16,6 +17,7 @@ mod words;
 
 pub use law::one_spelling;
 pub use line::Line;
+pub use next::{Next, ReadFault, next_claim};
 pub use read::read_claim;
 pub use report::{Report, WriteFault, write_report};
 pub use spell::put_claim;

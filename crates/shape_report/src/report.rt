@@ -6,7 +6,8 @@ ghost use Rattle.shape_desk.specs.Desk.{WritesText};
 ghost use Rattle.shape_report.specs.LineOf.{line_of};
 
 use crate::line::Line;
-use crate::spell::spelled;
+use crate::spell::spell;
+use crate::text::Text;
 use shape_desk::{Desk, put_all};
 use shape_space::{NoMemory, Point};
 use std::alloc::Global;
@@ -16,6 +17,8 @@ use std::marker::Model;
 #[derive(Drop)]
 pub struct Report {
     text: Vec<u8>,
+    // The line that was put last, as it is spelled.
+    line: Text,
 }
 
 impl Model for Report {
@@ -33,6 +36,7 @@ impl Report {
     {
         Report {
             text: Vec::new(alloc),
+            line: Text::new(),
         }
     }
 
@@ -43,7 +47,8 @@ impl Report {
         ensures err { OnErr result (self.new ≡ self.old) }
     {
         let before = self.text.len();
-        self.text.extend_from_slice(spelled(line).bytes())?;
+        spell(line, &mut self.line);
+        self.text.extend_from_slice(self.line.bytes())?;
         if self.text.push(b'\n').is_err() {
             self.text.truncate(before);
             return Err(NoMemory);

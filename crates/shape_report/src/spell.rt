@@ -231,14 +231,13 @@ fn put_line<P: Point>(line: &Line<P>, text: &mut Text)
     }
 }
 
-// The spelling of a line, without its LF.
-pub(crate) fn spelled<P: Point>(line: &Line<P>) -> Text
+// Spells a line, without its LF, in the place of a text.
+pub(crate) fn spell<P: Point>(line: &Line<P>, text: &mut Text)
     requires { IsLineOf P.DIM (line_of P.coords line.now) }
-    ensures { result ≡ spelling (line_of P.coords line.now) }
+    ensures { text.new ≡ spelling (line_of P.coords line.now) }
 {
-    let mut text = Text::new();
-    put_line(line, &mut text);
-    text
+    text.clear();
+    put_line(line, text)
 }
 
 /// Writes the spelling of a line, without its LF, at the front of the buffer, and answers its length.
@@ -249,5 +248,7 @@ pub fn put_claim<P: Point>(line: &Line<P>, buf: &mut [u8; 1024]) -> usize
     ensures spelled { take result buf.new ≡ spelling (line_of P.coords line.now) }
     ensures room { result ≤ 1024 }
 {
-    put_word(spelled(line).bytes(), buf, 0)
+    let mut text = Text::new();
+    spell(line, &mut text);
+    put_word(text.bytes(), buf, 0)
 }

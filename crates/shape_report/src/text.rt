@@ -41,6 +41,13 @@ impl Text {
         }
     }
 
+    /// Takes all bytes away.
+    pub fn clear(&mut self)
+        ensures { self.new ≡ [] }
+    {
+        self.len = 0;
+    }
+
     /// The bytes so far.
     pub fn bytes(&self) -> &[u8]
         ensures text { result.now ≡ self.now }

@@ -1,51 +1,16 @@
 //! The report of a full picture of 3 by 3 points, by two rules, and that of a volume of three voxels.
+use crate::pictures::{full, volume};
+use crate::runs::rules;
 use shape_adj::Parts;
 use shape_analyse::{Extent, Tally, analyse_flat, analyse_solid};
-use shape_grid::Grid;
-use shape_rules::{CurveEnds, EndRule, Entry, Name, NoEnds, Shelf};
-use shape_space::{P2, P3, Sides};
-use std::alloc::{AllocError, Global};
+use std::alloc::AllocError;
 use std::test::Fail;
-
-// The picture of 3 by 3 points that are all object.
-fn square(alloc: Global) -> Result<Grid<P2>, Fail> {
-    let Some(sides) = Sides::try_new(P2 { x: 3, y: 3 }) else {
-        return Err(Fail::from(AllocError));
-    };
-    let Ok(mut grid) = Grid::new(alloc, sides) else {
-        return Err(Fail::from(AllocError));
-    };
-    for i in 0..sides.count() {
-        let p = sides.unraster(i);
-        if grid.sides().inside(p) {
-            grid.set(p);
-        }
-    }
-    Ok(grid)
-}
-
-// A shelf with these rules under the names `none` and `curve`.
-fn shelf(alloc: Global, none: Box<dyn EndRule>, curve: Box<dyn EndRule>) -> Result<Shelf, Fail> {
-    let (Some(first), Some(second)) = (Name::new(b"none"), Name::new(b"curve")) else {
-        return Err(Fail::from(AllocError));
-    };
-    let mut rules: Vec<Entry> = Vec::new(alloc);
-    rules.push(Entry {
-        name: first,
-        rule: none,
-    })?;
-    rules.push(Entry {
-        name: second,
-        rule: curve,
-    })?;
-    Ok(Shelf::new(rules))
-}
 
 #[test]
 fn a_full_picture(rt: HostRuntime) -> Result<(), Fail> {
     let alloc = rt.alloc();
-    let grid = square(alloc)?;
-    let mut shelf = shelf(alloc, Box::new(alloc, NoEnds)?, Box::new(alloc, CurveEnds)?)?;
+    let grid = full(alloc, 3, 3)?;
+    let mut shelf = rules(alloc)?;
     let Ok(analysis) = analyse_flat(alloc, &grid, &mut shelf, 0) else {
         return Err(Fail::from(AllocError));
     };
@@ -86,9 +51,9 @@ fn a_full_picture(rt: HostRuntime) -> Result<(), Fail> {
 #[test]
 fn a_picture_with_ends(rt: HostRuntime) -> Result<(), Fail> {
     let alloc = rt.alloc();
-    let grid = square(alloc)?;
-    let mut shelf = shelf(alloc, Box::new(alloc, NoEnds)?, Box::new(alloc, CurveEnds)?)?;
-    assert_eq!(rt; shelf.len(), 2);
+    let grid = full(alloc, 3, 3)?;
+    let mut shelf = rules(alloc)?;
+    assert_eq!(rt; shelf.len(), 3);
     let Ok(analysis) = analyse_flat(alloc, &grid, &mut shelf, 1) else {
         return Err(Fail::from(AllocError));
     };
@@ -103,19 +68,8 @@ fn a_picture_with_ends(rt: HostRuntime) -> Result<(), Fail> {
 #[test]
 fn a_volume(rt: HostRuntime) -> Result<(), Fail> {
     let alloc = rt.alloc();
-    let Some(sides) = Sides::try_new(P3 { x: 3, y: 1, z: 2 }) else {
-        return Err(Fail::from(AllocError));
-    };
-    let Ok(mut grid) = Grid::new(alloc, sides) else {
-        return Err(Fail::from(AllocError));
-    };
-    for i in 0..sides.count() {
-        let p = sides.unraster(i);
-        if i % 2 == 0 && grid.sides().inside(p) {
-            grid.set(p);
-        }
-    }
-    let mut shelf = shelf(alloc, Box::new(alloc, NoEnds)?, Box::new(alloc, CurveEnds)?)?;
+    let grid = volume(alloc)?;
+    let mut shelf = rules(alloc)?;
     let Ok(analysis) = analyse_solid(alloc, &grid, &mut shelf, 0) else {
         return Err(Fail::from(AllocError));
     };

@@ -1,46 +1,13 @@
 //! Reports written by hand, of small full pictures: no clause shows the bytes of a report that holds.
+use crate::pictures::full;
+use crate::runs::rules;
 use shape_check::law::{holding_is_answered, holding_shows, one_first_bad};
 use shape_check::{CheckFault, Judgement, check_flat};
 use shape_desk::{Desk, MemoryDesk, Place};
 use shape_grid::Grid;
-use shape_rules::{CurveEnds, EndRule, Entry, Name, NoEnds, Shelf};
-use shape_space::{P2, Sides};
-use std::alloc::{AllocError, Global};
+use shape_space::P2;
+use std::alloc::Global;
 use std::test::Fail;
-
-// The picture whose points are all object.
-fn full(alloc: Global, x: i32, y: i32) -> Result<Grid<P2>, Fail> {
-    let Some(sides) = Sides::try_new(P2 { x, y }) else {
-        return Err(Fail::from(AllocError));
-    };
-    let mut grid = Grid::new(alloc, sides)?;
-    for i in 0..sides.count() {
-        let p = sides.unraster(i);
-        if grid.sides().inside(p) {
-            grid.set(p);
-        }
-    }
-    Ok(grid)
-}
-
-// The rules `none` and `curve`.
-fn shelf(alloc: Global) -> Result<Shelf, Fail> {
-    let (Some(none), Some(curve)) = (Name::new(b"none"), Name::new(b"curve")) else {
-        return Err(Fail::from(AllocError));
-    };
-    let no_ends: Box<dyn EndRule> = Box::new(alloc, NoEnds)?;
-    let curve_ends: Box<dyn EndRule> = Box::new(alloc, CurveEnds)?;
-    let mut rules: Vec<Entry> = Vec::new(alloc);
-    rules.push(Entry {
-        name: none,
-        rule: no_ends,
-    })?;
-    rules.push(Entry {
-        name: curve,
-        rule: curve_ends,
-    })?;
-    Ok(Shelf::new(rules))
-}
 
 // The answer to a report of a picture, read in small pieces, where the calls of the desk with these numbers fail.
 fn answer(
@@ -57,7 +24,7 @@ fn answer(
     let bad = Vec::from_slice(alloc, bad_reads)?;
     let mut desk = MemoryDesk::new(alloc, files, bad, Vec::new(alloc), 20, 0)?;
     desk.begin(Place::Report, b"r")?;
-    let mut shelf = shelf(alloc)?;
+    let mut shelf = rules(alloc)?;
     Ok(check_flat(alloc, grid, &mut desk, &mut shelf))
 }
 

@@ -7,6 +7,8 @@ mod analyses;
 #[cfg(test)]
 mod checks;
 #[cfg(test)]
+mod pictures;
+#[cfg(test)]
 mod refusals;
 #[cfg(test)]
 mod reports;

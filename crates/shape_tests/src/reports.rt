@@ -2,8 +2,8 @@
 //! A further picture is one more row of a table.
 ghost use Rattle.std.specs.Prelude.{◌==◌, [], ◌∷◌, if◌then◌else◌, slice_index};
 
-use crate::runs::{checked, checked_by, desk, ran, shelf, words};
-use shape_cli::{Outcome, run};
+use crate::runs::{checked, checked_by, desk, ran, words};
+use shape_cli::{Outcome, run, shelf};
 use shape_desk::MemoryDesk;
 use shape_rules::{EndRule, Facts, NoEnds};
 use std::alloc::{AllocError, Global};
@@ -21,57 +21,59 @@ fn one_pixel(rt: HostRuntime) -> Result<(), Fail> {
     Ok(())
 }
 
+// Reports of one pixel, and what the checker says of each.
+const OF_ONE_PIXEL: [(&[u8], Outcome); 12] = [
+    (
+        b"shape 1 pbm 1 1 none\nparts 1 1 1\nnear 0 0 0 -1 1\ncontour 0 0 0 1 1\nat 0 0\nseg 0 0 y 0 1 0\nturn x 0 0\nturn y 0 0\nkept 1 1 1\nend\n",
+        Outcome::Yes,
+    ),
+    (
+        b"shape 1 pbm 1 1 none\nparts 1 1 1\nnear 0 0 1 0 1\ncontour 0 0 0 1 1\nat 0 0\nseg 0 0 y 0 1 0\nturn x 0 0\nturn y 0 0\nkept 1 1 1\nend\n",
+        Outcome::Yes,
+    ),
+    (
+        b"shape 1 pbm 1 1 none\nparts 1 1 1\nnear 0 0 0 -1 2\ncontour 0 0 0 1 1\nat 0 0\nseg 0 0 y 0 1 0\nturn x 0 0\nturn y 0 0\nkept 1 1 1\nend\n",
+        Outcome::No { line: 3 },
+    ),
+    (
+        b"shape 1 pbm 1 1 none\nparts 1 1 1\nnear 00 0 0 -1 1\ncontour 0 0 0 1 1\nat 0 0\nseg 0 0 y 0 1 0\nturn x 0 0\nturn y 0 0\nkept 1 1 1\nend\n",
+        Outcome::No { line: 3 },
+    ),
+    (
+        b"shape 1 pbm 1 1 none\nparts 1 1 1\nnear 0 0 0 -1 1\nend\n",
+        Outcome::No { line: 4 },
+    ),
+    (
+        b"shape 1 pbm 1 1 none\nparts 1 1 1\nnear 0 0 0 -1 1\ncontour 0 0 0 1 1\nat 0 0\nseg 0 0 y 0 1 0\nturn x 0 0\nturn y 0 0\nkept 1 1 1\n",
+        Outcome::No { line: 10 },
+    ),
+    (
+        b"shape 1 pbm 1 1 none\nparts 1 1 1\nnear 0 0 0 -1 1\ncontour 0 0 0 1 1\nat 0 0\nseg 0 0 y 0 1 0\nturn x 0 0\nturn y 0 0\nkept 1 1 1\nend",
+        Outcome::No { line: 10 },
+    ),
+    (
+        b"shape 1 pbm 1 1 none\nparts 1 1 1\nnear 0 0 0 -1 1\ncontour 0 0 0 1 1\nat 0 0\nseg 0 0 y 0 1 0\nturn x 0 0\nturn y 0 0\nkept 1 1 1\nend\nx",
+        Outcome::No { line: 11 },
+    ),
+    (
+        b"shape 1 pbm 1 1 none\nparts 1 1 2\nnear 0 0 0 -1 1\ncontour 0 0 0 1 1\nat 0 0\nseg 0 0 y 0 1 0\nturn x 0 0\nturn y 0 0\nkept 1 1 1\nend\n",
+        Outcome::No { line: 2 },
+    ),
+    (
+        b"shape 1 pbm 1 1 zzz\nparts 1 1 1\nnear 0 0 0 -1 1\ncontour 0 0 0 1 1\nat 0 0\nseg 0 0 y 0 1 0\nturn x 0 0\nturn y 0 0\nkept 1 1 1\nend\n",
+        Outcome::No { line: 1 },
+    ),
+    (
+        b"shape 1 pbm 1 1 none\r\nparts 1 1 1\r\nnear 0 0 0 -1 1\r\nend\r\n",
+        Outcome::No { line: 1 },
+    ),
+    (b"", Outcome::No { line: 1 }),
+];
+
 #[test]
 fn reports_of_one_pixel(rt: HostRuntime) -> Result<(), Fail> {
     let alloc = rt.alloc();
-    let table = [
-        (
-            b"shape 1 pbm 1 1 none\nparts 1 1 1\nnear 0 0 0 -1 1\ncontour 0 0 0 1 1\nat 0 0\nseg 0 0 y 0 1 0\nturn x 0 0\nturn y 0 0\nkept 1 1 1\nend\n".as_slice(),
-            Outcome::Yes,
-        ),
-        (
-            b"shape 1 pbm 1 1 none\nparts 1 1 1\nnear 0 0 1 0 1\ncontour 0 0 0 1 1\nat 0 0\nseg 0 0 y 0 1 0\nturn x 0 0\nturn y 0 0\nkept 1 1 1\nend\n".as_slice(),
-            Outcome::Yes,
-        ),
-        (
-            b"shape 1 pbm 1 1 none\nparts 1 1 1\nnear 0 0 0 -1 2\ncontour 0 0 0 1 1\nat 0 0\nseg 0 0 y 0 1 0\nturn x 0 0\nturn y 0 0\nkept 1 1 1\nend\n".as_slice(),
-            Outcome::No { line: 3 },
-        ),
-        (
-            b"shape 1 pbm 1 1 none\nparts 1 1 1\nnear 00 0 0 -1 1\ncontour 0 0 0 1 1\nat 0 0\nseg 0 0 y 0 1 0\nturn x 0 0\nturn y 0 0\nkept 1 1 1\nend\n".as_slice(),
-            Outcome::No { line: 3 },
-        ),
-        (
-            b"shape 1 pbm 1 1 none\nparts 1 1 1\nnear 0 0 0 -1 1\nend\n".as_slice(),
-            Outcome::No { line: 4 },
-        ),
-        (
-            b"shape 1 pbm 1 1 none\nparts 1 1 1\nnear 0 0 0 -1 1\ncontour 0 0 0 1 1\nat 0 0\nseg 0 0 y 0 1 0\nturn x 0 0\nturn y 0 0\nkept 1 1 1\n".as_slice(),
-            Outcome::No { line: 10 },
-        ),
-        (
-            b"shape 1 pbm 1 1 none\nparts 1 1 1\nnear 0 0 0 -1 1\ncontour 0 0 0 1 1\nat 0 0\nseg 0 0 y 0 1 0\nturn x 0 0\nturn y 0 0\nkept 1 1 1\nend".as_slice(),
-            Outcome::No { line: 10 },
-        ),
-        (
-            b"shape 1 pbm 1 1 none\nparts 1 1 1\nnear 0 0 0 -1 1\ncontour 0 0 0 1 1\nat 0 0\nseg 0 0 y 0 1 0\nturn x 0 0\nturn y 0 0\nkept 1 1 1\nend\nx".as_slice(),
-            Outcome::No { line: 11 },
-        ),
-        (
-            b"shape 1 pbm 1 1 none\nparts 1 1 2\nnear 0 0 0 -1 1\ncontour 0 0 0 1 1\nat 0 0\nseg 0 0 y 0 1 0\nturn x 0 0\nturn y 0 0\nkept 1 1 1\nend\n".as_slice(),
-            Outcome::No { line: 2 },
-        ),
-        (
-            b"shape 1 pbm 1 1 zzz\nparts 1 1 1\nnear 0 0 0 -1 1\ncontour 0 0 0 1 1\nat 0 0\nseg 0 0 y 0 1 0\nturn x 0 0\nturn y 0 0\nkept 1 1 1\nend\n".as_slice(),
-            Outcome::No { line: 1 },
-        ),
-        (
-            b"shape 1 pbm 1 1 none\r\nparts 1 1 1\r\nnear 0 0 0 -1 1\r\nend\r\n".as_slice(),
-            Outcome::No { line: 1 },
-        ),
-        (b"".as_slice(), Outcome::No { line: 1 }),
-    ];
-    for (report, outcome) in table {
+    for (report, outcome) in OF_ONE_PIXEL {
         assert_eq!(rt; checked(alloc, b"P1 1 1 1", report)?, outcome);
     }
     Ok(())

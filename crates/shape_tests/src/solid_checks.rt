@@ -1,28 +1,12 @@
 //! A report written by hand of a volume of three voxels, line by line: no clause shows the bytes of a report that holds.
+use crate::pictures::volume;
+use crate::runs::rules;
 use shape_check::{CheckFault, Judgement, check_solid};
 use shape_desk::{Desk, MemoryDesk, Place};
-use shape_grid::Grid;
-use shape_rules::{EndRule, Entry, Name, NoEnds, Shelf};
-use shape_space::{P3, Sides};
-use std::alloc::{AllocError, Global};
+use std::alloc::Global;
 use std::test::Fail;
 
-// The volume of 3 by 1 by 2 points in which every second one is object.
-fn volume(alloc: Global) -> Result<Grid<P3>, Fail> {
-    let Some(sides) = Sides::try_new(P3 { x: 3, y: 1, z: 2 }) else {
-        return Err(Fail::from(AllocError));
-    };
-    let mut grid = Grid::new(alloc, sides)?;
-    for i in 0..sides.count() {
-        let p = sides.unraster(i);
-        if i % 2 == 0 && grid.sides().inside(p) {
-            grid.set(p);
-        }
-    }
-    Ok(grid)
-}
-
-// The answer to a report of the volume, by the rule `none`.
+// The answer to a report of the volume.
 fn answer(alloc: Global, report: &[u8]) -> Result<Result<Judgement, CheckFault>, Fail> {
     let file = (
         Vec::from_slice(alloc, b"r")?,
@@ -31,13 +15,8 @@ fn answer(alloc: Global, report: &[u8]) -> Result<Result<Judgement, CheckFault>,
     let files = vec![in alloc; file]?;
     let mut desk = MemoryDesk::new(alloc, files, Vec::new(alloc), Vec::new(alloc), 20, 0)?;
     desk.begin(Place::Report, b"r")?;
-    let Some(name) = Name::new(b"none") else {
-        return Err(Fail::from(AllocError));
-    };
-    let rule: Box<dyn EndRule> = Box::new(alloc, NoEnds)?;
-    let mut shelf = Shelf::new(vec![in alloc; Entry { name, rule }]?);
     let grid = volume(alloc)?;
-    Ok(check_solid(alloc, &grid, &mut desk, &mut shelf))
+    Ok(check_solid(alloc, &grid, &mut desk, &mut rules(alloc)?))
 }
 
 // Each line of the report, and the line with one thing changed, which makes it the first bad one.

@@ -1,9 +1,8 @@
 //! Volumes: the report of one point and its check, and the faults of files.
 //! What the words of sides may be stands in `refusal_tests`.
-use crate::runs::{checked_by, desk, ran, shelf};
+use crate::runs::{checked_by, desk, ran, rules};
 use shape_cli::Outcome;
 use shape_picture::PictureFault;
-use shape_rules::{CurveEnds, FewEnds, NoEnds};
 use std::test::Fail;
 
 #[test]
@@ -18,16 +17,9 @@ fn one_voxel(rt: HostRuntime) -> Result<(), Fail> {
     assert!(rt; report.starts_with(begin));
     let end = b"\nface z + 1\npatch 1 0 0 1 0\non 0 0 0\nkept 1 1 1\nend\n".as_slice();
     assert!(rt; report.ends_with(end));
-    let few = Box::new(alloc, FewEnds::new(2))?;
-    let shelf = shelf(
-        alloc,
-        Box::new(alloc, NoEnds)?,
-        Box::new(alloc, CurveEnds)?,
-        few,
-    )?;
     let line = "check raw 1 1 1 a.pbm a.report";
     assert_eq!(rt;
-        checked_by(alloc, line, volume, report, shelf)?,
+        checked_by(alloc, line, volume, report, rules(alloc)?)?,
         Outcome::Yes
     );
     Ok(())

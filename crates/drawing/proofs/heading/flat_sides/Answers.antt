@@ -5,7 +5,7 @@ use Rattle.shape_rules.specs.Names.{word_of}
 use Rattle.shape_report.specs.declared.line.Line.{Line}
 use Rattle.drawing.specs.Reports.{IsHeading}
 use Rattle.drawing.specs.Seen.{flat, flat_line}
-use Rattle.drawing.specs.Next.{GivesSides}
+use Rattle.drawing.specs.Heading.{GivesSides}
 use Rattle.drawing.proofs.Headings.{from_line, sides_given}
 use Rattle.drawing.proofs.heading.flat_sides.Goals as goal
 

@@ -4,7 +4,7 @@ use Rattle.shape_desk.specs.declared.desk.Place.TheVariants.{Report}
 use Rattle.shape_desk.specs.Line.{IfTold, ahead_of}
 use Rattle.drawing.specs.Seen.{flat_line}
 use Rattle.drawing.specs.Going.{GoingOn, IsAt}
-use Rattle.drawing.specs.Next.{TakesClaim, IsBad}
+use Rattle.shape_report.specs.Next.{TakesClaim, IsBad}
 use Rattle.drawing.proofs.Going.{if_told, bad_line, late_line, one_more, bad_at_end, sketched_at_end}
 use Rattle.drawing.proofs.read.read_lines.Goals as goal
 
@@ -14,7 +14,7 @@ returns-then-rank-clause-answer g c = λ text start.
     let left = ahead_of c.loop-line.reader.ahead ((g.D.Desk.state c.loop-line.desk).left Report) in
     let new = ahead_of c.next_claim.new.reader.ahead ((g.D.Desk.state c.next_claim.new.desk).left Report) in
     let l = flat_line c.in-Ok-Claim.claim in
-    let taken : IfTold left (λ bytes. TakesClaim bytes new l) = rw c.in-Ok-Claim.field-0-is at c.in-Ok-Claim.ensures.answer in
+    let taken : IfTold left (λ bytes. TakesClaim 2 bytes new l) = rw c.in-Ok-Claim.field-0-is at c.in-Ok-Claim.ensures.answer in
     let late = subst (λ k. k < c.loop-line.rank) c.rank.ensures c.if-rank.true in (
       if_told text (λ t h. late_line t left c.loop-line.sketch c.loop-line.rank c.loop-line.line h l new taken late) (inv.text text start),
       λ e. omega (arith, inv.some, e),
@@ -24,7 +24,7 @@ pub returns-in-Ok-Bad-clause-answer : goal.returns-in-Ok-Bad-clause-answer
 returns-in-Ok-Bad-clause-answer g c = λ text start.
     let inv = c.loop-line.invariant in
     let left = ahead_of c.loop-line.reader.ahead ((g.D.Desk.state c.loop-line.desk).left Report) in
-    let bad : IfTold left IsBad = rw c.in-Ok-Bad.field-0-is at c.in-Ok-Bad.ensures.answer in (
+    let bad : IfTold left (IsBad 2) = rw c.in-Ok-Bad.field-0-is at c.in-Ok-Bad.ensures.answer in (
       if_told text (λ t h. bad_line t left c.loop-line.sketch c.loop-line.rank c.loop-line.line h bad) (inv.text text start),
       λ e. omega (arith, inv.some, e),
     )
@@ -52,7 +52,7 @@ loop-line-preserved g c =
     let left = ahead_of c.loop-line.reader.ahead ((g.D.Desk.state c.loop-line.desk).left Report) in
     let new = ahead_of c.next_claim.new.reader.ahead ((g.D.Desk.state c.next_claim.new.desk).left Report) in
     let l = flat_line c.in-Ok-Claim.claim in
-    let taken : IfTold left (λ bytes. TakesClaim bytes new l) = rw c.in-Ok-Claim.field-0-is at c.in-Ok-Claim.ensures.answer in
+    let taken : IfTold left (λ bytes. TakesClaim 2 bytes new l) = rw c.in-Ok-Claim.field-0-is at c.in-Ok-Claim.ensures.answer in
     let order = subst (λ k. c.loop-line.rank ≤ k) c.rank.ensures c.if-rank.false in
     record {
       begun = next.reads.still_begun;

@@ -7,7 +7,7 @@ use Rattle.report_terms.specs.Subjects.{Subject}
 use Rattle.shape_grid.proofs.SideLists.{sides_back}
 use Rattle.shape_rules.specs.Ruled.{rules_on}
 use Rattle.shape_rules.proofs.Ruled.{rules_same, rule_there}
-use Rattle.shape_check.specs.Next.{TakesClaim}
+use Rattle.shape_report.specs.Next.{TakesClaim}
 use Rattle.shape_check.specs.Going.{GoingOn, BehindHeading}
 use Rattle.shape_check.specs.Heading.{LacksHeading, TakesHeading}
 use Rattle.shape_check.proofs.Going.{if_told, told_start, told_few, takes_none}

@@ -6,7 +6,7 @@ use Rattle.shape_desk.proofs.Writes.{OnlyReadsAt-more}
 use Rattle.shape_desk.specs.Line.{IfTold, ahead_of}
 use Rattle.report_terms.specs.Sections.{Section, lines_of}
 use Rattle.shape_report.specs.LineOf.{line_of}
-use Rattle.shape_check.specs.Next.{TakesClaim, IsBad}
+use Rattle.shape_report.specs.Next.{TakesClaim, IsBad}
 use Rattle.shape_check.specs.Rows.{IsRuledBy}
 use Rattle.shape_check.proofs.Going.{if_told, bad_at_end, holds_at_end, bad_line, not_good, one_more, told_few}
 use Rattle.shape_check.proofs.FirstLine.{may_come, still_ruled}

@@ -1,4 +1,5 @@
 use Rattle.std.proofs.Common.{sym, subst, arith}
+use Rattle.std.proofs.lemmas.Result.{err_from_is_err_and}
 use Rattle.shape_desk.specs.declared.desk.Place.TheVariants.{Picture}
 use Rattle.shape_desk.proofs.Writes.{OnlyReadsAt-more}
 use Rattle.shape_picture.specs.Answers.{most_side, most_bytes, pbm}
@@ -7,18 +8,19 @@ use Rattle.shape_picture.proofs.HeaderSteps.{step_answer, unfinished}
 use Rattle.shape_picture.proofs.ByteSteps.{stops_long, stops_bad, stops_earlier}
 use Rattle.shape_picture.proofs.pbm.read_header.Goals as goal
 
+pub returns-in_err-c-clause-answer : goal.returns-in_err-c-clause-answer
+returns-in_err-c-clause-answer g c =
+    let i = c.loop-at.invariant.0 in
+    let p = err_from_is_err_and c.from_residual.result c.from_residual.ensures.1 in
+    rw (p.1, p.2) (stops_earlier (pbm most_side most_bytes) _ _ _ _ _ _ c.loop-at.invariant.1.only.later (c.in_err-c.ensures.answer ((g.D.Desk.state c.args.desk.now).left Picture) i.front i.taken (unfinished most_side c.loop-at.header i.front i.known)))
+
 pub returns-in-Err-clause-answer : goal.returns-in-Err-clause-answer
 returns-in-Err-clause-answer g c =
     let i = c.loop-at.invariant.0 in
-    stops_earlier (pbm most_side most_bytes) _ _ _ _ _ _ c.loop-at.invariant.1.only.later (c.in-Err.ensures.answer ((g.D.Desk.state c.args.desk.now).left Picture) i.front i.taken (unfinished most_side c.loop-at.header i.front i.known))
-
-pub returns-in-Err-step-clause-answer : goal.returns-in-Err-step-clause-answer
-returns-in-Err-step-clause-answer g c =
-    let i = c.loop-at.invariant.0 in
     let all = (g.D.Desk.state c.args.desk.now).left Picture in
-    let t = c.in-Ok.ensures.answer all i.front i.taken (unfinished most_side c.loop-at.header i.front i.known) in
-    stops_bad most_side most_bytes c.loop-at.at all _ _ i.front c.in-Ok.c _ _ c.in-Err-step.fault t (omega (arith, i.taken.many, c.loop-at-test.true))
-    (subst (λ x. StepAnswer most_side i.front c.in-Ok.c x) (sym c.in-Err-step.ensures) (step_answer most_side c.loop-at.at c.loop-at.header i.front c.in-Ok.c (sym i.taken.many) i.known))
+    let t = c.in_ok-c.ensures.answer all i.front i.taken (unfinished most_side c.loop-at.header i.front i.known) in
+    stops_bad most_side most_bytes c.loop-at.at all _ _ i.front c.in_ok-c.c _ _ c.in-Err.fault t (omega (arith, i.taken.many, c.loop-at-test.true))
+    (subst (λ x. StepAnswer most_side i.front c.in_ok-c.c x) (sym c.in-Err.ensures) (step_answer most_side c.loop-at.at c.loop-at.header i.front c.in_ok-c.c (sym i.taken.many) i.known))
 
 pub returns-in-Ok-Done-clause-answer : goal.returns-in-Ok-Done-clause-answer
 returns-in-Ok-Done-clause-answer g c =
@@ -26,8 +28,8 @@ returns-in-Ok-Done-clause-answer g c =
     let e = rw c.in-Ok-Done.field-0-is at c.in-Ok-Done.ensures in
     record {
       front = _;
-      known = subst (λ x. StepAnswer most_side i.front c.in-Ok.c x) (sym e) (step_answer most_side c.loop-at.at c.loop-at.header i.front c.in-Ok.c (sym i.taken.many) i.known);
-      taken = c.in-Ok.ensures.answer ((g.D.Desk.state c.args.desk.now).left Picture) i.front i.taken (unfinished most_side c.loop-at.header i.front i.known);
+      known = subst (λ x. StepAnswer most_side i.front c.in_ok-c.c x) (sym e) (step_answer most_side c.loop-at.at c.loop-at.header i.front c.in_ok-c.c (sym i.taken.many) i.known);
+      taken = c.in_ok-c.ensures.answer ((g.D.Desk.state c.args.desk.now).left Picture) i.front i.taken (unfinished most_side c.loop-at.header i.front i.known);
     }
 
 pub loop-at-preserved : goal.loop-at-preserved
@@ -36,10 +38,10 @@ loop-at-preserved g c =
     let e = rw c.in-Ok-More.field-0-is at c.in-Ok-More.ensures in (
       record {
         front = _;
-        known = subst (λ x. StepAnswer most_side i.front c.in-Ok.c x) (sym e) (step_answer most_side c.loop-at.at c.loop-at.header i.front c.in-Ok.c (sym i.taken.many) i.known);
-        taken = c.in-Ok.ensures.answer ((g.D.Desk.state c.args.desk.now).left Picture) i.front i.taken (unfinished most_side c.loop-at.header i.front i.known);
+        known = subst (λ x. StepAnswer most_side i.front c.in_ok-c.c x) (sym e) (step_answer most_side c.loop-at.at c.loop-at.header i.front c.in_ok-c.c (sym i.taken.many) i.known);
+        taken = c.in_ok-c.ensures.answer ((g.D.Desk.state c.args.desk.now).left Picture) i.front i.taken (unfinished most_side c.loop-at.header i.front i.known);
       },
-      OnlyReadsAt-more c.loop-at.invariant.1 c.in-Ok.ensures.reads,
+      OnlyReadsAt-more c.loop-at.invariant.1 c.in_ok-c.ensures.reads,
     )
 
 pub returns-clause-answer : goal.returns-clause-answer

@@ -1,4 +1,5 @@
 use Rattle.std.proofs.Common.{◌≡◌, ℕ, ◌+◌, ◌*◌, ◌<◌, ◌≤◌, [], ◌∷◌, ◌++◌, length, flat_map, sym, ap, ◌∙◌, arith}
+use Rattle.std.proofs.lemmas.Result.{err_from_is_err_and}
 use Rattle.std.proofs.lemmas.List.{length_push}
 use Rattle.shape_terms.specs.Points.{box_count}
 use Rattle.shape_desk.specs.declared.desk.Place.TheVariants.{Picture}
@@ -12,11 +13,12 @@ use Rattle.shape_picture.proofs.RowSteps.{same_sides, rows_next, rows_spelled, r
 use Rattle.shape_picture.proofs.ByteSteps.{stops_long, stops_earlier, picture_last}
 use Rattle.shape_picture.proofs.pbm.read_rows.Goals as goal
 
-pub returns-in-Err-clause-answer : goal.returns-in-Err-clause-answer
-returns-in-Err-clause-answer g c = λ all h.
+pub returns-in_err-c-clause-answer : goal.returns-in_err-c-clause-answer
+returns-in_err-c-clause-answer g c = λ all h.
     let r = c.loop-at.invariant.0 all h in
-    stops_earlier (pbm most_side most_bytes) all _ _ _ _ _ c.loop-at.invariant.4.only.later
-    (c.in-Err.ensures.answer all r.front r.taken (rows_unfinished most_side r.known))
+    let p = err_from_is_err_and c.from_residual.result c.from_residual.ensures.1 in
+    rw (p.1, p.2) (stops_earlier (pbm most_side most_bytes) all _ _ _ _ _ c.loop-at.invariant.4.only.later
+    (c.in_err-c.ensures.answer all r.front r.taken (rows_unfinished most_side r.known)))
 
 pub put_bits-requires-clause-room : goal.put_bits-requires-clause-room
 put_bits-requires-clause-room g c =
@@ -30,15 +32,15 @@ pub returns-then-count-total-clause-answer : goal.returns-then-count-total-claus
 returns-then-count-total-clause-answer g c = λ all h.
     let r = c.loop-at.invariant.0 all h in
     let p = r.known in
-    let t = c.in-Ok.ensures.answer all r.front r.taken (rows_unfinished most_side p) in
+    let t = c.in_ok-c.ensures.answer all r.front r.taken (rows_unfinished most_side p) in
     let s = same_sides p (c.loop-at.invariant.1 ∙ c.requires.sides) in
     let count = c.pixels_ahead-pixels.ensures ∙ ap (λ (w : ℕ). byte_pixels w c.loop-at.count) (sym s.0) in
     let n : c.loop-at.count + c.pixels_ahead-pixels.result ≡ number_value p.width * number_value p.height = c.if-count-total.true ∙ c.loop-at.invariant.2 ∙ sym s.1 in
     let few : length r.front < most_bytes = omega (arith, r.taken.many, c.loop-at-test.true) in
     let known = flat_map (row_pixels (number_value p.width)) p.rows ++ flat_map bits_of p.row in
     let v = c.put_bits.ensures.values known (number_value p.width * number_value p.height) p.first.count (omega (arith, n)) p.first.values in
-    picture_last most_side most_bytes (c.loop-at.at + 1) all ((g.D.Desk.state c.next_byte.new.desk).left Picture) c.next_byte.new.bytes (r.front ++ c.in-Ok.c ∷ []) c.put_bits.new.grid
-    (λ rest. rw (length_push r.front c.in-Ok.c) (rows_spelled most_side c.loop-at.grid c.put_bits.new.grid c.loop-at.count c.pixels_ahead-pixels.result r.front c.in-Ok.c p count most_bytes rest c.put_bits.ensures.sides v n few)) t
+    picture_last most_side most_bytes (c.loop-at.at + 1) all ((g.D.Desk.state c.next_byte.new.desk).left Picture) c.next_byte.new.bytes (r.front ++ c.in_ok-c.c ∷ []) c.put_bits.new.grid
+    (λ rest. rw (length_push r.front c.in_ok-c.c) (rows_spelled most_side c.loop-at.grid c.put_bits.new.grid c.loop-at.count c.pixels_ahead-pixels.result r.front c.in_ok-c.c p count most_bytes rest c.put_bits.ensures.sides v n few)) t
 
 pub loop-at-preserved : goal.loop-at-preserved
 loop-at-preserved g c =
@@ -51,17 +53,17 @@ loop-at-preserved g c =
       λ all h.
           let r = c.loop-at.invariant.0 all h in
           let p = r.known in
-          let t = c.in-Ok.ensures.answer all r.front r.taken (rows_unfinished most_side p) in
+          let t = c.in_ok-c.ensures.answer all r.front r.taken (rows_unfinished most_side p) in
           let s = same_sides p (c.loop-at.invariant.1 ∙ c.requires.sides) in
           let count = c.pixels_ahead-pixels.ensures ∙ ap (λ (w : ℕ). byte_pixels w c.loop-at.count) (sym s.0) in
           let n : c.loop-at.count + c.pixels_ahead-pixels.result < number_value p.width * number_value p.height = omega (arith, s.1, total, less) in
           let known = flat_map (row_pixels (number_value p.width)) p.rows ++ flat_map bits_of p.row in
           let v = c.put_bits.ensures.values known (number_value p.width * number_value p.height) p.first.count (omega (arith, n)) p.first.values in
-          record { front = _; known = rows_next most_side c.loop-at.grid c.put_bits.new.grid c.loop-at.count c.pixels_ahead-pixels.result r.front c.in-Ok.c p count c.put_bits.ensures.sides v n; taken = t },
+          record { front = _; known = rows_next most_side c.loop-at.grid c.put_bits.new.grid c.loop-at.count c.pixels_ahead-pixels.result r.front c.in_ok-c.c p count c.put_bits.ensures.sides v n; taken = t },
       c.put_bits.ensures.sides ∙ c.loop-at.invariant.1,
       c.loop-at.invariant.2,
       less,
-      OnlyReadsAt-more c.loop-at.invariant.4 c.in-Ok.ensures.reads,
+      OnlyReadsAt-more c.loop-at.invariant.4 c.in_ok-c.ensures.reads,
     )
 
 pub returns-clause-answer : goal.returns-clause-answer

@@ -1,16 +1,16 @@
 use Rattle.std.proofs.Common.{arith, length}
 use Rattle.shape_plane.proofs.Going.{going_first, going_less}
 use Rattle.shape_plane.proofs.Spreading.{in_sides}
-use Rattle.shape_plane.proofs.Neighbours.{in_greatest}
+use Rattle.shape_plane.proofs.Neighbours.{within_sides}
 use Rattle.shape_plane.proofs.grow.grow.Goals as goal
 
 pub first-requires-clause-inside : goal.first-requires-clause-inside
 first-requires-clause-inside g c =
-    in_greatest g.P.Point.MAX_SIDE (g.P.Point.coords c.sides-sides.result.lengths) (g.P.Point.coords c.args.p) c.args.left.now.sides c.sides-sides.result.in_range c.sides-sides.ensures.value (in_sides c.args.left.now (g.P.Point.coords c.args.p) c.requires.left)
+    within_sides g.P.Point.MAX_SIDE c.args.left.now.sides (g.P.Point.coords c.args.p) c.is_picture.ensures.in_range (in_sides c.args.left.now (g.P.Point.coords c.args.p) c.requires.left)
 
 pub loop-k-init : goal.loop-k-init
 loop-k-init g c =
-    rw c.new-refused.ensures (going_first g.P.Point.DIM g.P.Pairing.NEAR_COUNT c.args.axis c.args.left.now c.args.tried.now (g.P.Point.coords c.args.p) c.in_ok-growing.growing c.clear.new.self c.sides-sides.ensures.picture c.requires.left c.in_ok-growing.ensures.axis c.in_ok-growing.ensures.points c.clear.ensures c.requires.sides c.requires.none)
+    rw c.new-refused.ensures (going_first g.P.Point.DIM g.P.Pairing.NEAR_COUNT c.args.axis c.args.left.now c.args.tried.now (g.P.Point.coords c.args.p) c.in_ok-growing.growing c.clear.new.self c.is_picture.ensures.picture c.requires.left c.in_ok-growing.ensures.axis c.in_ok-growing.ensures.points c.clear.ensures c.requires.sides c.requires.none)
 
 pub spread_from-requires-clause-going : goal.spread_from-requires-clause-going
 spread_from-requires-clause-going g c = (c.args.axis, c.args.left.now, g.P.Point.coords c.args.p, c.loop-k.invariant)

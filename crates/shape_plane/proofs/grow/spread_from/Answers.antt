@@ -1,13 +1,13 @@
 use Rattle.std.proofs.Common.{ℕ, sym, subst}
 use Rattle.shape_plane.specs.Trials.{spread_of, IsSpreading}
 use Rattle.shape_plane.proofs.Going.{going_more, going_in_box}
-use Rattle.shape_plane.proofs.Neighbours.{in_greatest}
+use Rattle.shape_plane.proofs.Neighbours.{within_sides}
 use Rattle.shape_plane.proofs.grow.spread_from.Goals as goal
 
 pub spread-requires-clause-within : goal.spread-requires-clause-within
 spread-requires-clause-within g c =
     let w = c.requires.going in
-    in_greatest g.P.Point.MAX_SIDE (g.P.Point.coords c.sides-sides.result.lengths) (g.P.Point.coords c.point-p.result) c.args.left.now.sides c.sides-sides.result.in_range c.sides-sides.ensures.value
+    within_sides g.P.Point.MAX_SIDE c.args.left.now.sides (g.P.Point.coords c.point-p.result) c.is_picture.ensures.in_range
     (going_in_box g.P.Point.DIM g.P.Pairing.NEAR_COUNT w.0 w.1 w.2 c.args.k c.args.growing.now c.args.left.now c.args.tried.now c.args.refused.now c.args.k (g.P.Point.coords c.point-p.result) w.3 c.point-p.ensures)
 
 pub returns : goal.returns

@@ -36,5 +36,5 @@ returns-clause-refused g c =
     let going : IsGoing g.P.Point.DIM (length (near_steps g.P.Point.DIM)) c.args.axis c.args.left.now (g.P.Point.coords c.args.p) (length c.in_ok-grown.grown.growing.points) c.in_ok-grown.grown.growing c.grow.new.left c.grow.new.tried c.in_ok-grown.grown.refused =
     subst (λ (n : ℕ). IsGoing g.P.Point.DIM n c.args.axis c.args.left.now (g.P.Point.coords c.args.p) (length c.in_ok-grown.grown.growing.points) c.in_ok-grown.grown.growing c.grow.new.left c.grow.new.tried c.in_ok-grown.grown.refused) g.met.P.Pairing.near_total h in
     refused_of g.P.Point.DIM c.args.axis c.args.left.now (g.P.Point.coords c.args.p) c.in_ok-grown.grown.growing c.grow.new.left c.grow.new.tried c.in_ok-grown.grown.refused c.sort.new.self c.new.result.patch c.new.result.refused
-    going (points_long g.P.Point.DIM c.args.axis c.args.left.now (spread_of c.in_ok-grown.grown.growing.points c.grow.new.left c.grow.new.tried c.in_ok-grown.grown.refused) c.sides-sides.ensures.picture h.spreading)
+    going (points_long g.P.Point.DIM c.args.axis c.args.left.now (spread_of c.in_ok-grown.grown.growing.points c.grow.new.left c.grow.new.tried c.in_ok-grown.grown.refused) c.is_picture.ensures.picture h.spreading)
     c.sort.ensures.same c.sort.ensures.rising c.new.ensures.points c.new.ensures.refused

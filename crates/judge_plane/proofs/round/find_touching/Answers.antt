@@ -2,7 +2,7 @@ use Rattle.std.proofs.Common.{sym, subst}
 use Rattle.std.specs.Prelude.{Contains}
 use Rattle.shape_terms.proofs.Boxes.{raster_below, raster_point-raster_number}
 use Rattle.judge_plane.proofs.Exposing.{exposed_in}
-use Rattle.judge_plane.proofs.judge.find_touching.Goals as goal
+use Rattle.judge_plane.proofs.round.find_touching.Goals as goal
 
 pub returns-clause-touching : goal.returns-clause-touching
 returns-clause-touching c =

@@ -1,40 +1,15 @@
--- What comes next in a report that is read line by line.
--- Whether a line comes in order is told in `Reports`.
-use Rattle.std.specs.Prelude.{◌≡◌, ◌≢◌, ℕ, ⊤, Bool, true, false, List, [], Option, None, Some, Result, Ok, Err, pos}
+-- What the first line of a report gives.
+-- Whether a later line comes in order is told in `Reports`.
+use Rattle.std.specs.Prelude.{◌≡◌, ℕ, ⊤, Bool, true, false, List, Option, None, Some, Result, Ok, Err, pos}
 use Rattle.shape_desk.specs.Desk.{Rose}
 use Rattle.shape_desk.specs.Line.{IfTold}
 use Rattle.shape_terms.specs.Points.{Point, AreSides}
 use Rattle.report_terms.specs.Lines.{Line, IsLineOf, spelling}
-use Rattle.report_terms.specs.Progress.{StartsWithLine, StartsWithNoLine}
-use Rattle.drawing.specs.Seen.{flat_line}
+use Rattle.report_terms.specs.Progress.{StartsWithLine}
+use Rattle.shape_report.specs.Next.{TakesClaim}
 use Rattle.drawing.specs.Reports.{IsHeading, IsOfVolume}
 use Rattle.drawing.specs.declared.fault.DrawFault.{DrawFault}
 use Rattle.drawing.specs.declared.fault.DrawFault.TheVariants.{NotReport, Volume, ReadFault, NoMemory}
-use Rattle.drawing.specs.declared.next.Next.{Next}
-use Rattle.drawing.specs.declared.next.Next.TheVariants.{Claim, Bad, End}
-
--- the line was taken from the front of the bytes, and the rest is left now
-pub record TakesClaim (bytes : List ℕ) (new : Option (List ℕ)) (l : Line) : Type 0 where
-  pub rest : List ℕ
-  pub left : new ≡ Some rest
-  pub starts : StartsWithLine 2 bytes l rest
-
--- bytes are left, and they begin with no line
-pub record IsBad (bytes : List ℕ) : Type 0 where
-  pub some : bytes ≢ []
-  pub none : StartsWithNoLine 2 bytes
-
--- what taking the next line answers: the bytes left before and now, where they are told, and the count of faults of reading before and now
-abbrev pub NextAnswer : (old new : Option (List ℕ)) (before now : ℕ) → Result Next DrawFault → Type 0
-NextAnswer old new before now (Ok (Claim line)) = IfTold old (λ bytes. TakesClaim bytes new (flat_line line))
-NextAnswer old new before now (Ok Bad) = IfTold old IsBad
-NextAnswer old new before now (Ok End) = IfTold old (λ bytes. bytes ≡ [])
-NextAnswer old new before now (Err (NotReport k)) = ⊥
-NextAnswer old new before now (Err Volume) = ⊥
-NextAnswer old new before now (Err ReadFault) = Rose before now
-NextAnswer old new before now (Err NoMemory) = ⊤
-
--- ---- the heading
 
 -- the line gives these sides, which are those of a box
 pub record GivesSides (l : Line) (sides : Point) : Type 0 where
@@ -71,7 +46,7 @@ SidesOf lengths bytes (Err NoMemory) = ⊥
 -- the heading was taken, and gives these sides
 pub record TakesHeading (bytes : List ℕ) (new : Option (List ℕ)) (sides : Point) : Type 0 where
   pub line : Line
-  pub takes : TakesClaim bytes new line
+  pub takes : TakesClaim 2 bytes new line
   pub gives : GivesSides line sides
 
 -- the bytes begin with no heading of a flat picture, nor with one of a volume

@@ -1,8 +1,8 @@
 use Rattle.std.proofs.Common.{sym, ◌∙◌}
-use Rattle.shape_check.proofs.NextAnswers.{misspelt, too_long, cut_short}
+use Rattle.shape_report.proofs.NextAnswers.{misspelt, too_long, cut_short}
 use Rattle.shape_desk.specs.declared.desk.Place.TheVariants.{Report}
 use Rattle.shape_desk.specs.Line.{IfTold, IsTooLong, IsCutShort, TakesLine, ahead_of}
-use Rattle.shape_check.proofs.next.next_claim.Goals as goal
+use Rattle.shape_report.proofs.next.next_claim.Goals as goal
 
 pub returns-in-None-clause-answer : goal.returns-in-None-clause-answer
 returns-in-None-clause-answer g c =
