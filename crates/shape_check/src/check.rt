@@ -124,10 +124,8 @@ fn check<P: Point, R: Row<P>, D: Desk>(
     let Ok(mut reader) = LineReader::new(alloc) else {
         return Err(CheckFault::NoMemory);
     };
-    let i = match find_rule(grid.sides(), shelf, &mut reader, desk) {
-        Ok(Some(i)) => i,
-        Ok(None) => return Ok(Judgement::No { line: 1 }),
-        Err(fault) => return Err(fault),
+    let Some(i) = find_rule(grid.sides(), shelf, &mut reader, desk)? else {
+        return Ok(Judgement::No { line: 1 });
     };
     let Ok(row) = R::begin(alloc, grid) else {
         return Err(CheckFault::NoMemory);

@@ -1,10 +1,11 @@
-//! A small report that is built and written; and lines that are read and spelled again, of the plane and of space.
+//! A small report that is built and written; what comes next in one that is read; and lines that are read and spelled again, of
+//! the plane and of space.
 use super::*;
-use shape_desk::MemoryDesk;
+use shape_desk::{Desk, LineReader, MemoryDesk, Place};
 use shape_refute::Sense;
 use shape_rules::Name;
 use shape_space::{P2, P3};
-use std::alloc::AllocError;
+use std::alloc::{AllocError, Global};
 use std::test::Fail;
 
 #[test]
@@ -152,4 +153,37 @@ fn lines_of_faces_are_of_volumes(rt: HostRuntime) {
     ] {
         assert!(rt; read_claim::<P3>(text.as_bytes()).is_none(), "{text}");
     }
+}
+
+// What comes first in a report that is read in pieces of 5 bytes, where the calls of the desk with these numbers fail.
+fn first_of(
+    alloc: Global,
+    report: &[u8],
+    bad_reads: &[u64],
+) -> Result<Result<Next<P2>, ReadFault>, Fail> {
+    let file = (
+        Vec::from_slice(alloc, b"r")?,
+        Vec::from_slice(alloc, report)?,
+    );
+    let files = vec![in alloc; file]?;
+    let bad = Vec::from_slice(alloc, bad_reads)?;
+    let mut desk = MemoryDesk::new(alloc, files, bad, Vec::new(alloc), 5, 0)?;
+    desk.begin(Place::Report, b"r")?;
+    let mut reader = LineReader::new(alloc)?;
+    Ok(next_claim(&mut reader, &mut desk))
+}
+
+#[test]
+fn the_next_line(rt: HostRuntime) -> Result<(), Fail> {
+    let alloc = rt.alloc();
+    let Ok(Next::Claim(Line::At { p })) = first_of(alloc, b"at 12 7\nend\n", &[])? else {
+        panic!(rt; "an `at` line")
+    };
+    assert_eq!(rt; p, P2 { x: 12, y: 7 });
+    for bad in [b"at 12 7".as_slice(), b"at 12 07\n", b"\nend\n"] {
+        assert!(rt; matches!(first_of(alloc, bad, &[])?, Ok(Next::Bad)));
+    }
+    assert!(rt; matches!(first_of(alloc, b"", &[])?, Ok(Next::End)));
+    assert!(rt; matches!(first_of(alloc, b"at 12 7\nend\n", &[3])?, Err(ReadFault)));
+    Ok(())
 }
