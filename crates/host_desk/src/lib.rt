@@ -2,8 +2,8 @@
 //! It is the trusted edge to the system; nothing here decides what is read or written.
 #![tactic(auto)]
 
+mod args;
 mod host;
-mod words;
 
+pub use args::words;
 pub use host::HostDesk;
-pub use words::words;
