@@ -31,11 +31,13 @@ fn replaced(
 
 // A ring of eight pixels, and a volume of three voxels.
 const RING: &[u8] = b"P1 3 3 111 101 111";
+
 const THREE: &[u8] = &[1, 0, 1, 0, 1, 0];
 
 // Four weights that are as great as can be, for places and for steps.
 const MOST: &[u8] =
     b" 4 9223372036854775807 0 9223372036854775807 0 9223372036854775807 0 9223372036854775807 0";
+
 const MOST_STEPS: &[u8] =
     b" 4 9223372036854775807 up 9223372036854775807 up+y 9223372036854775807 up-y 9223372036854775807 up";
 
@@ -47,7 +49,9 @@ const GREATEST: [((&str, &str), &[u8], &[u8], &[u8]); 4] = [
     (OF_THREE, THREE, b"off 2 0 0", MOST_STEPS),
     (OF_THREE, THREE, b"off 2 0 0", b" 1 4 up"),
 ];
+
 const OF_RING: (&str, &str) = ("analyse pbm a none", "check pbm a b");
+
 const OF_THREE: (&str, &str) = ("analyse raw 3 1 2 a none", "check raw 3 1 2 a b");
 
 #[test]

@@ -32,9 +32,7 @@ pub fn desk_of(alloc: Global, case: Case<'_>, fault: Fault) -> Result<MemoryDesk
     let mut bad_writes = Vec::new(alloc);
     bad_writes.push(fault.bad_write)?;
     let piece = fault.piece.max(1);
-    Ok(MemoryDesk::new(
-        alloc, files, bad_reads, bad_writes, piece, 9000,
-    )?)
+    Ok(MemoryDesk::new(alloc, files, bad_reads, bad_writes, piece, 9000)?)
 }
 
 /// What the words of a command line come to over a desk, with a new shelf.

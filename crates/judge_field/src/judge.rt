@@ -46,15 +46,12 @@ impl<P: Point> FieldJudge<P> {
         ensures stands { IfOk result (λ j. StandsFor j []) }
         ensures room { IfOk result (λ j. room_of j < 2 ^ 60) }
     {
-        match Scans::new(alloc, grid) {
-            Ok(scans) => Ok(FieldJudge {
-                scans,
-                objects: grid.count(),
-                next: 0,
-                taken: 0,
-            }),
-            Err(NoMemory) => Err(NoMemory),
-        }
+        Ok(FieldJudge {
+            scans: Scans::new(alloc, grid)?,
+            objects: grid.count(),
+            next: 0,
+            taken: 0,
+        })
     }
 
     /// The least squared distances that the judge compares with.

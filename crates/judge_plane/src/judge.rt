@@ -63,13 +63,21 @@ impl Model for PlaneJudge {
     ghost Value = { PlaneState };
 
     ghost view = { λ j. state_of j.grid (record {
-      begun = j.begun; exposed = j.exposed; start = j.start;
-      declared = j.declared; cursor = j.cursor; refused = j.refused;
+      begun = j.begun;
+      exposed = j.exposed;
+      start = j.start;
+      declared = j.declared;
+      cursor = j.cursor;
+      refused = j.refused;
     }) j.plane j.taken.points j.touching.items };
 
     ghost invariant = { λ j. IsKept j.grid (record {
-      begun = j.begun; exposed = j.exposed; start = j.start;
-      declared = j.declared; cursor = j.cursor; refused = j.refused;
+      begun = j.begun;
+      exposed = j.exposed;
+      start = j.start;
+      declared = j.declared;
+      cursor = j.cursor;
+      refused = j.refused;
     }) j.plane j.taken j.list j.touching.items (vec_capacity j.touching) };
 }
 

@@ -28,7 +28,8 @@ pub fn one_answer()
 ///
 /// The object points are those of the box whose byte is not 0.
 pub fn one_volume()
-    ensures some { (sides bytes : List ℕ) → SpellsSome (raw sides) bytes ⊎ HasFault (raw sides) bytes }
+    ensures some { (sides bytes : List ℕ)
+        → SpellsSome (raw sides) bytes ⊎ HasFault (raw sides) bytes }
     ensures not_both { (sides bytes : List ℕ) (X : Picture) (f : PictureFault)
         → Raw sides bytes X → RawFault sides bytes f → ⊥ }
     ensures one_picture { (sides bytes : List ℕ) (X Y : Picture)

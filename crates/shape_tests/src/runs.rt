@@ -17,9 +17,7 @@ pub(crate) fn desk(
     files.push((b"a.pbm".to_vec(alloc)?, bytes.to_vec(alloc)?))?;
     let bad_reads = bad_reads.to_vec(alloc)?;
     let bad_writes = bad_writes.to_vec(alloc)?;
-    Ok(MemoryDesk::new(
-        alloc, files, bad_reads, bad_writes, 4, 9000,
-    )?)
+    Ok(MemoryDesk::new(alloc, files, bad_reads, bad_writes, 4, 9000)?)
 }
 
 // The words of a command line.
