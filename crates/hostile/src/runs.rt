@@ -23,7 +23,7 @@ pub struct Fault {
 }
 
 /// A desk with the files of a case.
-pub fn desk_of(alloc: Global, case: Case<'_>, fault: Fault) -> Result<MemoryDesk, Fail> {
+pub(crate) fn desk_of(alloc: Global, case: Case<'_>, fault: Fault) -> Result<MemoryDesk, Fail> {
     let mut files = Vec::new(alloc);
     files.push((b"a".to_vec(alloc)?, case.picture.to_vec(alloc)?))?;
     files.push((b"b".to_vec(alloc)?, case.report.to_vec(alloc)?))?;
@@ -36,7 +36,7 @@ pub fn desk_of(alloc: Global, case: Case<'_>, fault: Fault) -> Result<MemoryDesk
 }
 
 /// What the words of a command line come to over a desk, with a new shelf.
-pub fn ran(alloc: Global, line: &str, desk: &mut MemoryDesk) -> Result<Outcome, Fail> {
+pub(crate) fn ran(alloc: Global, line: &str, desk: &mut MemoryDesk) -> Result<Outcome, Fail> {
     let mut words = Vec::new(alloc);
     for word in line.split_whitespace() {
         words.push(word.as_bytes().to_vec(alloc)?)?;
@@ -51,7 +51,7 @@ pub fn ran(alloc: Global, line: &str, desk: &mut MemoryDesk) -> Result<Outcome, 
 }
 
 /// The outcome of a case over a desk that does not fail, and what it wrote.
-pub fn answer(alloc: Global, case: Case<'_>) -> Result<(Outcome, Vec<u8>), Fail> {
+pub(crate) fn answer(alloc: Global, case: Case<'_>) -> Result<(Outcome, Vec<u8>), Fail> {
     let fault = Fault {
         bad_read: 0,
         bad_write: 0,

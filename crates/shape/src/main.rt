@@ -2,15 +2,29 @@
 //! All that it decides is decided by `shape_cli::run`.
 #![tactic(auto)]
 
-use host_desk::{HostDesk, words};
+ghost use Rattle.std.specs.Prelude.{◌≡◌, ◌⊎◌};
+
+use host_desk::HostDesk;
 use shape_cli::{Outcome, run, shelf};
 use shape_rules::{CurveEnds, FewEnds, NoEnds};
+use std::env::{self, Env};
 use std::fs::Files;
 use std::io;
 use std::process::ExitCode;
 
+// The words behind the program's name, as bytes.
+fn words<R: Env + AllocGlobal>(rt: &R) -> io::Result<Vec<Vec<u8>>> {
+    let mut words = Vec::new(rt.alloc());
+    for word in env::args(rt)?.skip(1) {
+        words.push(word.into_bytes())?;
+    }
+    Ok(words)
+}
+
 // The outcome where the system refuses the words.
-fn without_words(error: &io::Error) -> Outcome {
+fn without_words(error: &io::Error) -> Outcome
+    ensures { (result ≡ Outcome.NoMemory) ⊎ (result ≡ Outcome.ReadFault) }
+{
     if error.kind() == io::ErrorKind::OutOfMemory {
         Outcome::NoMemory
     } else {
