@@ -1,6 +1,7 @@
 //! Each call of a desk fails in turn, while a picture is analysed and its report is checked.
 //! A further picture is one more row of the table.
-use crate::runs::{Case, Fault, answer, desk_of, ran};
+use crate::cases::{Case, Fault, answer, desk_of};
+use crate::runs::ran;
 use shape_cli::Outcome;
 use shape_desk::MemoryDesk;
 use std::alloc::Global;

@@ -1,6 +1,6 @@
 //! Lines that somebody wrote to make the checker overflow or read too far.
 //! A further line is one more row of a table.
-use crate::runs::{Case, answer};
+use crate::cases::{Case, answer};
 use shape_cli::Outcome;
 use std::alloc::Global;
 use std::test::Fail;

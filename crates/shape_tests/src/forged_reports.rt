@@ -1,6 +1,6 @@
 //! The report of the full picture of 2 by 2, changed in every small way, and the first bad line of each.
 //! The lines that are wanted were found by hand from the definitions; where the report changes, so do they.
-use crate::runs::{Case, answer};
+use crate::cases::{Case, answer};
 use shape_cli::Outcome;
 use std::alloc::Global;
 use std::test::Fail;

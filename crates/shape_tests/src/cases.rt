@@ -1,8 +1,8 @@
-//! What these tests share: cases over two files in memory, and runs by the rules of the program.
+//! What the tests of failing desks and of forged reports share: cases over two files in memory, and their answers.
 //! No test stands here.
-use shape_cli::{Outcome, run, shelf};
+use crate::runs::ran;
+use shape_cli::Outcome;
 use shape_desk::MemoryDesk;
-use shape_rules::{CurveEnds, FewEnds, NoEnds};
 use std::alloc::Global;
 use std::test::Fail;
 
@@ -33,21 +33,6 @@ pub(crate) fn desk_of(alloc: Global, case: Case<'_>, fault: Fault) -> Result<Mem
     bad_writes.push(fault.bad_write)?;
     let piece = fault.piece.max(1);
     Ok(MemoryDesk::new(alloc, files, bad_reads, bad_writes, piece, 9000)?)
-}
-
-/// What the words of a command line come to over a desk, with a new shelf.
-pub(crate) fn ran(alloc: Global, line: &str, desk: &mut MemoryDesk) -> Result<Outcome, Fail> {
-    let mut words = Vec::new(alloc);
-    for word in line.split_whitespace() {
-        words.push(word.as_bytes().to_vec(alloc)?)?;
-    }
-    let shelf = shelf(
-        alloc,
-        Box::new(alloc, NoEnds)?,
-        Box::new(alloc, CurveEnds)?,
-        Box::new(alloc, FewEnds::new(2))?,
-    )?;
-    Ok(run(alloc, &words, desk, shelf))
 }
 
 /// The outcome of a case over a desk that does not fail, and what it wrote.
