@@ -21,6 +21,3 @@ pub use next::{Next, ReadFault, next_claim};
 pub use read::read_claim;
 pub use report::{Report, WriteFault, write_report};
 pub use spell::put_claim;
-
-#[cfg(test)]
-mod tests;
