@@ -1,6 +1,6 @@
 //! The judge of contours on a ring of eight pixels: which lines it takes, and when it is done.
 //! A further line that is not good is one more row of the table.
-use crate::pictures::full;
+use crate::grids::full;
 use judge_cover::CoverJudge;
 use shape_grid::Grid;
 use shape_refute::{Naive, Refutation, Share, Shares, StepShares};

@@ -1,6 +1,6 @@
 //! The judge of nearest points on a picture of two object points: that each call succeeds, and in which order points come.
 //! A further picture is one more test.
-use crate::pictures::full;
+use crate::grids::full;
 use judge_field::{FieldJudge, Scans};
 use shape_report::Line;
 use shape_space::{P2, Point};

@@ -1,5 +1,5 @@
 //! Tests of texts, judges and drawings: desks, the readers of pictures, reports, the judges of their lines, and drawings.
-//! They call public names alone, and the crates that they call have no tests: what is proved of them is proved once.
+//! They ask public names alone, and the crates under test have no tests of their own: what is proved of them is proved once.
 #![tactic(auto)]
 
 #[cfg(test)]
@@ -11,9 +11,9 @@ mod drawings;
 #[cfg(test)]
 mod field_judge;
 #[cfg(test)]
-mod picture;
+mod grids;
 #[cfg(test)]
-mod pictures;
+mod picture;
 #[cfg(test)]
 mod plane_judge;
 #[cfg(test)]

@@ -1,6 +1,6 @@
 //! The judge of faces on small volumes, line by line, and lines that are not good there.
 //! A further line that is not good is one more row of the table.
-use crate::pictures::picture_of;
+use crate::grids::grid_of;
 use judge_plane::PlaneJudge;
 use shape_grid::Grid;
 use shape_report::read_claim;
@@ -15,7 +15,7 @@ fn three_points(alloc: Global) -> Result<Grid<P3>, Fail> {
         P3 { x: 2, y: 0, z: 0 },
         P3 { x: 1, y: 0, z: 1 },
     ];
-    picture_of(alloc, P3 { x: 3, y: 1, z: 2 }, &points)
+    grid_of(alloc, P3 { x: 3, y: 1, z: 2 }, &points)
 }
 
 // How many of the lines are taken, and whether all faces are done then.
@@ -134,7 +134,7 @@ fn refused_points_come_in_raster_order(rt: HostRuntime) -> Result<(), Fail> {
         P3 { x: 2, y: 1, z: 0 },
         P3 { x: 1, y: 0, z: 1 },
     ];
-    let grid = picture_of(alloc, P3 { x: 3, y: 2, z: 2 }, &points)?;
+    let grid = grid_of(alloc, P3 { x: 3, y: 2, z: 2 }, &points)?;
     let lines = [
         "face x - 4",
         "patch 2 1 0 -1 0",

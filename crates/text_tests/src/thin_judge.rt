@@ -5,7 +5,7 @@ ghost use Rattle.shape_terms.specs.Pictures.{at};
 ghost use Rattle.thin_terms.specs.Thinning.{HasDistance};
 ghost use Rattle.shape_queue.specs.Distances.{AreDistances};
 
-use crate::pictures::full;
+use crate::grids::full;
 use judge_field::Scans;
 use judge_thin::ThinJudge;
 use shape_grid::Grid;

@@ -1,12 +1,12 @@
-//! Pictures that several tests share.
+//! Grids that several tests share.
 //! No test stands here.
 use shape_grid::Grid;
 use shape_space::{P2, Point, Sides};
 use std::alloc::{AllocError, Global};
 use std::test::Fail;
 
-// The picture with these sides and these object points.
-pub(crate) fn picture_of<P: Point>(alloc: Global, sides: P, points: &[P]) -> Result<Grid<P>, Fail> {
+// The grid with these sides and these object points.
+pub(crate) fn grid_of<P: Point>(alloc: Global, sides: P, points: &[P]) -> Result<Grid<P>, Fail> {
     let Some(sides) = Sides::try_new(sides) else {
         return Err(Fail::from(AllocError));
     };
@@ -19,7 +19,7 @@ pub(crate) fn picture_of<P: Point>(alloc: Global, sides: P, points: &[P]) -> Res
     Ok(grid)
 }
 
-// The picture whose points are all object.
+// The grid whose points are all object.
 pub(crate) fn full(alloc: Global, x: i32, y: i32) -> Result<Grid<P2>, Fail> {
     let mut points = Vec::new(alloc);
     for i in 0..y {
@@ -27,5 +27,5 @@ pub(crate) fn full(alloc: Global, x: i32, y: i32) -> Result<Grid<P2>, Fail> {
             points.push(P2 { x: j, y: i })?;
         }
     }
-    picture_of(alloc, P2 { x, y }, points.as_slice())
+    grid_of(alloc, P2 { x, y }, points.as_slice())
 }
