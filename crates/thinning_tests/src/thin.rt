@@ -1,6 +1,7 @@
 //! Thinnings of small pictures, with events found by hand.
 //! A further row is a picture, a rule and its events.
 ghost use Rattle.std.specs.Prelude.{◌≡◌, ◌==◌, [], ◌∷◌, if◌then◌else◌, slice_index};
+ghost use Rattle.thin_terms.specs.Thinning.{rule_by};
 
 use crate::pictures::{picture, square};
 use shape_dist::nearest;
@@ -60,11 +61,8 @@ struct Alternate {
 impl EndRule for Alternate {
     ghost state = { λ r. r.turn ∷ [] };
 
-    ghost opening = { λ r. 0 ∷ [] };
-
-    ghost marks = { λ r s f. slice_index s 0 == 1 };
-
-    ghost next = { λ r s f. (if slice_index s 0 == 1 then 0 else 1) ∷ [] };
+    ghost means = { λ r. rule_by (0 ∷ []) (λ s f. slice_index s 0 == 1)
+        (λ s f. (if slice_index s 0 == 1 then 0 else 1) ∷ []) };
 
     fn reset(&mut self) {
         self.turn = 0;
