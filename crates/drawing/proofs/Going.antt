@@ -8,7 +8,7 @@ use Rattle.shape_terms.specs.Points.{sides_of}
 use Rattle.report_terms.specs.Lines.{Line}
 use Rattle.report_terms.specs.Progress.{StartsWithLine}
 use Rattle.report_terms.proofs.Checking.{no_line_at_end, one_line}
-use Rattle.report_terms.proofs.ListPushes.{get_last, with_last}
+use Rattle.text_terms.proofs.ListPushes.{get_last, with_last}
 use Rattle.drawing.specs.Seen.{flat}
 use Rattle.drawing.specs.Svg.{given_sides, drawn}
 use Rattle.drawing.specs.Reports.{line_rank, BeginsWith, FirstBad, IsOfVolume}

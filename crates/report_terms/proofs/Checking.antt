@@ -4,10 +4,9 @@ use Rattle.std.proofs.Common.{◌≡◌, ℕ, ◌+◌, ◌≤◌, ◌<◌, List,
 use Rattle.text_terms.proofs.Checking as Texts
 use Rattle.report_terms.specs.Subjects.{Subject}
 use Rattle.report_terms.specs.Lines.{Line, spelling, IsLineOf, spelled}
-use Rattle.report_terms.specs.Sections.{GoodAfter, GoodSoFar}
-use Rattle.report_terms.specs.Holds.{BeginsWith, FirstBad, analysis}
+use Rattle.report_terms.specs.Sections.{GoodAfter, GoodSoFar, analysis}
+use Rattle.report_terms.specs.Holds.{BeginsWith, FirstBad}
 use Rattle.report_terms.specs.Progress.{StartsWithLine, StartsWithNoLine}
-pub use Rattle.report_terms.proofs.ListPushes.{get_push}
 use Rattle.report_terms.proofs.TextLines.{are_spelled}
 
 pub good_push : (X : Subject) (lines : List Line) (l : Line) → GoodSoFar X lines → GoodAfter X lines l → GoodSoFar X (lines ++ l ∷ [])

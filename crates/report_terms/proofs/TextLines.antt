@@ -8,7 +8,8 @@ use Rattle.text_terms.proofs.TextLines as Texts
 use Rattle.text_terms.proofs.TableLaws.{past_join}
 use Rattle.report_terms.specs.Subjects.{Subject}
 use Rattle.report_terms.specs.Lines.{Line, line_words, spelling, text_of, IsLineOf, spelled}
-use Rattle.report_terms.specs.Holds.{BeginsWith, analysis}
+use Rattle.report_terms.specs.Sections.{analysis}
+use Rattle.report_terms.specs.Holds.{BeginsWith}
 use Rattle.report_terms.proofs.Spelled.{words_of_line, spelling_injective}
 
 -- no byte of a line's spelling is LF or below it

@@ -1,4 +1,4 @@
--- The forms of one word are forms: steps and senses, beside those of all texts.
+-- The forms of one word that the reports of pictures have beside those of all texts are forms: steps and senses.
 -- A further form of one word brings its five facts here.
 use Rattle.std.proofs.Common.{◌≡◌, ◌≤◌, ℕ, true, length, refl, ap, arith, lit<}
 use Rattle.std.proofs.lemmas.Bool.{ltb-true, lt-ltb}
@@ -7,7 +7,6 @@ use Rattle.patch_terms.specs.Patches.{Sense}
 use Rattle.report_terms.specs.Forms.{sense_word, sense_value, sign, step_word, IsStepIn, step, step_value, is_step_in}
 use Rattle.text_terms.specs.Forms.{IsWord, IsForm}
 use Rattle.text_terms.proofs.FormLaws.{one_form}
-pub use Rattle.text_terms.proofs.Words.{natural_form, letter_form, long_form, short_form, name_form}
 
 -- ---- steps
 

@@ -1,10 +1,10 @@
--- Forms of the reports of pictures beside those of all texts: steps and senses.
+-- Forms of one word that the reports of pictures have beside those of all texts: steps and senses.
 -- The other forms stand in `text_terms`; which fields a kind of line has stands in `Kinds`.
 use Rattle.std.specs.Prelude.{◌==◌, ◌<◌, ◌-◌, ℕ, Bool, true, nat_lt, if◌then◌else◌, List, [], ◌∷◌, ◌++◌, get_or, codes}
 use Rattle.shape_terms.specs.Refutations.{Step}
 use Rattle.shape_terms.specs.Refutations.Step.{Up, Plus, Minus}
 use Rattle.patch_terms.specs.Patches.{Sense}
-pub use Rattle.text_terms.specs.Forms.{Reads, Form, is_same, read_word, one_word, natural, has_bits, signed_value, signed, axis_letter, letter, IsName, is_name, name, nothing, read_behind, behind, read_both, ◌⨾◌, AreSoMany, read_times, times, read_counted, counted, shaped, of_axes}
+use Rattle.text_terms.specs.Forms.{Form, one_word, axis_letter}
 
 -- the word of a step, and the step that is guessed of a word
 abbrev pub step_word : Step → List ℕ

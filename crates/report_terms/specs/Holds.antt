@@ -1,16 +1,11 @@
 -- When a text is a report that holds of a picture, and which of its lines is the first bad one.
 -- Both are said for every kind of report in `text_terms`; here stands the analysis as one of them.
-use Rattle.std.specs.Prelude.{◌≡◌, ℕ, List, ◌++◌, length}
+use Rattle.std.specs.Prelude.{◌≡◌, ℕ, List, ◌++◌}
 use Rattle.shape_terms.specs.Points.{Point}
 use Rattle.text_terms.specs.Reports as Texts
-use Rattle.text_terms.specs.Reports.{Report}
 use Rattle.report_terms.specs.Subjects.{Subject}
-use Rattle.report_terms.specs.Lines.{Line, line_text, spelled}
-use Rattle.report_terms.specs.Sections.{GoodAfter}
-
--- the report of a picture: its lines are those of its dimension, good in their sections, and `end` is the last
-abbrev pub analysis : Subject → Report Line
-analysis X = record { text = spelled (length X.picture.sides); GoodAfter = GoodAfter X; last = Line.End }
+use Rattle.report_terms.specs.Lines.{Line, line_text}
+use Rattle.report_terms.specs.Sections.{analysis}
 
 -- the text begins with these lines, each spelled in at most 1024 bytes and good after those before it, and `rest` is what follows them
 abbrev pub BeginsWith : Subject → (text : List ℕ) → List Line → (rest : List ℕ) → Type 0

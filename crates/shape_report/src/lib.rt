@@ -6,20 +6,15 @@ mod field;
 mod kind;
 mod law;
 mod line;
-mod next;
 mod put_why;
 mod read;
-mod report;
 mod spell;
-mod text;
 mod why;
-mod words;
 
 pub use law::one_spelling;
-pub use line::Line;
-pub use next::{Next, ReadFault, next_claim};
+pub use line::{Line, SeenLine};
 pub use read::read_claim;
-pub use report::{Report, WriteFault, write_report};
+pub use report_text::{Next, ReadFault, Report, WriteFault, next_claim, write_report};
 pub use spell::put_claim;
 
 #[cfg(test)]
