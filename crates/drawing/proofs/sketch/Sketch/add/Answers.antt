@@ -3,7 +3,7 @@ use Rattle.shape_terms.specs.Points.{sides_of}
 use Rattle.drawing.specs.Object.{pixels}
 use Rattle.drawing.specs.Seen.{flat, flat_line}
 use Rattle.drawing.proofs.Deleting.{pixels_more}
-use Rattle.drawing.proofs.sketch.Sketch.take.Goals as goal
+use Rattle.drawing.proofs.sketch.Sketch.add.Goals as goal
 
 pub returns : goal.returns
 returns c =
