@@ -1,17 +1,21 @@
 -- A report that holds of a flat picture is one to be drawn.
 -- Laws of lines and texts; no drawing stands here.
-use Rattle.std.proofs.Common.{◌≡◌, inl, inr, ℕ, ◌<◌, refl, ap, sym, subst, arith, List, [], ◌∷◌, ◌++◌, length, get_or, map, pos}
-use Rattle.std.specs.Prelude.{All}
-use Rattle.std.specs.List.Sorted.{IsNonDecreasing}
+use Rattle.std.proofs.Common.{◌≡◌, inl, inr, ℕ, suc, ◌<◌, refl, ap, sym, ◌∙◌, subst, arith, List, [], ◌∷◌, ◌++◌, length, get_or, map, pos, Some, take}
+use Rattle.std.specs.Prelude.{All, slice_get}
 use Rattle.std.proofs.lemmas.Bool.{cases_lt}
-use Rattle.std.proofs.lemmas.List.{length-map, length-take-le, get_or-take, get_or-map}
+use Rattle.std.proofs.lemmas.List.{length-take-le, get_or-take}
+use Rattle.std.proofs.lemmas.Option.{slice_get_within, slice_get-get_or}
 use Rattle.shape_terms.specs.Points.{AreSides}
+use Rattle.text_terms.specs.Reports.{BeginsWith, GoodSoFar}
+use Rattle.text_terms.proofs.ListPushes.{take_next}
 use Rattle.report_terms.specs.Subjects.{Subject}
 use Rattle.report_terms.specs.Lines.{Line, IsLineOf}
-use Rattle.report_terms.specs.Sections.{Section, rank, HasCome, GoodAfter, GoodSoFar}
+use Rattle.report_terms.specs.Sections as Analysis
+use Rattle.report_terms.specs.Sections.{Section, rank, section_of, HasCome, GoodAfter}
 use Rattle.report_terms.specs.Holds.{Holds}
-use Rattle.drawing.specs.Reports.{line_rank, IsHeading, IsReport}
-use Rattle.drawing.proofs.Reading.{get_at}
+use Rattle.report_terms.proofs.SectionLaws.{rank_most, is_report}
+use Rattle.drawing.specs.Reports.{line_rank, IsHeading, in_order, IsReport, FirstBad}
+use Rattle.drawing.proofs.Order.{only_end}
 
 -- behind no line no section but the heading has come
 none_before : (X : Subject) {s : Section} → HasCome X s [] → 0 < rank s → ⊥
@@ -36,24 +40,33 @@ first_heading X (Line.Tip p) box g = absurd (none_before X g.come (omega arith))
 first_heading X (Line.Kept n o b) box g = absurd (none_before X g.come (omega arith))
 first_heading X Line.End box g = absurd (none_before X g.come (omega arith))
 
--- the ranks of good lines do not fall
-ranks_rise : (X : Subject) (lines : List Line) → GoodSoFar X lines → IsNonDecreasing (map line_rank lines)
-ranks_rise X lines good i j d order below =
-    let n = length-map lines line_rank in
-    let there : j < length lines = omega (arith, n) in
-    let also : i < length lines = omega arith in
-    let l = get_or lines j Line.End in
-    let g = good j l (get_at lines j Line.End there) in
-    let last = get_or-map line_rank lines j Line.End d there in
-    let first = get_or-map line_rank lines i Line.End d also in
-    elim (cases_lt i j) [
-      | inl h ↦
-          let k = length-take-le j lines (omega arith) in
-          let r = g.come.order i Line.End (omega (arith, k)) in
-          let t = ap line_rank (get_or-take j lines i Line.End h) in
-          omega (arith, r, t, first, last)
-      | inr h ↦ let e : i ≡ j = omega arith in omega (arith, ap (λ m. get_or (map line_rank lines) m d) e)
-    ]
+-- no line that another one follows is `end`
+none_is_end : (X : Subject) (lines : List Line) → Analysis.GoodSoFar X lines → (i : ℕ) → suc i < length lines → slice_get lines i ≡ Some Line.End → ⊥
+none_is_end X lines good i h e =
+    let next = get_or lines (suc i) Line.End in
+    let g = good (suc i) next (slice_get-get_or lines (suc i) Line.End h) in
+    (is_report X).ends (take i lines) next (subst (λ ls. GoodAfter X ls next) (sym (take_next lines i Line.End e)) g)
+
+-- good lines come in order
+good_in_order : (X : Subject) (lines : List Line) → AreSides (pos 2048) (map pos X.picture.sides) → Analysis.GoodSoFar X lines → GoodSoFar in_order lines
+good_in_order X lines box good k l e =
+    let g = good k l e in
+    let below = slice_get_within lines k l e in
+    record {
+      heading = λ z. first_heading X l box (subst (λ ls. GoodAfter X ls l) z g);
+      order = g.come.order;
+      more = λ i d h.
+          let n = length-take-le k lines (omega (arith, below)) in
+          let m = get_or lines i d in
+          let same : get_or (take k lines) i d ≡ m = get_or-take k lines i d (omega (arith, h, n)) in
+          let there : slice_get lines i ≡ Some m = slice_get-get_or lines i d (omega (arith, h, n, below)) in
+          subst (λ x. line_rank x < rank Section.End) (sym same) (elim (cases_lt (line_rank m) (rank Section.End)) [
+            | inl less ↦ less
+            | inr more ↦
+                let last : m ≡ Line.End = only_end m (omega (arith, more, rank_most (section_of m))) in
+                absurd (none_is_end X lines good i (omega (arith, h, n, below)) (there ∙ ap (λ x. Some x) last))
+          ]);
+    }
 
 pub holding_is_report : (X : Subject) (text : List ℕ) → Holds X text → length X.picture.sides ≡ 2 → AreSides (pos 2048) (map pos X.picture.sides) → (lines : List Line) × IsReport text lines
 holding_is_report X text (front, b) flat box = (
@@ -63,12 +76,12 @@ holding_is_report X text (front, b) flat box = (
       split = b.split;
       fields = subst (λ d. All (IsLineOf d) (front ++ Line.End ∷ [])) flat b.fields;
       short = b.short;
-      in_order = record {
-        heading = λ l e. first_heading X l box (b.good 0 l e);
-        order = ranks_rise X (front ++ Line.End ∷ []) b.good;
-      };
+      good = good_in_order X (front ++ Line.End ∷ []) box b.good;
     };
-    front = front;
-    ends = refl;
+    ends = record { front = front; is = refl };
   },
 )
+
+-- a report has no first bad line
+pub never_both : (text : List ℕ) (lines : List Line) (k : ℕ) → IsReport text lines → FirstBad text k → ⊥
+never_both text lines k report bad = bad.fails (report.ends.front, subst (λ ls. BeginsWith in_order text ls []) report.ends.is report.whole)

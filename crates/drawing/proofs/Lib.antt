@@ -3,7 +3,7 @@ pub mod LayerLaws
 pub mod Contours
 pub mod Deleting
 pub mod Headings
-pub mod Reading
-pub mod Going
+pub mod Order
+pub mod Sketched
 pub mod Files
 pub mod Holding

@@ -5,12 +5,15 @@ use Rattle.std.specs.declared.vec.Vec.{Vec}
 use Rattle.shape_desk.specs.Desk.{Files, DeskState, Rose, IsMissing, Puts, PutsFront}
 use Rattle.shape_desk.specs.Line.{IfTold}
 use Rattle.report_terms.specs.Lines.{Line}
-use Rattle.drawing.specs.Reports.{IsReport, FirstBad, IsOfVolume}
+use Rattle.text_terms.specs.Going.{IsTextOf}
+use Rattle.drawing.specs.Reports.{in_order, IsReport, FirstBad, IsOfVolume}
+use Rattle.drawing.specs.Standing.{StandsFor}
 use Rattle.drawing.specs.Svg.{drawing}
 use Rattle.drawing.specs.declared.fault.DrawFault.{DrawFault}
 use Rattle.drawing.specs.declared.fault.DrawFault.TheVariants.{NotReport, Volume, ReadFault, NoMemory}
 use Rattle.drawing.specs.declared.outcome.Outcome.{Outcome}
 use Rattle.drawing.specs.declared.outcome.Outcome.TheVariants as outcome
+use Rattle.drawing.specs.declared.sketch.Sketch.{Sketch}
 
 -- the text is a report, and this is the drawing of its lines
 pub record IsDrawingOf (text svg : List ℕ) : Type 0 where
@@ -34,6 +37,11 @@ Refused text before now NoMemory = ⊤
 abbrev pub Draws : {V : Type 0} → (V → List ℕ) → (text : Option (List ℕ)) (before now : ℕ) → Result V DrawFault → Type 0
 Draws bytes text before now (Ok svg) = IfTold text (λ t. IsDrawingOf t (bytes svg))
 Draws bytes text before now (Err fault) = Refused text before now fault
+
+-- what going through the lines behind the heading answers
+abbrev pub Sketches : Sketch → (text : Option (List ℕ)) (before now : ℕ) → Result (Unit {0}) DrawFault → Type 0
+Sketches s text before now (Ok done) = IfTold text (IsTextOf in_order (StandsFor s))
+Sketches s text before now (Err fault) = Refused text before now fault
 
 -- ---- runs
 

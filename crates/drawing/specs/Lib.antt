@@ -6,7 +6,7 @@ pub mod Svg
 pub mod Seen
 pub mod Standing
 pub mod Reports
+pub mod Ended
 pub mod Heading
-pub mod Going
 pub mod Answers
 pub mod Outcomes

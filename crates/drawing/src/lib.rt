@@ -4,6 +4,7 @@
 
 mod fault;
 mod heading;
+mod judge;
 mod law;
 mod layers;
 mod outcome;

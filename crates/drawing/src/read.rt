@@ -1,21 +1,22 @@
 //! Drawing a report: its heading, and then each of its lines in turn.
 //! Nothing is drawn before the whole report was read.
-ghost use Rattle.std.specs.Prelude.{◌≡◌, ℕ, List, Option, true};
+ghost use Rattle.std.specs.Prelude.{◌≡◌, ◌≤◌, ◌^◌, ℕ, List, Option, true};
 ghost use Rattle.shape_desk.specs.Desk.{OnlyReadsAt};
-ghost use Rattle.shape_desk.specs.Line.{IfTold, ahead_of};
+ghost use Rattle.shape_desk.specs.Line.{ahead_of};
 ghost use Rattle.shape_desk.specs.declared.desk.Place.TheVariants.{Report};
-ghost use Rattle.drawing.specs.Going.{GoingOn, IsAt, Sketches};
-ghost use Rattle.drawing.specs.Answers.{Draws};
+ghost use Rattle.report_text.specs.Checks.{HasCome};
+ghost use Rattle.drawing.specs.Reports.{in_order};
+ghost use Rattle.drawing.specs.Standing.{StandsFor};
+ghost use Rattle.drawing.specs.Answers.{Draws, Sketches};
 
 use crate::fault::DrawFault;
 use crate::heading::read_heading;
 use crate::sketch::Sketch;
+use report_text::{CheckFault, Judgement, check_from};
 use shape_desk::{Desk, LineReader};
-use shape_report::{Next, next_claim};
+use shape_report::Line;
+use shape_space::P2;
 use std::alloc::Global;
-
-// The rank of `end`.
-const LAST: u8 = 6;
 
 // Goes through the lines behind the heading.
 fn read_lines<D: Desk>(
@@ -23,36 +24,20 @@ fn read_lines<D: Desk>(
     reader: &mut LineReader,
     desk: &mut D,
 ) -> Result<(), DrawFault>
-    requires { (D.state desk.old).begun Report ≡ true }
-    ensures answer { (text : Option (List ℕ)) → IfTold text (λ t. GoingOn t
-        (ahead_of reader.old.ahead ((D.state desk.old).left Report)) (IsAt sketch.old 0) 2)
+    requires begun { (D.state desk.old).begun Report ≡ true }
+    requires few { sketch.old.room ≤ 2 ^ 61 }
+    ensures answer { (text : Option (List ℕ)) → HasCome in_order (StandsFor sketch.old) text
+        (ahead_of reader.old.ahead ((D.state desk.old).left Report)) 2
         → Sketches sketch.new text
         (D.state desk.old).read_faults (D.state desk.new).read_faults result }
     ensures reads { OnlyReadsAt Report (D.state desk.old) (D.state desk.new) }
 {
-    let mut rank = 0;
-    for line in 2..u64::MAX {
-        match next_claim(reader, desk) {
-            Ok(Next::Claim(claim)) => {
-                if claim.rank() < rank {
-                    return Err(DrawFault::NotReport { line });
-                }
-                match sketch.take(&claim) {
-                    Ok(()) => rank = claim.rank(),
-                    Err(_) => return Err(DrawFault::NoMemory),
-                }
-            }
-            Ok(Next::Bad) => return Err(DrawFault::NotReport { line }),
-            Ok(Next::End) => {
-                if rank == LAST {
-                    return Ok(());
-                }
-                return Err(DrawFault::NotReport { line });
-            }
-            Err(_) => return Err(DrawFault::ReadFault),
-        }
+    match check_from::<Line<P2>, Sketch, D>(sketch, reader, desk, 2) {
+        Ok(Judgement::Yes) => Ok(()),
+        Ok(Judgement::No { line }) => Err(DrawFault::NotReport { line }),
+        Err(CheckFault::ReadFault) => Err(DrawFault::ReadFault),
+        Err(CheckFault::NoMemory) => Err(DrawFault::NoMemory),
     }
-    Err(DrawFault::NoMemory)
 }
 
 /// Draws the report that was begun at `Place::Report`.

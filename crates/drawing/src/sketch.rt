@@ -1,6 +1,6 @@
 //! What is known of a report while it is read, and the drawing of all of it.
 //! A further layer is a field here, which takes each line and is drawn behind the others.
-ghost use Rattle.std.specs.Prelude.{◌≡◌, ◌++◌, ◌∷◌, [], List, IfOk, OnOk};
+ghost use Rattle.std.specs.Prelude.{◌≡◌, ◌≤◌, ◌^◌, ◌++◌, ◌∷◌, [], List, IfOk, OnOk};
 ghost use Rattle.shape_terms.specs.Points.{sides_of};
 ghost use Rattle.report_terms.specs.Lines as Terms;
 ghost use Rattle.drawing.specs.Seen.{flat, flat_line};
@@ -24,13 +24,22 @@ pub(crate) struct Sketch {
     pub(crate) pixels: Vec<Pixel>,
     pub(crate) outlines: Outlines,
     pub(crate) deleted: Grid<P2>,
+    // the rank of the last line's section
+    pub(crate) rank: u8,
+    // how many lines may still come
+    pub(crate) room: u64,
 }
 
+// A report has no more lines.
+const MOST: u64 = 1 << 61;
+
 impl Sketch {
-    /// A report with these sides and no line.
+    /// A report with these sides and no line but its heading to come.
     pub(crate) fn new(alloc: Global, sides: Sides<P2>) -> Result<Sketch, NoMemory>
         ensures lines { IfOk result (IsSketchOf []) }
         ensures sides { IfOk result (λ s. s.sides ≡ sides) }
+        ensures rank { IfOk result (λ s. s.rank ≡ 0) }
+        ensures room { IfOk result (λ s. s.room ≤ 2 ^ 61) }
     {
         let deleted = Grid::new(alloc, sides)?;
         Ok(Sketch {
@@ -38,11 +47,13 @@ impl Sketch {
             pixels: Vec::new(alloc),
             outlines: Outlines::new(alloc),
             deleted,
+            rank: 0,
+            room: MOST,
         })
     }
 
     /// Takes the next line.
-    pub(crate) fn take(&mut self, line: &Line<P2>) -> Result<(), NoMemory>
+    pub(crate) fn add(&mut self, line: &Line<P2>) -> Result<(), NoMemory>
         ensures lines { (lines : List Terms.Line) → IsSketchOf lines self.old
             → OnOk result (IsSketchOf (lines ++ flat_line line.now ∷ []) self.new) }
         ensures sides { self.new.sides ≡ self.old.sides }

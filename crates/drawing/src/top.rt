@@ -42,7 +42,7 @@ fn write_drawing<D: Desk>(alloc: Global, name: &[u8], desk: &mut D) -> Outcome
 ///
 /// The words are judged first, without memory and without the desk. Nothing is written before the whole report was read. The
 /// report is not checked: what it claims is drawn as it stands. What it gives outside the box of its heading is not drawn.
-/// Want of memory may be answered at any time after the words, and comes for a report of more than 2^64 lines as well.
+/// Want of memory may be answered at any time after the words, and comes for a report of more than 2^61 lines as well.
 pub fn run<D: Desk>(alloc: Global, words: &[Vec<u8>], desk: &mut D) -> Outcome
     ensures usage { (result ≡ Outcome.Usage)
         ↔ ((name : List ℕ) → texts words.now ≢ name ∷ []) }

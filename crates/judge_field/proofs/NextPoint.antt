@@ -10,7 +10,7 @@ use Rattle.shape_terms.specs.Points.{Point, raster_point, box_points}
 use Rattle.shape_terms.specs.Pictures.{Picture, at, object_points, objects_from}
 use Rattle.report_terms.specs.Lines.{Line}
 use Rattle.report_terms.specs.Sections.{NearClaim}
-use Rattle.report_terms.proofs.Checking.{get_push}
+use Rattle.text_terms.proofs.ListPushes.{get_push}
 use Rattle.judge_field.specs.FieldState.{FieldState, StandsFor, IsInStep}
 
 first_behind : (xs : List Point) (n : ℕ) (y : Point) (ys : List Point) → drop n xs ≡ y ∷ ys → (slice_get xs n ≡ Some y) × (drop (suc n) xs ≡ ys) × (n < length xs)

@@ -10,7 +10,7 @@ use Rattle.shape_terms.specs.Points.{Point, in_box, box_count, raster_number, ra
 use Rattle.shape_terms.proofs.Boxes.{raster_below, raster_point-raster_number, raster_number-raster_point}
 use Rattle.shape_terms.proofs.Members.{Contains-map}
 use Rattle.shape_terms.proofs.Pigeon.{pigeon}
-use Rattle.report_terms.proofs.ListPushes.{get_push, get_last}
+use Rattle.text_terms.proofs.ListPushes.{get_push, get_last}
 use Rattle.judge_plane.specs.Listings.{ArePlaced, IsPlaceOf}
 use Rattle.patch_terms.proofs.Places.{place_of, of_place, place_push}
 

@@ -14,7 +14,7 @@ use Rattle.shape_terms.proofs.Boxes.{raster_below, raster_point-raster_number, r
 use Rattle.shape_terms.proofs.Members.{Contains-map}
 use Rattle.shape_terms.proofs.SameCycles.{head_in, in_cases}
 use Rattle.patch_terms.proofs.PointLists.{no_more}
-use Rattle.report_terms.proofs.ListPushes.{take_next}
+use Rattle.text_terms.proofs.ListPushes.{take_next}
 use Rattle.patch_terms.proofs.Places.{of_map}
 use Rattle.judge_plane.proofs.Placing.{same_number}
 

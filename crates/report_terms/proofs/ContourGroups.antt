@@ -11,7 +11,7 @@ use Rattle.report_terms.specs.Lines.{Line}
 use Rattle.shape_terms.specs.Refutations.{Refutation}
 use Rattle.report_terms.specs.ContourFacts.{Segment, stretches_of, GapKind, GapFact}
 use Rattle.report_terms.specs.ContourLines.{groups, is_contour, contour_groups, open_group, point_of, segment_of, gap_of, declared_of, standing, standing_with}
-use Rattle.report_terms.proofs.ListPushes.{filter_map-same, filter_map-push}
+use Rattle.text_terms.proofs.ListPushes.{filter_map-same, filter_map-push}
 
 module _ (test : Line → Bool) where
   rest : List Line → List Line

@@ -9,7 +9,7 @@ use Rattle.report_terms.specs.Lines.{Line}
 use Rattle.report_terms.specs.ContourFacts.{Segment, stretches_of, GapFact, in_pairs, ContourShows}
 use Rattle.report_terms.specs.ContourLines.{point_of, segment_of, gap_of, declared_of}
 use Rattle.report_terms.specs.Shows.{start_of, outline_of, contour_fact}
-use Rattle.report_terms.proofs.ListPushes.{filter_map-same, filter_map-push, take_next}
+use Rattle.text_terms.proofs.ListPushes.{filter_map-same, filter_map-push, take_next}
 use Rattle.report_terms.proofs.CoverTaken.{CoverSoFar, IsListed, IsRefused, cover_none, cover_segment, cover_refusal}
 use Rattle.report_terms.proofs.CoverShown.{cover_shows}
 use Rattle.report_terms.proofs.ContourGroups.{declared_stays}

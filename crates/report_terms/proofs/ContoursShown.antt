@@ -13,7 +13,7 @@ use Rattle.report_terms.specs.Lines.{Line, IsLineOf}
 use Rattle.report_terms.specs.ContourLines.{is_contour, contour_groups, open_group, point_of, segment_of, gap_of, declared_of, standing, no_contour, open_contour, IsFull, IsNextGap, OutlineClaim, ContourClaim, ContoursComplete}
 use Rattle.report_terms.specs.Shows.{outline_of, contour_fact}
 use Rattle.shape_terms.proofs.SameCycles.{cycles_same}
-use Rattle.report_terms.proofs.ListPushes.{take_next}
+use Rattle.text_terms.proofs.ListPushes.{take_next}
 use Rattle.report_terms.proofs.CoverTaken.{refused_by_turn, refused_by_cut}
 use Rattle.report_terms.proofs.ContourGroups.{group_begun, group_more, open_is, declared_begun}
 use Rattle.report_terms.proofs.ContourSaid.{SaysContour, said_head, said_point, said_segment, said_refusal, said_whole}

@@ -8,7 +8,7 @@ use Rattle.shape_terms.specs.Covers.{Stretch, IsSegment, Evidence, IsEvidence, g
 use Rattle.report_terms.specs.ContourFacts.{Segment, stretches_of, GapKind, GapFact, RefusalShows}
 use Rattle.shape_terms.proofs.Exclusion.{excludes}
 use Rattle.shape_terms.proofs.CoverOf.{evidence_shows}
-use Rattle.report_terms.proofs.ListPushes.{get_push}
+use Rattle.text_terms.proofs.ListPushes.{get_push}
 
 -- the segment is good after those before it, among m of the contour
 pub record IsListed (points : List Point) (m : ℕ) (before : List Segment) (s : Segment) : Type 0 where

@@ -17,7 +17,7 @@ use Rattle.report_terms.specs.Lines.{Line}
 use Rattle.report_terms.specs.FaceFacts.{face_axis, face_sense, PatchFact, patches_of, PatchShows, FaceShows}
 use Rattle.report_terms.specs.FaceLines.{is_face, is_patch, patch_groups, last_group, on_point, off_point, count_of, GivenPatch, given_patch, face_standing_with, IsTouching, PatchIsFull, FaceIsFull, IsNextOn, IsPatchHead, IsOnLine, IsOffLine, SurfaceClaim}
 use Rattle.report_terms.specs.Shows.{patch_fact, face_fact}
-use Rattle.report_terms.proofs.ListPushes.{get_push, filter_map-same, filter_map-push}
+use Rattle.text_terms.proofs.ListPushes.{get_push, filter_map-same, filter_map-push}
 use Rattle.report_terms.proofs.ContourGroups.{group_begun, group_more}
 use Rattle.report_terms.proofs.FaceGroups.{last_is, declared_some, given_point, given_refused}
 

@@ -12,7 +12,7 @@ use Rattle.report_terms.specs.Lines.{Line}
 use Rattle.report_terms.specs.FaceFacts.{face_axis, face_sense, FaceFact, FaceShows, FacesShow}
 use Rattle.report_terms.specs.FaceLines.{is_face, face_groups, face_standing_with, face_standing, FaceIsFull, FacesAreFull, IsFaceHead, SurfaceClaim, FaceClaim, FacesComplete}
 use Rattle.report_terms.specs.Shows.{face_fact}
-use Rattle.report_terms.proofs.ListPushes.{get_push, take_next}
+use Rattle.text_terms.proofs.ListPushes.{get_push, take_next}
 use Rattle.report_terms.proofs.ContourGroups.{group_begun, group_more}
 use Rattle.report_terms.proofs.FaceGroups.{last_is, declared_begun}
 use Rattle.report_terms.proofs.FaceSaid.{SaysFace, said_face, said_more, said_full}

@@ -22,7 +22,7 @@ use Rattle.report_terms.specs.Shows.{parts_fact, ShowsParts, near_fact, Thinning
 use Rattle.report_terms.proofs.SectionLines.{stood}
 use Rattle.report_terms.proofs.ContoursShown.{lines_contours}
 use Rattle.report_terms.proofs.FacesShown.{lines_faces}
-use Rattle.report_terms.proofs.ListPushes.{get_last, take_front}
+use Rattle.text_terms.proofs.ListPushes.{get_last, take_front}
 use Rattle.report_terms.proofs.ThinningShown.{thinning_shown}
 use Rattle.report_terms.proofs.SectionLaws.{complete_kept, facts_of_section, claims_of_section}
 

@@ -8,16 +8,13 @@ pub mod ThinningShown
 pub mod NamedRules
 pub mod HeadingFirst
 pub mod HoldsShows
-pub mod FormLaws
 pub mod FramedFields
 pub mod LineLaws
 pub mod Spelled
 pub mod TextLines
-pub mod WordLists
 pub mod SectionLines
 pub mod CoverTaken
 pub mod CoverShown
-pub mod ListPushes
 pub mod Words
 pub mod FaceGroups
 pub mod FaceSaid

@@ -6,10 +6,11 @@ use Rattle.std.proofs.lemmas.Bool.{cond-true, cond-false, eqb-true, eq-eqb, ne_e
 use Rattle.std.specs.List.{cons_option}
 use Rattle.std.proofs.lemmas.List.{append-nil, length-append, take-append-drop}
 use Rattle.std.proofs.lemmas.List.Elements.{All-nil, All-push, All-head, All-tail, filter-append}
+use Rattle.text_terms.specs.Reports.{IsReport}
 use Rattle.report_terms.specs.Subjects.{Subject}
 use Rattle.report_terms.specs.Lines.{Line}
 use Rattle.report_terms.proofs.SectionLines.{stood}
-use Rattle.report_terms.specs.Sections.{Section, sections, rank, section_of, lines_of, SectionClaim, SectionComplete, IsComplete, HasCome, GoodAfter, GoodSoFar}
+use Rattle.report_terms.specs.Sections.{Section, sections, rank, section_of, lines_of, SectionClaim, SectionComplete, IsComplete, HasCome, GoodAfter, GoodSoFar, analysis}
 
 -- ---- ranks
 
@@ -85,13 +86,17 @@ pub not_ended : (X : Subject) (s : Section) (lines : List Line) → rank s < ran
 not_ended X s lines h c = let o : rank Section.End ≤ rank s = order_last s lines Line.End c.order in omega (arith, o, h)
 
 -- no line is good after `end`
-pub none_after_end : (X : Subject) (lines : List Line) (l : Line) → GoodAfter X (lines ++ Line.End ∷ []) l → ⊥
+none_after_end : (X : Subject) (lines : List Line) (l : Line) → GoodAfter X (lines ++ Line.End ∷ []) l → ⊥
 none_after_end X lines l g =
     let o : rank Section.End ≤ rank (section_of l) = order_last (section_of l) lines Line.End g.come.order in
     let e : section_of l ≡ Section.End = rank_same (section_of l) Section.End (omega (arith, o, rank_most (section_of l))) in
     let c : lines_of Section.End (lines ++ Line.End ∷ []) ≡ [] = claim_at X Section.End (lines ++ Line.End ∷ []) l e g in
     let n = ap length (sym (lines_push Section.End lines Line.End refl) ∙ c) in
     omega (arith, n, length-append (lines_of Section.End lines) (Line.End ∷ []))
+
+-- so the analysis is a report
+pub is_report : (X : Subject) → IsReport (analysis X)
+is_report X = record { ends = none_after_end X }
 
 -- ---- facts
 

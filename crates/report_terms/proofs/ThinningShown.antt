@@ -16,7 +16,7 @@ use Rattle.report_terms.specs.Lines.{Line}
 use Rattle.report_terms.specs.ThinningLines.{PartsFact, event_of, events_of, kept_fact, kept_facts, IsKeptLine, ThinningClaim, ThinningComplete}
 use Rattle.report_terms.specs.Sections.{Section, NamesRule, SectionClaim}
 use Rattle.report_terms.specs.Shows.{IsSimpleThen, ThinningShows}
-use Rattle.report_terms.proofs.ListPushes.{get_last, take_front, with_last, filter_map-same, filter_map-push}
+use Rattle.text_terms.proofs.ListPushes.{get_last, take_front, with_last, filter_map-same, filter_map-push}
 
 -- ---- deleted points
 

@@ -1,25 +1,23 @@
 -- When a text is a report that holds of a picture, and which of its lines is the first bad one.
--- Both are said of the whole text; how a checker goes through it does not matter here.
-use Rattle.std.specs.Prelude.{◌≡◌, ℕ, ◌+◌, ◌≤◌, List, [], ◌∷◌, ◌++◌, length, All}
+-- Both are said for every kind of report in `text_terms`; here stands the analysis as one of them.
+use Rattle.std.specs.Prelude.{◌≡◌, ℕ, List, ◌++◌}
 use Rattle.shape_terms.specs.Points.{Point}
+use Rattle.text_terms.specs.Reports as Texts
 use Rattle.report_terms.specs.Subjects.{Subject}
-use Rattle.report_terms.specs.Lines.{Line, spelling, line_text, text_of, IsLineOf}
-use Rattle.report_terms.specs.Sections.{GoodSoFar}
+use Rattle.report_terms.specs.Lines.{Line, line_text}
+use Rattle.report_terms.specs.Sections.{analysis}
 
 -- the text begins with these lines, each spelled in at most 1024 bytes and good after those before it, and `rest` is what follows them
-pub record BeginsWith (X : Subject) (text : List ℕ) (lines : List Line) (rest : List ℕ) : Type 0 where
-  pub split : text ≡ text_of lines ++ rest
-  pub fields : All (IsLineOf (length X.picture.sides)) lines
-  pub short : All (λ l. length (spelling l) ≤ 1024) lines
-  pub good : GoodSoFar X lines
+abbrev pub BeginsWith : Subject → (text : List ℕ) → List Line → (rest : List ℕ) → Type 0
+BeginsWith X text lines rest = Texts.BeginsWith (analysis X) text lines rest
 
 -- the first k lines of the text are good
 abbrev pub LineIsGood : Subject → List ℕ → ℕ → Type 0
-LineIsGood X text k = (lines : List Line) × (rest : List ℕ) × (length lines ≡ k) × BeginsWith X text lines rest
+LineIsGood X text k = Texts.LineIsGood (analysis X) text k
 
 -- the text is a report of the picture: good lines up to `end`, and nothing after it
 abbrev pub Holds : Subject → List ℕ → Type 0
-Holds X text = (lines : List Line) × BeginsWith X text (lines ++ Line.End ∷ []) []
+Holds X text = Texts.Holds (analysis X) text
 
 -- the first line of the text names this rule
 pub record GivesRule (text name : List ℕ) : Type 0 where
@@ -33,7 +31,5 @@ pub record HoldsBy (X : Subject) (name text : List ℕ) : Type 0 where
   pub named : GivesRule text name
 
 -- line k is the first that is missing, misspelt, too long, without LF or not good; or a byte follows `end`, which is line k - 1
-pub record FirstBad (X : Subject) (text : List ℕ) (k : ℕ) : Type 0 where
-  pub fails : Holds X text → ⊥
-  pub before : (j : ℕ) × (j + 1 ≡ k) × LineIsGood X text j
-  pub bad : LineIsGood X text k → ⊥
+abbrev pub FirstBad : Subject → List ℕ → ℕ → Type 0
+FirstBad X text k = Texts.FirstBad (analysis X) text k

@@ -1,30 +1,17 @@
 -- The kinds of report lines, and the fields of each: a form for each kind, read as the format says it aloud.
 -- A further kind is a constructor, its first word, its fields and its form; what a line claims stands elsewhere.
-use Rattle.std.specs.Prelude.{◌^◌, ℕ, zero, suc, ℤ, if◌then◌else◌, List, [], ◌∷◌, codes, Option, None, Some}
-use Rattle.std.specs.Option.{option_map, option_and_then}
-use Rattle.std.specs.Int.{w32, w64}
+use Rattle.std.specs.Prelude.{ℕ, zero, suc, ℤ, List, [], ◌∷◌, codes}
+use Rattle.std.specs.Int.{w64}
 use Rattle.shape_terms.specs.Points.{Point}
 use Rattle.shape_terms.specs.Refutations.{Share, StepShare, Refutation}
 use Rattle.patch_terms.specs.Patches.{Sense}
-use Rattle.report_terms.specs.Forms.{Form, is_same, natural, signed, letter, sign, step, name, nothing, behind, ◌⨾◌, times, counted, shaped, of_axes}
+use Rattle.text_terms.specs.Forms.{Form, natural, signed, letter, name, nothing, behind, ◌⨾◌, counted, shaped, of_axes}
+pub use Rattle.text_terms.specs.Fields.{count, weight, point, row}
+use Rattle.text_terms.specs.Tables as Tables
+use Rattle.text_terms.specs.Tables.{Table}
+use Rattle.report_terms.specs.Forms.{sign, step}
 
 -- ---- fields
-
--- a number of 32 bits
-abbrev pub count : Form ℕ
-count = natural (2 ^ 32)
-
--- a number of 63 bits
-abbrev pub weight : Form ℕ
-weight = natural (2 ^ 63)
-
--- a point of d axes, each coordinate of 32 bits
-abbrev pub point : ℕ → Form Point
-point d = times d (signed w32 31)
-
--- one coefficient of 64 bits for each of d axes
-abbrev pub row : ℕ → Form (List ℤ)
-row d = times d (signed w64 63)
 
 -- a place with its weight before it
 abbrev pub share : Form Share
@@ -110,43 +97,20 @@ form_of d Kind.Tip = point d
 form_of d Kind.Kept = count ⨾ count ⨾ count
 form_of d Kind.End = nothing
 
--- ---- lines split into their kind and its fields
+-- ---- the table
+
+-- the kinds of lines in reports of pictures with d axes
+abbrev pub table : ℕ → Table Fields
+table d = record { kinds = kinds; first_word = first_word; form_of = form_of d }
 
 -- a kind of line, and fields of that kind
-pub record Split : Type 0 where
-  pub kind : Kind
-  pub fields : Fields kind
+abbrev pub Split : Type 0
+Split = Tables.Split Fields
 
 -- the fields are in range, in reports of pictures with d axes
 abbrev pub IsSplitOf : ℕ → Split → Type 0
-IsSplitOf d s = (form_of d s.kind).InRange s.fields
+IsSplitOf d s = Tables.IsSplitOf (table d) s
 
 -- the words of the line: its first word, and those of its fields
 abbrev pub split_words : ℕ → Split → List (List ℕ)
-split_words d s = first_word s.kind ∷ (form_of d s.kind).words s.fields
-
--- ---- reading
-
--- the first of these kinds whose first word this is
-abbrev pub kind_among : List Kind → List ℕ → Option Kind
-kind_among [] w = None
-kind_among (k ∷ ks) w = if is_same w (first_word k) then Some k else kind_among ks w
-
--- the line of a kind that the front of words is read as, and the words that follow
-abbrev pub read_kind : ℕ → Kind → List (List ℕ) → Option (Split × List (List ℕ))
-read_kind d k ws = option_map (λ p. (record { kind = k; fields = p.0 }, p.1)) ((form_of d k).read ws)
-
--- the value, where no words follow it
-abbrev pub all_read : {V : Type 0} → Option (V × List (List ℕ)) → Option V
-all_read None = None
-all_read (Some (v, [])) = Some v
-all_read (Some (v, w ∷ ws)) = None
-
--- the line that the front of words is read as behind its first word, and the words that follow
-abbrev pub read_fields : ℕ → List ℕ → List (List ℕ) → Option (Split × List (List ℕ))
-read_fields d word ws = option_and_then (λ k. read_kind d k ws) (kind_among kinds word)
-
--- the line of these words
-abbrev pub read_line : ℕ → List (List ℕ) → Option Split
-read_line d [] = None
-read_line d (w ∷ ws) = all_read (read_fields d w ws)
+split_words d s = Tables.split_words (table d) s

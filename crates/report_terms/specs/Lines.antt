@@ -5,6 +5,7 @@ use Rattle.std.specs.List.{join_with_byte}
 use Rattle.shape_terms.specs.Points.{Point}
 use Rattle.shape_terms.specs.Refutations.{Refutation}
 use Rattle.patch_terms.specs.Patches.{Sense}
+use Rattle.text_terms.specs.Spellings.{Spelled}
 use Rattle.report_terms.specs.Kinds.{Kind, Fields, Split, IsSplitOf, split_words}
 
 -- a line of a report. The sides stand as a point; a picture of two sides is a `pbm`, one of three a `raw`
@@ -87,3 +88,7 @@ line_text l = spelling l ++ 10 ∷ []
 -- the text of a list of lines
 abbrev pub text_of : List Line → List ℕ
 text_of lines = flat_map line_text lines
+
+-- how the lines of the reports of pictures with d axes stand in text
+abbrev pub spelled : ℕ → Spelled Line
+spelled d = record { IsLine = IsLineOf d; spelling = spelling }

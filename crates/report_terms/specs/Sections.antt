@@ -1,13 +1,15 @@
 -- The sections of a report, in their order, and when a line is good after the lines before it.
 -- Each claim speaks of the heading and of the lines of its own section alone; what contours, faces and the thinning claim stands in `ContourLines`, `FaceLines` and `ThinningLines`.
-use Rattle.std.specs.Prelude.{◌≡◌, ◌≢◌, ℕ, ◌<◌, ◌≤◌, ◌==◌, List, [], ◌∷◌, length, map, filter, take, slice_get, Some, pos, All}
+use Rattle.std.specs.Prelude.{◌≡◌, ◌≢◌, ℕ, ◌<◌, ◌≤◌, ◌==◌, List, [], ◌∷◌, length, map, filter, slice_get, Some, pos, All}
 use Rattle.shape_terms.specs.Points.{Point}
 use Rattle.shape_terms.specs.Pictures.{Picture, object_points, Least}
 use Rattle.shape_terms.specs.Parts.{Counts}
 use Rattle.thin_terms.specs.Thinning.{Rule}
 use Rattle.thin_terms.specs.Shelves.{Named}
+use Rattle.text_terms.specs.Reports as Texts
+use Rattle.text_terms.specs.Reports.{Report}
 use Rattle.report_terms.specs.Subjects.{Subject, IsOnShelf}
-use Rattle.report_terms.specs.Lines.{Line}
+use Rattle.report_terms.specs.Lines.{Line, spelled}
 use Rattle.report_terms.specs.ContourLines.{ContourClaim, ContoursComplete}
 use Rattle.report_terms.specs.FaceLines.{FaceClaim, FacesComplete}
 use Rattle.report_terms.specs.ThinningLines.{ThinningClaim, ThinningComplete}
@@ -137,6 +139,10 @@ pub record GoodAfter (X : Subject) (earlier : List Line) (l : Line) : Type 0 whe
   pub come : HasCome X (section_of l) earlier
   pub claim : Claim X earlier l
 
+-- the analysis as a kind of report: its lines are those of the picture's dimension, good in their sections, and `end` is the last
+abbrev pub analysis : Subject → Report Line
+analysis X = record { text = spelled (length X.picture.sides); GoodAfter = GoodAfter X; last = Line.End }
+
 -- each line is good after those before it
 abbrev pub GoodSoFar : Subject → List Line → Type 0
-GoodSoFar X lines = (k : ℕ) (l : Line) → slice_get lines k ≡ Some l → GoodAfter X (take k lines) l
+GoodSoFar X lines = Texts.GoodSoFar (analysis X) lines

@@ -25,7 +25,7 @@ use Rattle.report_terms.specs.FaceFacts.{face_axis, face_sense}
 use Rattle.report_terms.specs.FaceLines.{FaceStanding, face_standing, given_patch, open_exposed, IsTouching, FacesAreFull, IsNextTouching, IsNextOn, IsFaceHead, IsPatchHead, IsOnLine, IsOffLine, SurfaceClaim}
 use Rattle.report_terms.specs.Sections.{Section, section_of, lines_of}
 use Rattle.report_terms.proofs.SectionLaws.{none_past, come_more, come_past, good_at, lines_push}
-use Rattle.report_terms.proofs.ListPushes.{take_next}
+use Rattle.text_terms.proofs.ListPushes.{take_next}
 use Rattle.std.proofs.lemmas.Bool.{cases_lt}
 use Rattle.report_terms.proofs.FaceGroups.{standing_face, standing_patch, standing_on, standing_off}
 use Rattle.shape_plane.proofs.Refusing.{pairs_mapped}

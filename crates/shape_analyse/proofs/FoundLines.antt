@@ -9,7 +9,8 @@ use Rattle.shape_terms.specs.Traces.{Contour}
 use Rattle.shape_terms.specs.Naive.{Naive}
 use Rattle.shape_terms.specs.Refutations.{Share, Step, StepShare, Refutation, IsStepOf, Refutes}
 use Rattle.shape_terms.specs.Covers.{Evidence, IsEvidence, gap_run}
-use Rattle.report_terms.specs.Forms.{IsStepIn, counted}
+use Rattle.text_terms.specs.Forms.{counted}
+use Rattle.report_terms.specs.Forms.{IsStepIn}
 use Rattle.report_terms.specs.Kinds.{share, step_share, why}
 use Rattle.report_terms.specs.Lines.{Line, IsLineOf}
 use Rattle.shape_slope.specs.Pairs.{AreSmallWeights}

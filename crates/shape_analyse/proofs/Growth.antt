@@ -11,7 +11,7 @@ use Rattle.shape_terms.specs.Points.{Point, coordinate, AreSides, sides_of}
 use Rattle.shape_terms.specs.Pictures.{Picture, object_points, Least}
 use Rattle.shape_terms.specs.Parts.{Counts}
 use Rattle.shape_terms.specs.Distances.{NearFact, IsField, IsFramed}
-use Rattle.report_terms.specs.Forms.{IsName}
+use Rattle.text_terms.specs.Forms.{IsName}
 use Rattle.report_terms.specs.Kinds.{weight}
 use Rattle.report_terms.specs.Lines.{Line, spelling, line_text, text_of, IsLineOf}
 use Rattle.report_terms.specs.Subjects.{IsOnShelf}

@@ -12,7 +12,7 @@ use Rattle.report_terms.specs.Lines.{Line, line_text, text_of, IsLineOf}
 use Rattle.report_terms.specs.ThinningLines.{PartsFact, event_of, events_of, kept_fact, kept_facts, ThinningClaim}
 use Rattle.report_terms.specs.Sections.{Section, section_of, lines_of, GoodAfter}
 use Rattle.report_terms.specs.Holds.{HoldsBy}
-use Rattle.report_terms.proofs.ListPushes.{take_next, filter_map-same, filter_map-push}
+use Rattle.text_terms.proofs.ListPushes.{take_next, filter_map-same, filter_map-push}
 use Rattle.report_terms.proofs.SectionLaws.{none_past, come_more, come_past, good_at, lines_push}
 use Rattle.report_terms.proofs.HeadingFirst.{gives_rule}
 use Rattle.report_terms.proofs.ThinningShown.{step_at}

@@ -7,7 +7,7 @@ use Rattle.std.specs.Fmt.{decimal, signed_decimal}
 use Rattle.std.proofs.lemmas.Fmt.{decimal_injective, decimal_is_IsNumeral}
 use Rattle.std.proofs.lemmas.Int.{ints}
 use Rattle.shape_desk.proofs.Numbers.{no_minus}
-use Rattle.shape_report.specs.Reading.{ReadsNumberWord}
+use Rattle.report_text.specs.Reading.{ReadsNumberWord}
 use Rattle.shape_cli.specs.Commands.{IsNoNumber, SpellsNumber}
 
 fits : (n : ℕ) → n < 2 ^ 32 → FitsSigned w64 (pos n)

@@ -10,8 +10,8 @@ use Rattle.std.proofs.lemmas.Fmt.{decimal_injective, signed_decimal_injective}
 use Rattle.std.proofs.lemmas.Int.{ints}
 use Rattle.shape_terms.specs.Points.{AreSides}
 use Rattle.shape_cli.specs.Commands.{Source, HasSides, IsNoSides, ReadsCoordinate, most_volume_side, side_words, source_words, read_source}
-use Rattle.shape_report.specs.Reading.{ReadsField}
-use Rattle.shape_report.proofs.Numbers.{read_short}
+use Rattle.report_text.specs.Reading.{ReadsField}
+use Rattle.report_text.proofs.Numbers.{read_short}
 use Rattle.shape_cli.specs.declared.words.Source.{Source as ProgramSource}
 use Rattle.shape_cli.specs.declared.words.Source.TheVariants as source
 

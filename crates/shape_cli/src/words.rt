@@ -1,7 +1,7 @@
 //! The words of a command line.
 //! A command has one spelling: fixed words in their places, the words of a source, and names of files.
 ghost use Rattle.std.specs.Prelude.{◌≡◌, ◌≢◌, ◌↔◌, ◌<◌, ◌∷◌, [], ℕ, List, MatchOption, IsTrue, Some, Contains, codes, slice_get, nat_abs};
-ghost use Rattle.shape_report.specs.Reading.{ReadsNumberWord};
+ghost use Rattle.report_text.specs.Reading.{ReadsNumberWord};
 ghost use Rattle.thin_terms.specs.Shelves.{names_of};
 ghost use Rattle.shape_cli.specs.Commands.{Source as AskedSource, Kind as AskedKind, HasSides, AreTrial, IsNoTrial, IsNoNumber, SpellsNumber, most_side_of, kind_word, trial_words, read_kind, IsNoSides, ReadsCoordinate, side_words, source_words, file_of, texts, with_words, words_of, read_source, read_command, IsNoForm, IsFound};
 

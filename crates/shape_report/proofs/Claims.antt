@@ -1,26 +1,25 @@
 -- From the words of a line to its bytes, and back.
 -- Laws for all lines at once; what the words of a kind are, its form says.
-use Rattle.std.proofs.Common.{◌≡◌, ◌≢◌, ℕ, ℤ, Option, Some, None, List, [], ◌∷◌, ◌++◌, sym, ap, ◌∙◌, append-nil}
+use Rattle.std.proofs.Common.{◌≡◌, ◌≢◌, ℕ, ℤ, Option, Some, None, List, sym, ap, ◌∙◌}
 use Rattle.std.specs.Prelude.{MatchOption}
 use Rattle.std.specs.List.{join_with_byte}
-use Rattle.report_terms.specs.Kinds.{first_word, form_of}
+use Rattle.text_terms.proofs.TableLaws.{read_only, read_none}
+use Rattle.report_terms.specs.Kinds.{first_word, form_of, table}
 use Rattle.report_terms.specs.Lines as Terms
 use Rattle.report_terms.specs.Lines.{split, axes_of, IsLineOf, line_words, spelling}
-use Rattle.report_terms.proofs.LineLaws.{read_only, read_none}
+use Rattle.report_terms.proofs.LineLaws.{is_table}
 use Rattle.report_terms.proofs.Spelled.{same_words, words_of_line}
+use Rattle.report_text.specs.Reading.{split_words}
+use Rattle.report_text.proofs.Claims as Texts
+use Rattle.report_text.proofs.SplitWords.{join-split_words, split_words-join}
 use Rattle.shape_report.specs.declared.line.Line.{Line}
 use Rattle.shape_report.specs.LineOf.{line_of}
-use Rattle.shape_report.specs.Reading.{split_words, HasNoThird, ReadsLine}
-use Rattle.shape_report.specs.Spelling.{behind_blanks, split_text}
-use Rattle.shape_report.proofs.SplitWords.{join-split_words, split_words-join}
-
-join_is : (w : List ℕ) (ws : List (List ℕ)) → join_with_byte 32 (w ∷ ws) ≡ w ++ behind_blanks ws
-join_is w [] = sym (append-nil w)
-join_is w (v ∷ ws) = ap (λ t. w ++ 32 ∷ t) (join_is v ws)
+use Rattle.shape_report.specs.Reading.{HasNoThird, ReadsLine}
+use Rattle.shape_report.specs.Spelling.{split_text}
 
 -- the text of a line's words is its spelling
 pub spelled : (d : ℕ) (l : Terms.Line) → IsLineOf d l → split_text d (split l) ≡ spelling l
-spelled d l a = sym (join_is (first_word (split l).kind) ((form_of d (split l).kind).words (split l).fields)) ∙ ap (join_with_byte 32) (same_words d l a)
+spelled d l a = Texts.spelled (table d) (split l) ∙ ap (join_with_byte 32) (same_words d l a)
 
 split_spelling : (d : ℕ) (l : Terms.Line) → IsLineOf d l → split_words (spelling l) ≡ line_words l
 split_spelling d l a = split_words-join (first_word (split l).kind) ((form_of (axes_of l) (split l).kind).words (split l).fields) (words_of_line d l a)
@@ -28,8 +27,8 @@ split_spelling d l a = split_words-join (first_word (split l).kind) ((form_of (a
 -- a line has the words of a text exactly where it has its bytes
 pub from_words : {P : Type 0} (d : ℕ) (coords : P → List ℤ) (bytes : List ℕ) (r : Option (Line P)) → ReadsLine d coords (split_words bytes) r
     → MatchOption r ((l : Terms.Line) → IsLineOf d l → spelling l ≢ bytes) (λ line. IsLineOf d (line_of coords line) × (spelling (line_of coords line) ≡ bytes) × HasNoThird line)
-from_words d coords bytes None h = λ l a e. read_none d (split_words bytes) h (split l) a (same_words d l a ∙ sym (split_spelling d l a) ∙ ap split_words e)
+from_words d coords bytes None h = λ l a e. read_none (table d) (is_table d) (split_words bytes) h (split l) a (same_words d l a ∙ sym (split_spelling d l a) ∙ ap split_words e)
 from_words d coords bytes (Some line) h =
     let l = line_of coords line in
-    let r = read_only d (split_words bytes) (split l) h.0 in
+    let r = read_only (table d) (is_table d) (split_words bytes) (split l) h.0 in
     (r.0, ap (join_with_byte 32) (sym (same_words d l r.0) ∙ r.1) ∙ join-split_words bytes, h.1)

@@ -1,11 +1,15 @@
-//! The lines of reports: one variant for each kind of line, and the rank of its section.
+//! The lines of the analysis, as those of a kind of report: one variant for each kind of line, and the rank of its section.
 //! A further kind of line is a variant and an arm here, a constructor of the definitions' line, and a case of `line_of`.
 ghost use Rattle.std.specs.Prelude.{◌≡◌};
 ghost use Rattle.report_terms.specs.Sections.{rank, section_of};
 
+use crate::read::read_claim;
+use crate::spell::spell;
+use report_text::{ReportLine, Text};
 use shape_refute::{Naive, Refutation, Sense};
 use shape_rules::Name;
 use shape_space::Point;
+use std::marker::Model;
 
 /// A line of a report of a picture whose points are of type `P`.
 #[derive(Clone, Copy)]
@@ -127,4 +131,42 @@ impl<P: Point> Line<P> {
             Line::End => 6,
         }
     }
+}
+
+/// What a line is seen as: a line of the definitions.
+pub struct SeenLine<P: Point> {
+    line: Line<P>,
+}
+
+impl<P: Point> Model for SeenLine<P> {
+    ghost use Rattle.report_terms.specs.Lines as Terms;
+    ghost use Rattle.shape_report.specs.LineOf.{line_of};
+
+    ghost Value = { Terms.Line };
+
+    ghost view = { λ s. line_of P.coords s.line };
+}
+
+impl<P: Point> ReportLine for Line<P> {
+    ghost use Rattle.report_terms.specs.Lines as Terms;
+    ghost use Rattle.report_terms.proofs.TextLines.{are_spelled};
+    ghost use Rattle.shape_report.specs.LineOf.{line_of};
+
+    type Seen = SeenLine<P>;
+
+    ghost seen = { λ l. line_of P.coords l };
+
+    ghost form = { Terms.spelled P.DIM };
+
+    ghost last = { Terms.Line.End };
+
+    fn read(bytes: &[u8]) -> Option<Line<P>> {
+        read_claim(bytes)
+    }
+
+    fn spell(&self, text: &mut Text) {
+        spell(self, text)
+    }
+
+    ghost laws = { are_spelled P.DIM };
 }

@@ -1,13 +1,14 @@
 //! The weights of a `cut` or an `off` line, put behind a text.
 //! A further kind of step is one more case of `put_step`; what weights show is no matter here.
 ghost use Rattle.std.specs.Prelude.{◌≡◌, ◌≤◌, ◌+◌, ◌++◌, [], ◌∷◌, length};
-ghost use Rattle.report_terms.specs.Forms.{counted, step};
+ghost use Rattle.text_terms.specs.Forms.{counted};
+ghost use Rattle.report_terms.specs.Forms.{step};
 ghost use Rattle.report_terms.specs.Kinds.{share, step_share, why};
 ghost use Rattle.shape_refute.specs.Shown.{share_of, shift_of, step_share_of};
 ghost use Rattle.shape_refute.specs.Weights.{refutation_of};
-ghost use Rattle.shape_report.specs.Spelling.{behind_blanks};
+ghost use Rattle.report_text.specs.Spelling.{behind_blanks};
 
-use crate::text::Text;
+use report_text::Text;
 use shape_refute::{Refutation, Share, Shares, Step, StepShare, StepShares};
 
 // Puts a weight and a place.

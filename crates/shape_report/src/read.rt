@@ -7,14 +7,15 @@ ghost use Rattle.report_terms.specs.Lines.{IsLineOf, spelling};
 ghost use Rattle.shape_report.specs.LineOf.{line_of};
 ghost use Rattle.shape_report.specs.Reading.{HasNoThird, ReadsKind, ReadsFields, ReadsLine};
 
-use crate::field::{
-    count, flat_axis, flat_coefficients, name, point, sense, side, signed, solid_axis,
-    solid_coefficients, weight,
-};
+use crate::field::{name, sense};
 use crate::kind::kind;
 use crate::line::Line;
 use crate::why::read_why;
-use crate::words::Words;
+use report_text::Words;
+use report_text::field::{
+    count, flat_axis, flat_coefficients, point, side, signed, solid_axis, solid_coefficients,
+    weight,
+};
 use shape_refute::Naive;
 use shape_space::Point;
 

@@ -9,10 +9,11 @@ ghost use Rattle.shape_refute.specs.Weights.{refutation_of};
 ghost use Rattle.shape_report.specs.LineOf.{line_of};
 ghost use Rattle.shape_report.specs.Spelling.{kind_text, split_text};
 
+use crate::field::put_sense;
 use crate::kind::kind;
 use crate::line::Line;
 use crate::put_why::put_why;
-use crate::text::Text;
+use report_text::Text;
 use shape_desk::put_word;
 use shape_refute::{Naive, Refutation, Sense};
 use shape_rules::Name;
@@ -120,7 +121,7 @@ fn put_face(axis: u8, sense: Sense, points: u32, text: &mut Text)
 {
     text.put(b"face");
     text.axis(axis);
-    text.sense(sense);
+    put_sense(sense, text);
     text.count(points)
 }
 

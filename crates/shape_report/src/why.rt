@@ -1,14 +1,15 @@
 //! The weights of a `cut` or an `off` line, read.
 //! A further kind of step is one more case of `any_step`; what weights show is no matter here.
 ghost use Rattle.std.specs.Prelude.{◌≡◌, ◌≤◌, ◌↔◌, IsTrue, ◌+◌, ◌++◌, [], ◌∷◌, length};
-ghost use Rattle.report_terms.specs.Forms.{natural, counted, step, IsStepIn};
+ghost use Rattle.text_terms.specs.Forms.{natural, counted};
+ghost use Rattle.report_terms.specs.Forms.{step, IsStepIn};
 ghost use Rattle.report_terms.specs.Kinds.{share, step_share, why};
 ghost use Rattle.shape_refute.specs.Shown.{share_of, shift_of, step_share_of};
 ghost use Rattle.shape_refute.specs.Weights.{refutation_of};
-ghost use Rattle.shape_report.specs.Reading.{ReadsForm};
+ghost use Rattle.report_text.specs.Reading.{ReadsForm};
 
-use crate::field::{count, weight};
-use crate::words::Words;
+use report_text::Words;
+use report_text::field::{count, weight};
 use shape_refute::{Refutation, Share, Shares, Step, StepShare, StepShares};
 
 // The most entries of a list of weights.

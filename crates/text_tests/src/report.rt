@@ -160,7 +160,7 @@ fn first_of(
     alloc: Global,
     report: &[u8],
     bad_reads: &[u64],
-) -> Result<Result<Next<P2>, ReadFault>, Fail> {
+) -> Result<Result<Next<Line<P2>>, ReadFault>, Fail> {
     let file = (
         Vec::from_slice(alloc, b"r")?,
         Vec::from_slice(alloc, report)?,

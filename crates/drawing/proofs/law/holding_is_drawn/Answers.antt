@@ -1,8 +1,8 @@
-use Rattle.drawing.proofs.Holding.{holding_is_report}
+use Rattle.drawing.proofs.Holding.{holding_is_report, never_both}
 use Rattle.drawing.proofs.law.holding_is_drawn.Goals as goal
 
 pub returns-clause-report : goal.returns-clause-report
 returns-clause-report c = holding_is_report
 
 pub returns-clause-not_refused : goal.returns-clause-not_refused
-returns-clause-not_refused c = λ text lines k report bad. bad.fails lines report
+returns-clause-not_refused c = never_both

@@ -1,4 +1,4 @@
-use Rattle.shape_report.proofs.Numbers.{no_number, longer_word}
+use Rattle.report_text.proofs.Numbers.{no_number, longer_word}
 use Rattle.shape_cli.proofs.words.number.Goals as goal
 
 pub returns-in_err-value : goal.returns-in_err-value

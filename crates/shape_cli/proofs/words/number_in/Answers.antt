@@ -1,7 +1,7 @@
 use Rattle.std.proofs.Common.{None, arith, subst}
 use Rattle.std.proofs.lemmas.Int.{ints}
 use Rattle.shape_cli.specs.Commands.{IsNoNumber}
-use Rattle.shape_report.specs.Reading.{ReadsNumberWord}
+use Rattle.report_text.specs.Reading.{ReadsNumberWord}
 use Rattle.shape_cli.proofs.NumberWords.{none_spelled, too_small, too_large}
 use Rattle.shape_cli.proofs.words.number_in.Goals as goal
 

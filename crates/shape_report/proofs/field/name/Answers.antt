@@ -1,8 +1,8 @@
 use Rattle.std.proofs.Common.{rules}
 use Rattle.shape_rules.specs.Names.{word_of}
-use Rattle.report_terms.specs.Forms.{name}
-use Rattle.report_terms.proofs.Words.{name_form}
-use Rattle.shape_report.proofs.FormReads.{as_form}
+use Rattle.text_terms.specs.Forms.{name}
+use Rattle.text_terms.proofs.Words.{name_form}
+use Rattle.report_text.proofs.FormReads.{as_form}
 use Rattle.shape_report.proofs.field.name.Goals as goal
 
 pub returns : goal.returns

@@ -2,7 +2,7 @@ use Rattle.std.proofs.Common.{◌≡◌, ◌≤◌, ◌+◌, ◌*◌, ◌++◌, 
 use Rattle.std.specs.Prelude.{flat_map}
 use Rattle.std.specs.Fmt.{decimal}
 use Rattle.report_terms.specs.Kinds.{share}
-use Rattle.shape_report.specs.Spelling.{behind_blanks}
+use Rattle.report_text.specs.Spelling.{behind_blanks}
 use Rattle.shape_report.proofs.put_why.put_shares.Given as goal
 
 abbrev pub invariant-loop-i : goal.invariant-loop-i

@@ -2,8 +2,8 @@ use Rattle.std.proofs.Common.{◌∙◌, ◌++◌, ap, arith, length}
 use Rattle.std.specs.Fmt.{decimal}
 use Rattle.shape_refute.specs.Shown.{step_share_of}
 use Rattle.report_terms.specs.Kinds.{step_share}
-use Rattle.shape_report.specs.Spelling.{behind_blanks}
-use Rattle.shape_report.proofs.Fronts.{front_more}
+use Rattle.report_text.specs.Spelling.{behind_blanks}
+use Rattle.report_text.proofs.Fronts.{front_more}
 use Rattle.shape_report.proofs.put_why.put_step_shares.Goals as goal
 
 pub loop-i-preserved : goal.loop-i-preserved

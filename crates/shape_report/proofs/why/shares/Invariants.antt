@@ -1,6 +1,6 @@
 use Rattle.std.proofs.Common.{◌≡◌, length}
 use Rattle.report_terms.specs.Kinds.{share}
-use Rattle.shape_report.proofs.FormReads.{HasRead}
+use Rattle.report_text.proofs.FormReads.{HasRead}
 use Rattle.shape_report.proofs.why.shares.Given as goal
 
 abbrev pub invariant-loop : goal.invariant-loop

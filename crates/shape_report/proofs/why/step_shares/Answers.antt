@@ -1,7 +1,7 @@
 use Rattle.std.proofs.Common.{◌∷◌, [], ◌+◌, ◌∙◌, ap, length-append}
 use Rattle.shape_refute.specs.Shown.{step_share_of}
 use Rattle.report_terms.specs.Kinds.{step_share}
-use Rattle.shape_report.proofs.FormReads.{read_more}
+use Rattle.report_text.proofs.FormReads.{read_more}
 use Rattle.shape_report.proofs.why.step_shares.Goals as goal
 
 pub loop-preserved : goal.loop-preserved

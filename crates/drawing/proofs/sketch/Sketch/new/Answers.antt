@@ -1,4 +1,4 @@
-use Rattle.std.proofs.Common.{[], refl, ap, sym, subst}
+use Rattle.std.proofs.Common.{[], arith, refl, ap, sym, subst}
 use Rattle.shape_terms.specs.Points.{sides_of}
 use Rattle.drawing.specs.Seen.{flat, all_pixels}
 use Rattle.drawing.specs.Standing.{HasDeleted}
@@ -15,4 +15,6 @@ returns c =
         deleted = subst (HasDeleted sides []) (sym c.in_ok-deleted.ensures) (none_deleted sides refl);
       };
       sides = refl;
+      rank = refl;
+      room = omega arith;
     }

@@ -1,0 +1,19 @@
+use Rattle.std.proofs.Common.{[], ◌∷◌, ◌++◌, refl, ap, sym, ◌∙◌}
+use Rattle.shape_terms.specs.Points.{sides_of}
+use Rattle.drawing.specs.Object.{pixels}
+use Rattle.drawing.specs.Seen.{flat, flat_line}
+use Rattle.drawing.proofs.Deleting.{pixels_more}
+use Rattle.drawing.proofs.sketch.Sketch.add.Goals as goal
+
+pub returns : goal.returns
+returns c =
+    let sides = sides_of (flat c.args.self.now.sides.lengths) in
+    let l = flat_line c.args.line.now in
+    record {
+      lines = λ lines h. record {
+        pixels = c.in_ok-take_pixel.ensures ∙ ap (λ t. t ++ pixels sides (l ∷ [])) h.pixels ∙ sym (pixels_more sides lines l);
+        outlines = c.in_ok-take.ensures lines h.outlines;
+        deleted = c.take_deleted.ensures sides lines h.deleted;
+      };
+      sides = refl;
+    }

@@ -1,0 +1,81 @@
+//! Checking a report line by line, up to the first bad one.
+//! Which line is good next is known to the judge; this file knows of texts alone.
+ghost use Rattle.std.specs.Prelude.{◌≡◌, ◌<◌, ◌≤◌, ◌+◌, ◌-◌, ◌^◌, [], ℕ, List, Option, true};
+ghost use Rattle.shape_desk.specs.Desk.{OnlyReadsAt};
+ghost use Rattle.shape_desk.specs.Line.{ahead_of};
+ghost use Rattle.shape_desk.specs.declared.desk.Place.TheVariants.{Report};
+ghost use Rattle.text_terms.specs.Reports.{report_of};
+ghost use Rattle.report_text.specs.Checks.{HasCome, HasChecked};
+
+use crate::answer::{CheckFault, Judgement};
+use crate::judge::ReportJudge;
+use crate::line::ReportLine;
+use crate::next::{Next, next_claim};
+use shape_desk::{Desk, LineReader};
+use shape_space::NoMemory;
+use std::alloc::Global;
+
+/// Checks what is left of a report, where the next line has this number and the judge stands for those before it.
+///
+/// What is said of `check_by` is true here of the whole text, whose first lines were read before.
+pub fn check_from<L: ReportLine, J: ReportJudge<L>, D: Desk>(
+    judge: &mut J,
+    reader: &mut LineReader,
+    desk: &mut D,
+    first: u64,
+) -> Result<Judgement, CheckFault>
+    requires begun { (D.state desk.old).begun Report ≡ true }
+    requires some { 1 ≤ first }
+    requires few { first + J.room judge.old < 2 ^ 62 }
+    ensures checked { (X : J.About) (text : Option (List ℕ))
+        → HasCome (report_of L.form L.last (J.good X)) (J.stands X judge.old) text
+        (ahead_of reader.old.ahead ((D.state desk.old).left Report)) first
+        → HasChecked (report_of L.form L.last (J.good X)) (J.stands X judge.new) text
+        (D.state desk.old) (D.state desk.new) result }
+    ensures reads { OnlyReadsAt Report (D.state desk.old) (D.state desk.new) }
+{
+    let mut line = first;
+    'lines: loop {
+        match next_claim::<L, D>(reader, desk) {
+            Ok(Next::Claim(claim)) => {
+                match judge.take(&claim) {
+                    Ok(true) => line += 1,
+                    Ok(false) => return Ok(Judgement::No { line }),
+                    Err(NoMemory) => return Err(CheckFault::NoMemory),
+                }
+            }
+            Ok(Next::Bad) => return Ok(Judgement::No { line }),
+            Ok(Next::End) => {
+                if judge.has_ended() {
+                    return Ok(Judgement::Yes);
+                }
+                return Ok(Judgement::No { line });
+            }
+            Err(_) => return Err(CheckFault::ReadFault),
+        }
+    }
+}
+
+/// Checks the report that was begun at `Place::Report`, by a judge that has taken no line.
+///
+/// The file is read line by line and never whole: the bytes of its good lines are taken, and at most
+/// 2048 more. `Yes` exactly where the report holds, and `No` exactly where its line is the first bad
+/// one, where the desk tells the file; after `Yes` the judge stands for all of its lines. `ReadFault`
+/// comes only where `read_faults` rose in this call.
+pub fn check_by<L: ReportLine, J: ReportJudge<L>, D: Desk>(
+    alloc: Global,
+    judge: &mut J,
+    desk: &mut D,
+) -> Result<Judgement, CheckFault>
+    requires begun { (D.state desk.old).begun Report ≡ true }
+    requires few { J.room judge.old < 2 ^ 62 - 1 }
+    ensures checked { (X : J.About) → J.stands X judge.old []
+        → HasChecked (report_of L.form L.last (J.good X)) (J.stands X judge.new)
+        ((D.state desk.old).left Report) (D.state desk.old) (D.state desk.new) result }
+    ensures reads { OnlyReadsAt Report (D.state desk.old) (D.state desk.new) }
+{
+    let Ok(mut reader) = LineReader::new(alloc) else {
+        return Err(CheckFault::NoMemory);
+    };
+    check_from(judge, &mut reader, desk, 1)
+}

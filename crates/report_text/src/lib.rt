@@ -1,0 +1,25 @@
+//! Texts of lines as programs read and write them: words and fields, the next line, a report as it is built, and its check.
+//! Which lines a kind of report has and which are good is told by its `impl` of `ReportLine` and of `ReportJudge`.
+#![tactic(auto)]
+
+mod answer;
+mod check;
+pub mod field;
+mod judge;
+pub mod law;
+mod line;
+mod next;
+mod report;
+mod table;
+mod text;
+mod words;
+
+pub use answer::{CheckFault, Judgement};
+pub use check::{check_by, check_from};
+pub use judge::ReportJudge;
+pub use line::ReportLine;
+pub use next::{Next, ReadFault, next_claim};
+pub use report::{Report, WriteFault, write_report};
+pub use table::{TableLine, read_line, spell_line};
+pub use text::Text;
+pub use words::Words;

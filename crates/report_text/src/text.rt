@@ -1,0 +1,164 @@
+//! A text of at most 1024 bytes as it grows, word by word and field by field.
+//! A further kind of field is one more function here; which fields a line has, its kind of report says.
+ghost use Rattle.std.specs.Prelude.{◌≡◌, ◌≤◌, ◌<◌, ◌+◌, ◌++◌, [], ◌∷◌, length, take};
+ghost use Rattle.std.specs.Int.{w32, w64};
+ghost use Rattle.std.specs.Fmt.{signed_decimal};
+ghost use Rattle.text_terms.specs.Forms.{natural, signed, axis_letter, letter};
+ghost use Rattle.text_terms.specs.Fields.{count, weight, point, row};
+ghost use Rattle.report_text.specs.Spelling.{behind_blanks};
+
+use shape_desk::{put_number, put_word};
+use shape_space::Point;
+use std::marker::Model;
+
+/// A text of at most 1024 bytes.
+#[derive(Drop)]
+pub struct Text {
+    bytes: [u8; 1024],
+    len: usize,
+}
+
+impl Model for Text {
+    ghost use Rattle.std.specs.Prelude.{◌≡◌, ◌≤◌, ℕ, List, length, take};
+
+    ghost Value = { List ℕ };
+
+    ghost view = { λ t. take t.len t.bytes };
+
+    ghost invariant = { λ t. (t.len ≤ 1024) × (length t.bytes ≡ 1024) };
+}
+
+impl Text {
+    /// No text.
+    pub fn new() -> Text
+        ensures { result ≡ [] }
+    {
+        Text {
+            bytes: [0; 1024],
+            len: 0,
+        }
+    }
+
+    /// Takes all bytes away.
+    pub fn clear(&mut self)
+        ensures { self.new ≡ [] }
+    {
+        self.len = 0;
+    }
+
+    /// The bytes so far.
+    pub fn bytes(&self) -> &[u8]
+        ensures text { result.now ≡ self.now }
+        ensures room { length result.now ≤ 1024 }
+    {
+        &self.bytes[..self.len]
+    }
+
+    /// Puts bytes behind those before.
+    pub fn put(&mut self, word: &[u8])
+        requires { length self.old + length word.now ≤ 1024 }
+        ensures { self.new ≡ self.old ++ word.now }
+    {
+        self.len = put_word(word, &mut self.bytes, self.len);
+    }
+
+    // Puts a number behind a blank.
+    fn number(&mut self, n: i64)
+        requires { length self.old + 21 ≤ 1024 }
+        ensures text { self.new ≡ self.old ++ 32 ∷ signed_decimal n }
+        ensures room { length self.new ≤ length self.old + 21 }
+    {
+        let end = put_word(b" ", &mut self.bytes, self.len);
+        self.len = put_number(n, &mut self.bytes, end);
+    }
+
+    /// Puts a count behind a blank.
+    pub fn count(&mut self, n: u32)
+        requires { length self.old + 21 ≤ 1024 }
+        ensures text { self.new ≡ self.old ++ behind_blanks (count.words n) }
+        ensures room { length self.new ≤ length self.old + 21 }
+    {
+        self.number(i64::from(n))
+    }
+
+    /// Puts a weight behind a blank.
+    pub fn weight(&mut self, n: u64)
+        requires room { length self.old + 21 ≤ 1024 }
+        requires range { weight.InRange n }
+        ensures text { self.new ≡ self.old ++ behind_blanks (weight.words n) }
+        ensures room { length self.new ≤ length self.old + 21 }
+    {
+        self.number(n as i64)
+    }
+
+    /// Puts each coordinate of a point behind a blank.
+    pub fn point<P: Point>(&mut self, p: P)
+        requires { length self.old + 63 ≤ 1024 }
+        ensures text { self.new ≡ self.old ++ behind_blanks ((point P.DIM).words (P.coords p)) }
+        ensures room { length self.new ≤ length self.old + 63 }
+    {
+        for k in 0..P::DIM {
+            self.number(i64::from(p.coord(k)));
+        }
+    }
+
+    /// Puts a number of 64 bits behind a blank.
+    pub fn signed(&mut self, n: i64)
+        requires { length self.old + 21 ≤ 1024 }
+        ensures text { self.new ≡ self.old ++ behind_blanks ((signed w64 63).words n) }
+        ensures room { length self.new ≤ length self.old + 21 }
+    {
+        self.number(n)
+    }
+
+    /// Puts the number of a side of a pixel behind a blank.
+    pub fn side(&mut self, n: u8)
+        requires { length self.old + 21 ≤ 1024 }
+        ensures text { self.new ≡ self.old ++ behind_blanks ((natural 4).words n) }
+        ensures room { length self.new ≤ length self.old + 21 }
+    {
+        self.number(i64::from(n))
+    }
+
+    /// Puts the letter of an axis.
+    pub fn letter(&mut self, axis: u8)
+        requires room { length self.old + 1 ≤ 1024 }
+        requires axis { axis < 3 }
+        ensures text { self.new ≡ self.old ++ axis_letter axis ∷ [] }
+        ensures room { length self.new ≤ length self.old + 1 }
+    {
+        self.put(&[b'x' + axis])
+    }
+
+    /// Puts the letter of an axis behind a blank.
+    pub fn axis(&mut self, axis: u8)
+        requires room { length self.old + 2 ≤ 1024 }
+        requires axis { axis < 3 }
+        ensures text { self.new ≡ self.old ++ behind_blanks ((letter 3).words axis) }
+        ensures room { length self.new ≤ length self.old + 2 }
+    {
+        self.put(b" ");
+        self.letter(axis)
+    }
+
+    /// Puts the coefficients of a plane, each behind a blank.
+    pub fn solid_coefficients(&mut self, a: &[i64; 3])
+        requires { length self.old + 63 ≤ 1024 }
+        ensures text { self.new ≡ self.old ++ behind_blanks ((row 3).words (take 3 a.now)) }
+        ensures room { length self.new ≤ length self.old + 63 }
+    {
+        self.number(a[0]);
+        self.number(a[1]);
+        self.number(a[2])
+    }
+
+    /// Puts the coefficients of a line of the plane, each behind a blank.
+    pub fn flat_coefficients(&mut self, a: &[i64; 3])
+        requires { length self.old + 42 ≤ 1024 }
+        ensures text { self.new ≡ self.old ++ behind_blanks ((row 2).words (take 2 a.now)) }
+        ensures room { length self.new ≤ length self.old + 42 }
+    {
+        self.number(a[0]);
+        self.number(a[1])
+    }
+}
