@@ -10,7 +10,6 @@ pub mod HeadingFirst
 pub mod HoldsShows
 pub mod FormLaws
 pub mod FramedFields
-pub mod LandedLines
 pub mod LineLaws
 pub mod Spelled
 pub mod TextLines

@@ -5,6 +5,5 @@ pub mod WordLists
 pub mod SideWords
 pub mod OneCommand
 pub mod Complete
-pub mod Landed
 pub mod NumberWords
 pub mod TriedReports

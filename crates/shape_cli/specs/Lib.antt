@@ -4,4 +4,3 @@ pub mod Trials
 pub mod Runs
 pub mod Parts
 pub mod Complete
-pub mod Landed

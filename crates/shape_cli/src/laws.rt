@@ -11,7 +11,6 @@ ghost use Rattle.report_terms.specs.Subjects.{subject_of};
 ghost use Rattle.shape_cli.specs.Commands.{Source, Asked, HasNumbers, IsInRange, OfSource, IfSource, words_of};
 ghost use Rattle.shape_cli.specs.Runs.{Lacks, Ran};
 ghost use Rattle.shape_cli.specs.Complete.{FileIs, FindsPicture, FindsSome, FindsFault, FindsRest, HasNoFault, IsAnswer, HasRun};
-ghost use Rattle.shape_cli.specs.Landed.{SaysOutcome, ComesOut};
 ghost use Rattle.shape_cli.specs.declared.outcome.Outcome.{Outcome};
 
 /// Words spell one command at most with numbers in range, and it is the one of which `run` speaks.
@@ -55,14 +54,4 @@ pub fn verdicts_are_right()
         → FileIs old.files report (λ bytes. Holds (subject_of X shelf) bytes → ⊥)
         → HasNoFault old new
         → ((k : ℕ) × (o ≡ Outcome.No k)) ⊎ (o ≡ Outcome.NoMemory) }
-{}
-
-/// What `run` says of each outcome by itself.
-pub fn outcomes_speak()
-    ensures says { (shelf : List (Named Rule)) (words : List (List ℕ))
-        (old new : DeskState) (o : Outcome)
-        → HasRun shelf words old new o → SaysOutcome shelf words old new o }
-    ensures comes { (shelf : List (Named Rule)) (words : List (List ℕ))
-        (old new : DeskState) (o : Outcome)
-        → HasRun shelf words old new o → ComesOut shelf words old new o }
 {}

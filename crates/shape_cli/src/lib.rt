@@ -12,7 +12,7 @@ mod trial;
 mod verdict;
 mod words;
 
-pub use laws::{outcomes_speak, runs_are_complete, verdicts_are_right, words_are_of_one_command};
+pub use laws::{runs_are_complete, verdicts_are_right, words_are_of_one_command};
 pub use outcome::Outcome;
 pub use rules::shelf;
 pub use top::run;
