@@ -2,6 +2,7 @@
 -- Laws over pictures, stages and keys alone.
 use Rattle.std.proofs.Common.{◌≡◌, ℕ, ◌↔◌, Bool, true, false, List, refl, sym, ◌∙◌, ap, subst, not}
 use mathlib.Core.Bool.{beq}
+use Rattle.std.specs.Prelude.{MatchOption, Some}
 use Rattle.std.specs.Ordering.{is_gt}
 use Rattle.shape_terms.specs.Points.{Point, raster_point}
 use Rattle.shape_terms.specs.Pictures.{Picture}
@@ -13,6 +14,15 @@ use Rattle.shape_queue.specs.Keys.{key_cmp}
 use Rattle.shape_queue.specs.Events.{event_by}
 use Rattle.shape_queue.specs.Going.{stage_of, IsGoing}
 use Rattle.shape_queue.proofs.GoingSteps.{going_end, one_event}
+use Rattle.thin_steps.specs.declared.thinner.Thinner.{Thinner}
+use Rattle.thin_steps.specs.Standing as Steps
+use Rattle.judge_thin.specs.declared.judge.ThinJudge.{ThinJudge}
+use Rattle.judge_thin.specs.Standing.{StandsFor}
+
+-- what the thinning of a judge stands for
+pub held : {P : Type 0} {pairs : _} {point : _} {eq : _} {order : _} {partial : _} (rule : Rule) (X : Picture) (events : List Event) (state : List ℕ)
+    (j : ThinJudge P pairs point eq order partial) (t : Thinner P pairs point eq order partial) → Some t ≡ j.thinner → StandsFor rule X events state j → Steps.StandsFor rule X events state t
+held rule X events state j t e h = subst (λ o. MatchOption o ⊥ (Steps.StandsFor rule X events state)) (sym e) h
 
 same_event : (m t : Bool) (q p : Point) → event_by m q ≡ event_by t p → (m ≡ t) × (q ≡ p)
 same_event true true q p e = (refl, let f : Event.Tip q ≡ Event.Tip p = e in cc)
@@ -40,9 +50,6 @@ module _ (rule : Rule) (X : Picture) (events : List Event) (state : List ℕ) (l
     facts : Facts
     facts = record { neighbours = n; distance = k.distance }
 
-    pub in_opening : q ≡ raster_point X.sides k.place
-    in_opening = e ∙ ap (λ z. raster_point z k.place) c.stands.sides
-
     -- the next event is that of the least key, marked or not as the rule says
     pub next_is : (m : Bool) → rule.marks state (record { neighbours = n; distance = k.distance }) ≡ m → (t : Bool) (p : Point)
         → IsNextEvent rule X events (event_by t p) ↔ ((m ≡ t) × (q ≡ p))
@@ -50,13 +57,13 @@ module _ (rule : Rule) (X : Picture) (events : List Event) (state : List ℕ) (l
       where
         to : IsNextEvent rule X events (event_by t p) → (m ≡ t) × (q ≡ p)
         to (s, s', r, d) =
-            let here = one_event rule X events state left free ds keys c k there q in_opening (without free q) refl least n near m h in
+            let here = one_event rule X events state left free ds keys c k there q e least n near m h in
             let there = subst (λ u. ThinStep rule X u (event_by t p) s') (same_stage s r) d in
             same_event m t q p (one_step rule X (stage_of left c.marked state) _ s' (event_by m q) (event_by t p) here there).0
 
         of : (m ≡ t) × (q ≡ p) → IsNextEvent rule X events (event_by t p)
         of w =
-            let here = one_event rule X events state left free ds keys c k there q in_opening (without free q) refl least n near m h in
+            let here = one_event rule X events state left free ds keys c k there q e least n near m h in
             let next : IsNextEvent rule X events (event_by m q) = (stage_of left c.marked state, _, c.thins, here) in
             subst (λ b. IsNextEvent rule X events (event_by b p)) w.0 (subst (λ r. IsNextEvent rule X events (event_by m r)) w.1 next)
 
@@ -64,7 +71,7 @@ module _ (rule : Rule) (X : Picture) (events : List Event) (state : List ℕ) (l
     pub not_all : AreAllEvents rule X events → ⊥
     not_all (s, t, none) =
         let m = rule.marks state (record { neighbours = n; distance = k.distance }) in
-        let d = one_event rule X events state left free ds keys c k there q in_opening (without free q) refl least n near m refl in
+        let d = one_event rule X events state left free ds keys c k there q e least n near m refl in
         none d.0 (subst (λ u. IsCandidate u d.0) (sym (same_stage s t)) d.2.candidate)
 
 -- ---- truth values

@@ -1,47 +1,31 @@
 //! The judge: it follows the thinning of a picture, one event after the other.
-//! What is simple, what an end is and how points wait belongs elsewhere.
-ghost use Rattle.std.specs.Prelude.{◌≡◌, ◌<◌, ◌↔◌, [], ◌∷◌, ◌++◌, ℕ, List, length, IsTrue, IfOk, pos, negsuc};
+//! Which point is next belongs to `thin_steps`; what an end is belongs to the rule.
+ghost use Rattle.std.specs.Prelude.{◌≡◌, ◌<◌, ◌↔◌, [], ◌∷◌, ◌++◌, ℕ, List, length, IsTrue, IfOk};
 ghost use Rattle.std.specs.Bool.{OnTrue};
-ghost use Rattle.shape_terms.specs.Points.{in_box, box_count, raster_point};
-ghost use Rattle.shape_terms.specs.FramedBox.{IsWithin};
 ghost use Rattle.shape_terms.specs.Pictures.{Picture, object_points};
 ghost use Rattle.thin_terms.specs.Thinning.{Rule, Event, Stage, ThinsTo};
 ghost use Rattle.thin_terms.specs.Following.{IsNextEvent, AreAllEvents};
-ghost use Rattle.shape_queue.specs.Keys.{has};
 ghost use Rattle.shape_queue.specs.Distances.{AreDistances};
 ghost use Rattle.shape_queue.specs.Events.{event_by};
-ghost use Rattle.judge_thin.specs.Fitting.{AreFitting};
 
-use crate::look::{look_at_all, look_round};
+use crate::uncounted::{begun, settled};
 use shape_grid::Grid;
-use shape_queue::{Key, take_least};
-use shape_rules::{EndRule, Facts};
+use shape_rules::EndRule;
 use shape_space::NoMemory;
-use shape_topo::{MaskedGrid, SimpleMask};
+use shape_topo::SimpleMask;
 use std::alloc::Global;
-use std::collections::BTreeSet;
+use std::marker::Brand;
+use std::sync::ledger::Blank;
+use thin_steps::Thinner;
 
 /// A judge of the events of one picture's thinning, as they come.
 ///
-/// It keeps the points left and those without a mark, and no event. After `event` has answered
+/// It keeps the thinning after the events taken, and no event. After `event` has answered
 /// false it says nothing more, and is only dropped.
 #[derive(Drop)]
 pub struct ThinJudge<P: SimpleMask> {
-    left: MaskedGrid<P>,
-    free: Grid<P>,
-    distances: Vec<u64>,
-    keys: BTreeSet<Key, Global>,
-    ghost fits: { AreFitting left free distances.items (has keys) },
-}
-
-// The point with a raster number.
-fn point_at<P: SimpleMask>(left: &MaskedGrid<P>, place: u32) -> P
-    requires { place < box_count left.now.sides }
-    ensures is { P.coords result ≡ raster_point left.now.sides place }
-    ensures inside { IsTrue (in_box left.now.sides (P.coords result)) }
-    ensures within { IsWithin (negsuc 0) (pos 4096) (P.coords result) }
-{
-    left.sides().unraster(place)
+    // None after an event that is not the next.
+    thinner: Option<Thinner<P>>,
 }
 
 impl<P: SimpleMask> ThinJudge<P> {
@@ -54,14 +38,9 @@ impl<P: SimpleMask> ThinJudge<P> {
         ensures stands { IfOk result (λ j. (by : Rule) → StandsFor by grid.now [] by.opening j) }
         ensures room { IfOk result (λ j. room_of j ≡ length (object_points grid.now)) }
     {
-        let left = MaskedGrid::new(alloc, grid.copy(alloc)?)?;
-        let free = grid.copy(alloc)?;
-        let keys = look_at_all(alloc, &left, distances.as_slice())?;
+        let thinner = begun::<P, Brand>(alloc, grid, distances, Blank::new(1))?;
         Ok(ThinJudge {
-            left,
-            free,
-            distances,
-            keys,
+            thinner: Some(thinner),
         })
     }
 
@@ -81,27 +60,21 @@ impl<P: SimpleMask> ThinJudge<P> {
         ensures room { IfOk result (λ b. OnTrue b (room_of self.new < room_of self.old)) }
         ensures same_rule { means rule.new ≡ means rule.old }
     {
-        let Some(key) = take_least(&mut self.keys) else {
+        let Some(thinner) = self.thinner.take() else {
             return Ok(false);
         };
-        let q = point_at(&self.left, key.place);
-        if p != q {
+        let Some(next) = thinner.next() else {
+            return Ok(false);
+        };
+        if p != next.point {
             return Ok(false);
         }
-        let facts = Facts {
-            neighbours: self.left.near_count(q),
-            distance: key.distance,
-        };
-        let marked = rule.keep(&facts);
+        let marked = rule.keep(&next.facts);
         if marked != tips {
             return Ok(false);
         }
-        self.free.clear(q);
-        if !tips {
-            self.left.clear(q);
-            let distances = self.distances.as_slice();
-            look_round(&self.left, &self.free, distances, &mut self.keys, q)?;
-        }
+        let thinner = settled::<P, Brand>(thinner, &next, tips, Blank::new(1))?;
+        self.thinner = Some(thinner);
         Ok(true)
     }
 
@@ -110,9 +83,9 @@ impl<P: SimpleMask> ThinJudge<P> {
         ensures { (by : Rule) (X : Picture) (events : List Event) (now : List ℕ)
             → StandsFor by X events now self.now → (IsTrue result ↔ AreAllEvents by X events) }
     {
-        match self.keys.first() {
-            Some(_) => false,
-            None => true,
+        match &self.thinner {
+            Some(thinner) => thinner.next().is_none(),
+            None => false,
         }
     }
 
@@ -122,6 +95,9 @@ impl<P: SimpleMask> ThinJudge<P> {
             → StandsFor by X events now self.now
             → (s : Stage) → ThinsTo by X events s → result ≡ length (object_points s.left) }
     {
-        self.left.grid().count()
+        match &self.thinner {
+            Some(thinner) => thinner.left().count(),
+            None => 0,
+        }
     }
 }

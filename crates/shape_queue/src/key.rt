@@ -1,6 +1,6 @@
 //! Keys of points, ordered by squared distance and then by raster number, and the set of those that wait.
 //! Which points wait is a matter of `specs/Waiting`; another kind of set changes nothing outside this file and `specs/Keys`.
-ghost use Rattle.std.specs.Prelude.{◌≡◌, OnOk, OnErr, MatchOption, IfSome, IfNone, false, true};
+ghost use Rattle.std.specs.Prelude.{◌≡◌, OnOk, OnErr, MatchOption, IfSome, false, true};
 ghost use Rattle.shape_queue.specs.Keys.{has, IsLeastKey};
 ghost use Rattle.shape_queue.specs.Waiting.{Put};
 
@@ -30,12 +30,14 @@ pub fn settle(keys: &mut BTreeSet<Key, Global>, key: Key, waits: bool) -> Result
     Ok(())
 }
 
-/// Takes the least key out of the queue.
-pub fn take_least(keys: &mut BTreeSet<Key, Global>) -> Option<Key>
-    ensures taken { MatchOption result ((k : Key) → has keys.old k ≡ false)
-        (λ key. (has keys.old key ≡ true) × Put (has keys.old) (has keys.new) key false) }
-    ensures kept { IfNone result ((k : Key) → has keys.new k ≡ has keys.old k) }
-    ensures least { IfSome result (λ key. IsLeastKey (has keys.old) key) }
+/// The least key of the queue.
+pub fn least(keys: &BTreeSet<Key, Global>) -> Option<Key>
+    ensures there { MatchOption result ((k : Key) → has keys.now k ≡ false)
+        (λ key. has keys.now key ≡ true) }
+    ensures least { IfSome result (λ key. IsLeastKey (has keys.now) key) }
 {
-    keys.pop_first()
+    match keys.first() {
+        Some(key) => Some(*key),
+        None => None,
+    }
 }

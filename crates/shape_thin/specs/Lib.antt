@@ -1,4 +1,3 @@
 pub mod Runs
 pub mod Laws
 pub mod EventLists
-pub mod Courses

@@ -1,5 +1,5 @@
 //! Ordered thinning: the nearest simple point to the background is deleted or marked, again and again.
-//! What is simple, what an end is and how points wait belongs elsewhere.
+//! Which point is next, and what waits after it, belongs to `thin_steps`; what an end is belongs to the rule.
 ghost use Rattle.std.specs.Prelude.{◌≡◌, ◌+◌, ◌*◌, ◌≤◌, length, IfOk};
 ghost use Rattle.shape_terms.specs.Pictures.{object_points};
 ghost use Rattle.shape_terms.specs.Distances.{IsField};
@@ -7,16 +7,15 @@ ghost use Rattle.shape_thin.specs.Runs.{IsRunOf};
 ghost use Rattle.shape_thin.specs.Laws.{KeepsParts};
 
 use crate::distances::distances_of;
-use crate::look::{look_at_all, look_round};
 use crate::thinning::{Done, Thinning, put_event};
 use shape_dist::Field;
 use shape_grid::Grid;
-use shape_queue::take_least;
-use shape_rules::{EndRule, Facts, ask, begin};
+use shape_rules::{EndRule, ask, begin};
 use shape_space::{NoMemory, Steps};
-use shape_topo::{MaskedGrid, SimpleMask};
+use shape_topo::SimpleMask;
 use std::alloc::Global;
 use std::sync::ledger::Ledger;
+use thin_steps::Thinner;
 
 /// The thinning of a picture by a rule, which begins anew.
 ///
@@ -36,27 +35,15 @@ pub fn thin<P: SimpleMask, L: Ledger>(
         + length (object_points grid.now) + P.NEAR_COUNT * length t.events) }
     ensures same_rule { means rule.new ≡ means rule.old }
 {
-    let sides = grid.sides();
     begin(rule);
     let distances = distances_of(alloc, grid, field)?;
-    let mut left = MaskedGrid::new(alloc, grid.copy(alloc)?)?;
-    let mut free = grid.copy(alloc)?;
-    let mut keys = look_at_all(alloc, &left, distances.as_slice(), steps)?;
+    let mut thinner = Thinner::begin(alloc, grid, distances, steps)?;
     let mut events = Vec::new(alloc);
-    while let Some(key) = take_least(&mut keys) {
-        let place = key.place;
-        let p = sides.unraster(place);
-        let facts = Facts {
-            neighbours: left.near_count(p),
-            distance: key.distance,
-        };
-        let tips = ask(rule, &facts);
+    while let Some(next) = thinner.next() {
+        let tips = ask(rule, &next.facts);
+        let place = next.place;
         put_event(&mut events, Done { place, tips })?;
-        free.clear(p);
-        if !tips {
-            left.clear(p);
-            look_round(&left, &free, distances.as_slice(), &mut keys, p, steps)?;
-        }
+        thinner = thinner.settle(&next, tips, steps)?;
     }
-    Ok(Thinning::of(left.into_grid(), events))
+    Ok(Thinning::of(thinner.into_left(), events))
 }

@@ -1,31 +1,24 @@
-use Rattle.std.proofs.Common.{◌≡◌, ◌<◌, true, false, List, [], ◌∷◌, length, refl, arith}
-use Rattle.std.specs.BTreeSet.{BTreeSet}
-use Rattle.shape_queue.specs.declared.key.Key.{Key}
+use Rattle.std.proofs.Common.{◌≡◌, true, false, Bool, refl, sym, ◌∙◌, not}
+use Rattle.std.specs.Prelude.{◌↔◌, MatchOption, is_some, IsTrue}
+use Rattle.std.specs.declared.option.Option.{Option}
+use Rattle.std.specs.declared.option.Option.TheVariants.{None, Some}
 use Rattle.shape_queue.specs.Keys.{has}
-use Rattle.judge_thin.proofs.Followed.{all_of_none, not_all}
+use Rattle.thin_steps.specs.Standing.{key_of}
+use Rattle.judge_thin.proofs.Followed.{held, all_of_none, not_all}
 use Rattle.judge_thin.proofs.judge.ThinJudge.finished.Goals as goal
 
+-- whether there is none, of what tells either
+none_tells : {A : Type 0} (o : Option A) (b : Bool) (E All : Type 0) (N : A → Type 0) → MatchOption o E N → is_some o ≡ not b
+    → (E → All) → ((a : A) → N a → All → ⊥) → IsTrue b ↔ All
+none_tells None true E All N m s all none = ((λ t. all m), λ a. refl)
+none_tells None false E All N m s all none = absurd (let f : false ≡ true = s in cc)
+none_tells (Some a) true E All N m s all none = absurd (let f : true ≡ false = s in cc)
+none_tells (Some a) false E All N m s all none = ((λ t. cc), λ x. absurd (none a m x))
+
 pub returns-in-Some : goal.returns-in-Some
-returns-in-Some g c = λ by X events now h. (
-  (λ t. cc),
-  λ a. absurd (
-      let j = c.args.self.now in
-      let there = c.in-Some.ensures.member in
-      not_all by X events now j.left j.free _ (has j.keys) h c.in-Some.field-0.now there _ refl c.in-Some.ensures.least _ refl a),
-)
-
--- no key is in a queue without keys
-empty : (keys : BTreeSet Key) → (0 < length keys.keys → ⊥) → (k : Key) → has keys k ≡ false
-empty keys h k = of_list keys.keys h
-  where
-    of_list : (ks : List Key) → (0 < length ks → ⊥) → has (record { keys = ks }) k ≡ false
-    of_list [] h = refl
-    of_list (x ∷ ks) h = absurd (h (omega arith))
-
-pub returns-in-None : goal.returns-in-None
-returns-in-None g c = λ by X events now h. (
-  (λ t.
-      let j = c.args.self.now in
-      all_of_none by X events now j.left j.free _ (has j.keys) h (empty j.keys (λ l. let f : false ≡ true = c.in-None.ensures.variant.1 l in cc))),
-  λ a. refl,
-)
+returns-in-Some g c = λ by X events now h.
+    let t = c.in-Some.thinner in
+    let stood = held by X events now c.args.self.now t (sym c.in-Some.is) h in
+    none_tells c.next.result c.is_none.result _ _ _ c.next.ensures c.is_none.ensures
+    (all_of_none by X events now t.left t.free t.distances.items (has t.keys) stood)
+    (λ n is. not_all by X events now t.left t.free t.distances.items (has t.keys) stood (key_of n) is.there (g.P.Point.coords n.point) is.place is.least _ is.near)

@@ -2,7 +2,7 @@ use Rattle.std.proofs.Common.{◌≤◌, ◌+◌, length}
 use Rattle.shape_terms.specs.Pictures.{object_points, objects_from}
 use Rattle.shape_queue.specs.Keys.{has}
 use Rattle.shape_queue.specs.Waiting.{Waits}
-use Rattle.shape_thin.proofs.look.look_at_all.Given as goal
+use Rattle.thin_steps.proofs.look.look_at_all.Given as goal
 
 abbrev pub invariant-loop-i : goal.invariant-loop-i
 invariant-loop-i g l = record {

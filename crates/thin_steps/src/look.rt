@@ -1,8 +1,8 @@
 //! Looks at points, whether they wait in the queue: at all of them in the beginning, at the near ones after a deletion.
 //! Each look is one step of the counter.
-ghost use Rattle.std.specs.Prelude.{◌≡◌, ◌+◌, ◌≤◌, length, IsTrue, OnOk, IfOk, pos, negsuc};
+ghost use Rattle.std.specs.Prelude.{◌≡◌, ◌+◌, ◌≤◌, ◌^◌, length, IsTrue, OnOk, IfOk, pos, negsuc};
 ghost use Rattle.shape_terms.specs.Points.{box_count};
-ghost use Rattle.shape_terms.specs.Pictures.{at, object_points};
+ghost use Rattle.shape_terms.specs.Pictures.{IsPicture, at, object_points};
 ghost use Rattle.shape_terms.specs.FramedBox.{IsWithin};
 ghost use Rattle.shape_queue.specs.Keys.{has};
 ghost use Rattle.shape_queue.specs.Standing.{IsSubset};
@@ -45,6 +45,8 @@ pub(crate) fn look_at_all<P: SimpleMask, L: Ledger>(
 ) -> Result<BTreeSet<Key, Global>, NoMemory>
     requires { length distances.now ≡ box_count left.now.sides }
     ensures waits { IfOk result (λ keys. IsQueue left.now left.now distances.now (has keys)) }
+    ensures picture { IsPicture P.DIM left.now }
+    ensures small { box_count left.now.sides ≤ 2 ^ 23 }
     ensures few { steps.new ≤ steps.old + length (object_points left.now) }
 {
     let sides = left.sides();
@@ -71,8 +73,8 @@ pub(crate) fn look_round<P: SimpleMask, L: Ledger>(
     requires sides { free.now.sides ≡ left.now.sides }
     requires some { IsSubset free.now left.now }
     requires filled { length distances.now ≡ box_count left.now.sides }
-    requires near { IsQueueBut (P.coords p) left.now free.now distances.now (has keys.old) }
-    ensures waits { OnOk result (IsQueue left.now free.now distances.now (has keys.new)) }
+    ensures waits { IsQueueBut (P.coords p) left.now free.now distances.now (has keys.old)
+        → OnOk result (IsQueue left.now free.now distances.now (has keys.new)) }
     ensures few { steps.new ≤ steps.old + P.NEAR_COUNT }
 {
     for k in 0..P::NEAR_COUNT {

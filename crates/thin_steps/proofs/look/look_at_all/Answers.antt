@@ -3,8 +3,8 @@ use Rattle.shape_terms.specs.Points.{box_count, raster_point}
 use Rattle.shape_terms.specs.Pictures.{at}
 use Rattle.shape_terms.specs.Parts.{Object}
 use Rattle.shape_queue.proofs.LookSteps.{all_more_at, all_pass, one_more_object, no_more_object}
-use Rattle.shape_thin.proofs.look.look_at_all.Goals as goal
-use Rattle.shape_thin.proofs.look.look_at_all.Goals.{then-has+in_ok-look_at, else-has}
+use Rattle.thin_steps.proofs.look.look_at_all.Goals as goal
+use Rattle.thin_steps.proofs.look.look_at_all.Goals.{then-has+in_ok-look_at, else-has}
 
 pub loop-i-preserved : goal.loop-i-preserved
 loop-i-preserved g c =

@@ -1,0 +1,90 @@
+-- What the parts of a thinning tell of a key, and that they still fit together after an event.
+-- Laws over pictures and keys alone.
+use Rattle.std.proofs.Common.{◌≡◌, ℕ, ◌+◌, ◌<◌, Bool, true, false, List, length, sym, ◌∙◌, ap, subst}
+use Rattle.std.proofs.Math.Logic.{∥∥₁_elim}
+use Rattle.std.proofs.Props.{props}
+use Rattle.std.proofs.lemmas.Grind.{merely}
+use Rattle.std.specs.Prelude.{IsTrue}
+use Rattle.shape_terms.specs.Points.{Point, in_box, box_count, raster_point}
+use Rattle.shape_terms.specs.Pictures.{Picture, object_points}
+use Rattle.shape_terms.specs.Parts.{Object}
+use Rattle.shape_terms.proofs.ObjectPlaces.{object_in_box}
+use Rattle.thin_terms.specs.Thinning.{without}
+use Rattle.shape_queue.specs.declared.key.Key.{Key}
+use Rattle.shape_queue.specs.Waiting.{Waits, IsQueue, IsQueueBut, Put}
+use Rattle.shape_queue.specs.Standing.{IsSubset}
+use Rattle.shape_queue.specs.Going.{IsGoing}
+use Rattle.shape_queue.proofs.GoingSteps.{key_place, at_object, at_free, one_free_less, stands_marked, waits_marked, stands_deleted, near_first}
+use Rattle.thin_steps.specs.Fitting.{AreFitting}
+
+-- the parts of a thinning that goes on
+pub going_fits : {rule : _} {X : Picture} {events : _} {state : List ℕ} {left free : Picture} {ds : List ℕ} {keys : Key → Bool}
+    → length ds ≡ box_count left.sides → IsGoing rule X events state left free ds keys → ∥ AreFitting left free ds keys ∥₁
+going_fits {X} {state} l c = merely (record { opening = X; marked = c.marked; state = state; filled = l; stands = c.stands; waits = c.waits })
+
+module _ {left free : Picture} {ds : List ℕ} {keys : Key → Bool} (fits : ∥ AreFitting left free ds keys ∥₁) where
+  pub fits_filled : length ds ≡ box_count left.sides
+  fits_filled = ∥∥₁_elim fits (Prim.hlevel props) (λ a. a.filled)
+
+  pub fits_sides : free.sides ≡ left.sides
+  fits_sides = ∥∥₁_elim fits (Prim.hlevel props) (λ a. a.stands.free_sides)
+
+  pub fits_some : IsSubset free left
+  fits_some q o = ∥∥₁_elim fits (Prim.hlevel props) (λ a. ((a.stands.free_is q).0 o).0)
+
+  module _ (k : Key) (there : keys k ≡ true) where
+    pub fits_place : k.place < box_count left.sides
+    fits_place = ∥∥₁_elim fits (Prim.hlevel props) (λ a. key_place a.opening a.marked a.state left free ds keys a.stands a.waits k there)
+
+    module _ (q : Point) (e : q ≡ raster_point left.sides k.place) where
+      pub fits_left : Object left q
+      fits_left = ∥∥₁_elim fits (Prim.hlevel props) (λ a. at_object a.opening a.marked a.state left free ds keys a.stands a.waits k there q e)
+
+      fits_free : Object free q
+      fits_free = ∥∥₁_elim fits (Prim.hlevel props) (λ a. at_free a.opening a.marked a.state left free ds keys a.stands a.waits k there q e)
+
+      pub in_left : IsTrue (in_box left.sides q)
+      in_left = object_in_box left q fits_left
+
+      pub in_free : IsTrue (in_box free.sides q)
+      in_free = object_in_box free q fits_free
+
+      module _ (free' : Picture) (f : free' ≡ without free q) where
+        pub one_less : length (object_points free') + 1 ≡ length (object_points free)
+        one_less = ∥∥₁_elim fits (Prim.hlevel props) (λ a. one_free_less a.opening a.marked a.state left free ds keys a.stands a.waits k there q e free' f)
+
+        module _ (new : Key → Bool) (put : Put keys new k false) where
+          pub fits_marked : ∥ AreFitting left free' ds new ∥₁
+          fits_marked = ∥∥₁_elim fits (Prim.hlevel props) (λ a. merely (record {
+            opening = a.opening;
+            marked = _;
+            state = a.state;
+            filled = a.filled;
+            stands = stands_marked a.opening a.marked a.state left free ds keys a.stands a.waits k there q e free' f new put a.state;
+            waits = waits_marked a.opening a.marked a.state left free ds keys a.stands a.waits k there q e free' f new put a.state;
+          }))
+
+          module _ (left' : Picture) (h : left' ≡ without left q) where
+            -- the parts after a deletion, before the near points are looked at
+            pub deleted_filled : length ds ≡ box_count left'.sides
+            deleted_filled = fits_filled ∙ sym (ap (λ (Y : Picture). box_count Y.sides) h)
+
+            pub deleted_sides : free'.sides ≡ left'.sides
+            deleted_sides = ap (λ (Y : Picture). Y.sides) f ∙ fits_sides ∙ sym (ap (λ (Y : Picture). Y.sides) h)
+
+            pub deleted_some : IsSubset free' left'
+            deleted_some r o = ∥∥₁_elim fits (Prim.hlevel props)
+                (λ a. (((stands_deleted a.opening a.marked a.state left free ds keys a.stands a.waits k there q e free' f new put a.state left' h).free_is r).0 o).0)
+
+            pub fits_deleted : (last : Key → Bool) → (IsQueueBut q left' free' ds new → IsQueue left' free' ds last) → ∥ AreFitting left' free' ds last ∥₁
+            fits_deleted last looked = ∥∥₁_elim fits (Prim.hlevel props) (λ a.
+                let st = stands_deleted a.opening a.marked a.state left free ds keys a.stands a.waits k there q e free' f new put a.state left' h in
+                merely (record {
+                  opening = a.opening;
+                  marked = a.marked;
+                  state = a.state;
+                  filled = deleted_filled;
+                  stands = st;
+                  waits = subst (λ n. Waits n left' free' ds (λ i. ⊥) last) st.sides
+                      (looked (near_first a.opening a.marked a.state left free ds keys a.stands a.waits k there q e free' f new put a.state left' h));
+                }))

@@ -1,0 +1,168 @@
+//! A thinning between two events: the points left, those without a mark, and the queue of those that may be taken.
+//! What is simple and how points are looked at belongs elsewhere.
+ghost use Rattle.std.specs.Prelude.{◌≡◌, ◌+◌, ◌≤◌, ◌^◌, true, false, [], length, MatchOption, IfOk};
+ghost use Rattle.shape_terms.specs.Points.{box_count};
+ghost use Rattle.shape_terms.specs.Pictures.{IsPicture, object_points};
+ghost use Rattle.thin_terms.specs.Thinning.{Rule};
+ghost use Rattle.shape_queue.specs.Keys.{has};
+ghost use Rattle.shape_queue.specs.Distances.{AreDistances};
+ghost use Rattle.thin_steps.specs.Fitting.{AreFitting};
+
+use crate::look::{look_at_all, look_round};
+use crate::next::Next;
+use shape_grid::Grid;
+use shape_queue::{Key, least, settle};
+use shape_rules::Facts;
+use shape_space::{NoMemory, Steps};
+use shape_topo::{MaskedGrid, SimpleMask};
+use std::alloc::Global;
+use std::collections::BTreeSet;
+use std::sync::ledger::Ledger;
+
+/// A thinning between two events.
+#[derive(Drop)]
+pub struct Thinner<P: SimpleMask> {
+    left: MaskedGrid<P>,
+    free: Grid<P>,
+    distances: Vec<u64>,
+    keys: BTreeSet<Key, Global>,
+    ghost fits: { ∥ AreFitting left free distances.items (has keys) ∥₁ },
+}
+
+impl<P: SimpleMask> Thinner<P> {
+    ghost use Rattle.thin_steps.specs.Standing.{StandsFor, room_of, IsAtEnd, IsNextOf, GoesOn};
+
+    /// A thinning before its first event, by whatever rule. Each object point is tested once: a step each.
+    pub fn begin<L: Ledger>(
+        alloc: Global,
+        grid: &Grid<P>,
+        distances: Vec<u64>,
+        steps: &mut Steps<L>,
+    ) -> Result<Thinner<P>, NoMemory>
+        requires { AreDistances grid.now distances.items }
+        ensures stands { IfOk result (λ t. (by : Rule) → StandsFor by grid.now [] by.opening t) }
+        ensures picture { IfOk result (λ t. IsPicture P.DIM grid.now) }
+        ensures small { IfOk result (λ t. box_count grid.now.sides ≤ 2 ^ 23) }
+        ensures room { IfOk result (λ t. room_of t ≡ length (object_points grid.now)) }
+        ensures few { steps.new ≤ steps.old + length (object_points grid.now) }
+    {
+        let left = MaskedGrid::new(alloc, grid.copy(alloc)?)?;
+        let free = grid.copy(alloc)?;
+        let keys = look_at_all(alloc, &left, distances.as_slice(), steps)?;
+        Ok(Thinner {
+            left,
+            free,
+            distances,
+            keys,
+        })
+    }
+
+    /// The next point, unless the thinning is at its end.
+    pub fn next(&self) -> Option<Next<P>>
+        ensures { MatchOption result (IsAtEnd self.now)
+            (λ n. IsNextOf self.now n (P.coords n.point)) }
+    {
+        let key = least(&self.keys)?;
+        let point = self.left.sides().unraster(key.place);
+        let facts = Facts {
+            neighbours: self.left.near_count(point),
+            distance: key.distance,
+        };
+        Some(Next {
+            point,
+            place: key.place,
+            facts,
+        })
+    }
+
+    // Marks the next point.
+    fn mark(self, next: &Next<P>) -> Result<Thinner<P>, NoMemory>
+        requires { IsNextOf self next.now (P.coords next.now.point) }
+        ensures stands { IfOk result (GoesOn self next.now (P.coords next.now.point) true) }
+        ensures room { IfOk result (λ t. room_of t + 1 ≡ room_of self) }
+    {
+        let Thinner {
+            left,
+            mut free,
+            distances,
+            mut keys,
+        } = self;
+        let distance = next.facts.distance;
+        let place = next.place;
+        settle(&mut keys, Key { distance, place }, false)?;
+        free.clear(next.point);
+        Ok(Thinner {
+            left,
+            free,
+            distances,
+            keys,
+        })
+    }
+
+    // Deletes the next point, and looks at its free near neighbours.
+    fn delete<L: Ledger>(self, next: &Next<P>, steps: &mut Steps<L>) -> Result<Thinner<P>, NoMemory>
+        requires { IsNextOf self next.now (P.coords next.now.point) }
+        ensures stands { IfOk result (GoesOn self next.now (P.coords next.now.point) false) }
+        ensures room { IfOk result (λ t. room_of t + 1 ≡ room_of self) }
+        ensures few { steps.new ≤ steps.old + P.NEAR_COUNT }
+    {
+        let Thinner {
+            mut left,
+            mut free,
+            distances,
+            mut keys,
+        } = self;
+        let distance = next.facts.distance;
+        let place = next.place;
+        settle(&mut keys, Key { distance, place }, false)?;
+        free.clear(next.point);
+        left.clear(next.point);
+        look_round(
+            &left,
+            &free,
+            distances.as_slice(),
+            &mut keys,
+            next.point,
+            steps,
+        )?;
+        Ok(Thinner {
+            left,
+            free,
+            distances,
+            keys,
+        })
+    }
+
+    /// Goes on after the next point was marked, or is deleted. After a deletion each near neighbour is tested: a step each.
+    pub fn settle<L: Ledger>(
+        self,
+        next: &Next<P>,
+        tips: bool,
+        steps: &mut Steps<L>,
+    ) -> Result<Thinner<P>, NoMemory>
+        requires { IsNextOf self next.now (P.coords next.now.point) }
+        ensures stands { IfOk result (GoesOn self next.now (P.coords next.now.point) tips) }
+        ensures room { IfOk result (λ t. room_of t + 1 ≡ room_of self) }
+        ensures few { steps.new ≤ steps.old + P.NEAR_COUNT }
+    {
+        if tips {
+            self.mark(next)
+        } else {
+            self.delete(next, steps)
+        }
+    }
+
+    /// The points left.
+    pub fn left(&self) -> &Grid<P>
+        ensures { result.now ≡ self.now.left }
+    {
+        self.left.grid()
+    }
+
+    /// The points left, and nothing else.
+    pub fn into_left(self) -> Grid<P>
+        ensures { result ≡ self.left }
+    {
+        self.left.into_grid()
+    }
+}
