@@ -76,27 +76,16 @@ impl<P: SimpleMask> Thinner<P> {
     }
 
     // Marks the next point.
-    fn mark(self, next: &Next<P>) -> Result<Thinner<P>, NoMemory>
+    fn mark(mut self, next: &Next<P>) -> Result<Thinner<P>, NoMemory>
         requires { IsNextOf self next.now (P.coords next.now.point) }
         ensures stands { IfOk result (GoesOn self next.now (P.coords next.now.point) true) }
         ensures room { IfOk result (λ t. room_of t + 1 ≡ room_of self) }
     {
-        let Thinner {
-            left,
-            mut free,
-            distances,
-            mut keys,
-        } = self;
         let distance = next.facts.distance;
         let place = next.place;
-        settle(&mut keys, Key { distance, place }, false)?;
-        free.clear(next.point);
-        Ok(Thinner {
-            left,
-            free,
-            distances,
-            keys,
-        })
+        settle(&mut self.keys, Key { distance, place }, false)?;
+        self.free.clear(next.point);
+        Ok(self)
     }
 
     // Deletes the next point, and looks at its free near neighbours.

@@ -7,8 +7,8 @@ use Rattle.thin_steps.proofs.thinner.Thinner.mark.Goals as goal
 pub clear-requires : goal.clear-requires
 clear-requires g c = in_free c.args.self.fits (key_of c.args.next.now) c.requires.there _ c.requires.place
 
-pub invariant_of-result : goal.invariant_of-result
-invariant_of-result g c = record { fits = fits_marked c.args.self.fits (key_of c.args.next.now) c.requires.there _ c.requires.place _ c.clear.ensures _ c.in_ok-settle.ensures.put }
+pub invariant_of-self : goal.invariant_of-self
+invariant_of-self g c = record { fits = fits_marked c.args.self.fits (key_of c.args.next.now) c.requires.there _ c.requires.place _ c.clear.ensures _ c.in_ok-settle.ensures.put }
 
 pub returns-clause-stands : goal.returns-clause-stands
 returns-clause-stands g c = λ rule X events state h.
