@@ -5,7 +5,7 @@ use Rattle.std.specs.Prelude.{ℤ, pos, ◌+ℤ◌, ◌*ℤ◌, ◌≤ℤ◌, �
 use Rattle.std.proofs.lemmas.Int.{ints}
 use Rattle.shape_slope.specs.declared.row.Row.{Row}
 use Rattle.shape_slope.specs.declared.combination.Combination.{Combination}
-use Rattle.shape_slope.specs.Rows.{row_at, AreOpposite, IsSteep, IsSmall, Meets}
+use Rattle.shape_slope.specs.Rows.{row_at, IsGap, AreOpposite, IsSteep, IsSmall, Meets}
 use Rattle.shape_slope.specs.Combinations.{IsCombination}
 use Rattle.shape_slope.specs.Ranges.{LeaveRoom}
 use Rattle.shape_terms.proofs.Products.{rings}
@@ -35,19 +35,19 @@ room_of x1 y1 z1 x2 y2 z2 v w x z p q ev ew ex ez h = apart v w y1 y2 (x1 *ℤ p
     apart v w y1 y2 l m ev ew h = let a = ap (λ (t : ℤ). t *ℤ l) ev in let b = ap (λ (t : ℤ). t *ℤ m) ew in omega (arith, ints, rings, a, b, h)
 
 pub leave_room : (rows : List Row) (c : Combination) (i j : ℕ) (p q : ℤ) → c.first ≡ i → c.second ≡ j → IsCombination rows c → c.first_weight ≡ pos (unsigned_abs (row_at rows j).y) → c.second_weight ≡ pos (unsigned_abs (row_at rows i).y)
-    → Meets p q c.x c.z → LeaveRoom p q (row_at rows i) (row_at rows j)
+    → Meets p q c.bound.x c.bound.z → LeaveRoom p q (row_at rows i) (row_at rows j)
 leave_room rows c i j p q ei ej h v w m = room (row_at rows i) (row_at rows j) v w (x_of ei ej) (z_of ei ej)
   where
-    x_of : c.first ≡ i → c.second ≡ j → c.x ≡ c.first_weight *ℤ (row_at rows i).x +ℤ c.second_weight *ℤ (row_at rows j).x
+    x_of : c.first ≡ i → c.second ≡ j → c.bound.x ≡ c.first_weight *ℤ (row_at rows i).x +ℤ c.second_weight *ℤ (row_at rows j).x
     x_of ei ej = h.x ∙ (λ l. c.first_weight *ℤ (row_at rows (ei l)).x +ℤ c.second_weight *ℤ (row_at rows (ej l)).x)
 
-    z_of : c.first ≡ i → c.second ≡ j → c.z ≡ c.first_weight *ℤ (row_at rows i).z +ℤ c.second_weight *ℤ (row_at rows j).z
+    z_of : c.first ≡ i → c.second ≡ j → c.bound.z ≡ c.first_weight *ℤ (row_at rows i).z +ℤ c.second_weight *ℤ (row_at rows j).z
     z_of ei ej = h.z ∙ (λ l. c.first_weight *ℤ (row_at rows (ei l)).z +ℤ c.second_weight *ℤ (row_at rows (ej l)).z)
 
-    room : (r s : Row) → c.first_weight ≡ pos (unsigned_abs s.y) → c.second_weight ≡ pos (unsigned_abs r.y) → c.x ≡ c.first_weight *ℤ r.x +ℤ c.second_weight *ℤ s.x → c.z ≡ c.first_weight *ℤ r.z +ℤ c.second_weight *ℤ s.z → LeaveRoom p q r s
+    room : (r s : Row) → c.first_weight ≡ pos (unsigned_abs s.y) → c.second_weight ≡ pos (unsigned_abs r.y) → c.bound.x ≡ c.first_weight *ℤ r.x +ℤ c.second_weight *ℤ s.x → c.bound.z ≡ c.first_weight *ℤ r.z +ℤ c.second_weight *ℤ s.z → LeaveRoom p q r s
     room r s v w x z = (
-      λ a b. room_of r.x r.y r.z s.x s.y s.z c.first_weight c.second_weight c.x c.z p q (omega (arith, ints, v, b)) (omega (arith, ints, w, a)) x z m,
-      λ a b. room_of s.x s.y s.z r.x r.y r.z c.second_weight c.first_weight c.x c.z p q (omega (arith, ints, w, b)) (omega (arith, ints, v, a)) (omega (arith, ints, x)) (omega (arith, ints, z)) m,
+      λ a b. room_of r.x r.y r.z s.x s.y s.z c.first_weight c.second_weight c.bound.x c.bound.z p q (omega (arith, ints, v, b)) (omega (arith, ints, w, a)) x z m,
+      λ a b. room_of s.x s.y s.z r.x r.y r.z c.second_weight c.first_weight c.bound.x c.bound.z p q (omega (arith, ints, w, b)) (omega (arith, ints, v, a)) (omega (arith, ints, x)) (omega (arith, ints, z)) m,
     )
 
 -- rows that are not opposite leave room
@@ -55,10 +55,10 @@ pub not_opposite : (p q : ℤ) (r s : Row) → (AreOpposite r.y s.y → ⊥) →
 not_opposite p q r s h = (λ a b. absurd (h (inl (a, b))), λ a b. absurd (h (inr (b, a))))
 
 pub combined_of : (rows : List Row) (i j : ℕ) (v w x z : ℤ) (a b : Row) → i < length rows → j < length rows → a ≡ row_at rows i → b ≡ row_at rows j → IsSteep a → IsSteep b
-    → AreOpposite (row_at rows i).y (row_at rows j).y → 4 ≤ j → v ≡ pos (unsigned_abs b.y) → w ≡ pos (unsigned_abs a.y) → x ≡ v *ℤ a.x +ℤ w *ℤ b.x → z ≡ v *ℤ a.z +ℤ w *ℤ b.z
+    → AreOpposite (row_at rows i).y (row_at rows j).y → IsGap (row_at rows j).cause → v ≡ pos (unsigned_abs b.y) → w ≡ pos (unsigned_abs a.y) → x ≡ v *ℤ a.x +ℤ w *ℤ b.x → z ≡ v *ℤ a.z +ℤ w *ℤ b.z
     → ((m n : ℕ) → unsigned_abs v ≤ m → unsigned_abs a.x ≤ n → unsigned_abs w ≤ m → unsigned_abs b.x ≤ n → unsigned_abs x ≤ m * n + m * n)
     → ((m n : ℕ) → unsigned_abs v ≤ m → unsigned_abs a.z ≤ n → unsigned_abs w ≤ m → unsigned_abs b.z ≤ n → unsigned_abs z ≤ m * n + m * n)
-    → IsCombination rows (record { first = i; first_weight = v; second = j; second_weight = w; x = x; z = z })
+    → IsCombination rows (record { first = i; first_weight = v; second = j; second_weight = w; bound = record { x = x; z = z } })
 combined_of rows i j v w x z a b hi hj ea eb sa sb o k ev ew ex ez sx sz = record {
   first = hi;
   second = hj;
