@@ -40,7 +40,7 @@ times g v h k = let m = mul-nonneg g v h k in sized (g *ℤ v) m
 times_small : (g v : ℤ) → unsigned_abs g ≤ 73344 → unsigned_abs v ≤ 191 → unsigned_abs (g *ℤ v) < 2 ^ 40
 times_small g v h k = let m = mul-le (unsigned_abs g) (unsigned_abs v) 73344 191 h k in omega (arith, unsigned_abs-mul g v, m)
 
-times_none : (g v : ℤ) → v ≡ pos 0 → unsigned_abs (g *ℤ v) ≡ 0
+pub times_none : (g v : ℤ) → v ≡ pos 0 → unsigned_abs (g *ℤ v) ≡ 0
 times_none g v e = rw e (none g)
   where
     none : (g : ℤ) → unsigned_abs (g *ℤ pos 0) ≡ 0
@@ -52,10 +52,9 @@ times_some g (pos (suc v)) h l = omega (arith, ints)
 times_some g (negsuc v) h l = absurd (omega (arith, ints, h))
 
 -- where one row stands alone it alone brings a step, and else the first does
-pub few_steps : {A : Type 0} (m : Multiple) {n a b c : ℕ} → (m.combination.first_weight ≡ pos 0) ⊎ A → n ≡ unsigned_abs (m.times *ℤ m.combination.first_weight)
-    → b ≤ a + 1 → (n ≡ 0 → b ≡ a) → c ≤ b + 1 → (A → c ≡ b) → c ≤ a + 1
-few_steps m {n} {a} {b} {c} (inl e) v h f l g = let k = f (v ∙ times_none m.times m.combination.first_weight e) in omega (arith, k, l)
-few_steps m {n} {a} {b} {c} (inr x) v h f l g = let k = g x in omega (arith, k, h)
+pub few_steps : {Z A : Type 0} {a b c : ℕ} → Z ⊎ A → b ≤ a + 1 → (Z → b ≡ a) → c ≤ b + 1 → (A → c ≡ b) → c ≤ a + 1
+few_steps (inl z) h f l g = let k = f z in omega (arith, k, l)
+few_steps (inr x) h f l g = let k = g x in omega (arith, k, h)
 
 factor_zero : (w y : ℤ) → pos 1 ≤ℤ w → w *ℤ y ≡ pos 0 → y ≡ pos 0
 factor_zero w (pos zero) l e = refl

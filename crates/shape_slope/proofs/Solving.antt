@@ -1,7 +1,7 @@
 -- Slopes that meet all rows, back from the bounds of the first and of the second.
 -- How the bounds are found belongs elsewhere.
 use Rattle.std.proofs.Common.{◌≡◌, ℕ, zero, suc, ◌+◌, ◌<◌, ◌≤◌, ◌^◌, ◌⊎◌, inl, inr, List, length, refl, ap, arith}
-use Rattle.std.specs.Prelude.{ℤ, pos, neg_ℤ, negsuc, ◌+ℤ◌, ◌*ℤ◌, ◌≤ℤ◌, ◌<ℤ◌, unsigned_abs}
+use Rattle.std.specs.Prelude.{ℤ, pos, neg_ℤ, negsuc, ◌+ℤ◌, ◌-ℤ◌, ◌*ℤ◌, ◌≤ℤ◌, ◌<ℤ◌, unsigned_abs}
 use Rattle.std.proofs.lemmas.Int.{ints, unsigned_abs-mul}
 use Rattle.std.proofs.lemmas.Nat.{mul-le}
 use Rattle.shape_slope.specs.declared.row.Row.{Row}
@@ -135,13 +135,13 @@ some_pair rows r s h f = by_sides (falls r.lower h.lower) (falls r.upper h.upper
     by_sides (inl a) (inl b) = absurd (apart r.lower.bound.x r.lower.bound.z r.upper.bound.x r.upper.bound.z h.falls a h.rises b f)
 
 pub two_exclude : (rows : List Row) (r : Range) (w rest : ℤ) → IsSystem rows → IsRange rows r → (r.upper.bound.z *ℤ r.lower.bound.x) ≤ℤ (r.lower.bound.z *ℤ r.upper.bound.x) → w ≡ neg_ℤ r.lower.bound.x
-    → rest ≡ r.upper.bound.x *ℤ r.lower.bound.z +ℤ w *ℤ r.upper.bound.z → unsigned_abs rest ≤ 10758684672 → IsExcluded rows (record { first = record { combination = r.lower; times = r.upper.bound.x }; second = record { combination = r.upper; times = w }; rest = rest })
+    → rest ≡ r.lower.bound.z *ℤ r.upper.bound.x -ℤ r.upper.bound.z *ℤ r.lower.bound.x → unsigned_abs rest ≤ 10758684672 → IsExcluded rows (record { first = record { combination = r.lower; times = r.upper.bound.x }; second = record { combination = r.upper; times = w }; rest = rest })
 two_exclude rows r w rest s h f ew er small = record {
   first = record { combination = h.lower; low = (let g = h.rises in omega (arith, ints, g)); high = h.upper.x_small };
   second = record { combination = h.upper; low = (let g = h.falls in omega (arith, ints, ew, g)); high = (let g = h.lower.x_small in size r.lower.bound.x w ew g) };
   gone = gone r.upper.bound.x r.lower.bound.x w ew;
-  rest = er;
-  rest_low = over r.upper.bound.x r.lower.bound.z r.lower.bound.x r.upper.bound.z w rest ew er f;
+  rest = left r.upper.bound.x r.lower.bound.z r.lower.bound.x r.upper.bound.z w rest ew er;
+  rest_low = omega (arith, ints, er, f);
   rest_high = small;
   pair = either (some_pair rows r s h f);
 }
@@ -152,8 +152,8 @@ two_exclude rows r w rest s h f ew er small = record {
     gone : (u l w : ℤ) → w ≡ neg_ℤ l → pos 0 ≡ u *ℤ l +ℤ w *ℤ u
     gone u l w e = let a = ap (λ (t : ℤ). t *ℤ u) e in omega (arith, ints, rings, a)
 
-    over : (ux lz lx uz w rest : ℤ) → w ≡ neg_ℤ lx → rest ≡ ux *ℤ lz +ℤ w *ℤ uz → (uz *ℤ lx) ≤ℤ (lz *ℤ ux) → pos 0 ≤ℤ rest
-    over ux lz lx uz w rest e er f = let a = ap (λ (t : ℤ). t *ℤ uz) e in omega (arith, ints, rings, a, er, f)
+    left : (ux lz lx uz w rest : ℤ) → w ≡ neg_ℤ lx → rest ≡ lz *ℤ ux -ℤ uz *ℤ lx → rest ≡ ux *ℤ lz +ℤ w *ℤ uz
+    left ux lz lx uz w rest e er = let a = ap (λ (t : ℤ). t *ℤ uz) e in omega (arith, ints, rings, a, er)
 
     either : IsGap (row_at rows r.lower.second).cause ⊎ IsGap (row_at rows r.upper.second).cause → (IsGap (row_at rows r.lower.second).cause × (pos 1 ≤ℤ r.upper.bound.x)) ⊎ (IsGap (row_at rows r.upper.second).cause × (pos 1 ≤ℤ w))
     either (inl a) = inl (a, (let g = h.rises in omega (arith, ints, g)))

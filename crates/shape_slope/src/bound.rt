@@ -1,6 +1,6 @@
 //! Bounds of a slope, and a slope between a lower and an upper one.
 //! Which slope between them is chosen may change here.
-ghost use Rattle.std.specs.Prelude.{◌≡◌, ◌≤◌, ◌+◌, ◌↔◌, IsTrue, pos, neg_ℤ, ◌*ℤ◌, ◌≤ℤ◌, ◌<ℤ◌, unsigned_abs};
+ghost use Rattle.std.specs.Prelude.{◌≡◌, ℕ, ◌≤◌, ◌+◌, ◌*◌, ◌↔◌, IsTrue, pos, neg_ℤ, ◌-ℤ◌, ◌*ℤ◌, ◌≤ℤ◌, ◌<ℤ◌, unsigned_abs};
 ghost use Rattle.shape_slope.specs.Rows.{Meets};
 ghost use Rattle.shape_slope.specs.Bounds.{IsBounded, IsBetween};
 
@@ -24,13 +24,34 @@ pub fn is_tighter(new: Bound, old: Bound) -> bool
     product(old.z, size(new.x)) < product(new.z, size(old.x))
 }
 
+// The difference of two products.
+fn difference(a: i64, b: i64) -> i64
+    requires a_small { unsigned_abs a ≤ 8262669828096 }
+    requires b_small { unsigned_abs b ≤ 8262669828096 }
+    ensures { result ≡ a -ℤ b }
+{
+    a - b
+}
+
+/// How far a lower and an upper bound of a slope overlap: they leave room where this is below 0.
+pub fn overlap(lower: Bound, upper: Bound) -> i64
+    requires lower { IsBounded lower }
+    requires upper { IsBounded upper }
+    ensures value { result ≡ lower.z *ℤ upper.x -ℤ upper.z *ℤ lower.x }
+    ensures size { (m n : ℕ) → unsigned_abs lower.z ≤ n → unsigned_abs upper.x ≤ m
+        → unsigned_abs upper.z ≤ n → unsigned_abs lower.x ≤ m
+        → unsigned_abs result ≤ n * m + n * m }
+{
+    difference(product(lower.z, upper.x), product(upper.z, lower.x))
+}
+
 /// Whether some slope meets both inequalities, of which the first bounds it from below and the second from above.
 pub fn leaves_room(lower: Bound, upper: Bound) -> bool
     requires lower { IsBounded lower }
     requires upper { IsBounded upper }
     ensures { IsTrue result ↔ (lower.z *ℤ upper.x) <ℤ (upper.z *ℤ lower.x) }
 {
-    product(lower.z, upper.x) < product(upper.z, lower.x)
+    overlap(lower, upper) < 0
 }
 
 // The opposite of a small number.
@@ -59,6 +80,31 @@ fn choose(lo: &Frac, hi: &Frac) -> Frac
     }
 }
 
+// A lower bound as a fraction.
+fn lower_end(b: Bound) -> Frac
+    requires falls { b.x <ℤ pos 0 }
+    requires bounded { IsBounded b }
+    ensures num { result.num ≡ b.z }
+    ensures den { result.den ≡ neg_ℤ b.x }
+{
+    Frac {
+        num: b.z,
+        den: opposite(b.x),
+    }
+}
+
+// An upper bound as a fraction.
+fn upper_end(b: Bound) -> Frac
+    requires { IsBounded b }
+    ensures num { result.num ≡ neg_ℤ b.z }
+    ensures den { result.den ≡ b.x }
+{
+    Frac {
+        num: opposite(b.z),
+        den: b.x,
+    }
+}
+
 /// A slope that meets both inequalities, where they leave room.
 pub fn slope_inside(lower: Bound, upper: Bound) -> Frac
     requires falls { lower.x <ℤ pos 0 }
@@ -72,13 +118,5 @@ pub fn slope_inside(lower: Bound, upper: Bound) -> Frac
     ensures num_small { unsigned_abs result.num ≤ unsigned_abs lower.z + unsigned_abs upper.z }
     ensures den_small { unsigned_abs result.den ≤ unsigned_abs lower.x + unsigned_abs upper.x }
 {
-    let lo = Frac {
-        num: lower.z,
-        den: opposite(lower.x),
-    };
-    let hi = Frac {
-        num: opposite(upper.z),
-        den: upper.x,
-    };
-    choose(&lo, &hi)
+    choose(&lower_end(lower), &upper_end(upper))
 }

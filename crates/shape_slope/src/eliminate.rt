@@ -7,9 +7,9 @@ ghost use Rattle.shape_slope.specs.Combinations.{IsCombination};
 ghost use Rattle.shape_slope.specs.Spans.{IsSpan, IsAmid, IsSmallSlope};
 ghost use Rattle.shape_slope.specs.Solutions.{IsSolution, IsExcluded, IsElimination};
 
-use crate::bound::{leaves_room, slope_inside};
+use crate::bound::{leaves_room, overlap, slope_inside};
 use crate::combination::Combination;
-use crate::exact::{combine, product};
+use crate::exact::product;
 use crate::range::{Narrowed, Range, first_slopes};
 use crate::row::Row;
 use crate::span::{Span, bound_of, second_slopes};
@@ -118,18 +118,16 @@ fn excluded_by_two(rows: &[Row], r: Range) -> Excluded
     ensures { IsExcluded rows.now result }
 {
     let _ = rows;
-    let v = r.upper.bound.x;
-    let w = -r.lower.bound.x;
     Excluded {
         first: Multiple {
             combination: r.lower,
-            times: v,
+            times: r.upper.bound.x,
         },
         second: Multiple {
             combination: r.upper,
-            times: w,
+            times: -r.lower.bound.x,
         },
-        rest: combine(v, r.lower.bound.z, w, r.upper.bound.z),
+        rest: overlap(r.lower.bound, r.upper.bound),
     }
 }
 
