@@ -1,9 +1,10 @@
 -- Coefficients that meet pairs, as slopes that meet rows, and the other way round.
 -- How slopes are found belongs elsewhere.
-use Rattle.std.proofs.Common.{◌≡◌, ◌≢◌, ℕ, zero, suc, ◌+◌, ◌-◌, ◌<◌, ◌≤◌, ◌^◌, ◌⊎◌, inl, inr, List, [], ◌∷◌, length, take, get_or, refl, ap, sym, subst, ◌∙◌, arith}
+use Rattle.std.proofs.Common.{◌≡◌, ◌≢◌, ℕ, zero, suc, ◌<◌, ◌≤◌, ◌^◌, ◌⊎◌, inl, inr, List, [], ◌∷◌, length, take, get_or, refl, ap, sym, subst, ◌∙◌, arith}
 use Rattle.std.specs.Prelude.{◌↔◌, ℤ, pos, negsuc, ◌+ℤ◌, ◌-ℤ◌, ◌*ℤ◌, ◌≤ℤ◌, ◌<ℤ◌, All, nat_abs, unsigned_abs}
 use Rattle.std.proofs.lemmas.Int.{ints}
-use Rattle.std.proofs.lemmas.List.{length-map, get_or-take, get_or_past, get_or_default, length-take-le}
+use Rattle.std.proofs.lemmas.List.{length-map, get_or-map, get_or-take, get_or_past, get_or_default, length-take-le}
+use Rattle.std.proofs.lemmas.List.Elements.{All-append, All-map}
 use Rattle.shape_terms.specs.Points.{Point, coordinate}
 use Rattle.shape_terms.specs.Vectors.{times, difference, dot}
 use Rattle.shape_terms.specs.Refutations.{point_at}
@@ -14,15 +15,15 @@ use Rattle.shape_slope.specs.declared.row.Row.{Row}
 use Rattle.shape_slope.specs.declared.combination.Combination.{Combination}
 use Rattle.shape_slope.specs.declared.eliminate.Solution.{Solution}
 use Rattle.shape_slope.specs.declared.eliminate.Excluded.{Excluded}
-use Rattle.shape_slope.specs.Rows.{row_at, MeetsRow}
+use Rattle.shape_slope.specs.Rows.{row_at, IsGap, MeetsRow}
 use Rattle.shape_slope.specs.Combinations.{IsCombination}
-use Rattle.shape_slope.specs.Solutions.{IsSolution, IsExcluded, IsSlopesOf}
+use Rattle.shape_slope.specs.Solutions.{IsSolution, IsTaken, IsExcluded, IsSlopesOf}
 use Rattle.shape_slope.specs.Pairs.{MeetsPair, AreSlopes, AreSmallCoefficients, first_axis, second_axis, gap, pair_row}
-use Rattle.shape_slope.specs.Systems.{rows_for, pair_at}
+use Rattle.shape_slope.specs.Systems.{bounding_rows, rows_for}
 use Rattle.shape_terms.proofs.Products.{rings}
-use Rattle.shape_terms.proofs.Order.{mul-le_ℤ, mul-lt_ℤ}
+use Rattle.shape_terms.proofs.Order.{mul-le_ℤ, mul-lt_ℤ, mul-nonneg}
 use Rattle.shape_slope.proofs.Together.{regrouped}
-use Rattle.shape_slope.proofs.Certified.{few_axes, low_axis, first_low, each_axis, first_other, second_other, pair_at_row}
+use Rattle.shape_slope.proofs.Certified.{few_axes, low_axis, first_low, each_axis, first_other, second_other}
 
 -- ---- the scalar product, axis by axis
 
@@ -121,14 +122,8 @@ slopes_meet d t points pairs s a two axis long h o = record {
         q : Pair
         q = get_or pairs j p
 
-        at : row_at (rows_for t points pairs) (4 + j) ≡ pair_row t points q
-        at = pair_at_row t points pairs (4 + j) (omega arith) (omega (arith, l)) ∙ ap (λ (k : ℕ). pair_row t points (pair_at pairs k)) (back j) ∙ ap (pair_row t points) (get_or_default pairs j _ p l)
-          where
-            back : (j : ℕ) → 4 + j - 4 ≡ j
-            back j = omega arith
-
         met : MeetsRow s.a s.b s.c (pair_row t points q)
-        met = subst (MeetsRow s.a s.b s.c) at (h.met (4 + j) (let e = length-map pairs (pair_row t points) in omega (arith, l, e)))
+        met = subst (MeetsRow s.a s.b s.c) (get_or-map (pair_row t points) pairs j p _ l) (h.met (suc (suc (suc (suc j)))) (let e = length-map pairs (pair_row t points) in omega (arith, l, e)))
 
         no_gap : d ≤ second_axis t → gap points q (second_axis t) ≡ pos 0
         no_gap k =
@@ -152,9 +147,13 @@ slopes_meet d t points pairs s a two axis long h o = record {
 abbrev pub value : ℤ → ℤ → ℤ → Row → ℤ
 value p q r c = c.x *ℤ p +ℤ c.y *ℤ q +ℤ c.z *ℤ r
 
-bound_low : (t : ℕ) (points : List Point) (pairs : List Pair) (p q r : ℤ) (i : ℕ) → pos (nat_abs p) ≤ℤ r → pos (nat_abs q) ≤ℤ r → i < 4 → value p q r (row_at (rows_for t points pairs) i) ≤ℤ pos 0
-bound_low t points pairs p q r (suc (suc (suc (suc i)))) h k l = absurd (omega arith)
-bound_low t points pairs p q r i h k l = omega (arith, ints, h, k)
+-- a proper line or plane whose slopes meet the row, strictly where it is that of a pair
+abbrev pub IsLow : ℤ → ℤ → ℤ → Row → Type 0
+IsLow p q r c = (value p q r c ≤ℤ pos 0) × (IsGap c.cause → value p q r c <ℤ pos 0)
+
+bound_low : (t : ℕ) (p q r : ℤ) → pos (nat_abs p) ≤ℤ r → pos (nat_abs q) ≤ℤ r → All (IsLow p q r) (bounding_rows t)
+bound_low t p q r h k (suc (suc (suc (suc i)))) d l = absurd (omega arith)
+bound_low t p q r h k i d l = (omega (arith, ints, h, k), λ g. absurd g)
 
 combination_value : (v w x1 y1 z1 x2 y2 z2 x z p q r : ℤ) → x ≡ v *ℤ x1 +ℤ w *ℤ x2 → pos 0 ≡ v *ℤ y1 +ℤ w *ℤ y2 → z ≡ v *ℤ z1 +ℤ w *ℤ z2
     → x *ℤ p +ℤ z *ℤ r ≡ v *ℤ (x1 *ℤ p +ℤ y1 *ℤ q +ℤ z1 *ℤ r) +ℤ w *ℤ (x2 *ℤ p +ℤ y2 *ℤ q +ℤ z2 *ℤ r)
@@ -163,63 +162,58 @@ combination_value v w x1 y1 z1 x2 y2 z2 x z p q r ex ey ez =
     rw (ex, ez) (omega (arith, ints, rings, e))
 
 -- slopes that meet all rows meet each combination, strictly where a pair stands in it
-combination_low : (rows : List Row) (c : Combination) (p q r : ℤ) → IsCombination rows c → value p q r (row_at rows c.first) ≤ℤ pos 0 → value p q r (row_at rows c.second) ≤ℤ pos 0
-    → ((c.x *ℤ p +ℤ c.z *ℤ r) ≤ℤ pos 0) × (value p q r (row_at rows c.second) <ℤ pos 0 → (c.x *ℤ p +ℤ c.z *ℤ r) <ℤ pos 0)
-combination_low rows c p q r h a b =
-    let e = combination_value c.first_weight c.second_weight (row_at rows c.first).x (row_at rows c.first).y (row_at rows c.first).z (row_at rows c.second).x (row_at rows c.second).y (row_at rows c.second).z c.x c.z p q r h.x h.y h.z in
-    let m = mul-le_ℤ c.first_weight (value p q r (row_at rows c.first)) (pos 0) h.first_low a in
+combination_low : (rows : List Row) (c : Combination) (p q r : ℤ) → IsCombination rows c → ((i : ℕ) → i < length rows → IsLow p q r (row_at rows i))
+    → ((c.bound.x *ℤ p +ℤ c.bound.z *ℤ r) ≤ℤ pos 0) × (IsGap (row_at rows c.second).cause → (c.bound.x *ℤ p +ℤ c.bound.z *ℤ r) <ℤ pos 0)
+combination_low rows c p q r h low =
+    let e = combination_value c.first_weight c.second_weight (row_at rows c.first).x (row_at rows c.first).y (row_at rows c.first).z (row_at rows c.second).x (row_at rows c.second).y (row_at rows c.second).z c.bound.x c.bound.z p q r h.x h.y h.z in
+    let m = mul-le_ℤ c.first_weight (value p q r (row_at rows c.first)) (pos 0) h.first_low (low c.first h.first).0 in
     let w : pos 0 <ℤ c.second_weight = (let l = h.second_low in omega (arith, ints, l)) in
-    sums (c.x *ℤ p +ℤ c.z *ℤ r) _ (value p q r (row_at rows c.second)) c.first_weight c.second_weight e m w b
+    let b = low c.second h.second in
+    let s = sums (c.bound.x *ℤ p +ℤ c.bound.z *ℤ r) _ (value p q r (row_at rows c.second)) c.first_weight c.second_weight e m w b.0 in
+    (s.0, λ g. s.1 (b.1 g))
   where
     sums : (s m n v w : ℤ) → s ≡ m +ℤ w *ℤ n → m ≤ℤ (v *ℤ pos 0) → pos 0 <ℤ w → n ≤ℤ pos 0 → (s ≤ℤ pos 0) × (n <ℤ pos 0 → s <ℤ pos 0)
     sums s m n v w e a l b = (let g = mul-le_ℤ w n (pos 0) (omega (arith, ints, l)) b in omega (arith, ints, e, a, g), λ k. (let g = mul-lt_ℤ w n (pos 0) l k in omega (arith, ints, e, a, g)))
 
-pub excluded_rows : (rows : List Row) (k : Excluded) (p q r : ℤ) → IsExcluded rows k → pos 1 ≤ℤ r → ((i : ℕ) → i < length rows → value p q r (row_at rows i) ≤ℤ pos 0) → ((i : ℕ) → 4 ≤ i → i < length rows → value p q r (row_at rows i) <ℤ pos 0) → ⊥
-excluded_rows rows k p q r x hr low below =
-    let a = combination_low rows k.first p q r x.first (low k.first.first x.first.first) (low k.first.second x.first.second) in
-    let b = combination_low rows k.second p q r x.second (low k.second.first x.second.first) (low k.second.second x.second.second) in
-    sums (k.first.x *ℤ p +ℤ k.first.z *ℤ r) (k.second.x *ℤ p +ℤ k.second.z *ℤ r) (k.rest *ℤ r) k.first_weight k.second_weight total over x.first_low x.second_low a.0 b.0 (by_pair a.1 b.1 x.pair)
+pub excluded_rows : (rows : List Row) (k : Excluded) (p q r : ℤ) → IsExcluded rows k → pos 1 ≤ℤ r → ((i : ℕ) → i < length rows → IsLow p q r (row_at rows i)) → ⊥
+excluded_rows rows k p q r x hr low =
+    let a = combination_low rows k.first.combination p q r x.first.combination low in
+    let b = combination_low rows k.second.combination p q r x.second.combination low in
+    sums (k.first.combination.bound.x *ℤ p +ℤ k.first.combination.bound.z *ℤ r) (k.second.combination.bound.x *ℤ p +ℤ k.second.combination.bound.z *ℤ r) (k.rest *ℤ r) k.first.times k.second.times total over x.first.low x.second.low a.0 b.0 (by_pair a.1 b.1 x.pair)
   where
-    total : k.first_weight *ℤ (k.first.x *ℤ p +ℤ k.first.z *ℤ r) +ℤ k.second_weight *ℤ (k.second.x *ℤ p +ℤ k.second.z *ℤ r) ≡ k.rest *ℤ r
-    total = expand k.first_weight k.second_weight k.first.x k.first.z k.second.x k.second.z k.rest p r x.gone x.rest
+    total : k.first.times *ℤ (k.first.combination.bound.x *ℤ p +ℤ k.first.combination.bound.z *ℤ r) +ℤ k.second.times *ℤ (k.second.combination.bound.x *ℤ p +ℤ k.second.combination.bound.z *ℤ r) ≡ k.rest *ℤ r
+    total = expand k.first.times k.second.times k.first.combination.bound.x k.first.combination.bound.z k.second.combination.bound.x k.second.combination.bound.z k.rest p r x.gone x.rest
       where
         expand : (v w x1 z1 x2 z2 s p r : ℤ) → pos 0 ≡ v *ℤ x1 +ℤ w *ℤ x2 → s ≡ v *ℤ z1 +ℤ w *ℤ z2 → v *ℤ (x1 *ℤ p +ℤ z1 *ℤ r) +ℤ w *ℤ (x2 *ℤ p +ℤ z2 *ℤ r) ≡ s *ℤ r
         expand v w x1 z1 x2 z2 s p r e f = let g = ap (λ (m : ℤ). m *ℤ p) e in let t = regrouped v w x1 z1 x2 z2 p r in rw f (omega (arith, ints, t, g))
 
     over : pos 0 ≤ℤ (k.rest *ℤ r)
-    over = let m = mul-le_ℤ k.rest (pos 0) r x.rest_low (omega (arith, ints, hr)) in omega (arith, ints, m)
+    over = mul-nonneg k.rest r x.rest_low (omega (arith, ints, hr))
 
-    sums : (a b s v w : ℤ) → v *ℤ a +ℤ w *ℤ b ≡ s → pos 0 ≤ℤ s → pos 1 ≤ℤ v → pos 0 ≤ℤ w → a ≤ℤ pos 0 → b ≤ℤ pos 0 → (a <ℤ pos 0) ⊎ ((b <ℤ pos 0) × (pos 1 ≤ℤ w)) → ⊥
-    sums a b s v w e h hv hw la lb (inl l) = let m = mul-lt_ℤ v a (pos 0) (omega (arith, ints, hv)) l in let n = mul-le_ℤ w b (pos 0) hw lb in omega (arith, ints, e, h, m, n)
-    sums a b s v w e h hv hw la lb (inr l) = let m = mul-le_ℤ v a (pos 0) (omega (arith, ints, hv)) la in let n = mul-lt_ℤ w b (pos 0) (omega (arith, ints, l.1)) l.0 in omega (arith, ints, e, h, m, n)
+    sums : (a b s v w : ℤ) → v *ℤ a +ℤ w *ℤ b ≡ s → pos 0 ≤ℤ s → pos 0 ≤ℤ v → pos 0 ≤ℤ w → a ≤ℤ pos 0 → b ≤ℤ pos 0 → ((a <ℤ pos 0) × (pos 1 ≤ℤ v)) ⊎ ((b <ℤ pos 0) × (pos 1 ≤ℤ w)) → ⊥
+    sums a b s v w e h hv hw la lb (inl l) = let m = mul-lt_ℤ v a (pos 0) (omega (arith, ints, l.1)) l.0 in let n = mul-le_ℤ w b (pos 0) hw lb in omega (arith, ints, e, h, m, n)
+    sums a b s v w e h hv hw la lb (inr l) = let m = mul-le_ℤ v a (pos 0) hv la in let n = mul-lt_ℤ w b (pos 0) (omega (arith, ints, l.1)) l.0 in omega (arith, ints, e, h, m, n)
 
-    by_pair : (value p q r (row_at rows k.first.second) <ℤ pos 0 → (k.first.x *ℤ p +ℤ k.first.z *ℤ r) <ℤ pos 0) → (value p q r (row_at rows k.second.second) <ℤ pos 0 → (k.second.x *ℤ p +ℤ k.second.z *ℤ r) <ℤ pos 0)
-        → (4 ≤ k.first.second) ⊎ ((4 ≤ k.second.second) × (pos 1 ≤ℤ k.second_weight)) → ((k.first.x *ℤ p +ℤ k.first.z *ℤ r) <ℤ pos 0) ⊎ (((k.second.x *ℤ p +ℤ k.second.z *ℤ r) <ℤ pos 0) × (pos 1 ≤ℤ k.second_weight))
-    by_pair f g (inl l) = inl (f (below k.first.second l x.first.second))
-    by_pair f g (inr l) = inr (g (below k.second.second l.0 x.second.second), l.1)
+    by_pair : {A B : Type 0} → (IsGap (row_at rows k.first.combination.second).cause → A) → (IsGap (row_at rows k.second.combination.second).cause → B) → IsTaken rows k.first ⊎ IsTaken rows k.second → (A × (pos 1 ≤ℤ k.first.times)) ⊎ (B × (pos 1 ≤ℤ k.second.times))
+    by_pair f g (inl l) = inl (f l.0, l.1)
+    by_pair f g (inr l) = inr (g l.0, l.1)
 
 -- no proper coefficients meet the pairs
 pub excluded_slopes : (d t : ℕ) (points : List Point) (pairs : List Pair) (k : Excluded) (a : List ℤ) → d ≤ 3 → t < 3 → AreLong d points pairs → IsExcluded (rows_for t points pairs) k → AreSlopes t points pairs a → ⊥
 excluded_slopes d t points pairs k a few three long x h =
-    excluded_rows (rows_for t points pairs) k (coordinate a (first_axis t)) (coordinate a (second_axis t)) (coordinate a t) x h.proper.main any pair_low
+    excluded_rows (rows_for t points pairs) k (coordinate a (first_axis t)) (coordinate a (second_axis t)) (coordinate a t) x h.proper.main (λ i l. all i _ l)
   where
-    pair_low : (i : ℕ) → 4 ≤ i → i < length (rows_for t points pairs) → value (coordinate a (first_axis t)) (coordinate a (second_axis t)) (coordinate a t) (row_at (rows_for t points pairs) i) <ℤ pos 0
-    pair_low i l m =
-        let j : i - 4 < length pairs = (let e = length-map pairs (pair_row t points) in omega (arith, l, m, e)) in
-        let g = long (i - 4) (record { low = 0; high = 0 }) j in
-        subst (MeetsRow (coordinate a (first_axis t)) (coordinate a (second_axis t)) (coordinate a t)) (sym (pair_at_row t points pairs i l j)) ((row_meets d t points (pair_at pairs (i - 4)) a few three g.1 g.0).1 (h.meets (i - 4) (record { low = 0; high = 0 }) j))
+    Low : Row → Type 0
+    Low = IsLow (coordinate a (first_axis t)) (coordinate a (second_axis t)) (coordinate a t)
 
-    small : (i : ℕ) → (i < 4) ⊎ (4 ≤ i)
-    small i = grind arith
+    weak : (z : ℤ) → z <ℤ pos 0 → z ≤ℤ pos 0
+    weak z h = omega (arith, ints, h)
 
-    any : (i : ℕ) → i < length (rows_for t points pairs) → value (coordinate a (first_axis t)) (coordinate a (second_axis t)) (coordinate a t) (row_at (rows_for t points pairs) i) ≤ℤ pos 0
-    any i l = elim (small i) [
-      | inl m ↦ bound_low t points pairs (coordinate a (first_axis t)) (coordinate a (second_axis t)) (coordinate a t) i (h.proper.others (first_axis t) (first_other t)) (h.proper.others (second_axis t) (second_other t)) m
-      | inr m ↦ (let b = pair_low i m l in weak _ b)
-    ]
-      where
-        weak : (z : ℤ) → z <ℤ pos 0 → z ≤ℤ pos 0
-        weak z h = omega (arith, ints, h)
+    each : All (λ (pair : Pair). Low (pair_row t points pair)) pairs
+    each j p l = let m = (row_meets d t points (get_or pairs j p) a few three (long j p l).1 (long j p l).0).1 (h.meets j p l) in (weak _ m, λ g. m)
+
+    all : All Low (rows_for t points pairs)
+    all = All-append Low (bounding_rows t) _ (bound_low t _ _ _ (h.proper.others (first_axis t) (first_other t)) (h.proper.others (second_axis t) (second_other t))) (All-map Low (pair_row t points) pairs each)
 
 -- ---- coefficients in their places
 

@@ -1,7 +1,7 @@
 -- Ranges of the first slope that grow narrower, combination by combination.
 -- The order in which combinations are looked at is that of the loops over them.
 use Rattle.std.proofs.Common.{Bool, true, false, ◌≡◌, ℕ, zero, suc, ◌+◌, ◌<◌, List, ap, sym, subst, ◌∙◌, arith}
-use Rattle.std.specs.Prelude.{IsTrue, ◌↔◌, ℤ, pos, ◌+ℤ◌, ◌*ℤ◌, ◌≤ℤ◌, ◌<ℤ◌, unsigned_abs}
+use Rattle.std.specs.Prelude.{IsTrue, ◌↔◌, ℤ, pos, negsuc, ◌+ℤ◌, ◌*ℤ◌, ◌≤ℤ◌, ◌<ℤ◌, unsigned_abs}
 use Rattle.std.proofs.lemmas.Int.{ints, by_lt_z}
 use native.Mathlib.Decide.{ℕ_discrete}
 use Rattle.shape_slope.specs.declared.row.Row.{Row}
@@ -9,7 +9,7 @@ use Rattle.shape_slope.specs.declared.combination.Combination.{Combination}
 use Rattle.shape_slope.specs.declared.range.Range.{Range}
 use Rattle.shape_slope.specs.declared.range.Narrowed.{Narrowed}
 use Rattle.shape_slope.specs.declared.range.Narrowed.TheVariants.{Room, Clash}
-use Rattle.shape_slope.specs.Rows.{row_at, AreOpposite, IsSystem, Meets}
+use Rattle.shape_slope.specs.Rows.{row_at, IsRow, AreOpposite, IsSystem, Meets}
 use Rattle.shape_slope.specs.Combinations.{IsCombination}
 use Rattle.shape_slope.specs.Ranges.{IsRange, LeaveRoom, IsClear, IsMet, IsNarrower, HasNarrower, IsWhole}
 use Rattle.shape_terms.proofs.Products.{rings}
@@ -21,30 +21,30 @@ use Rattle.shape_slope.proofs.Together.{leave_room, not_opposite}
 
 -- each slope inside the new range meets the combination
 abbrev pub IsNarrowed : List Row → Range → Combination → Range → Type 0
-IsNarrowed rows old c new = IsNarrower rows old (λ p q. Meets p q c.x c.z) new
+IsNarrowed rows old c new = IsNarrower rows old (λ p q. Meets p q c.bound.x c.bound.z) new
 
-pub upper_taken : (rows : List Row) (old : Range) (c : Combination) → IsRange rows old → IsCombination rows c → pos 0 <ℤ c.x → (old.upper.z *ℤ pos (unsigned_abs c.x)) <ℤ (c.z *ℤ pos (unsigned_abs old.upper.x)) → IsNarrowed rows old c (record { lower = old.lower; upper = c })
+pub upper_taken : (rows : List Row) (old : Range) (c : Combination) → IsRange rows old → IsCombination rows c → pos 0 <ℤ c.bound.x → (old.upper.bound.z *ℤ pos (unsigned_abs c.bound.x)) <ℤ (c.bound.z *ℤ pos (unsigned_abs old.upper.bound.x)) → IsNarrowed rows old c (record { lower = old.lower; upper = c })
 upper_taken rows old c r n hx h = record {
   range = record { lower = r.lower; upper = n; falls = r.falls; rises = hx };
-  within = λ p q hq i. (i.0, follows_upper p q c.x c.z old.upper.x old.upper.z hq hx r.rises (omega (arith, ints, h)) i.1);
+  within = λ p q hq i. (i.0, follows_upper p q c.bound.x c.bound.z old.upper.bound.x old.upper.bound.z hq hx r.rises (omega (arith, ints, h)) i.1);
   met = λ p q hq i. i.1;
 }
 
-pub lower_taken : (rows : List Row) (old : Range) (c : Combination) → IsRange rows old → IsCombination rows c → c.x <ℤ pos 0 → (old.lower.z *ℤ pos (unsigned_abs c.x)) <ℤ (c.z *ℤ pos (unsigned_abs old.lower.x)) → IsNarrowed rows old c (record { lower = c; upper = old.upper })
+pub lower_taken : (rows : List Row) (old : Range) (c : Combination) → IsRange rows old → IsCombination rows c → c.bound.x <ℤ pos 0 → (old.lower.bound.z *ℤ pos (unsigned_abs c.bound.x)) <ℤ (c.bound.z *ℤ pos (unsigned_abs old.lower.bound.x)) → IsNarrowed rows old c (record { lower = c; upper = old.upper })
 lower_taken rows old c r n hx h = record {
   range = record { lower = n; upper = r.upper; falls = hx; rises = r.rises };
-  within = λ p q hq i. (follows_lower p q c.x c.z old.lower.x old.lower.z hq hx r.falls (omega (arith, ints, h)) i.0, i.1);
+  within = λ p q hq i. (follows_lower p q c.bound.x c.bound.z old.lower.bound.x old.lower.bound.z hq hx r.falls (omega (arith, ints, h)) i.0, i.1);
   met = λ p q hq i. i.0;
 }
 
-pub upper_kept : (rows : List Row) (old : Range) (c : Combination) → IsRange rows old → pos 0 <ℤ c.x → (c.z *ℤ pos (unsigned_abs old.upper.x)) ≤ℤ (old.upper.z *ℤ pos (unsigned_abs c.x)) → IsNarrowed rows old c old
-upper_kept rows old c r hx h = record { range = r; within = λ p q hq i. i; met = λ p q hq i. follows_upper p q old.upper.x old.upper.z c.x c.z hq r.rises hx h i.1 }
+pub upper_kept : (rows : List Row) (old : Range) (c : Combination) → IsRange rows old → pos 0 <ℤ c.bound.x → (c.bound.z *ℤ pos (unsigned_abs old.upper.bound.x)) ≤ℤ (old.upper.bound.z *ℤ pos (unsigned_abs c.bound.x)) → IsNarrowed rows old c old
+upper_kept rows old c r hx h = record { range = r; within = λ p q hq i. i; met = λ p q hq i. follows_upper p q old.upper.bound.x old.upper.bound.z c.bound.x c.bound.z hq r.rises hx h i.1 }
 
-pub lower_kept : (rows : List Row) (old : Range) (c : Combination) → IsRange rows old → c.x <ℤ pos 0 → (c.z *ℤ pos (unsigned_abs old.lower.x)) ≤ℤ (old.lower.z *ℤ pos (unsigned_abs c.x)) → IsNarrowed rows old c old
-lower_kept rows old c r hx h = record { range = r; within = λ p q hq i. i; met = λ p q hq i. follows_lower p q old.lower.x old.lower.z c.x c.z hq r.falls hx h i.0 }
+pub lower_kept : (rows : List Row) (old : Range) (c : Combination) → IsRange rows old → c.bound.x <ℤ pos 0 → (c.bound.z *ℤ pos (unsigned_abs old.lower.bound.x)) ≤ℤ (old.lower.bound.z *ℤ pos (unsigned_abs c.bound.x)) → IsNarrowed rows old c old
+lower_kept rows old c r hx h = record { range = r; within = λ p q hq i. i; met = λ p q hq i. follows_lower p q old.lower.bound.x old.lower.bound.z c.bound.x c.bound.z hq r.falls hx h i.0 }
 
-pub flat_kept : (rows : List Row) (old : Range) (c : Combination) → IsRange rows old → c.x ≡ pos 0 → c.z <ℤ pos 0 → IsNarrowed rows old c old
-flat_kept rows old c r hx hz = record { range = r; within = λ p q hq i. i; met = λ p q hq i. below c.x c.z p q hx hz hq }
+pub flat_kept : (rows : List Row) (old : Range) (c : Combination) → IsRange rows old → c.bound.x ≡ pos 0 → c.bound.z <ℤ pos 0 → IsNarrowed rows old c old
+flat_kept rows old c r hx hz = record { range = r; within = λ p q hq i. i; met = λ p q hq i. below c.bound.x c.bound.z p q hx hz hq }
   where
     below : (x z p q : ℤ) → x ≡ pos 0 → z <ℤ pos 0 → pos 0 <ℤ q → (x *ℤ p +ℤ z *ℤ q) <ℤ pos 0
     below x z p q e h k = let a = ap (λ (t : ℤ). t *ℤ p) e in let b = mul-lt_ℤ q z (pos 0) k h in omega (arith, ints, rings, a, b)
@@ -56,8 +56,8 @@ mapped rows old P Q (Room new) f h = record { range = h.range; within = h.within
 mapped rows old P Q (Clash c) f h = h
 
 pub opposite_met : (rows : List Row) (old : Range) (c : Combination) (i j : ℕ) (n : Narrowed) → c.first ≡ i → c.second ≡ j → IsCombination rows c
-    → c.first_weight ≡ pos (unsigned_abs (row_at rows j).y) → c.second_weight ≡ pos (unsigned_abs (row_at rows i).y) → HasNarrower rows old (λ p q. Meets p q c.x c.z) n → HasNarrower rows old (λ p q. LeaveRoom p q (row_at rows i) (row_at rows j)) n
-opposite_met rows old c i j n ei ej h ev ew m = mapped rows old (λ p q. Meets p q c.x c.z) _ n (λ p q. leave_room rows c i j p q ei ej h ev ew) m
+    → c.first_weight ≡ pos (unsigned_abs (row_at rows j).y) → c.second_weight ≡ pos (unsigned_abs (row_at rows i).y) → HasNarrower rows old (λ p q. Meets p q c.bound.x c.bound.z) n → HasNarrower rows old (λ p q. LeaveRoom p q (row_at rows i) (row_at rows j)) n
+opposite_met rows old c i j n ei ej h ev ew m = mapped rows old (λ p q. Meets p q c.bound.x c.bound.z) _ n (λ p q. leave_room rows c i j p q ei ej h ev ew) m
 
 pub past_met : (rows : List Row) (old : Range) (i j : ℕ) → IsRange rows old → (AreOpposite (row_at rows i).y (row_at rows j).y → ⊥) → IsNarrower rows old (λ p q. LeaveRoom p q (row_at rows i) (row_at rows j)) old
 past_met rows old i j r h = record { range = r; within = λ p q hq m. m; met = λ p q hq m. not_opposite p q (row_at rows i) (row_at rows j) h }
@@ -76,8 +76,8 @@ crossed_more rows old best new i j x n = record {
 }
 
 -- a row in which the second slope does not stand
-pub flat_met : (rows : List Row) (old : Range) (c : Combination) (j : ℕ) (n : Narrowed) → (row_at rows j).y ≡ pos 0 → c.x ≡ (row_at rows j).x → c.z ≡ (row_at rows j).z → HasNarrower rows old (λ p q. Meets p q c.x c.z) n → HasNarrower rows old (IsMet rows j) n
-flat_met rows old c j n y ex ez = mapped rows old (λ p q. Meets p q c.x c.z) (IsMet rows j) n (λ p q m. record {
+pub flat_met : (rows : List Row) (old : Range) (c : Combination) (j : ℕ) (n : Narrowed) → (row_at rows j).y ≡ pos 0 → c.bound.x ≡ (row_at rows j).x → c.bound.z ≡ (row_at rows j).z → HasNarrower rows old (λ p q. Meets p q c.bound.x c.bound.z) n → HasNarrower rows old (IsMet rows j) n
+flat_met rows old c j n y ex ez = mapped rows old (λ p q. Meets p q c.bound.x c.bound.z) (IsMet rows j) n (λ p q m. record {
   flat = λ e. rw (sym ex, sym ez) m;
   room = λ i a b. (λ u v. absurd (omega (arith, ints, v, y)), λ u v. absurd (omega (arith, ints, u, y)));
 })
@@ -94,29 +94,33 @@ whole_more rows old new j w x = record {
   ];
 }
 
+-- the rows that bound the second slope leave room
+room_bounds : (r s : Row) (p q : ℤ) → IsRow r (pos 0) (negsuc 0) (negsuc 0) → IsRow s (pos 0) (pos 1) (negsuc 0) → pos 0 <ℤ q → LeaveRoom p q r s
+room_bounds r s p q h g l = (λ a b. rw (h.x, h.y, h.z, g.x, g.y, g.z) (omega (arith, ints, l)), λ a b. absurd (let y = g.y in omega (arith, ints, a, y)))
+
 -- the slopes between -1 and 1
 pub whole_slopes : (rows : List Row) (a b : Combination) → IsSystem rows → IsCombination rows a → IsCombination rows b
-    → a.x ≡ (row_at rows 0).x → a.z ≡ (row_at rows 0).z → b.x ≡ (row_at rows 1).x → b.z ≡ (row_at rows 1).z → IsWhole rows 4 (record { lower = a; upper = b })
+    → a.bound.x ≡ (row_at rows 0).x → a.bound.z ≡ (row_at rows 0).z → b.bound.x ≡ (row_at rows 1).x → b.bound.z ≡ (row_at rows 1).z → IsWhole rows 4 (record { lower = a; upper = b })
 whole_slopes rows a b s ha hb ax az bx bz = record {
   range = record {
     lower = ha;
     upper = hb;
-    falls = (let e = ap (λ (r : Row). r.x) s.plus_first in omega (arith, ints, ax, e));
-    rises = (let e = ap (λ (r : Row). r.x) s.minus_first in omega (arith, ints, bx, e));
+    falls = (let e = s.plus_first.x in omega (arith, ints, ax, e));
+    rises = (let e = s.minus_first.x in omega (arith, ints, bx, e));
   };
   met = met;
 }
   where
-    met : (j : ℕ) → j < 4 → (p q : ℤ) → pos 0 <ℤ q → Meets p q a.x a.z × Meets p q b.x b.z → IsMet rows j p q
+    met : (j : ℕ) → j < 4 → (p q : ℤ) → pos 0 <ℤ q → Meets p q a.bound.x a.bound.z × Meets p q b.bound.x b.bound.z → IsMet rows j p q
     met zero l p q hq m = record { flat = λ e. rw (sym ax, sym az) m.0; room = λ i u v. absurd (omega arith) }
     met (suc zero) l p q hq m = record { flat = λ e. rw (sym bx, sym bz) m.1; room = λ i u v. absurd (omega arith) }
-    met (suc (suc zero)) l p q hq m = record { flat = λ e. absurd (let y = ap (λ (r : Row). r.y) s.plus_second in omega (arith, ints, e, y)); room = λ i u v. absurd (omega arith) }
-    met (suc (suc (suc zero))) l p q hq m = record { flat = λ e. absurd (let y = ap (λ (r : Row). r.y) s.minus_second in omega (arith, ints, e, y)); room = room }
+    met (suc (suc zero)) l p q hq m = record { flat = λ e. absurd (let y = s.plus_second.y in omega (arith, ints, e, y)); room = λ i u v. absurd (omega arith) }
+    met (suc (suc (suc zero))) l p q hq m = record { flat = λ e. absurd (let y = s.minus_second.y in omega (arith, ints, e, y)); room = room }
       where
         room : IsClear rows 3 3 p q
         room zero u v = absurd (omega arith)
         room (suc zero) u v = absurd (omega arith)
-        room (suc (suc zero)) u v = rw (s.plus_second, s.minus_second) (λ k n. omega (arith, ints, hq), λ k n. absurd (omega (arith, ints, k)))
+        room (suc (suc zero)) u v = room_bounds (row_at rows 2) (row_at rows 3) p q s.plus_second s.minus_second hq
         room (suc (suc (suc i))) u v = absurd (omega arith)
     met (suc (suc (suc (suc j)))) l p q hq m = absurd (omega arith)
 

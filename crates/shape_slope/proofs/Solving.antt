@@ -1,7 +1,7 @@
 -- Slopes that meet all rows, back from the bounds of the first and of the second.
 -- How the bounds are found belongs elsewhere.
-use Rattle.std.proofs.Common.{◌≡◌, ℕ, zero, suc, ◌<◌, ◌≤◌, ◌^◌, ◌⊎◌, inl, inr, List, length, refl, ap, arith}
-use Rattle.std.specs.Prelude.{ℤ, pos, neg_ℤ, negsuc, ◌+ℤ◌, ◌*ℤ◌, ◌≤ℤ◌, ◌<ℤ◌, unsigned_abs}
+use Rattle.std.proofs.Common.{◌≡◌, ℕ, zero, suc, ◌+◌, ◌<◌, ◌≤◌, ◌^◌, ◌⊎◌, inl, inr, List, length, refl, ap, arith}
+use Rattle.std.specs.Prelude.{ℤ, pos, neg_ℤ, negsuc, ◌+ℤ◌, ◌-ℤ◌, ◌*ℤ◌, ◌≤ℤ◌, ◌<ℤ◌, unsigned_abs}
 use Rattle.std.proofs.lemmas.Int.{ints, unsigned_abs-mul}
 use Rattle.std.proofs.lemmas.Nat.{mul-le}
 use Rattle.shape_slope.specs.declared.row.Row.{Row}
@@ -10,7 +10,7 @@ use Rattle.shape_slope.specs.declared.span.Span.{Span}
 use Rattle.shape_slope.specs.declared.range.Range.{Range}
 use Rattle.shape_slope.specs.declared.combination.Combination.{Combination}
 use Rattle.shape_slope.specs.declared.eliminate.Solution.{Solution}
-use Rattle.shape_slope.specs.Rows.{row_at, level, Meets, MeetsRow, IsSystem}
+use Rattle.shape_slope.specs.Rows.{row_at, IsGap, level, Meets, MeetsRow, IsSystem}
 use Rattle.shape_slope.specs.Combinations.{IsCombination}
 use Rattle.shape_slope.specs.Ranges.{IsInside, IsRange, LeavesRoom, IsMet, IsWhole, IsClashing}
 use Rattle.shape_slope.specs.Spans.{MeetsAt, IsSpan, IsAmid, IsSmallSlope, IsTight}
@@ -43,6 +43,9 @@ pub span_room : (rows : List Row) (f : Frac) (r : Range) (s : Span) → IsSmallS
 span_room rows f r s z w i h =
     turned (row_at rows s.lower).y (row_at rows s.upper).y (level f.num f.den (row_at rows s.lower)) (level f.num f.den (row_at rows s.upper))
     (room_between rows f.num f.den s.lower s.upper h.lower_second h.upper_second h.lower_place h.upper_place (λ j a. w.met j a f.num f.den (let d = z.den in omega (arith, ints, d)) i) h.falls h.rises h.falls h.rises)
+
+pub small_slope : (rows : List Row) (r : Range) (f : Frac) → IsRange rows r → pos 1 ≤ℤ f.den → unsigned_abs f.num ≤ unsigned_abs r.lower.bound.z + unsigned_abs r.upper.bound.z → unsigned_abs f.den ≤ unsigned_abs r.lower.bound.x + unsigned_abs r.upper.bound.x → IsSmallSlope f
+small_slope rows r f h d n m = record { den = d; num_small = omega (arith, n, h.lower.z_small, h.upper.z_small); den_small = omega (arith, m, h.lower.x_small, h.upper.x_small) }
 
 -- ---- the slopes over one denominator
 
@@ -87,56 +90,58 @@ solution_is rows f r s g o z w i t am hg sg sm ea eb ec = record {
 
 -- ---- no slopes
 
-pub one_excludes : (rows : List Row) (c : Combination) → IsClashing rows c → IsExcluded rows (record { first = c; first_weight = pos 1; second = c; second_weight = pos 0; rest = c.z })
+pub one_excludes : (rows : List Row) (c : Combination) → IsClashing rows c → IsExcluded rows (record { first = record { combination = c; times = pos 1 }; second = record { combination = c; times = pos 0 }; rest = c.bound.z })
 one_excludes rows c h = record {
-  first = h.combination;
-  second = h.combination;
-  first_low = omega (arith, ints);
-  first_high = omega (arith, ints);
-  second_low = omega (arith, ints);
-  second_high = omega (arith, ints);
+  first = record { combination = h.combination; low = omega (arith, ints); high = omega (arith, ints) };
+  second = record { combination = h.combination; low = omega (arith, ints); high = omega (arith, ints) };
   gone = (let e = h.never.flat in omega (arith, ints, e));
   rest = omega (arith, ints);
   rest_low = h.never.over;
   rest_high = (let s = h.combination.z_small in omega (arith, s));
-  pair = inl h.pair;
+  pair = inl (h.pair, omega (arith, ints));
 }
 
 -- two bounds that leave no room are not both bounds of the first slope alone
-some_pair : (rows : List Row) (r : Range) → IsSystem rows → IsRange rows r → (r.upper.z *ℤ r.lower.x) ≤ℤ (r.lower.z *ℤ r.upper.x) → (4 ≤ r.lower.second) ⊎ (4 ≤ r.upper.second)
-some_pair rows r s h f = by_kinds h.lower.kind h.upper.kind
+some_pair : (rows : List Row) (r : Range) → IsSystem rows → IsRange rows r → (r.upper.bound.z *ℤ r.lower.bound.x) ≤ℤ (r.lower.bound.z *ℤ r.upper.bound.x) → IsGap (row_at rows r.lower.second).cause ⊎ IsGap (row_at rows r.upper.second).cause
+some_pair rows r s h f = by_sides (falls r.lower h.lower) (falls r.upper h.upper)
   where
-    z_of : (k : ℕ) → k < 2 → (row_at rows k).z ≡ negsuc 0
-    z_of zero l = ap (λ (v : Row). v.z) s.plus_first
-    z_of (suc zero) l = ap (λ (v : Row). v.z) s.minus_first
-    z_of (suc (suc k)) l = absurd (omega arith)
+    z_of : (k : ℕ) → k < 4 → (row_at rows k).z ≡ negsuc 0
+    z_of zero l = s.plus_first.z
+    z_of (suc zero) l = s.minus_first.z
+    z_of (suc (suc zero)) l = s.plus_second.z
+    z_of (suc (suc (suc zero))) l = s.minus_second.z
+    z_of (suc (suc (suc (suc k)))) l = absurd (omega arith)
 
     under : (z v a w b : ℤ) → z ≡ v *ℤ a +ℤ w *ℤ b → v ≡ pos 0 → b ≡ negsuc 0 → pos 1 ≤ℤ w → z <ℤ pos 0
     under z v a w b h e g l = let p = ap (λ (t : ℤ). t *ℤ a) e in let q = ap (λ (t : ℤ). w *ℤ t) g in omega (arith, ints, h, p, q, l)
 
-    falls : (c : Combination) → IsCombination rows c → (c.second < 2) × (c.first_weight ≡ pos 0) → c.z <ℤ pos 0
-    falls c h k = under c.z c.first_weight (row_at rows c.first).z c.second_weight (row_at rows c.second).z h.z k.1 (z_of c.second k.0) h.second_low
+    bounds : (k : ℕ) → (k < 4) ⊎ (4 ≤ k)
+    bounds k = grind arith
+
+    falls : (c : Combination) → IsCombination rows c → (c.bound.z <ℤ pos 0) ⊎ IsGap (row_at rows c.second).cause
+    falls c h = by_kind h.kind (bounds c.second)
+      where
+        by_kind : (c.first_weight ≡ pos 0) ⊎ IsGap (row_at rows c.second).cause → (c.second < 4) ⊎ (4 ≤ c.second) → (c.bound.z <ℤ pos 0) ⊎ IsGap (row_at rows c.second).cause
+        by_kind (inr g) l = inr g
+        by_kind (inl e) (inr l) = inr (s.gaps c.second l h.second)
+        by_kind (inl e) (inl l) = inl (under c.bound.z c.first_weight (row_at rows c.first).z c.second_weight (row_at rows c.second).z h.z e (z_of c.second l) h.second_low)
 
     apart : (lx lz ux uz : ℤ) → lx <ℤ pos 0 → lz <ℤ pos 0 → pos 0 <ℤ ux → uz <ℤ pos 0 → (uz *ℤ lx) ≤ℤ (lz *ℤ ux) → ⊥
     apart lx lz ux uz a b c d f = let m = mul-lt_ℤ (neg_ℤ uz) lx (pos 0) (omega (arith, ints, d)) a in let n = mul-lt_ℤ ux lz (pos 0) c b in omega (arith, ints, rings, f, m, n)
 
-    by_kinds : ((r.lower.second < 2) × (r.lower.first_weight ≡ pos 0)) ⊎ (4 ≤ r.lower.second) → ((r.upper.second < 2) × (r.upper.first_weight ≡ pos 0)) ⊎ (4 ≤ r.upper.second) → (4 ≤ r.lower.second) ⊎ (4 ≤ r.upper.second)
-    by_kinds (inr a) k = inl a
-    by_kinds (inl a) (inr b) = inr b
-    by_kinds (inl a) (inl b) = absurd (apart r.lower.x r.lower.z r.upper.x r.upper.z h.falls (falls r.lower h.lower a) h.rises (falls r.upper h.upper b) f)
+    by_sides : (r.lower.bound.z <ℤ pos 0) ⊎ IsGap (row_at rows r.lower.second).cause → (r.upper.bound.z <ℤ pos 0) ⊎ IsGap (row_at rows r.upper.second).cause → IsGap (row_at rows r.lower.second).cause ⊎ IsGap (row_at rows r.upper.second).cause
+    by_sides (inr a) b = inl a
+    by_sides (inl a) (inr b) = inr b
+    by_sides (inl a) (inl b) = absurd (apart r.lower.bound.x r.lower.bound.z r.upper.bound.x r.upper.bound.z h.falls a h.rises b f)
 
-pub two_exclude : (rows : List Row) (r : Range) (w rest : ℤ) → IsSystem rows → IsRange rows r → (r.upper.z *ℤ r.lower.x) ≤ℤ (r.lower.z *ℤ r.upper.x) → w ≡ neg_ℤ r.lower.x
-    → rest ≡ r.upper.x *ℤ r.lower.z +ℤ w *ℤ r.upper.z → unsigned_abs rest ≤ 10758684672 → IsExcluded rows (record { first = r.lower; first_weight = r.upper.x; second = r.upper; second_weight = w; rest = rest })
+pub two_exclude : (rows : List Row) (r : Range) (w rest : ℤ) → IsSystem rows → IsRange rows r → (r.upper.bound.z *ℤ r.lower.bound.x) ≤ℤ (r.lower.bound.z *ℤ r.upper.bound.x) → w ≡ neg_ℤ r.lower.bound.x
+    → rest ≡ r.lower.bound.z *ℤ r.upper.bound.x -ℤ r.upper.bound.z *ℤ r.lower.bound.x → unsigned_abs rest ≤ 10758684672 → IsExcluded rows (record { first = record { combination = r.lower; times = r.upper.bound.x }; second = record { combination = r.upper; times = w }; rest = rest })
 two_exclude rows r w rest s h f ew er small = record {
-  first = h.lower;
-  second = h.upper;
-  first_low = (let g = h.rises in omega (arith, ints, g));
-  first_high = h.upper.x_small;
-  second_low = (let g = h.falls in omega (arith, ints, ew, g));
-  second_high = (let g = h.lower.x_small in size r.lower.x w ew g);
-  gone = gone r.upper.x r.lower.x w ew;
-  rest = er;
-  rest_low = over r.upper.x r.lower.z r.lower.x r.upper.z w rest ew er f;
+  first = record { combination = h.lower; low = (let g = h.rises in omega (arith, ints, g)); high = h.upper.x_small };
+  second = record { combination = h.upper; low = (let g = h.falls in omega (arith, ints, ew, g)); high = (let g = h.lower.x_small in size r.lower.bound.x w ew g) };
+  gone = gone r.upper.bound.x r.lower.bound.x w ew;
+  rest = left r.upper.bound.x r.lower.bound.z r.lower.bound.x r.upper.bound.z w rest ew er;
+  rest_low = omega (arith, ints, er, f);
   rest_high = small;
   pair = either (some_pair rows r s h f);
 }
@@ -147,9 +152,9 @@ two_exclude rows r w rest s h f ew er small = record {
     gone : (u l w : ℤ) → w ≡ neg_ℤ l → pos 0 ≡ u *ℤ l +ℤ w *ℤ u
     gone u l w e = let a = ap (λ (t : ℤ). t *ℤ u) e in omega (arith, ints, rings, a)
 
-    over : (ux lz lx uz w rest : ℤ) → w ≡ neg_ℤ lx → rest ≡ ux *ℤ lz +ℤ w *ℤ uz → (uz *ℤ lx) ≤ℤ (lz *ℤ ux) → pos 0 ≤ℤ rest
-    over ux lz lx uz w rest e er f = let a = ap (λ (t : ℤ). t *ℤ uz) e in omega (arith, ints, rings, a, er, f)
+    left : (ux lz lx uz w rest : ℤ) → w ≡ neg_ℤ lx → rest ≡ lz *ℤ ux -ℤ uz *ℤ lx → rest ≡ ux *ℤ lz +ℤ w *ℤ uz
+    left ux lz lx uz w rest e er = let a = ap (λ (t : ℤ). t *ℤ uz) e in omega (arith, ints, rings, a, er)
 
-    either : (4 ≤ r.lower.second) ⊎ (4 ≤ r.upper.second) → (4 ≤ r.lower.second) ⊎ ((4 ≤ r.upper.second) × (pos 1 ≤ℤ w))
-    either (inl a) = inl a
+    either : IsGap (row_at rows r.lower.second).cause ⊎ IsGap (row_at rows r.upper.second).cause → (IsGap (row_at rows r.lower.second).cause × (pos 1 ≤ℤ r.upper.bound.x)) ⊎ (IsGap (row_at rows r.upper.second).cause × (pos 1 ≤ℤ w))
+    either (inl a) = inl (a, (let g = h.rises in omega (arith, ints, g)))
     either (inr a) = inr (a, (let g = h.falls in omega (arith, ints, ew, g)))

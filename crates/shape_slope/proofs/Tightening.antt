@@ -1,6 +1,6 @@
 -- Spans of the second slope that grow tighter, row by row.
 -- The order in which rows are looked at is that of the loop over them.
-use Rattle.std.proofs.Common.{Bool, ◌≡◌, ℕ, zero, suc, ◌+◌, ◌<◌, ◌≤◌, List, length, refl, ap, sym, subst, arith}
+use Rattle.std.proofs.Common.{Bool, ◌≡◌, ℕ, zero, suc, ◌+◌, ◌<◌, ◌≤◌, List, length, refl, sym, subst, arith}
 use Rattle.std.specs.Prelude.{IsTrue, ◌↔◌, ℤ, pos, negsuc, ◌*ℤ◌, ◌≤ℤ◌, ◌<ℤ◌, unsigned_abs}
 use Rattle.std.proofs.lemmas.Int.{ints}
 use native.Mathlib.Decide.{ℕ_discrete}
@@ -59,8 +59,8 @@ tight_more rows f old new j t x = record {
 -- the rows that keep the second slope between -1 and 1
 pub tight_first : (rows : List Row) (f : Frac) → IsSystem rows → IsTight rows f 4 (record { lower = 2; upper = 3 })
 tight_first rows f s =
-    let a : (row_at rows 2).y ≡ negsuc 0 = ap (λ (r : Row). r.y) s.plus_second in
-    let b : (row_at rows 3).y ≡ pos 1 = ap (λ (r : Row). r.y) s.minus_second in
+    let a = s.plus_second.y in
+    let b = s.minus_second.y in
     let l = s.some in
     record {
       span = record { lower_place = omega arith; upper_place = omega arith; lower_second = omega arith; upper_second = omega arith; falls = omega (arith, ints, a); rises = omega (arith, ints, b) };
@@ -68,8 +68,8 @@ tight_first rows f s =
     }
   where
     met : (j : ℕ) → j < 4 → (n m : ℤ) → pos 0 <ℤ m → MeetsAt rows f n m 2 × MeetsAt rows f n m 3 → ((row_at rows j).y ≡ pos 0 → ⊥) → MeetsAt rows f n m j
-    met zero k n m hm i e = absurd (e (ap (λ (r : Row). r.y) s.plus_first))
-    met (suc zero) k n m hm i e = absurd (e (ap (λ (r : Row). r.y) s.minus_first))
+    met zero k n m hm i e = absurd (e s.plus_first.y)
+    met (suc zero) k n m hm i e = absurd (e s.minus_first.y)
     met (suc (suc zero)) k n m hm i e = i.0
     met (suc (suc (suc zero))) k n m hm i e = i.1
     met (suc (suc (suc (suc j)))) k n m hm i e = absurd (omega arith)

@@ -5,7 +5,7 @@ use Rattle.std.specs.Prelude.{ℤ, pos, ◌+ℤ◌, ◌*ℤ◌, ◌≤ℤ◌, �
 use Rattle.std.proofs.lemmas.Int.{ints}
 use Rattle.shape_space.specs.declared.frac.Frac.{Frac}
 use Rattle.shape_slope.specs.Rows.{Meets}
-use Rattle.shape_slope.specs.Spans.{IsBetween}
+use Rattle.shape_slope.specs.Bounds.{IsBetween}
 use Rattle.shape_terms.proofs.Products.{rings}
 use Rattle.shape_terms.proofs.Order.{mul-le_ℤ, mul-lt_ℤ, cancel-lt_ℤ}
 

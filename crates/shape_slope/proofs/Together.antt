@@ -4,15 +4,20 @@ use Rattle.std.proofs.Common.{◌≡◌, ℕ, ◌+◌, ◌*◌, ◌<◌, ◌≤�
 use Rattle.std.specs.Prelude.{ℤ, pos, ◌+ℤ◌, ◌*ℤ◌, ◌≤ℤ◌, ◌<ℤ◌, unsigned_abs, neg_ℤ}
 use Rattle.std.proofs.lemmas.Int.{ints}
 use Rattle.shape_slope.specs.declared.row.Row.{Row}
+use Rattle.shape_slope.specs.declared.bound.Bound.{Bound}
 use Rattle.shape_slope.specs.declared.combination.Combination.{Combination}
-use Rattle.shape_slope.specs.Rows.{row_at, AreOpposite, IsSteep, IsSmall, Meets}
+use Rattle.shape_slope.specs.Rows.{row_at, IsGap, AreOpposite, IsSteep, Meets}
 use Rattle.shape_slope.specs.Combinations.{IsCombination}
 use Rattle.shape_slope.specs.Ranges.{LeaveRoom}
 use Rattle.shape_terms.proofs.Products.{rings}
 
-pub steep_row : (r : Row) (a : ℤ) → AreOpposite r.y a → IsSmall r → IsSteep r
-steep_row r a (inl h) s = s.steep (λ e. omega (arith, ints, e, h.0))
-steep_row r a (inr h) s = s.steep (λ e. omega (arith, ints, e, h.0))
+pub not_flat : (y w : ℤ) → AreOpposite y w → y ≡ pos 0 → ⊥
+not_flat y w (inl h) e = omega (arith, ints, e, h.0)
+not_flat y w (inr h) e = omega (arith, ints, e, h.0)
+
+pub not_flat_back : (y w : ℤ) → AreOpposite y w → w ≡ pos 0 → ⊥
+not_flat_back y w (inl h) e = omega (arith, ints, e, h.1)
+not_flat_back y w (inr h) e = omega (arith, ints, e, h.1)
 
 -- the second slope is gone
 pub gone : (y w : ℤ) → AreOpposite y w → pos 0 ≡ pos (unsigned_abs w) *ℤ y +ℤ pos (unsigned_abs y) *ℤ w
@@ -35,50 +40,52 @@ room_of x1 y1 z1 x2 y2 z2 v w x z p q ev ew ex ez h = apart v w y1 y2 (x1 *ℤ p
     apart v w y1 y2 l m ev ew h = let a = ap (λ (t : ℤ). t *ℤ l) ev in let b = ap (λ (t : ℤ). t *ℤ m) ew in omega (arith, ints, rings, a, b, h)
 
 pub leave_room : (rows : List Row) (c : Combination) (i j : ℕ) (p q : ℤ) → c.first ≡ i → c.second ≡ j → IsCombination rows c → c.first_weight ≡ pos (unsigned_abs (row_at rows j).y) → c.second_weight ≡ pos (unsigned_abs (row_at rows i).y)
-    → Meets p q c.x c.z → LeaveRoom p q (row_at rows i) (row_at rows j)
+    → Meets p q c.bound.x c.bound.z → LeaveRoom p q (row_at rows i) (row_at rows j)
 leave_room rows c i j p q ei ej h v w m = room (row_at rows i) (row_at rows j) v w (x_of ei ej) (z_of ei ej)
   where
-    x_of : c.first ≡ i → c.second ≡ j → c.x ≡ c.first_weight *ℤ (row_at rows i).x +ℤ c.second_weight *ℤ (row_at rows j).x
+    x_of : c.first ≡ i → c.second ≡ j → c.bound.x ≡ c.first_weight *ℤ (row_at rows i).x +ℤ c.second_weight *ℤ (row_at rows j).x
     x_of ei ej = h.x ∙ (λ l. c.first_weight *ℤ (row_at rows (ei l)).x +ℤ c.second_weight *ℤ (row_at rows (ej l)).x)
 
-    z_of : c.first ≡ i → c.second ≡ j → c.z ≡ c.first_weight *ℤ (row_at rows i).z +ℤ c.second_weight *ℤ (row_at rows j).z
+    z_of : c.first ≡ i → c.second ≡ j → c.bound.z ≡ c.first_weight *ℤ (row_at rows i).z +ℤ c.second_weight *ℤ (row_at rows j).z
     z_of ei ej = h.z ∙ (λ l. c.first_weight *ℤ (row_at rows (ei l)).z +ℤ c.second_weight *ℤ (row_at rows (ej l)).z)
 
-    room : (r s : Row) → c.first_weight ≡ pos (unsigned_abs s.y) → c.second_weight ≡ pos (unsigned_abs r.y) → c.x ≡ c.first_weight *ℤ r.x +ℤ c.second_weight *ℤ s.x → c.z ≡ c.first_weight *ℤ r.z +ℤ c.second_weight *ℤ s.z → LeaveRoom p q r s
+    room : (r s : Row) → c.first_weight ≡ pos (unsigned_abs s.y) → c.second_weight ≡ pos (unsigned_abs r.y) → c.bound.x ≡ c.first_weight *ℤ r.x +ℤ c.second_weight *ℤ s.x → c.bound.z ≡ c.first_weight *ℤ r.z +ℤ c.second_weight *ℤ s.z → LeaveRoom p q r s
     room r s v w x z = (
-      λ a b. room_of r.x r.y r.z s.x s.y s.z c.first_weight c.second_weight c.x c.z p q (omega (arith, ints, v, b)) (omega (arith, ints, w, a)) x z m,
-      λ a b. room_of s.x s.y s.z r.x r.y r.z c.second_weight c.first_weight c.x c.z p q (omega (arith, ints, w, b)) (omega (arith, ints, v, a)) (omega (arith, ints, x)) (omega (arith, ints, z)) m,
+      λ a b. room_of r.x r.y r.z s.x s.y s.z c.first_weight c.second_weight c.bound.x c.bound.z p q (omega (arith, ints, v, b)) (omega (arith, ints, w, a)) x z m,
+      λ a b. room_of s.x s.y s.z r.x r.y r.z c.second_weight c.first_weight c.bound.x c.bound.z p q (omega (arith, ints, w, b)) (omega (arith, ints, v, a)) (omega (arith, ints, x)) (omega (arith, ints, z)) m,
     )
 
 -- rows that are not opposite leave room
 pub not_opposite : (p q : ℤ) (r s : Row) → (AreOpposite r.y s.y → ⊥) → LeaveRoom p q r s
 not_opposite p q r s h = (λ a b. absurd (h (inl (a, b))), λ a b. absurd (h (inr (b, a))))
 
-pub combined_of : (rows : List Row) (i j : ℕ) (v w x z : ℤ) (a b : Row) → i < length rows → j < length rows → a ≡ row_at rows i → b ≡ row_at rows j → IsSteep a → IsSteep b
-    → AreOpposite (row_at rows i).y (row_at rows j).y → 4 ≤ j → v ≡ pos (unsigned_abs b.y) → w ≡ pos (unsigned_abs a.y) → x ≡ v *ℤ a.x +ℤ w *ℤ b.x → z ≡ v *ℤ a.z +ℤ w *ℤ b.z
+-- the combination of two rows is small
+pub combined_small : (a b : Row) (v w x z : ℤ) → IsSteep a → IsSteep b → v ≡ pos (unsigned_abs b.y) → w ≡ pos (unsigned_abs a.y)
     → ((m n : ℕ) → unsigned_abs v ≤ m → unsigned_abs a.x ≤ n → unsigned_abs w ≤ m → unsigned_abs b.x ≤ n → unsigned_abs x ≤ m * n + m * n)
     → ((m n : ℕ) → unsigned_abs v ≤ m → unsigned_abs a.z ≤ n → unsigned_abs w ≤ m → unsigned_abs b.z ≤ n → unsigned_abs z ≤ m * n + m * n)
-    → IsCombination rows (record { first = i; first_weight = v; second = j; second_weight = w; x = x; z = z })
-combined_of rows i j v w x z a b hi hj ea eb sa sb o k ev ew ex ez sx sz = record {
+    → (unsigned_abs x ≤ 73344) × (unsigned_abs z ≤ 73344)
+combined_small a b v w x z sa sb ev ew sx sz =
+    let v_high : unsigned_abs v ≤ 191 = (let m = sb.y_small in rw ev m) in
+    let w_high : unsigned_abs w ≤ 191 = (let m = sa.y_small in rw ew m) in
+    (sx 191 192 v_high (omega (arith, sa.x_small)) w_high (omega (arith, sb.x_small)), sz 191 192 v_high sa.z_small w_high sb.z_small)
+
+pub combined_of : (rows : List Row) (i j : ℕ) (v w : ℤ) (o : Bound) (a b : Row) → i < length rows → j < length rows → a ≡ row_at rows i → b ≡ row_at rows j → IsSteep a → IsSteep b
+    → AreOpposite (row_at rows i).y (row_at rows j).y → IsGap (row_at rows j).cause → v ≡ pos (unsigned_abs b.y) → w ≡ pos (unsigned_abs a.y) → o.x ≡ pos (unsigned_abs b.y) *ℤ a.x +ℤ pos (unsigned_abs a.y) *ℤ b.x → o.z ≡ pos (unsigned_abs b.y) *ℤ a.z +ℤ pos (unsigned_abs a.y) *ℤ b.z
+    → unsigned_abs o.x ≤ 73344 → unsigned_abs o.z ≤ 73344 → IsCombination rows (record { first = i; first_weight = v; second = j; second_weight = w; bound = o })
+combined_of rows i j v w o a b hi hj ea eb sa sb p k ev ew ex ez sx sz = record {
   first = hi;
   second = hj;
   first_low = omega (arith, ints, ev);
-  first_high = v_high;
+  first_high = (let m = sb.y_small in rw ev m);
   second_low = (let m = some_size a.y b.y opposite in rw ew m);
-  second_high = w_high;
-  x = ex ∙ (λ l. v *ℤ (ea l).x +ℤ w *ℤ (eb l).x);
+  second_high = (let m = sa.y_small in rw ew m);
+  x = rw (ev, ew) ex ∙ (λ l. v *ℤ (ea l).x +ℤ w *ℤ (eb l).x);
   y = rw (ev, ew) (gone a.y b.y opposite) ∙ (λ l. v *ℤ (ea l).y +ℤ w *ℤ (eb l).y);
-  z = ez ∙ (λ l. v *ℤ (ea l).z +ℤ w *ℤ (eb l).z);
-  x_small = sx 191 192 v_high (omega (arith, sa.x_small)) w_high (omega (arith, sb.x_small));
-  z_small = sz 191 192 v_high sa.z_small w_high sb.z_small;
+  z = rw (ev, ew) ez ∙ (λ l. v *ℤ (ea l).z +ℤ w *ℤ (eb l).z);
+  x_small = sx;
+  z_small = sz;
   kind = inr k;
 }
   where
-    v_high : unsigned_abs v ≤ 191
-    v_high = let m = sb.y_small in rw ev m
-
-    w_high : unsigned_abs w ≤ 191
-    w_high = let m = sa.y_small in rw ew m
-
     opposite : AreOpposite a.y b.y
-    opposite = subst (λ (r : Row). AreOpposite r.y b.y) (sym ea) (subst (λ (r : Row). AreOpposite (row_at rows i).y r.y) (sym eb) o)
+    opposite = subst (λ (r : Row). AreOpposite r.y b.y) (sym ea) (subst (λ (r : Row). AreOpposite (row_at rows i).y r.y) (sym eb) p)

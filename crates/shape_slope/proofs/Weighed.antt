@@ -1,39 +1,24 @@
 -- Weights to which a row is added: their number, their size, and what they leave on each axis.
 -- Which rows are added belongs elsewhere.
-use Rattle.std.proofs.Common.{◌≡◌, ℕ, zero, suc, ◌+◌, ◌-◌, ◌<◌, ◌≤◌, ◌^◌, ◌⊎◌, inl, inr, Bool, List, [], ◌∷◌, ◌++◌, length, refl, ap, sym, subst, ◌∙◌, arith}
-use Rattle.std.specs.Prelude.{ℤ, pos, neg_ℤ, ◌+ℤ◌, ◌-ℤ◌, ◌*ℤ◌, if◌then◌else◌}
+use Rattle.std.proofs.Common.{◌≡◌, ℕ, zero, suc, ◌+◌, ◌<◌, ◌≤◌, ◌^◌, inl, inr, List, [], ◌∷◌, ◌++◌, length, refl, ap, sym, ◌∙◌, arith}
+use Rattle.std.specs.Prelude.{ℤ, pos, neg_ℤ, ◌+ℤ◌, ◌-ℤ◌, ◌*ℤ◌, slice_get, Some}
 use Rattle.std.proofs.lemmas.Int.{ints}
-use Rattle.std.proofs.lemmas.Bool.{lt-ltb, le-ltb}
 use Rattle.std.proofs.lemmas.List.{length-append}
 use Rattle.std.proofs.lemmas.List.Sums.{sum_by-append, sum_by-cons}
 use Rattle.std.proofs.lemmas.List.Elements.{All-push}
-use Rattle.std.proofs.lemmas.Option.{slice_get-get_or}
 use Rattle.shape_terms.specs.Points.{Point, coordinate}
 use Rattle.shape_terms.specs.Vectors.{unit}
 use Rattle.shape_terms.specs.Refutations.{Share, Step, StepShare, Refutation, IsStepOf, step_of, point_at, total_weight}
+use Rattle.shape_refute.specs.Shown.{shift_of}
 use Rattle.shape_refute.specs.Sums.{shares_sum, steps_sum, axis_value}
 use Rattle.shape_slope.specs.declared.pair.Pair.{Pair}
-use Rattle.shape_slope.specs.Pairs.{ArePairs, gap}
-use Rattle.shape_slope.specs.Systems.{bounding_step, pair_at, no_weights, with_step, with_pair, with_row, with_up, balance, coefficient}
+use Rattle.shape_slope.specs.declared.row.Cause.{Cause}
+use Rattle.shape_slope.specs.declared.row.Cause.TheVariants.{Proper, Gap}
+use Rattle.shape_slope.specs.Rows.{IsGap}
+use Rattle.shape_slope.specs.Pairs.{IsPair, gap}
+use Rattle.shape_slope.specs.Systems.{no_weights, with_step, with_pair, with_row, with_up, balance, coefficient}
 use Rattle.shape_slope.specs.Weighing.{IsEntry, IsStepEntry, IsWeighed}
 use Rattle.shape_terms.proofs.Products.{rings}
-
-pub small_or : (i : ℕ) → (i < 4) ⊎ (4 ≤ i)
-small_or i = grind arith
-
--- ---- which row is added
-
-pub row_step : (t : ℕ) (pairs : List Pair) (r : Refutation) (w i : ℕ) → i < 4 → with_row t pairs r (suc w) i ≡ with_step r (suc w) (bounding_step t i)
-row_step t pairs r w i h = ap (λ (b : Bool). if b then with_step r (suc w) (bounding_step t i) else with_pair r (suc w) (pair_at pairs (i - 4))) (lt-ltb i 4 h)
-
-pub row_pair : (t : ℕ) (pairs : List Pair) (r : Refutation) (w i : ℕ) → 4 ≤ i → with_row t pairs r (suc w) i ≡ with_pair r (suc w) (pair_at pairs (i - 4))
-row_pair t pairs r w i h = ap (λ (b : Bool). if b then with_step r (suc w) (bounding_step t i) else with_pair r (suc w) (pair_at pairs (i - 4))) (le-ltb i 4 h)
-
-pub coefficient_step : (t : ℕ) (points : List Point) (pairs : List Pair) (i k : ℕ) → i < 4 → coefficient t points pairs i k ≡ neg_ℤ (coordinate (step_of t (bounding_step t i)) k)
-coefficient_step t points pairs i k h = ap (λ (b : Bool). if b then neg_ℤ (coordinate (step_of t (bounding_step t i)) k) else gap points (pair_at pairs (i - 4)) k -ℤ coordinate (unit t) k) (lt-ltb i 4 h)
-
-pub coefficient_pair : (t : ℕ) (points : List Point) (pairs : List Pair) (i k : ℕ) → 4 ≤ i → coefficient t points pairs i k ≡ gap points (pair_at pairs (i - 4)) k -ℤ coordinate (unit t) k
-coefficient_pair t points pairs i k h = ap (λ (b : Bool). if b then neg_ℤ (coordinate (step_of t (bounding_step t i)) k) else gap points (pair_at pairs (i - 4)) k -ℤ coordinate (unit t) k) (le-ltb i 4 h)
 
 -- ---- sums of one entry more
 
@@ -61,12 +46,10 @@ balance_pair t points r w pair k =
     more : (a b s c d w x y u : ℤ) → c ≡ a +ℤ w *ℤ (x -ℤ u) → d ≡ b +ℤ w *ℤ (y -ℤ pos 0) → (c -ℤ d) -ℤ s ≡ ((a -ℤ b) -ℤ s) +ℤ w *ℤ ((x -ℤ y) -ℤ u)
     more a b s c d w x y u e f = omega (arith, ints, rings, e, f)
 
-pub balance_row : (t : ℕ) (points : List Point) (pairs : List Pair) (r : Refutation) (w i k : ℕ) → balance t points (with_row t pairs r w i) k ≡ balance t points r k +ℤ pos w *ℤ coefficient t points pairs i k
-balance_row t points pairs r zero i k = omega (arith, ints)
-balance_row t points pairs r (suc w) i k = elim (small_or i) [
-  | inl h ↦ ap (λ (s : Refutation). balance t points s k) (row_step t pairs r w i h) ∙ balance_step t points r (suc w) (bounding_step t i) k ∙ ap (λ (z : ℤ). balance t points r k +ℤ pos (suc w) *ℤ z) (sym (coefficient_step t points pairs i k h))
-  | inr h ↦ ap (λ (s : Refutation). balance t points s k) (row_pair t pairs r w i h) ∙ balance_pair t points r (suc w) (pair_at pairs (i - 4)) k ∙ ap (λ (z : ℤ). balance t points r k +ℤ pos (suc w) *ℤ z) (sym (coefficient_pair t points pairs i k h))
-]
+pub balance_row : (t : ℕ) (points : List Point) (r : Refutation) (w : ℕ) (c : Cause) (k : ℕ) → balance t points (with_row r w c) k ≡ balance t points r k +ℤ pos w *ℤ coefficient t points c k
+balance_row t points r zero c k = omega (arith, ints)
+balance_row t points r (suc w) (Proper s) k = balance_step t points r (suc w) (shift_of s) k
+balance_row t points r (suc w) (Gap pair) k = balance_pair t points r (suc w) pair k
 
 pub balance_up : (t : ℕ) (points : List Point) (r : Refutation) (w k : ℕ) → balance t points (with_up r w) k ≡ balance t points r k +ℤ pos w *ℤ neg_ℤ (coordinate (unit t) k)
 balance_up t points r zero k = omega (arith, ints)
@@ -113,45 +96,40 @@ weighed_step d t points pairs n m r w s h small step = record {
   same = h.same;
 }
 
-pub weighed_pair : (d t : ℕ) (points : List Point) (pairs : List Pair) (n m : ℕ) (r : Refutation) (w j : ℕ) → IsWeighed d t points pairs n m r → w < 2 ^ 40 → ArePairs (length points) pairs → j < length pairs → IsWeighed d t points pairs (n + 1) m (with_pair r w (pair_at pairs j))
-weighed_pair d t points pairs n m r w j h small are l =
-    let p = are j (record { low = 0; high = 0 }) l in
-    let g = slice_get-get_or pairs j (record { low = 0; high = 0 }) l in
-    record {
-      low = All-push (IsEntry (length points) pairs) r.low (record { weight = w; place = (pair_at pairs j).low }) h.low (record { place = p.0; from = (j, pair_at pairs j, g, inl refl); small = small });
-      high = All-push (IsEntry (length points) pairs) r.high (record { weight = w; place = (pair_at pairs j).high }) h.high (record { place = p.1; from = (j, pair_at pairs j, g, inr refl); small = small });
-      steps = h.steps;
-      low_few = (let a = h.low_few in let e = length_more r.low (record { weight = w; place = (pair_at pairs j).low }) in omega (arith, a, e));
-      high_few = (let a = h.high_few in let e = length_more r.high (record { weight = w; place = (pair_at pairs j).high }) in omega (arith, a, e));
-      steps_few = h.steps_few;
-      same = total_more r.low (record { weight = w; place = (pair_at pairs j).low }) ∙ ap (λ (x : ℕ). x + w) h.same ∙ sym (total_more r.high (record { weight = w; place = (pair_at pairs j).high }));
-    }
+pub weighed_pair : (d t : ℕ) (points : List Point) (pairs : List Pair) (n m : ℕ) (r : Refutation) (w j : ℕ) (pair : Pair) → IsWeighed d t points pairs n m r → w < 2 ^ 40 → IsPair (length points) pair → slice_get pairs j ≡ Some pair → IsWeighed d t points pairs (n + 1) m (with_pair r w pair)
+weighed_pair d t points pairs n m r w j pair h small p g = record {
+  low = All-push (IsEntry (length points) pairs) r.low (record { weight = w; place = pair.low }) h.low (record { place = p.0; from = (j, pair, g, inl refl); small = small });
+  high = All-push (IsEntry (length points) pairs) r.high (record { weight = w; place = pair.high }) h.high (record { place = p.1; from = (j, pair, g, inr refl); small = small });
+  steps = h.steps;
+  low_few = (let a = h.low_few in let e = length_more r.low (record { weight = w; place = pair.low }) in omega (arith, a, e));
+  high_few = (let a = h.high_few in let e = length_more r.high (record { weight = w; place = pair.high }) in omega (arith, a, e));
+  steps_few = h.steps_few;
+  same = total_more r.low (record { weight = w; place = pair.low }) ∙ ap (λ (x : ℕ). x + w) h.same ∙ sym (total_more r.high (record { weight = w; place = pair.high }));
+}
 
--- a row that stands for a lawful step or for a pair
-pub record IsLawful (d t : ℕ) (pairs : List Pair) (w i : ℕ) : Type 0 where
-  pub step : i < 4 → 1 ≤ w → IsStepOf d t (bounding_step t i)
-  pub pair : 4 ≤ i → i - 4 < length pairs
+-- a lawful step, or one of the pairs
+abbrev pub IsLawful : ℕ → ℕ → ℕ → List Pair → Cause → Type 0
+IsLawful d t n pairs (Proper s) = IsStepOf d t (shift_of s)
+IsLawful d t n pairs (Gap pair) = IsPair n pair × ((j : ℕ) × (slice_get pairs j ≡ Some pair))
 
-pub weighed_row : (d t : ℕ) (points : List Point) (pairs : List Pair) (n m : ℕ) (r : Refutation) (w i : ℕ) → IsWeighed d t points pairs n m r → w < 2 ^ 40 → ArePairs (length points) pairs → IsLawful d t pairs w i → IsWeighed d t points pairs (n + 1) (m + 1) (with_row t pairs r w i)
-weighed_row d t points pairs n m r zero i h small are law = weaker d t points pairs n m (n + 1) (m + 1) r (omega arith) (omega arith) h
-weighed_row d t points pairs n m r (suc w) i h small are law = elim (small_or i) [
-  | inl l ↦ subst (IsWeighed d t points pairs (n + 1) (m + 1)) (sym (row_step t pairs r w i l)) (weaker d t points pairs n (m + 1) (n + 1) (m + 1) _ (omega arith) (omega arith) (weighed_step d t points pairs n m r (suc w) (bounding_step t i) h small (law.step l (omega arith))))
-  | inr l ↦ subst (IsWeighed d t points pairs (n + 1) (m + 1)) (sym (row_pair t pairs r w i l)) (weaker d t points pairs (n + 1) m (n + 1) (m + 1) _ (omega arith) (omega arith) (weighed_pair d t points pairs n m r (suc w) (i - 4) h small are (law.pair l)))
-]
+pub weighed_row : (d t : ℕ) (points : List Point) (pairs : List Pair) (n m : ℕ) (r : Refutation) (w : ℕ) (c : Cause) → IsWeighed d t points pairs n m r → w < 2 ^ 40 → (1 ≤ w → IsLawful d t (length points) pairs c) → IsWeighed d t points pairs (n + 1) (m + 1) (with_row r w c)
+weighed_row d t points pairs n m r zero c h small law = weaker d t points pairs n m (n + 1) (m + 1) r (omega arith) (omega arith) h
+weighed_row d t points pairs n m r (suc w) (Proper s) h small law = weaker d t points pairs n (m + 1) (n + 1) (m + 1) _ (omega arith) (omega arith) (weighed_step d t points pairs n m r (suc w) (shift_of s) h small (law (omega arith)))
+weighed_row d t points pairs n m r (suc w) (Gap pair) h small law = let l = law (omega arith) in weaker d t points pairs (n + 1) m (n + 1) (m + 1) _ (omega arith) (omega arith) (weighed_pair d t points pairs n m r (suc w) l.1.0 pair h small l.0 l.1.1)
 
 -- a row of a pair brings no step
-pub weighed_row_pair : (d t : ℕ) (points : List Point) (pairs : List Pair) (n m : ℕ) (r : Refutation) (w i : ℕ) → IsWeighed d t points pairs n m r → w < 2 ^ 40 → ArePairs (length points) pairs → 4 ≤ i → i - 4 < length pairs → IsWeighed d t points pairs (n + 1) m (with_row t pairs r w i)
-weighed_row_pair d t points pairs n m r zero i h small are l j = weaker d t points pairs n m (n + 1) m r (omega arith) (omega arith) h
-weighed_row_pair d t points pairs n m r (suc w) i h small are l j = subst (IsWeighed d t points pairs (n + 1) m) (sym (row_pair t pairs r w i l)) (weighed_pair d t points pairs n m r (suc w) (i - 4) h small are j)
+pub weighed_gap : (d t : ℕ) (points : List Point) (pairs : List Pair) (n m : ℕ) (r : Refutation) (w : ℕ) (c : Cause) → IsWeighed d t points pairs n m r → w < 2 ^ 40 → IsLawful d t (length points) pairs c → IsGap c → IsWeighed d t points pairs (n + 1) m (with_row r w c)
+weighed_gap d t points pairs n m r zero c h small l g = weaker d t points pairs n m (n + 1) m r (omega arith) (omega arith) h
+weighed_gap d t points pairs n m r (suc w) (Gap pair) h small l g = weighed_pair d t points pairs n m r (suc w) l.1.0 pair h small l.0 l.1.1
+weighed_gap d t points pairs n m r (suc w) (Proper s) h small l g = absurd g
 
 -- how many low points there are in all
-pub total_row : (t : ℕ) (pairs : List Pair) (r : Refutation) (w i : ℕ) → total_weight r.low ≤ total_weight (with_row t pairs r w i).low
-total_row t pairs r zero i = omega arith
-total_row t pairs r (suc w) i = elim (small_or i) [
-  | inl l ↦ subst (λ (s : Refutation). total_weight r.low ≤ total_weight s.low) (sym (row_step t pairs r w i l)) (omega arith)
-  | inr l ↦ subst (λ (s : Refutation). total_weight r.low ≤ total_weight s.low) (sym (row_pair t pairs r w i l)) (omega (arith, total_more r.low (record { weight = suc w; place = (pair_at pairs (i - 4)).low })))
-]
+pub total_row : (r : Refutation) (w : ℕ) (c : Cause) → total_weight r.low ≤ total_weight (with_row r w c).low
+total_row r zero c = omega arith
+total_row r (suc w) (Proper s) = omega arith
+total_row r (suc w) (Gap pair) = omega (arith, total_more r.low (record { weight = suc w; place = pair.low }))
 
-pub total_row_pair : (t : ℕ) (pairs : List Pair) (r : Refutation) (w i : ℕ) → 4 ≤ i → w ≤ total_weight (with_row t pairs r w i).low
-total_row_pair t pairs r zero i l = omega arith
-total_row_pair t pairs r (suc w) i l = subst (λ (s : Refutation). suc w ≤ total_weight s.low) (sym (row_pair t pairs r w i l)) (omega (arith, total_more r.low (record { weight = suc w; place = (pair_at pairs (i - 4)).low })))
+pub total_gap : (r : Refutation) (w : ℕ) (c : Cause) → IsGap c → w ≤ total_weight (with_row r w c).low
+total_gap r zero c g = omega arith
+total_gap r (suc w) (Gap pair) g = omega (arith, total_more r.low (record { weight = suc w; place = pair.low }))
+total_gap r (suc w) (Proper s) g = absurd g

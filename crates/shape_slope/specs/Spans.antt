@@ -1,6 +1,6 @@
 -- Bounds of the second slope n/m at a first slope p/q, and which row gives each.
 -- In which order rows are looked at belongs elsewhere.
-use Rattle.std.specs.Prelude.{◌≡◌, ℕ, ◌+◌, ◌≤◌, ◌<◌, List, length, ℤ, pos, ◌*ℤ◌, ◌≤ℤ◌, ◌<ℤ◌, unsigned_abs}
+use Rattle.std.specs.Prelude.{◌≡◌, ℕ, ◌≤◌, ◌<◌, List, length, ℤ, pos, ◌≤ℤ◌, ◌<ℤ◌, unsigned_abs}
 use Rattle.shape_slope.specs.declared.row.Row.{Row}
 use Rattle.shape_space.specs.declared.frac.Frac.{Frac}
 use Rattle.shape_slope.specs.declared.span.Span.{Span}
@@ -42,11 +42,3 @@ pub record IsTightened (rows : List Row) (f : Frac) (old : Span) (j : ℕ) (new 
 pub record IsTight (rows : List Row) (f : Frac) (k : ℕ) (s : Span) : Type 0 where
   pub span : IsSpan rows s
   pub met : (j : ℕ) → j < k → (n m : ℤ) → pos 0 <ℤ m → IsAmid rows f n m s → ((row_at rows j).y ≡ pos 0 → ⊥) → MeetsAt rows f n m j
-
--- a fraction strictly between two others, and in size no greater than the two together
-pub record IsBetween (lo hi f : Frac) : Type 0 where
-  pub den : pos 1 ≤ℤ f.den
-  pub above : (lo.num *ℤ f.den) <ℤ (f.num *ℤ lo.den)
-  pub below : (f.num *ℤ hi.den) <ℤ (hi.num *ℤ f.den)
-  pub num_small : unsigned_abs f.num ≤ unsigned_abs lo.num + unsigned_abs hi.num
-  pub den_small : unsigned_abs f.den ≤ unsigned_abs lo.den + unsigned_abs hi.den

@@ -3,16 +3,16 @@
 ghost use Rattle.std.specs.Prelude.{◌≡◌, ◌≤◌, ◌↔◌, IsTrue, unsigned_abs, ◌<ℤ◌, ◌≤ℤ◌, ◌*ℤ◌, pos, length};
 ghost use Rattle.shape_slope.specs.Rows.{row_at, level as level_of, IsSystem};
 ghost use Rattle.shape_slope.specs.Ranges.{IsInside, IsRange, IsClashing, IsWhole};
-ghost use Rattle.shape_slope.specs.Combinations.{IsBounded};
+ghost use Rattle.shape_slope.specs.Combinations.{IsCombination};
 ghost use Rattle.shape_slope.specs.Spans.{IsSpan, IsAmid, IsSmallSlope};
 ghost use Rattle.shape_slope.specs.Solutions.{IsSolution, IsExcluded, IsElimination};
 
+use crate::bound::{leaves_room, overlap, slope_inside};
 use crate::combination::Combination;
-use crate::exact::{combine, product};
+use crate::exact::product;
 use crate::range::{Narrowed, Range, first_slopes};
 use crate::row::Row;
-use crate::slope::{leaves_room, slope_inside};
-use crate::span::{Span, second_slopes, tilt_of};
+use crate::span::{Span, bound_of, second_slopes};
 use shape_space::Frac;
 
 /// The slopes a/c and b/c.
@@ -23,13 +23,18 @@ pub struct Solution {
     pub c: i64,
 }
 
+/// A combination, taken so often.
+#[derive(Clone, Copy)]
+pub struct Multiple {
+    pub combination: Combination,
+    pub times: i64,
+}
+
 /// Combinations that no slope meets, each so often that the first slope is gone, and what is left.
 #[derive(Clone, Copy)]
 pub struct Excluded {
-    pub first: Combination,
-    pub first_weight: i64,
-    pub second: Combination,
-    pub second_weight: i64,
+    pub first: Multiple,
+    pub second: Multiple,
     pub rest: i64,
 }
 
@@ -38,28 +43,6 @@ pub struct Excluded {
 pub enum Elimination {
     Slopes(Solution),
     Clash(Excluded),
-}
-
-// Whether some slope lies between the bounds.
-fn has_room(r: Range) -> bool
-    requires lower { IsBounded r.lower }
-    requires upper { IsBounded r.upper }
-    ensures { IsTrue result ↔ (r.lower.z *ℤ r.upper.x) <ℤ (r.upper.z *ℤ r.lower.x) }
-{
-    leaves_room(r.lower.x, r.lower.z, r.upper.x, r.upper.z)
-}
-
-// A slope between the bounds.
-fn first_slope(r: Range) -> Frac
-    requires lower { IsBounded r.lower }
-    requires upper { IsBounded r.upper }
-    requires falls { r.lower.x <ℤ pos 0 }
-    requires rises { pos 0 <ℤ r.upper.x }
-    requires room { (r.lower.z *ℤ r.upper.x) <ℤ (r.upper.z *ℤ r.lower.x) }
-    ensures inside { IsInside result.num result.den r }
-    ensures small { IsSmallSlope result }
-{
-    slope_inside(r.lower.x, r.lower.z, r.upper.x, r.upper.z)
 }
 
 // A second slope, at a first slope that leaves room.
@@ -75,9 +58,7 @@ fn second_slope(rows: &[Row], f: Frac, s: Span) -> Frac
     ensures num_small { unsigned_abs result.num ≤ 112656384 }
     ensures den_small { unsigned_abs result.den ≤ 382 }
 {
-    let lower = tilt_of(rows, f, s.lower);
-    let upper = tilt_of(rows, f, s.upper);
-    slope_inside(lower.y, lower.w, upper.y, upper.w)
+    slope_inside(bound_of(rows, f, s.lower), bound_of(rows, f, s.upper))
 }
 
 // The slopes p/q and n/m over one denominator.
@@ -100,10 +81,11 @@ fn together(f: Frac, g: Frac) -> Solution
 fn slopes_within(rows: &[Row], r: Range) -> Solution
     requires system { IsSystem rows.now }
     requires whole { IsWhole rows.now (length rows.now) r }
-    requires room { (r.lower.z *ℤ r.upper.x) <ℤ (r.upper.z *ℤ r.lower.x) }
+    requires room { (r.lower.bound.z *ℤ r.upper.bound.x) <ℤ
+        (r.upper.bound.z *ℤ r.lower.bound.x) }
     ensures { IsSolution rows.now result }
 {
-    let f = first_slope(r);
+    let f = slope_inside(r.lower.bound, r.upper.bound);
     let s = second_slopes(rows, f);
     together(f, second_slope(rows, f, s))
 }
@@ -115,11 +97,15 @@ fn excluded_by_one(rows: &[Row], c: Combination) -> Excluded
 {
     let _ = rows;
     Excluded {
-        first: c,
-        first_weight: 1,
-        second: c,
-        second_weight: 0,
-        rest: c.z,
+        first: Multiple {
+            combination: c,
+            times: 1,
+        },
+        second: Multiple {
+            combination: c,
+            times: 0,
+        },
+        rest: c.bound.z,
     }
 }
 
@@ -127,18 +113,21 @@ fn excluded_by_one(rows: &[Row], c: Combination) -> Excluded
 fn excluded_by_two(rows: &[Row], r: Range) -> Excluded
     requires system { IsSystem rows.now }
     requires range { IsRange rows.now r }
-    requires full { (r.upper.z *ℤ r.lower.x) ≤ℤ (r.lower.z *ℤ r.upper.x) }
+    requires full { (r.upper.bound.z *ℤ r.lower.bound.x) ≤ℤ
+        (r.lower.bound.z *ℤ r.upper.bound.x) }
     ensures { IsExcluded rows.now result }
 {
     let _ = rows;
-    let v = r.upper.x;
-    let w = -r.lower.x;
     Excluded {
-        first: r.lower,
-        first_weight: v,
-        second: r.upper,
-        second_weight: w,
-        rest: combine(v, r.lower.z, w, r.upper.z),
+        first: Multiple {
+            combination: r.lower,
+            times: r.upper.bound.x,
+        },
+        second: Multiple {
+            combination: r.upper,
+            times: -r.lower.bound.x,
+        },
+        rest: overlap(r.lower.bound, r.upper.bound),
     }
 }
 
@@ -148,7 +137,7 @@ fn decided(rows: &[Row], r: Range) -> Elimination
     requires whole { IsWhole rows.now (length rows.now) r }
     ensures { IsElimination rows.now result }
 {
-    if has_room(r) {
+    if leaves_room(r.lower.bound, r.upper.bound) {
         Elimination::Slopes(slopes_within(rows, r))
     } else {
         Elimination::Clash(excluded_by_two(rows, r))

@@ -3,13 +3,13 @@
 #![tactic(auto)]
 
 mod answer;
+mod bound;
 mod combination;
 mod eliminate;
 mod exact;
 mod pair;
 mod range;
 mod row;
-mod slope;
 mod span;
 mod system;
 mod weights;

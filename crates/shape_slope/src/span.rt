@@ -4,8 +4,8 @@ ghost use Rattle.std.specs.Prelude.{◌≡◌, ◌<◌, ◌≤◌, ◌↔◌, Is
 ghost use Rattle.shape_slope.specs.Rows.{row_at, level as level_of, AreSmall, IsSteep, IsSystem};
 ghost use Rattle.shape_slope.specs.Spans.{IsSpan, IsSmallSlope, IsTightened, IsTight};
 
+use crate::bound::{Bound, is_tighter};
 use crate::exact::combine;
-use crate::range::is_tighter;
 use crate::row::{Row, read};
 use shape_space::Frac;
 
@@ -16,27 +16,20 @@ pub struct Span {
     pub upper: usize,
 }
 
-/// What a row says of the second slope n/m: the inequality `y*n + w*m < 0`.
-#[derive(Clone, Copy)]
-pub struct Tilt {
-    pub y: i64,
-    pub w: i64,
-}
-
 /// What a row in which the second slope stands says of it.
-pub fn tilt_of(rows: &[Row], f: Frac, i: usize) -> Tilt
+pub fn bound_of(rows: &[Row], f: Frac, i: usize) -> Bound
     requires place { i < length rows.now }
     requires steep { IsSteep (row_at rows.now i) }
     requires slope { IsSmallSlope f }
-    ensures y { result.y ≡ (row_at rows.now i).y }
-    ensures w { result.w ≡ level_of f.num f.den (row_at rows.now i) }
-    ensures y_small { unsigned_abs result.y ≤ 191 }
-    ensures w_small { unsigned_abs result.w ≤ 56328192 }
+    ensures x { result.x ≡ (row_at rows.now i).y }
+    ensures z { result.z ≡ level_of f.num f.den (row_at rows.now i) }
+    ensures x_small { unsigned_abs result.x ≤ 191 }
+    ensures z_small { unsigned_abs result.z ≤ 56328192 }
 {
     let r = read(rows, i);
-    Tilt {
-        y: r.y,
-        w: combine(r.x, f.num, r.z, f.den),
+    Bound {
+        x: r.y,
+        z: combine(r.x, f.num, r.z, f.den),
     }
 }
 
@@ -51,9 +44,9 @@ fn is_tighter_row(rows: &[Row], f: Frac, j: usize, i: usize) -> bool
         ↔ (level_of f.num f.den (row_at rows.now i) *ℤ pos (unsigned_abs (row_at rows.now j).y)) <ℤ
         (level_of f.num f.den (row_at rows.now j) *ℤ pos (unsigned_abs (row_at rows.now i).y)) }
 {
-    let old = tilt_of(rows, f, i);
-    let new = tilt_of(rows, f, j);
-    is_tighter(new.y, new.w, old.y, old.w)
+    let old = bound_of(rows, f, i);
+    let new = bound_of(rows, f, j);
+    is_tighter(new, old)
 }
 
 // Whether the second slope stands in a row with a negative coefficient.

@@ -2,10 +2,10 @@ use Rattle.std.proofs.Common.{rules, arith, FitsSigned, sym, subst}
 use Rattle.std.specs.Int.{w64}
 use Rattle.std.proofs.lemmas.Int.{to_z-of_z}
 use Rattle.shape_slope.specs.Rows.{IsSteep}
-use Rattle.shape_slope.proofs.span.tilt_of.Goals as goal
+use Rattle.shape_slope.proofs.span.bound_of.Goals as goal
 
-pub returns-clause-w_small : goal.returns-clause-w_small
-returns-clause-w_small c =
+pub returns-clause-z_small : goal.returns-clause-z_small
+returns-clause-z_small c =
     let f1 : FitsSigned w64 c.combine.result = search rules in
     let f2 : FitsSigned w64 c.read-r.result.x = search rules in
     let f3 : FitsSigned w64 c.read-r.result.z = search rules in
