@@ -20,6 +20,3 @@ mod top;
 pub use law::holding_is_drawn;
 pub use outcome::Outcome;
 pub use top::run;
-
-#[cfg(test)]
-mod tests;

@@ -8,6 +8,3 @@ mod places;
 mod round;
 
 pub use judge::CoverJudge;
-
-#[cfg(test)]
-mod tests;

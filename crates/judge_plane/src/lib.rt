@@ -9,6 +9,3 @@ mod order;
 mod round;
 
 pub use judge::PlaneJudge;
-
-#[cfg(test)]
-mod tests;

@@ -5,7 +5,7 @@ ghost use Rattle.std.specs.Bool.{OnTrue};
 ghost use Rattle.shape_terms.specs.Points.{in_box, box_count, raster_point};
 ghost use Rattle.shape_terms.specs.FramedBox.{IsWithin};
 ghost use Rattle.shape_terms.specs.Pictures.{Picture, object_points};
-ghost use Rattle.thin_terms.specs.Thinning.{Rule, Event, Stage, ThinsTo, rule_by};
+ghost use Rattle.thin_terms.specs.Thinning.{Rule, Event, Stage, ThinsTo};
 ghost use Rattle.thin_terms.specs.Following.{IsNextEvent, AreAllEvents};
 ghost use Rattle.shape_queue.specs.Keys.{has};
 ghost use Rattle.shape_queue.specs.Distances.{AreDistances};
@@ -70,18 +70,16 @@ impl<P: SimpleMask> ThinJudge<P> {
     /// The point is deleted, or marked where `tips` is true. The rule is asked once, unless the
     /// point is not the next one.
     pub fn event(&mut self, p: P, tips: bool, rule: &mut dyn EndRule) -> Result<bool, NoMemory>
-        ensures answer { let by = rule_by (opening rule.old) (marks rule.old) (next rule.old) in
+        ensures answer { let by = means rule.old in
             (X : Picture) (events : List Event) → StandsFor by X events (state rule.old) self.old
             → IfOk result (λ b. IsTrue b ↔ IsNextEvent by X events (event_by tips (P.coords p))) }
-        ensures stands { let by = rule_by (opening rule.old) (marks rule.old) (next rule.old) in
+        ensures stands { let by = means rule.old in
             (X : Picture) (events : List Event) → StandsFor by X events (state rule.old) self.old
             → IfOk result (λ b. OnTrue b
             (StandsFor by X (events ++ event_by tips (P.coords p) ∷ []) (state rule.new)
             self.new)) }
         ensures room { IfOk result (λ b. OnTrue b (room_of self.new < room_of self.old)) }
-        ensures same_opening { opening rule.new ≡ opening rule.old }
-        ensures same_marks { marks rule.new ≡ marks rule.old }
-        ensures same_next { next rule.new ≡ next rule.old }
+        ensures same_rule { means rule.new ≡ means rule.old }
     {
         let Some(key) = take_least(&mut self.keys) else {
             return Ok(false);

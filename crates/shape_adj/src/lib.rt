@@ -13,6 +13,3 @@ mod solid;
 pub use answers::{Labels, Parts};
 pub use pairing::Pairing;
 pub use picture::{labels, parts};
-
-#[cfg(test)]
-mod tests;

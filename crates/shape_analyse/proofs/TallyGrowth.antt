@@ -1,6 +1,6 @@
 -- How the numbers of a picture grow: by a contour with its cover, and by a face.
 -- Laws of the definitions of `Tallies`, over plain variables.
-use Rattle.std.proofs.Common.{◌≡◌, ℕ, zero, suc, ◌+◌, Bool, List, [], ◌∷◌, ◌++◌, Some, length, take, refl, ap, sym, ◌∙◌, arith, rules}
+use Rattle.std.proofs.Common.{◌≡◌, ℕ, zero, suc, ◌+◌, List, [], ◌∷◌, ◌++◌, Some, length, take, refl, ap, sym, ◌∙◌, arith, rules}
 use Rattle.std.specs.Prelude.{slice_get}
 use Rattle.std.specs.List.{range_with_len}
 use Rattle.std.proofs.lemmas.List.Sums.{sum_by_push}
@@ -10,7 +10,7 @@ use Rattle.std.proofs.lemmas.Slice.Zip.{all_zipped_more}
 use Rattle.patch_terms.proofs.ListPushes.{take_next}
 use Rattle.shape_terms.specs.Points.{Point}
 use Rattle.shape_terms.specs.Pictures.{Picture, object_points}
-use Rattle.thin_terms.specs.Thinning.{Facts, Rule, Event, IsThinning, rule_by}
+use Rattle.thin_terms.specs.Thinning.{Rule, Event, IsThinning}
 use Rattle.thin_terms.specs.Shelves.{Named, rules_of}
 use Rattle.shape_rules.specs.Ruled.{rules_on}
 use Rattle.shape_terms.specs.Traces.{Contour}
@@ -37,14 +37,13 @@ pub exposed_more : (X : Picture) (k : ℕ) → exposed_count X (k + 1) ≡ expos
 exposed_more X k = rw (range_push k) (sum_by_push (exposed_in X) (range_with_len 0 k) k)
 
 -- the rule in a place of a shelf is the one that stands there
-pub rule_at : {R : Type 0} (opening : R → List ℕ) (marks : R → List ℕ → Facts → Bool) (next : R → List ℕ → Facts → List ℕ) (shelf : List (Named R)) (i : ℕ) (r : R) (rule : Rule)
-    → slice_get (rules_of shelf) i ≡ Some r → slice_get (rules_of (rules_on opening marks next shelf)) i ≡ Some rule → rule_by (opening r) (marks r) (next r) ≡ rule
-rule_at opening marks next [] i r rule a b = cc
-rule_at opening marks next (e ∷ es) zero r rule a b =
+pub rule_at : {R : Type 0} (means : R → Rule) (shelf : List (Named R)) (i : ℕ) (r : R) (rule : Rule) → slice_get (rules_of shelf) i ≡ Some r → slice_get (rules_of (rules_on means shelf)) i ≡ Some rule → means r ≡ rule
+rule_at means [] i r rule a b = cc
+rule_at means (e ∷ es) zero r rule a b =
     let same : e.rule ≡ r = cc in
-    let told : rule_by (opening e.rule) (marks e.rule) (next e.rule) ≡ rule = cc in
-    sym (ap (λ s. rule_by (opening s) (marks s) (next s)) same) ∙ told
-rule_at opening marks next (e ∷ es) (suc i) r rule a b = rule_at opening marks next es i r rule a b
+    let told : means e.rule ≡ rule = cc in
+    sym (ap means same) ∙ told
+rule_at means (e ∷ es) (suc i) r rule a b = rule_at means es i r rule a b
 
 -- a thinning tells how many events it has and how many points it leaves
 pub has_thinning : (rule : Rule) (X left : Picture) (events : List Event) (marked : List Point) (state : List ℕ) (n kept : ℕ) → IsThinning rule X events (record { left = left; marked = marked; state = state }) → n ≡ length events → kept ≡ length (object_points left) → HasThinning rule X n kept

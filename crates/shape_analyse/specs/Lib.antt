@@ -1,3 +1,4 @@
 pub mod Tallies
+pub mod Analyses
 pub mod Growing
 pub mod Facing

@@ -4,7 +4,7 @@ ghost use Rattle.std.specs.Prelude.{◌≡◌, ◌++◌, ℕ, IfOk, OnOk, length
 ghost use Rattle.shape_terms.specs.Pictures.{object_points};
 ghost use Rattle.shape_terms.specs.Parts.{Counts};
 ghost use Rattle.shape_terms.specs.Distances.{IsField};
-ghost use Rattle.thin_terms.specs.Thinning.{Stage, IsThinning, rule_by};
+ghost use Rattle.thin_terms.specs.Thinning.{Stage, IsThinning};
 ghost use Rattle.report_terms.specs.Lines.{line_text, IsLineOf};
 ghost use Rattle.report_terms.specs.Holds.{HoldsBy};
 ghost use Rattle.shape_thin.specs.Runs.{IsRunOf, event_of, event_point};
@@ -36,13 +36,9 @@ fn counted<P: SimpleMask, L: Ledger>(
     requires parts { blank.parts ≡ L.parts }
     requires whole { blank.parts ≡ 1 }
     requires field { IsField grid.now field.now }
-    ensures thinning { IfOk result (IsRunOf
-        (rule_by (opening rule.old) (marks rule.old) (next rule.old))
-        grid.now (state rule.new)) }
+    ensures thinning { IfOk result (IsRunOf (means rule.old) grid.now (state rule.new)) }
     ensures kept { IfOk result (λ t. KeepsParts grid.now t.left) }
-    ensures same_opening { opening rule.new ≡ opening rule.old }
-    ensures same_marks { marks rule.new ≡ marks rule.old }
-    ensures same_next { next rule.new ≡ next rule.old }
+    ensures same_rule { means rule.new ≡ means rule.old }
 {
     let mut steps = Steps::<L>::new(blank);
     thin(alloc, grid, field, rule, &mut steps)
@@ -56,13 +52,9 @@ pub(crate) fn thinned<P: SimpleMask>(
     rule: &mut Box<dyn EndRule>,
 ) -> Result<Thinning<P>, NoMemory>
     requires { IsField grid.now field.now }
-    ensures thinning { IfOk result (IsRunOf
-        (rule_by (opening rule.old) (marks rule.old) (next rule.old))
-        grid.now (state rule.new)) }
+    ensures thinning { IfOk result (IsRunOf (means rule.old) grid.now (state rule.new)) }
     ensures kept { IfOk result (λ t. KeepsParts grid.now t.left) }
-    ensures same_opening { opening rule.new ≡ opening rule.old }
-    ensures same_marks { marks rule.new ≡ marks rule.old }
-    ensures same_next { next rule.new ≡ next rule.old }
+    ensures same_rule { means rule.new ≡ means rule.old }
 {
     counted::<P, Brand>(alloc, Blank::new(1), grid, field, rule)
 }

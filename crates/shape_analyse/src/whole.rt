@@ -1,12 +1,9 @@
 //! The report of a picture, section by section: one body for every dimension.
 //! `analyse_flat` and `analyse_solid` are what the crates above call.
-ghost use Rattle.std.specs.Prelude.{◌≡◌, ◌≢◌, ◌<◌, ℕ, List, IfOk, length, Some, slice_get};
-ghost use Rattle.thin_terms.specs.Shelves.{names_of, rules_of};
-ghost use Rattle.thin_terms.specs.Thinning.{Rule};
-ghost use Rattle.report_terms.specs.Subjects.{subject_of};
-ghost use Rattle.report_terms.specs.Holds.{HoldsBy};
+ghost use Rattle.std.specs.Prelude.{◌≡◌, ◌≢◌, ◌<◌, ℕ, IfOk, length, slice_get};
+ghost use Rattle.thin_terms.specs.Shelves.{names_of};
 ghost use Rattle.shape_rules.specs.Ruled.{rules_on};
-ghost use Rattle.shape_analyse.specs.Tallies.{IsTallyOf};
+ghost use Rattle.shape_analyse.specs.Analyses.{IsAnalysisOf};
 
 use crate::begin::begin;
 use crate::outline::Outline;
@@ -27,13 +24,9 @@ fn analyse<P: Outline>(
     which: usize,
 ) -> Result<Analysis, NoMemory>
     requires { which < length shelf.old }
-    ensures holds { (name : List ℕ) → slice_get (names_of shelf.old) which ≡ Some name
-        → IfOk result (λ a. HoldsBy
-        (subject_of grid.now (rules_on opening marks next shelf.old)) name a.report) }
-    ensures tallied { (rule : Rule)
-        → slice_get (rules_of (rules_on opening marks next shelf.old)) which ≡ Some rule
-        → IfOk result (λ a. IsTallyOf grid.now rule a.tally) }
-    ensures kept { rules_on opening marks next shelf.new ≡ rules_on opening marks next shelf.old }
+    ensures analysis { IfOk result (IsAnalysisOf grid.now (names_of shelf.old)
+        (rules_on means shelf.old) which) }
+    ensures kept { rules_on means shelf.new ≡ rules_on means shelf.old }
     ensures others { (j : ℕ) → j ≢ which → slice_get shelf.new j ≡ slice_get shelf.old j }
 {
     let counted = parts(alloc, grid)?;
@@ -63,13 +56,9 @@ pub fn analyse_flat(
     which: usize,
 ) -> Result<Analysis, NoMemory>
     requires { which < length shelf.old }
-    ensures holds { (name : List ℕ) → slice_get (names_of shelf.old) which ≡ Some name
-        → IfOk result (λ a. HoldsBy
-        (subject_of grid.now (rules_on opening marks next shelf.old)) name a.report) }
-    ensures tallied { (rule : Rule)
-        → slice_get (rules_of (rules_on opening marks next shelf.old)) which ≡ Some rule
-        → IfOk result (λ a. IsTallyOf grid.now rule a.tally) }
-    ensures kept { rules_on opening marks next shelf.new ≡ rules_on opening marks next shelf.old }
+    ensures analysis { IfOk result (IsAnalysisOf grid.now (names_of shelf.old)
+        (rules_on means shelf.old) which) }
+    ensures kept { rules_on means shelf.new ≡ rules_on means shelf.old }
     ensures others { (j : ℕ) → j ≢ which → slice_get shelf.new j ≡ slice_get shelf.old j }
 {
     analyse::<P2>(alloc, grid, shelf, which)
@@ -86,13 +75,9 @@ pub fn analyse_solid(
     which: usize,
 ) -> Result<Analysis, NoMemory>
     requires { which < length shelf.old }
-    ensures holds { (name : List ℕ) → slice_get (names_of shelf.old) which ≡ Some name
-        → IfOk result (λ a. HoldsBy
-        (subject_of grid.now (rules_on opening marks next shelf.old)) name a.report) }
-    ensures tallied { (rule : Rule)
-        → slice_get (rules_of (rules_on opening marks next shelf.old)) which ≡ Some rule
-        → IfOk result (λ a. IsTallyOf grid.now rule a.tally) }
-    ensures kept { rules_on opening marks next shelf.new ≡ rules_on opening marks next shelf.old }
+    ensures analysis { IfOk result (IsAnalysisOf grid.now (names_of shelf.old)
+        (rules_on means shelf.old) which) }
+    ensures kept { rules_on means shelf.new ≡ rules_on means shelf.old }
     ensures others { (j : ℕ) → j ≢ which → slice_get shelf.new j ≡ slice_get shelf.old j }
 {
     analyse::<P3>(alloc, grid, shelf, which)

@@ -1,49 +1,21 @@
--- A front of a report is some of its lines and a piece without a line end; and no line is good behind `end`.
+-- A front of a report is some of its lines and a piece without a line end.
 -- Laws of texts, lines and sections; no checker stands here.
 use Rattle.std.proofs.Common.{◌≡◌, ◌≢◌, inl, inr, ℕ, zero, suc, ◌+◌, ◌≤◌, ◌<◌, refl, ap, sym, ◌∙◌, subst, arith, List, [], ◌∷◌, ◌++◌, length, get_or, Some, take}
 use Rattle.std.specs.Prelude.{slice_get, ◌==◌, cond}
-use Rattle.std.specs.List.{AllByRecursion, filter}
+use Rattle.std.specs.List.{AllByRecursion}
 use Rattle.std.proofs.lemmas.Bool.{cases_lt, ne_eqb}
 use Rattle.std.proofs.lemmas.List.{append_assoc, append-nil, length-append, length-take, take_all, take-take, get_or-take}
 use Rattle.std.proofs.lemmas.List.Sums.{sum_by-cons}
-use Rattle.std.proofs.lemmas.List.Elements.{filter-append, All-take, recursion_from_All}
+use Rattle.std.proofs.lemmas.List.Elements.{All-take, recursion_from_All}
 use Rattle.std.proofs.lemmas.Option.{slice_get_within, get_or_from_slice_get, slice_get-get_or}
 use Rattle.report_terms.specs.Subjects.{Subject}
 use Rattle.report_terms.specs.Lines.{Line, spelling, text_of, IsLineOf}
-use Rattle.report_terms.specs.Sections.{Section, rank, section_of, lines_of, GoodAfter, GoodSoFar, SectionClaim}
+use Rattle.report_terms.specs.Sections.{GoodAfter, GoodSoFar}
 use Rattle.report_terms.specs.Holds.{Holds, BeginsWith, FirstBad}
 use Rattle.report_terms.proofs.Checking.{first_bad, no_line_without_lf}
+use Rattle.report_terms.proofs.SectionLaws.{none_after_end}
 use Rattle.report_terms.proofs.TextLines.{spelling_past}
 use Rattle.shape_check.specs.Texts.{line_ends}
-
--- ---- behind `end`
-
-last_section : (s : Section) → 6 ≤ rank s → s ≡ Section.End
-last_section Section.Heading h = absurd (omega arith)
-last_section Section.Counted h = absurd (omega arith)
-last_section Section.Nearest h = absurd (omega arith)
-last_section Section.Contours h = absurd (omega arith)
-last_section Section.Faces h = absurd (omega arith)
-last_section Section.Thinned h = absurd (omega arith)
-last_section Section.End h = refl
-
-has_end : (front : List Line) → lines_of Section.End (front ++ Line.End ∷ []) ≡ [] → ⊥
-has_end front e =
-    let f = ap length (sym (filter-append (λ (l : Line). rank (section_of l) == 6) front (Line.End ∷ [])) ∙ e) in
-    omega (arith, f, length-append (filter (λ (l : Line). rank (section_of l) == 6) front) (Line.End ∷ []))
-
-get_behind : (front : List Line) (l : Line) → get_or (front ++ Line.End ∷ []) (length front) l ≡ Line.End
-get_behind [] l = refl
-get_behind (x ∷ front) l = get_behind front l
-
--- no line is good behind `end`
-pub nothing_behind_end : (X : Subject) (front : List Line) (l : Line) → GoodAfter X (front ++ Line.End ∷ []) l → ⊥
-nothing_behind_end X front l g =
-    let all = front ++ Line.End ∷ [] in
-    let o = g.come.order (length front) l (omega (arith, length-append front (Line.End ∷ []))) in
-    let six : 6 ≤ rank (section_of l) = subst (λ (m : Line). rank (section_of m) ≤ rank (section_of l)) (get_behind front l) o in
-    let s = last_section (section_of l) six in
-    has_end front (subst (λ (t : Section). SectionClaim X (lines_of Section.Heading all) t (lines_of t all) l) s g.claim)
 
 -- ---- line ends
 
@@ -154,7 +126,7 @@ cut_text X front more (lines, w) some =
     subst (λ m. FirstBad X front (m + 1)) n (first_bad X front kept f.piece b
     (λ l rest starts good. no_line_without_lf d f.piece (none_left f.piece f.none) l rest starts)
     (λ h q z. elim (cases_lt k (length all)) [
-      | inl less ↦ let s = get_some all k less in nothing_behind_end X h s.0 (subst (λ ls. GoodAfter X ls s.0) q (w.good k s.0 s.1))
+      | inl less ↦ let s = get_some all k less in none_after_end X h s.0 (subst (λ ls. GoodAfter X ls s.0) q (w.good k s.0 s.1))
       | inr more_lines ↦ some_more front more (e ∙ ap text_of (sym (take_all k all more_lines)) ∙ sym (f.is ∙ ap (λ p. text_of kept ++ p) z ∙ append-nil (text_of kept))) some
     ]))
 
@@ -166,5 +138,5 @@ longer_text X text more (lines, w) some =
     let b : BeginsWith X (text ++ more) all more = record { split = ap (λ t. t ++ more) e; fields = w.fields; short = w.short; good = w.good } in
     let n : length all ≡ line_ends text = as_many_lines d all (recursion_from_All (IsLineOf d) all w.fields) ∙ ap line_ends (sym e) in
     subst (λ m. FirstBad X (text ++ more) (m + 1)) n (first_bad X (text ++ more) all more b
-    (λ l rest starts good. nothing_behind_end X lines l good)
+    (λ l rest starts good. none_after_end X lines l good)
     (λ h q z. some z))

@@ -1,13 +1,14 @@
 -- The heading of a report, and what is known of a report behind it.
 -- Laws over shelves, texts and lines; the program stands in none.
-use Rattle.std.proofs.Common.{◌≡◌, ◌≤◌, ℕ, refl, sym, ap, ◌∙◌, subst, arith, List, [], ◌∷◌, ◌++◌, length, map, Bool, Option, None, Some, Ok, Err}
-use Rattle.std.specs.Prelude.{pos, MatchOption}
+use Rattle.std.proofs.Common.{◌≡◌, ◌≤◌, ℕ, refl, sym, ap, ◌∙◌, subst, arith, List, [], ◌∷◌, ◌++◌, length, map, Option, None, Some, Ok, Err}
+use Rattle.std.specs.Prelude.{⊤, pos, slice_get, MatchOption}
 use Rattle.std.proofs.lemmas.List.{length-append}
-use Rattle.shape_desk.specs.Line.{IfTold, ahead_of}
+use Rattle.shape_desk.specs.Line.{IfTold, TakenAhead, ahead_of}
 use Rattle.shape_terms.specs.Points.{Point}
-use Rattle.thin_terms.specs.Thinning.{Rule, Facts}
-use Rattle.thin_terms.specs.Shelves.{Named, AreNames, names_of}
-use Rattle.report_terms.specs.Subjects.{Subject, IsOnShelf}
+use Rattle.shape_terms.specs.Pictures.{Picture}
+use Rattle.thin_terms.specs.Thinning.{Rule}
+use Rattle.thin_terms.specs.Shelves.{Named, AreNames, names_of, rules_of}
+use Rattle.report_terms.specs.Subjects.{Subject, subject_of, IsOnShelf}
 use Rattle.report_terms.specs.Lines.{Line}
 use Rattle.report_terms.specs.Sections.{Section, rank, lines_of, GoodAfter, NamesRule}
 use Rattle.report_terms.specs.Holds.{FirstBad}
@@ -21,11 +22,12 @@ use Rattle.shape_report.specs.Next.{TakesClaim, IsBad}
 use Rattle.shape_check.specs.Rows.{IsRuledBy, MayCome}
 use Rattle.shape_check.specs.Going.{GoingOn, BehindHeading}
 use Rattle.shape_rules.specs.Ruled.{rules_on}
-use Rattle.shape_check.specs.Checks.{Answer, Checks}
+use Rattle.shape_rules.proofs.Ruled.{names_on, rule_there}
+use Rattle.shape_check.specs.Checks.{Answer, Checks, TakesFew}
 use Rattle.shape_check.specs.declared.answer.CheckFault.TheVariants.{ReadFault, NoMemory}
 use Rattle.shape_check.specs.declared.answer.Judgement.TheVariants.{Yes, No}
-use Rattle.shape_check.specs.Heading.{IsHeading, IsNoHeading, LacksHeading, HeadingAnswer}
-use Rattle.shape_check.proofs.Going.{if_told}
+use Rattle.shape_check.specs.Heading.{IsHeading, IsNoHeading, TakesHeading, LacksHeading, HeadingAnswer}
+use Rattle.shape_check.proofs.Going.{if_told, told_start, told_few}
 
 -- ---- what looking for the heading answers
 
@@ -76,6 +78,20 @@ no_heading X sides text given lacks = first_bad X text [] text (begins_none X te
         lacks (Line.Shape s n) rest starts n same (Contains-map (λ e. e.name) X.shelf _ good.claim.1.1.1)
     bad l rest starts good = absurd (let c = good.come.complete Section.Heading (omega arith) in omega (arith, c))
 
+-- ---- the heading, where the rules stand on a shelf
+
+module _ {R : Type 0} (means : R → Rule) (X : Picture) (shelf : List (Named R)) (d : ℕ) (axes : length X.sides ≡ d) (sides : Point) (given : sides ≡ map pos X.sides) where
+  -- it was taken, and the rule of the entry that it names goes on
+  pub heading_taken : AreNames (names_of shelf) → (i : ℕ) (r : R) → slice_get (rules_of shelf) i ≡ Some r → (s : Section) → rank s ≡ 1 → (text new : Option (List ℕ))
+      → IfTold text (λ bytes. TakesHeading d sides (names_of shelf) bytes new i) → IfTold text (λ t. GoingOn (subject_of X (rules_on means shelf)) t new (BehindHeading (subject_of X (rules_on means shelf)) (means r) s) 2)
+  heading_taken apart i r there s one text new h = if_told text (λ t k.
+      behind_heading (subject_of X (rules_on means shelf)) sides k.heading.name (means r) given (rule_there means shelf i r k.heading.name there k.heading.there) (subst AreNames (sym (names_on means shelf)) apart) s one t new
+      (subst (λ l. TakesClaim (length X.sides) t new l) k.heading.is (subst (λ e. TakesClaim e t new k.line) (sym axes) k.takes))) h
+
+  -- there is none
+  pub heading_missed : (text : Option (List ℕ)) → IfTold text (LacksHeading d sides (names_of shelf)) → IfTold text (λ t. FirstBad (subject_of X (rules_on means shelf)) t 1)
+  heading_missed text h = if_told text (λ t k. no_heading (subject_of X (rules_on means shelf)) sides t given (rw (axes, names_on means shelf) k)) h
+
 -- ---- behind the heading, where a line comes
 
 module _ (X : Subject) (rule : Rule) (s : Section) (one : rank s ≡ 1) (lines : List Line) (l : Line) (ruled : IsRuledBy X (lines_of Section.Heading lines) rule) where
@@ -85,7 +101,7 @@ module _ (X : Subject) (rule : Rule) (s : Section) (one : rank s ≡ 1) (lines :
   pub still_ruled : GoodAfter X lines l → IsRuledBy X (lines_of Section.Heading (lines ++ l ∷ [])) rule
   still_ruled good = subst (λ ls. IsRuledBy X ls rule) (sym (lines_skip Section.Heading lines l (past_heading X lines l _ ruled.names.first good))) ruled
 
--- ---- bytes taken ahead, faults before, names of a shelf
+-- ---- bytes taken ahead, faults before
 
 pub none_ahead : (ahead : List ℕ) (left : Option (List ℕ)) → ahead ≡ [] → ahead_of ahead left ≡ left
 none_ahead ahead None e = refl
@@ -97,6 +113,6 @@ checks_later X text before middle now (Ok (No k)) l h = h
 checks_later X text before middle now (Err ReadFault) l h = omega (arith, h)
 checks_later X text before middle now (Err NoMemory) l h = tt
 
-pub names_on : {R : Type 0} (opening : R → List ℕ) (marks : R → List ℕ → Facts → Bool) (next : R → List ℕ → Facts → List ℕ) (shelf : List (Named R)) → names_of (rules_on opening marks next shelf) ≡ names_of shelf
-names_on opening marks next [] = refl
-names_on opening marks next (e ∷ es) = ap (λ ns. e.name ∷ ns) (names_on opening marks next es)
+-- little was taken of a text that no byte was taken ahead of
+pub few_ahead : (X : Subject) (ahead : List ℕ) (text left : Option (List ℕ)) → ahead ≡ [] → TakenAhead (ahead_of ahead text) left → IfTold text (λ t. TakesFew X t left)
+few_ahead X ahead text left e t = told_few X text text left (λ ls. ⊤) 1 (told_start X text (λ ls. ⊤) tt) (subst (λ l. TakenAhead l left) (none_ahead ahead text e) t)

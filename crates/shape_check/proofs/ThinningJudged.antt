@@ -9,7 +9,7 @@ use Rattle.std.proofs.lemmas.List.{append-nil}
 use Rattle.std.proofs.lemmas.List.Elements.{filter_map-append}
 use Rattle.shape_terms.specs.Pictures.{Picture, object_points}
 use Rattle.shape_terms.specs.Parts.{Counts}
-use Rattle.thin_terms.specs.Thinning.{Rule, Facts, Event, Stage, ThinsTo, rule_by}
+use Rattle.thin_terms.specs.Thinning.{Rule, Event, Stage, ThinsTo}
 use Rattle.thin_terms.specs.Following.{IsNextEvent, AreAllEvents}
 use Rattle.thin_terms.proofs.ThinningKept.{thinning_keeps}
 use Rattle.report_terms.specs.Subjects.{Subject}
@@ -19,10 +19,6 @@ use Rattle.report_terms.specs.ThinningLines.{event_of, kept_fact, events_of, kep
 use Rattle.shape_check.specs.Rows.{IsRuledBy, HasTaken}
 use Rattle.shape_check.specs.Followed.{Thins, HasFollowed}
 use Rattle.shape_check.proofs.OneLine.{same_counts}
-
--- a rule that kept its three meanings is the same rule
-pub rule_same : {o p : List ℕ} {m n : List ℕ → Facts → Bool} {k l : List ℕ → Facts → List ℕ} → o ≡ p → m ≡ n → k ≡ l → rule_by o m k ≡ rule_by p n l
-rule_same e f h = λ i. record { opening = e i; marks = f i; next = h i }
 
 -- the claim of a line of the thinning is that by the rule of the heading
 claim_is : (X : Subject) (heading : List Line) {by : Rule} → IsRuledBy X heading by → (before : List Line) (l : Line) → ThinningClaim by X.picture before l ↔ SectionClaim X heading Section.Thinned before l

@@ -1,14 +1,13 @@
 -- The first line of a report: the sides of the picture, and the name of a rule on the shelf.
 -- How the line is read does not matter here.
-use Rattle.std.specs.Prelude.{◌≡◌, ⊤, ℕ, List, Option, Some, None, Contains, slice_get, Result, Ok, Err}
+use Rattle.std.specs.Prelude.{◌≡◌, ℕ, List, Option, Some, None, Contains, slice_get, Result, Ok, Err}
 use Rattle.shape_terms.specs.Points.{Point}
-use Rattle.shape_desk.specs.Desk.{Rose}
 use Rattle.shape_desk.specs.Line.{IfTold}
 use Rattle.report_terms.specs.Lines.{Line}
 use Rattle.report_terms.specs.Progress.{StartsWithLine}
 use Rattle.shape_report.specs.Next.{TakesClaim}
+use Rattle.shape_check.specs.Checks.{HasCause}
 use Rattle.shape_check.specs.declared.answer.CheckFault.{CheckFault}
-use Rattle.shape_check.specs.declared.answer.CheckFault.TheVariants.{ReadFault, NoMemory}
 
 -- the line gives these sides, and the name that stands at place i among the names
 pub record IsHeading (sides : Point) (names : List (List ℕ)) (l : Line) (i : ℕ) : Type 0 where
@@ -34,5 +33,4 @@ LacksHeading d sides names bytes = (l : Line) (rest : List ℕ) → StartsWithLi
 abbrev pub HeadingAnswer : ℕ → Point → List (List ℕ) → (old new : Option (List ℕ)) (before now : ℕ) → Result (Option ℕ) CheckFault → Type 0
 HeadingAnswer d sides names old new before now (Ok (Some i)) = IfTold old (λ bytes. TakesHeading d sides names bytes new i)
 HeadingAnswer d sides names old new before now (Ok None) = IfTold old (LacksHeading d sides names)
-HeadingAnswer d sides names old new before now (Err ReadFault) = Rose before now
-HeadingAnswer d sides names old new before now (Err NoMemory) = ⊤
+HeadingAnswer d sides names old new before now (Err fault) = HasCause before now fault

@@ -1,4 +1,11 @@
 //! What a check answers.
+//! A further cause of a fault is one more `From`.
+ghost use Rattle.std.specs.Prelude.{◌≡◌};
+ghost use Rattle.shape_check.specs.declared.answer.CheckFault.TheVariants as Fault;
+
+use shape_desk::Failed;
+use shape_report::ReadFault;
+use shape_space::NoMemory;
 use thiserror::Error;
 
 /// Whether a report holds.
@@ -23,4 +30,28 @@ pub enum CheckFault {
     /// Memory was wanted and there was none.
     #[error("there was not enough memory")]
     NoMemory,
+}
+
+impl From<Failed> for CheckFault {
+    ghost from_gives = { λ _ fault. fault ≡ Fault.ReadFault };
+
+    fn from(_failed: Failed) -> CheckFault {
+        CheckFault::ReadFault
+    }
+}
+
+impl From<ReadFault> for CheckFault {
+    ghost from_gives = { λ _ fault. fault ≡ Fault.ReadFault };
+
+    fn from(_fault: ReadFault) -> CheckFault {
+        CheckFault::ReadFault
+    }
+}
+
+impl From<NoMemory> for CheckFault {
+    ghost from_gives = { λ _ fault. fault ≡ Fault.NoMemory };
+
+    fn from(_fault: NoMemory) -> CheckFault {
+        CheckFault::NoMemory
+    }
 }

@@ -4,10 +4,9 @@ ghost use Rattle.std.specs.Prelude.{◌≡◌, ◌<◌, ◌-◌, ◌^◌, ℕ, L
 ghost use Rattle.shape_desk.specs.Desk.{OnlyReadsAt};
 ghost use Rattle.shape_desk.specs.Line.{IfTold, ahead_of};
 ghost use Rattle.shape_desk.specs.declared.desk.Place.TheVariants.{Report};
-ghost use Rattle.thin_terms.specs.Thinning.{rule_by};
-ghost use Rattle.report_terms.specs.Subjects.{Subject};
+ghost use Rattle.report_terms.specs.Subjects.{Subject, subject_of};
 ghost use Rattle.shape_rules.specs.Ruled.{rules_on};
-ghost use Rattle.shape_check.specs.Checks.{Checks, TakesFew};
+ghost use Rattle.shape_check.specs.Checks.{HasChecked};
 ghost use Rattle.shape_check.specs.Going.{GoingOn, BehindHeading};
 
 use crate::answer::{CheckFault, Judgement};
@@ -18,7 +17,7 @@ use shape_desk::{Desk, LineReader};
 use shape_grid::Grid;
 use shape_report::{Next, next_claim};
 use shape_rules::{EndRule, Shelf};
-use shape_space::{NoMemory, P2, P3, Point};
+use shape_space::{P2, P3, Point};
 use std::alloc::Global;
 
 // Goes through the lines behind the heading, which named the rule.
@@ -30,41 +29,30 @@ fn check_lines<P: Point, R: Row<P>, D: Desk>(
 ) -> Result<Judgement, CheckFault>
     requires begun { (D.state desk.old).begun Report ≡ true }
     requires few { R.room row < 2 ^ 62 - 1 }
-    ensures answer { let by = rule_by (opening rule.old) (marks rule.old) (next rule.old) in
-        (X : Subject) (text : Option (List ℕ)) → length X.picture.sides ≡ P.DIM
+    ensures checked { (X : Subject) (text : Option (List ℕ)) → length X.picture.sides ≡ P.DIM
         → R.waits X.picture row
         → IfTold text (λ t. GoingOn X t (ahead_of reader.old.ahead ((D.state desk.old).left Report))
-        (BehindHeading X by R.section) 2)
-        → Checks X text (D.state desk.old).read_faults (D.state desk.new).read_faults result }
-    ensures taken { let by = rule_by (opening rule.old) (marks rule.old) (next rule.old) in
-        (X : Subject) (text : Option (List ℕ)) → length X.picture.sides ≡ P.DIM
-        → R.waits X.picture row
-        → IfTold text (λ t. GoingOn X t (ahead_of reader.old.ahead ((D.state desk.old).left Report))
-        (BehindHeading X by R.section) 2)
-        → IfTold text (λ t. TakesFew X t ((D.state desk.new).left Report)) }
+        (BehindHeading X (means rule.old) R.section) 2)
+        → HasChecked X text (D.state desk.old) (D.state desk.new) result }
     ensures reads { OnlyReadsAt Report (D.state desk.old) (D.state desk.new) }
-    ensures same_opening { opening rule.new ≡ opening rule.old }
-    ensures same_marks { marks rule.new ≡ marks rule.old }
-    ensures same_next { next rule.new ≡ next rule.old }
+    ensures same_rule { means rule.new ≡ means rule.old }
 {
     let mut line: u64 = 2;
     'lines: loop {
-        match next_claim(reader, desk) {
-            Ok(Next::Claim(claim)) => {
-                match row.take(&claim, rule) {
-                    Ok(true) => line += 1,
-                    Ok(false) => return Ok(Judgement::No { line }),
-                    Err(NoMemory) => return Err(CheckFault::NoMemory),
+        match next_claim(reader, desk)? {
+            Next::Claim(claim) => {
+                if !row.take(&claim, rule)? {
+                    return Ok(Judgement::No { line });
                 }
+                line += 1;
             }
-            Ok(Next::Bad) => return Ok(Judgement::No { line }),
-            Ok(Next::End) => {
+            Next::Bad => return Ok(Judgement::No { line }),
+            Next::End => {
                 if row.has_ended() {
                     return Ok(Judgement::Yes);
                 }
                 return Ok(Judgement::No { line });
             }
-            Err(_) => return Err(CheckFault::ReadFault),
         }
     }
 }
@@ -78,22 +66,13 @@ fn check_behind<P: Point, R: Row<P>, D: Desk>(
 ) -> Result<Judgement, CheckFault>
     requires begun { (D.state desk.old).begun Report ≡ true }
     requires few { R.room row < 2 ^ 62 - 1 }
-    ensures answer { let by = rule_by (opening rule.old) (marks rule.old) (next rule.old) in
-        (X : Subject) (text : Option (List ℕ)) → length X.picture.sides ≡ P.DIM
+    ensures checked { (X : Subject) (text : Option (List ℕ)) → length X.picture.sides ≡ P.DIM
         → R.waits X.picture row
         → IfTold text (λ t. GoingOn X t (ahead_of reader.old.ahead ((D.state desk.old).left Report))
-        (BehindHeading X by R.section) 2)
-        → Checks X text (D.state desk.old).read_faults (D.state desk.new).read_faults result }
-    ensures taken { let by = rule_by (opening rule.old) (marks rule.old) (next rule.old) in
-        (X : Subject) (text : Option (List ℕ)) → length X.picture.sides ≡ P.DIM
-        → R.waits X.picture row
-        → IfTold text (λ t. GoingOn X t (ahead_of reader.old.ahead ((D.state desk.old).left Report))
-        (BehindHeading X by R.section) 2)
-        → IfTold text (λ t. TakesFew X t ((D.state desk.new).left Report)) }
+        (BehindHeading X (means rule.old) R.section) 2)
+        → HasChecked X text (D.state desk.old) (D.state desk.new) result }
     ensures reads { OnlyReadsAt Report (D.state desk.old) (D.state desk.new) }
-    ensures same_opening { opening rule.new ≡ opening rule.old }
-    ensures same_marks { marks rule.new ≡ marks rule.old }
-    ensures same_next { next rule.new ≡ next rule.old }
+    ensures same_rule { means rule.new ≡ means rule.old }
 {
     check_lines(row, &mut **rule, reader, desk)
 }
@@ -106,30 +85,18 @@ fn check<P: Point, R: Row<P>, D: Desk>(
     shelf: &mut Shelf,
 ) -> Result<Judgement, CheckFault>
     requires { (D.state desk.old).begun Report ≡ true }
-    ensures answer { let X : Subject = record {
-      picture = grid.now;
-      shelf = rules_on opening marks next shelf.old;
-    } in Checks X ((D.state desk.old).left Report)
-        (D.state desk.old).read_faults (D.state desk.new).read_faults result }
-    ensures taken { let X : Subject = record {
-      picture = grid.now;
-      shelf = rules_on opening marks next shelf.old;
-    } in IfTold ((D.state desk.old).left Report)
-        (λ text. TakesFew X text ((D.state desk.new).left Report)) }
+    ensures checked { HasChecked (subject_of grid.now (rules_on means shelf.old))
+        ((D.state desk.old).left Report) (D.state desk.old) (D.state desk.new) result }
     ensures reads { OnlyReadsAt Report (D.state desk.old) (D.state desk.new) }
-    ensures shelf { rules_on opening marks next shelf.new ≡ rules_on opening marks next shelf.old }
+    ensures shelf { rules_on means shelf.new ≡ rules_on means shelf.old }
 {
     grid.is_picture();
     shelf.has_names();
-    let Ok(mut reader) = LineReader::new(alloc) else {
-        return Err(CheckFault::NoMemory);
-    };
+    let mut reader = LineReader::new(alloc)?;
     let Some(i) = find_rule(grid.sides(), shelf, &mut reader, desk)? else {
         return Ok(Judgement::No { line: 1 });
     };
-    let Ok(row) = R::begin(alloc, grid) else {
-        return Err(CheckFault::NoMemory);
-    };
+    let row = R::begin(alloc, grid)?;
     check_behind(row, shelf.rule(i), &mut reader, desk)
 }
 
@@ -147,18 +114,10 @@ pub fn check_flat<D: Desk>(
     shelf: &mut Shelf,
 ) -> Result<Judgement, CheckFault>
     requires { (D.state desk.old).begun Report ≡ true }
-    ensures answer { let X : Subject = record {
-      picture = grid.now;
-      shelf = rules_on opening marks next shelf.old;
-    } in Checks X ((D.state desk.old).left Report)
-        (D.state desk.old).read_faults (D.state desk.new).read_faults result }
-    ensures taken { let X : Subject = record {
-      picture = grid.now;
-      shelf = rules_on opening marks next shelf.old;
-    } in IfTold ((D.state desk.old).left Report)
-        (λ text. TakesFew X text ((D.state desk.new).left Report)) }
+    ensures checked { HasChecked (subject_of grid.now (rules_on means shelf.old))
+        ((D.state desk.old).left Report) (D.state desk.old) (D.state desk.new) result }
     ensures reads { OnlyReadsAt Report (D.state desk.old) (D.state desk.new) }
-    ensures shelf { rules_on opening marks next shelf.new ≡ rules_on opening marks next shelf.old }
+    ensures shelf { rules_on means shelf.new ≡ rules_on means shelf.old }
 {
     check::<P2, Flat, D>(alloc, grid, desk, shelf)
 }
@@ -174,18 +133,10 @@ pub fn check_solid<D: Desk>(
     shelf: &mut Shelf,
 ) -> Result<Judgement, CheckFault>
     requires { (D.state desk.old).begun Report ≡ true }
-    ensures answer { let X : Subject = record {
-      picture = grid.now;
-      shelf = rules_on opening marks next shelf.old;
-    } in Checks X ((D.state desk.old).left Report)
-        (D.state desk.old).read_faults (D.state desk.new).read_faults result }
-    ensures taken { let X : Subject = record {
-      picture = grid.now;
-      shelf = rules_on opening marks next shelf.old;
-    } in IfTold ((D.state desk.old).left Report)
-        (λ text. TakesFew X text ((D.state desk.new).left Report)) }
+    ensures checked { HasChecked (subject_of grid.now (rules_on means shelf.old))
+        ((D.state desk.old).left Report) (D.state desk.old) (D.state desk.new) result }
     ensures reads { OnlyReadsAt Report (D.state desk.old) (D.state desk.new) }
-    ensures shelf { rules_on opening marks next shelf.new ≡ rules_on opening marks next shelf.old }
+    ensures shelf { rules_on means shelf.new ≡ rules_on means shelf.old }
 {
     check::<P3, Solid, D>(alloc, grid, desk, shelf)
 }

@@ -50,9 +50,8 @@ pub(crate) fn find_rule<P: Point, D: Desk>(
         ((D.state desk.new).left Report) }
     ensures reads { OnlyReadsAt Report (D.state desk.old) (D.state desk.new) }
 {
-    match next_claim(reader, desk) {
-        Ok(Next::Claim(line)) => Ok(entry_of(sides, shelf, &line)),
-        Ok(_) => Ok(None),
-        Err(_) => Err(CheckFault::ReadFault),
+    match next_claim(reader, desk)? {
+        Next::Claim(line) => Ok(entry_of(sides, shelf, &line)),
+        Next::Bad | Next::End => Ok(None),
     }
 }

@@ -3,7 +3,7 @@
 ghost use Rattle.std.specs.Prelude.{◌≡◌, ◌↔◌, ◌<◌, ◌-◌, ◌^◌, ℕ, [], ◌∷◌, ◌++◌, List, IsTrue, IfOk};
 ghost use Rattle.std.specs.Bool.{OnTrue};
 ghost use Rattle.shape_terms.specs.Pictures.{Picture};
-ghost use Rattle.thin_terms.specs.Thinning.{Rule, rule_by};
+ghost use Rattle.thin_terms.specs.Thinning.{Rule};
 ghost use Rattle.report_terms.specs.Lines as Terms;
 ghost use Rattle.report_terms.specs.Subjects.{Subject};
 ghost use Rattle.report_terms.specs.Sections.{Section, rank, lines_of, SectionClaim, SectionComplete, HasCome, GoodAfter};
@@ -34,18 +34,16 @@ pub trait SectionJudge<P: Point>: Drop {
 
     /// Takes the next line: whether its claim is true after those that were taken.
     fn take(&mut self, line: &Line<P>, rule: &mut dyn EndRule) -> Result<bool, NoMemory>
-        ensures answer { let by = rule_by (opening rule.old) (marks rule.old) (next rule.old) in
+        ensures answer { let by = means rule.old in
             (X : Subject) (heading lines : List Terms.Line) → IsRuledBy X heading by
             → stands X.picture by self.old (state rule.old) lines → IfOk result (λ b. IsTrue b
             ↔ SectionClaim X heading section lines (line_of P.coords line.now)) }
-        ensures stands { let by = rule_by (opening rule.old) (marks rule.old) (next rule.old) in
+        ensures stands { let by = means rule.old in
             (X : Picture) (lines : List Terms.Line) → stands X by self.old (state rule.old) lines
             → IfOk result (λ b. OnTrue b (stands X by self.new (state rule.new)
             (lines ++ line_of P.coords line.now ∷ []))) }
         ensures room { IfOk result (λ b. OnTrue b (room self.new < room self.old)) }
-        ensures same_opening { opening rule.new ≡ opening rule.old }
-        ensures same_marks { marks rule.new ≡ marks rule.old }
-        ensures same_next { next rule.new ≡ next rule.old };
+        ensures same_rule { means rule.new ≡ means rule.old };
 
     /// Whether the section is complete.
     fn is_done(&self) -> bool
@@ -71,21 +69,19 @@ pub trait Judges<P: Point>: Drop {
 
     /// Takes the next line: whether it is good after those before it.
     fn take(&mut self, line: &Line<P>, rule: &mut dyn EndRule) -> Result<bool, NoMemory>
-        ensures answer { let by = rule_by (opening rule.old) (marks rule.old) (next rule.old) in
+        ensures answer { let by = means rule.old in
             (X : Subject) (lines : List Terms.Line) → IsRuledBy X (lines_of Section.Heading lines) by
             → follows X by self.old (state rule.old) lines
             → MayCome X section lines (line_of P.coords line.now)
             → IfOk result (λ b. IsTrue b ↔ GoodAfter X lines (line_of P.coords line.now)) }
-        ensures follows { let by = rule_by (opening rule.old) (marks rule.old) (next rule.old) in
+        ensures follows { let by = means rule.old in
             (X : Subject) (lines : List Terms.Line) → IsRuledBy X (lines_of Section.Heading lines) by
             → follows X by self.old (state rule.old) lines
             → MayCome X section lines (line_of P.coords line.now)
             → IfOk result (λ b. OnTrue b (follows X by self.new (state rule.new)
             (lines ++ line_of P.coords line.now ∷ []))) }
         ensures room { IfOk result (λ b. OnTrue b (room self.new < room self.old)) }
-        ensures same_opening { opening rule.new ≡ opening rule.old }
-        ensures same_marks { marks rule.new ≡ marks rule.old }
-        ensures same_next { next rule.new ≡ next rule.old };
+        ensures same_rule { means rule.new ≡ means rule.old };
 
     /// Whether the line `end` was taken.
     fn has_ended(&self) -> bool

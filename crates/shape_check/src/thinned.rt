@@ -2,7 +2,7 @@
 //! How the events are followed stands in `judge_thin`.
 ghost use Rattle.std.specs.Prelude.{◌≡◌, ◌↔◌, ◌+◌, ◌<◌, true, false, IsTrue, IfOk, ℕ, List, [], ◌∷◌, ◌++◌};
 ghost use Rattle.shape_terms.specs.Pictures.{Picture, at};
-ghost use Rattle.thin_terms.specs.Thinning.{Rule, Event, HasDistance, rule_by};
+ghost use Rattle.thin_terms.specs.Thinning.{Rule, Event, HasDistance};
 ghost use Rattle.report_terms.specs.Lines as Terms;
 ghost use Rattle.report_terms.specs.Sections.{Section};
 ghost use Rattle.report_terms.specs.ThinningLines.{IsKeptLine};
@@ -67,13 +67,11 @@ impl<P: SimpleMask> ThinnedJudge<P> {
         ensures object { self.new.object ≡ self.old.object }
         ensures background { self.new.background ≡ self.old.background }
         ensures kept { self.new.kept ≡ self.old.kept }
-        ensures stands { let by = rule_by (opening rule.old) (marks rule.old) (next rule.old) in
+        ensures stands { let by = means rule.old in
             (X : Picture) (events : List Event) → HasFollowed self.old.begun
-            (λ events now. StandsFor by X events now self.old.events) (opening rule.old)
-            (state rule.old) events → StandsFor by X events (state rule.new) self.new.events }
-        ensures same_opening { opening rule.new ≡ opening rule.old }
-        ensures same_marks { marks rule.new ≡ marks rule.old }
-        ensures same_next { next rule.new ≡ next rule.old }
+            (λ events now. StandsFor by X events now self.old.events) by.opening (state rule.old)
+            events → StandsFor by X events (state rule.new) self.new.events }
+        ensures same_rule { means rule.new ≡ means rule.old }
     {
         if !self.begun {
             rule.reset();

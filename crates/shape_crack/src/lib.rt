@@ -12,6 +12,3 @@ pub use contour::{Contour, GREATEST_SIDE, trace};
 pub use crack::{Crack, is_crack, successor};
 pub use cycles::contours;
 pub use list::Contours;
-
-#[cfg(test)]
-mod tests;

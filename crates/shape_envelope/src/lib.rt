@@ -7,6 +7,3 @@ mod lowest;
 
 pub use axis::{line_count, line_start};
 pub use lowest::envelope;
-
-#[cfg(test)]
-mod tests;

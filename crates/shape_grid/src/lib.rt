@@ -5,6 +5,3 @@
 mod grid;
 
 pub use grid::{Grid, Objects};
-
-#[cfg(test)]
-mod tests;

@@ -2,7 +2,6 @@ pub mod OneWay
 pub mod SpanRefutes
 pub mod Ways
 pub mod Exactly
-pub mod GivenRuns
 pub mod Growing
 pub mod Refusing
 pub mod Frames
@@ -13,7 +12,6 @@ pub mod Reasons
 pub mod Staying
 pub mod Outcomes
 pub mod Moving
-pub mod CloseRuns
 pub mod LowestLines
 pub mod LeastSegments
 pub mod GrownRuns

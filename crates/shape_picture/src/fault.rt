@@ -1,5 +1,10 @@
 //! What can be wrong with the bytes of a picture, and why a call gave none.
 //! A further format brings its own faults; the exact place of each is said in `specs/Pbm.antt` and `specs/Raw.antt`.
+ghost use Rattle.std.specs.Prelude.{◌≡◌};
+ghost use Rattle.shape_picture.specs.declared.fault.PictureError.TheVariants.{NoMemory, ReadFault};
+
+use shape_desk::Failed;
+use shape_space::NoMemory;
 use thiserror::Error;
 
 /// What is wrong with the bytes of a picture. The first byte that decides, in file order, decides the fault.
@@ -37,4 +42,20 @@ pub enum PictureError {
     /// There was no memory for the reader or the grid.
     #[error("there is no memory for the picture")]
     NoMemory,
+}
+
+impl From<NoMemory> for PictureError {
+    ghost from_gives = { λ _ e. e ≡ NoMemory };
+
+    fn from(_e: NoMemory) -> PictureError {
+        PictureError::NoMemory
+    }
+}
+
+impl From<Failed> for PictureError {
+    ghost from_gives = { λ _ e. e ≡ ReadFault };
+
+    fn from(_e: Failed) -> PictureError {
+        PictureError::ReadFault
+    }
 }

@@ -15,8 +15,3 @@ pub use fault::{PictureError, PictureFault};
 pub use laws::{one_answer, one_volume};
 pub use pbm::{MOST_BYTES, MOST_SIDE, read_pbm};
 pub use volume::read_raw;
-
-#[cfg(test)]
-mod tests;
-#[cfg(test)]
-mod volume_tests;

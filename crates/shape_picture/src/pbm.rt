@@ -36,10 +36,9 @@ fn next_byte<D: Desk>(at: u64, bytes: &mut ByteReader, desk: &mut D) -> Result<u
         front (D.state desk.old).read_faults (D.state desk.new).read_faults result }
     ensures reads { OnlyReadsAt Picture (D.state desk.old) (D.state desk.new) }
 {
-    match bytes.take(at, MOST_BYTES, desk) {
-        Ok(Some(c)) => Ok(c),
-        Ok(None) => Err(PictureError::Bad(PictureFault::Short { at })),
-        Err(_) => Err(PictureError::ReadFault),
+    match bytes.take(at, MOST_BYTES, desk)? {
+        Some(c) => Ok(c),
+        None => Err(PictureError::Bad(PictureFault::Short { at })),
     }
 }
 
@@ -184,15 +183,9 @@ pub fn read_pbm<D: Desk>(alloc: Global, desk: &mut D) -> Result<Grid<P2>, Pictur
         (D.state desk.old).read_faults (D.state desk.new).read_faults result }
     ensures reads { OnlyReadsAt Picture (D.state desk.old) (D.state desk.new) }
 {
-    let mut bytes = match ByteReader::new(alloc) {
-        Ok(bytes) => bytes,
-        Err(_) => return Err(PictureError::NoMemory),
-    };
+    let mut bytes = ByteReader::new(alloc)?;
     let heading = read_header(&mut bytes, desk)?;
-    let grid = match Grid::new(alloc, box_of(heading.width, heading.height)) {
-        Ok(grid) => grid,
-        Err(_) => return Err(PictureError::NoMemory),
-    };
+    let grid = Grid::new(alloc, box_of(heading.width, heading.height))?;
     match heading.form {
         Form::Plain => read_raster(heading.at, grid, &mut bytes, desk),
         Form::Packed => read_rows(heading, grid, &mut bytes, desk),

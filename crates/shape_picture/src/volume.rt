@@ -35,10 +35,9 @@ fn read_points<P: Point, D: Desk>(
     let mut i: u32 = 0;
     while i < total {
         let at = u64::from(i);
-        match bytes.take(at, longest, desk) {
-            Ok(Some(c)) => put(&mut grid, i, c != 0),
-            Ok(None) => return Err(PictureError::Bad(PictureFault::Short { at })),
-            Err(_) => return Err(PictureError::ReadFault),
+        match bytes.take(at, longest, desk)? {
+            Some(c) => put(&mut grid, i, c != 0),
+            None => return Err(PictureError::Bad(PictureFault::Short { at })),
         }
         i += 1;
     }
@@ -60,10 +59,9 @@ fn if_ended<P: Point, D: Desk>(
     ensures reads { OnlyReadsAt Picture (D.state desk.old) (D.state desk.new) }
 {
     let at = u64::from(grid.sides().count());
-    match bytes.take(at, at + 1, desk) {
-        Ok(None) => Ok(grid),
-        Ok(Some(_)) => Err(PictureError::Bad(PictureFault::Trailing)),
-        Err(_) => Err(PictureError::ReadFault),
+    match bytes.take(at, at + 1, desk)? {
+        None => Ok(grid),
+        Some(_) => Err(PictureError::Bad(PictureFault::Trailing)),
     }
 }
 
@@ -83,14 +81,8 @@ pub fn read_raw<D: Desk>(
         (D.state desk.old).read_faults (D.state desk.new).read_faults result }
     ensures reads { OnlyReadsAt Picture (D.state desk.old) (D.state desk.new) }
 {
-    let mut bytes = match ByteReader::new(alloc) {
-        Ok(bytes) => bytes,
-        Err(_) => return Err(PictureError::NoMemory),
-    };
-    let grid = match Grid::new(alloc, sides) {
-        Ok(grid) => grid,
-        Err(_) => return Err(PictureError::NoMemory),
-    };
+    let mut bytes = ByteReader::new(alloc)?;
+    let grid = Grid::new(alloc, sides)?;
     let grid = read_points(grid, &mut bytes, desk)?;
     if_ended(grid, &mut bytes, desk)
 }

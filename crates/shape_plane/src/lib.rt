@@ -19,6 +19,3 @@ pub use growing::{Added, Growing};
 pub use parts::Patches;
 pub use patch::Patch;
 pub use verdict::{Verdict, decide};
-
-#[cfg(test)]
-mod tests;

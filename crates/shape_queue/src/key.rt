@@ -23,14 +23,11 @@ pub fn settle(keys: &mut BTreeSet<Key, Global>, key: Key, waits: bool) -> Result
     ensures kept { OnErr result ((k : Key) → has keys.new k ≡ has keys.old k) }
 {
     if waits {
-        match keys.insert(key) {
-            Ok(_) => Ok(()),
-            Err(_) => Err(NoMemory),
-        }
+        keys.insert(key)?;
     } else {
         keys.remove(&key);
-        Ok(())
     }
+    Ok(())
 }
 
 /// Takes the least key out of the queue.

@@ -16,6 +16,3 @@ pub use refutation::{Refutation, refutation_excludes, refutes};
 pub use sense::Sense;
 pub use share::{Share, Shares, Step, StepShare, StepShares};
 pub use turn::{Turn, turns};
-
-#[cfg(test)]
-mod tests;

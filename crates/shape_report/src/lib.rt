@@ -16,6 +16,3 @@ pub use line::{Line, SeenLine};
 pub use read::read_claim;
 pub use report_text::{Next, ReadFault, Report, WriteFault, next_claim, write_report};
 pub use spell::put_claim;
-
-#[cfg(test)]
-mod tests;

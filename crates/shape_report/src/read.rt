@@ -288,6 +288,3 @@ pub fn read_claim<P: Point>(bytes: &[u8]) -> Option<Line<P>>
 {
     line(&mut Words::new(bytes))
 }
-
-#[cfg(test)]
-mod tests;

@@ -1,32 +1,31 @@
 -- What a shelf is for reports when one of its rules has moved, and which rule stands under a name.
 -- Laws of shelves of any rules.
-use Rattle.std.proofs.Common.{◌≡◌, ◌≢◌, ℕ, zero, suc, Bool, List, [], ◌∷◌, Some, refl, ap, arith}
+use Rattle.std.proofs.Common.{◌≡◌, ◌≢◌, ℕ, zero, suc, List, [], ◌∷◌, Some, refl, ap, arith}
 use Rattle.std.specs.Prelude.{Contains, slice_get}
-use Rattle.thin_terms.specs.Thinning.{Facts, rule_by}
+use Rattle.thin_terms.specs.Thinning.{Rule}
 use Rattle.thin_terms.specs.Shelves.{Named, names_of, rules_of}
 use Rattle.shape_rules.specs.Lending.{with_rule}
 use Rattle.shape_rules.specs.Ruled.{rules_on}
 use Rattle.shape_rules.proofs.Entries.{kept_by}
 
-module _ {R : Type 0} (opening : R → List ℕ) (marks : R → List ℕ → Facts → Bool) (next : R → List ℕ → Facts → List ℕ) where
-  -- a rule that moved and kept its meanings is the same rule
-  pub rules_same : (shelf : List (Named R)) (i : ℕ) (r w : R) → slice_get (rules_of shelf) i ≡ Some r → opening w ≡ opening r → marks w ≡ marks r → next w ≡ next r
-      → rules_on opening marks next (with_rule shelf i w) ≡ rules_on opening marks next shelf
-  rules_same shelf i r w there o m n = kept_by _ shelf i r w there (λ name. λ j. record { name = name; rule = rule_by (o j) (m j) (n j) })
+module _ {R : Type 0} (means : R → Rule) where
+  -- a rule that moved and means the same is the same rule
+  pub rules_same : (shelf : List (Named R)) (i : ℕ) (r w : R) → slice_get (rules_of shelf) i ≡ Some r → means w ≡ means r → rules_on means (with_rule shelf i w) ≡ rules_on means shelf
+  rules_same shelf i r w there same = kept_by _ shelf i r w there (λ name. λ j. record { name = name; rule = same j })
 
   -- the names are the same
-  pub names_on : (shelf : List (Named R)) → names_of (rules_on opening marks next shelf) ≡ names_of shelf
+  pub names_on : (shelf : List (Named R)) → names_of (rules_on means shelf) ≡ names_of shelf
   names_on [] = refl
   names_on (e ∷ es) = ap (λ ns. e.name ∷ ns) (names_on es)
 
   -- the rule of an entry stands under the entry's name
   pub rule_there : (shelf : List (Named R)) (i : ℕ) (r : R) (name : List ℕ) → slice_get (rules_of shelf) i ≡ Some r → slice_get (names_of shelf) i ≡ Some name
-      → Contains (rules_on opening marks next shelf) (record { name = name; rule = rule_by (opening r) (marks r) (next r) })
+      → Contains (rules_on means shelf) (record { name = name; rule = means r })
   rule_there [] i r name a b = cc
   rule_there (e ∷ es) zero r name a b =
       let same : e.rule ≡ r = cc in
       let called : e.name ≡ name = cc in
-      (0, omega arith, λ j. record { name = called j; rule = rule_by (opening (same j)) (marks (same j)) (next (same j)) })
+      (0, omega arith, λ j. record { name = called j; rule = means (same j) })
   rule_there (e ∷ es) (suc i) r name a b =
       let t = rule_there es i r name a b in
       (suc t.0, omega (arith, t.1), t.2)

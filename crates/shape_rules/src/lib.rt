@@ -13,6 +13,3 @@ pub use ends::{CurveEnds, FewEnds, NoEnds};
 pub use name::Name;
 pub use rule::{EndRule, Facts};
 pub use shelf::{Entry, Shelf};
-
-#[cfg(test)]
-mod tests;

@@ -16,6 +16,3 @@ mod weights;
 
 pub use answer::{Slopes, Solved, solve};
 pub use pair::Pair;
-
-#[cfg(test)]
-mod tests;

@@ -22,6 +22,3 @@ pub use row::Row;
 pub use sides::{Sides, raster_order};
 pub use solid::P3;
 pub use vector::dot;
-
-#[cfg(test)]
-mod tests;

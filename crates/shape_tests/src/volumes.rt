@@ -1,5 +1,5 @@
 //! Volumes: the report of one point and its check, and the faults of files.
-//! What the words of sides may be stands in `refusal_tests`.
+//! What the words of sides may be stands in `refusals`.
 use crate::runs::{checked_by, desk, ran, rules};
 use shape_cli::Outcome;
 use shape_picture::PictureFault;

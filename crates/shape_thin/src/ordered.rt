@@ -3,7 +3,6 @@
 ghost use Rattle.std.specs.Prelude.{◌≡◌, ◌+◌, ◌*◌, ◌≤◌, length, IfOk};
 ghost use Rattle.shape_terms.specs.Pictures.{object_points};
 ghost use Rattle.shape_terms.specs.Distances.{IsField};
-ghost use Rattle.thin_terms.specs.Thinning.{rule_by};
 ghost use Rattle.shape_thin.specs.Runs.{IsRunOf};
 ghost use Rattle.shape_thin.specs.Laws.{KeepsParts};
 
@@ -31,15 +30,11 @@ pub fn thin<P: SimpleMask, L: Ledger>(
     steps: &mut Steps<L>,
 ) -> Result<Thinning<P>, NoMemory>
     requires field { IsField grid.now field.now }
-    ensures thinning { IfOk result (IsRunOf
-        (rule_by (opening rule.old) (marks rule.old) (next rule.old))
-        grid.now (state rule.new)) }
+    ensures thinning { IfOk result (IsRunOf (means rule.old) grid.now (state rule.new)) }
     ensures kept { IfOk result (λ t. KeepsParts grid.now t.left) }
     ensures few { IfOk result (λ t. steps.new ≤ steps.old
         + length (object_points grid.now) + P.NEAR_COUNT * length t.events) }
-    ensures same_opening { opening rule.new ≡ opening rule.old }
-    ensures same_marks { marks rule.new ≡ marks rule.old }
-    ensures same_next { next rule.new ≡ next rule.old }
+    ensures same_rule { means rule.new ≡ means rule.old }
 {
     let sides = grid.sides();
     begin(rule);

@@ -21,10 +21,8 @@ pub(crate) struct Done {
 pub(crate) fn put_event(events: &mut Vec<Done>, done: Done) -> Result<(), NoMemory>
     ensures { OnOk result (events.new.items ≡ events.old.items ++ done ∷ []) }
 {
-    match events.push(done) {
-        Ok(()) => Ok(()),
-        Err(_) => Err(NoMemory),
-    }
+    events.push(done)?;
+    Ok(())
 }
 
 /// The events of a thinning in order, and the points that it leaves.

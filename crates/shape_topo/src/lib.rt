@@ -14,6 +14,3 @@ pub use mask::mask_of;
 pub use masked::MaskedGrid;
 pub use number::{background_number, object_number};
 pub use simple::{SimpleMask, is_simple};
-
-#[cfg(test)]
-mod tests;

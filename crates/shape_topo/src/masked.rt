@@ -43,9 +43,7 @@ fn masks_of<P: Pairing>(alloc: Global, grid: &Grid<P>) -> Result<Vec<u32>, NoMem
     ensures { IfOk result (λ v. AreMasks grid.now v.items) }
 {
     let sides = grid.sides();
-    let Ok(mut masks) = vec![in alloc; 0u32; sides.count() as usize] else {
-        return Err(NoMemory);
-    };
+    let mut masks = vec![in alloc; 0u32; sides.count() as usize]?;
     for i in 0..sides.count() {
         let p = sides.unraster(i);
         if grid.has(p) {

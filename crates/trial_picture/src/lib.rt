@@ -8,6 +8,3 @@ mod paint;
 mod picture;
 
 pub use picture::make_picture;
-
-#[cfg(test)]
-mod tests;

@@ -1,6 +1,7 @@
 use Rattle.std.proofs.Common.{◌≡◌, false, refl, sym, subst, arith, [], ◌∷◌, ◌++◌, ◌∙◌}
 use Rattle.std.specs.Prelude.{IsTrue}
 use Rattle.std.proofs.lemmas.Bool.{OnTrue_at}
+use Rattle.std.proofs.lemmas.Result.{err_from_is_err_and}
 use Rattle.shape_desk.specs.declared.desk.Place.TheVariants.{Report}
 use Rattle.shape_desk.proofs.Writes.{OnlyReadsAt-more}
 use Rattle.shape_desk.specs.Line.{IfTold, ahead_of}
@@ -10,93 +11,103 @@ use Rattle.shape_report.specs.Next.{TakesClaim, IsBad}
 use Rattle.shape_check.specs.Rows.{IsRuledBy}
 use Rattle.shape_check.proofs.Going.{if_told, bad_at_end, holds_at_end, bad_line, not_good, one_more, told_few}
 use Rattle.shape_check.proofs.FirstLine.{may_come, still_ruled}
-use Rattle.shape_check.proofs.ThinningJudged.{rule_same}
 use Rattle.shape_check.proofs.check.check_lines.Goals as goal
 
-pub returns-in-Ok-false-clause-answer : goal.returns-in-Ok-false-clause-answer
-returns-in-Ok-false-clause-answer g c = λ X text axes w start.
+pub returns-in_err-claim-clause-checked : goal.returns-in_err-claim-clause-checked
+returns-in_err-claim-clause-checked g c = λ X text axes w start.
     let inv = c.lines.invariant in
-    let same = rule_same inv.same_opening inv.same_marks inv.same_next in
+    let p = err_from_is_err_and c.from_residual.result c.from_residual.ensures.1 in
+    rw (p.1, p.2) (record {
+      answer = omega (arith, inv.reads.only.later, c.in_err-claim.ensures.answer);
+      taken = told_few X _ _ _ _ _ (inv.text X text axes w start) c.next_claim.ensures.taken;
+    })
+
+pub returns-in_err-take-in-Claim-clause-checked : goal.returns-in_err-take-in-Claim-clause-checked
+returns-in_err-take-in-Claim-clause-checked g c = λ X text axes w start.
+    let p = err_from_is_err_and c.from_residual-in_err-take-in-Claim.result c.from_residual-in_err-take-in-Claim.ensures.1 in
+    rw (p.1, p.2) (record { answer = tt; taken = told_few X _ _ _ _ _ (c.lines.invariant.text X text axes w start) c.next_claim.ensures.taken })
+
+pub returns-then-not-branch-clause-checked : goal.returns-then-not-branch-clause-checked
+returns-then-not-branch-clause-checked g c = λ X text axes w start.
+    let inv = c.lines.invariant in
     let left = ahead_of c.lines.reader.ahead ((g.D.Desk.state c.lines.desk).left Report) in
     let new = ahead_of c.next_claim.new.reader.ahead ((g.D.Desk.state c.next_claim.new.desk).left Report) in
-    let l = line_of g.P.Point.coords c.in-Ok-Claim.claim in
-    let taken : IfTold left (λ bytes. TakesClaim g.P.Point.DIM bytes new l) = rw c.in-Ok-Claim.field-0-is at c.in-Ok-Claim.ensures.answer in (
-      record { some = inv.some; few = omega (arith, inv.few) },
-      if_told text (λ t h. not_good X t left _ c.lines.line h g.P.Point.DIM l new axes taken (λ f good.
-          let t = (c.in-Ok-false.ensures.answer X h.lines (subst (IsRuledBy X (lines_of Section.Heading h.lines)) (sym same) f.ruled) (subst (λ r. g.R.Judges.follows X r c.lines.row ((g.dyn-1.0.entry c.lines.rule.now.0).1.state c.lines.rule.now.1) h.lines) (sym same) f.follows) (may_come X _ g.R.Judges.section g.met.R.Row.first h.lines l f.ruled)).1 good in
-          let z = c.in-Ok-false.field-0-test in
-          cc)) (inv.text X text axes w start),
-    )
+    let l = line_of g.P.Point.coords c.in-Claim.claim in
+    let taken : IfTold left (λ bytes. TakesClaim g.P.Point.DIM bytes new l) = rw c.in-Claim.is at c.in_ok-claim.ensures.answer in
+    let told = inv.text X text axes w start in
+    record {
+      answer = (
+        record { some = inv.some; few = omega (arith, inv.few) },
+        if_told text (λ t h. not_good X t left _ c.lines.line h g.P.Point.DIM l new axes taken (λ f good.
+            let t = (c.in_ok-take-in-Claim.ensures.answer X h.lines (subst (IsRuledBy X (lines_of Section.Heading h.lines)) (sym inv.same_rule) f.ruled) (subst (λ r. g.R.Judges.follows X r c.lines.row ((g.dyn-1.0.entry c.lines.rule.now.0).1.state c.lines.rule.now.1) h.lines) (sym inv.same_rule) f.follows) (may_come X _ g.R.Judges.section g.met.R.Row.first h.lines l f.ruled)).1 good in
+            let z = c.if-not-branch.true in
+            cc)) told,
+      );
+      taken = told_few X _ _ _ _ _ told c.next_claim.ensures.taken;
+    }
 
 pub lines-preserved : goal.lines-preserved
 lines-preserved g c =
     let inv = c.lines.invariant in
     let next = c.next_claim.ensures in
-    let took = c.in-Ok-true.ensures in
-    let same = rule_same inv.same_opening inv.same_marks inv.same_next in
+    let took = c.in_ok-take-in-Claim.ensures in
+    let same = inv.same_rule in
+    let state = (g.dyn-1.0.entry c.lines.rule.now.0).1.state in
     let left = ahead_of c.lines.reader.ahead ((g.D.Desk.state c.lines.desk).left Report) in
     let new = ahead_of c.next_claim.new.reader.ahead ((g.D.Desk.state c.next_claim.new.desk).left Report) in
-    let l = line_of g.P.Point.coords c.in-Ok-Claim.claim in
-    let taken : IfTold left (λ bytes. TakesClaim g.P.Point.DIM bytes new l) = rw c.in-Ok-Claim.field-0-is at c.in-Ok-Claim.ensures.answer in
+    let l = line_of g.P.Point.coords c.in-Claim.claim in
+    let taken : IfTold left (λ bytes. TakesClaim g.P.Point.DIM bytes new l) = rw c.in-Claim.is at c.in_ok-claim.ensures.answer in
     record {
       begun = next.reads.still_begun;
       text = λ X text axes w start. if_told text (λ t h. one_more X t left _ c.lines.line h g.P.Point.DIM l new _ axes taken (λ f.
           let ruled = subst (IsRuledBy X (lines_of Section.Heading h.lines)) (sym same) f.ruled in
+          let follows = subst (λ r. g.R.Judges.follows X r c.lines.row (state c.lines.rule.now.1) h.lines) (sym same) f.follows in
           let may = may_come X _ g.R.Judges.section g.met.R.Row.first h.lines l f.ruled in
-          let good = (took.answer X h.lines ruled (subst (λ r. g.R.Judges.follows X r c.lines.row ((g.dyn-1.0.entry c.lines.rule.now.0).1.state c.lines.rule.now.1) h.lines) (sym same) f.follows) may).0 c.in-Ok-true.field-0-test in (
+          let good = (took.answer X h.lines ruled follows may).0 c.if-not-branch.false in (
             good,
             record {
               ruled = still_ruled X _ g.R.Judges.section g.met.R.Row.first h.lines l f.ruled good;
-              follows = subst (λ r. g.R.Judges.follows X r c.take.new.self ((g.dyn-1.0.entry c.lines.rule.now.0).1.state c.take.new.rule) (h.lines ++ l ∷ [])) same (OnTrue_at c.in-Ok-true.field-0-test (took.follows X h.lines ruled (subst (λ r. g.R.Judges.follows X r c.lines.row ((g.dyn-1.0.entry c.lines.rule.now.0).1.state c.lines.rule.now.1) h.lines) (sym same) f.follows) may));
+              follows = subst (λ r. g.R.Judges.follows X r c.take.new.self (state c.take.new.rule) (h.lines ++ l ∷ [])) same (OnTrue_at c.if-not-branch.false (took.follows X h.lines ruled follows may));
             },
           ))) (inv.text X text axes w start);
-      same_opening = took.same_opening ∙ inv.same_opening;
-      same_marks = took.same_marks ∙ inv.same_marks;
-      same_next = took.same_next ∙ inv.same_next;
+      same_rule = took.same_rule ∙ same;
       some = omega arith;
-      few = omega (arith, inv.few, OnTrue_at c.in-Ok-true.field-0-test took.room);
+      few = omega (arith, inv.few, OnTrue_at c.if-not-branch.false took.room);
       reads = OnlyReadsAt-more inv.reads next.reads;
     }
 
-pub returns-in-Ok-Bad-clause-answer : goal.returns-in-Ok-Bad-clause-answer
-returns-in-Ok-Bad-clause-answer g c = λ X text axes w start.
+pub returns-in-Bad-clause-checked : goal.returns-in-Bad-clause-checked
+returns-in-Bad-clause-checked g c = λ X text axes w start.
     let inv = c.lines.invariant in
     let left = ahead_of c.lines.reader.ahead ((g.D.Desk.state c.lines.desk).left Report) in
-    let bad : IfTold left (IsBad g.P.Point.DIM) = rw c.in-Ok-Bad.field-0-is at c.in-Ok-Bad.ensures.answer in (
-      record { some = inv.some; few = omega (arith, inv.few) },
-      if_told text (λ t h. bad_line X t left _ c.lines.line h g.P.Point.DIM axes bad) (inv.text X text axes w start),
-    )
+    let bad : IfTold left (IsBad g.P.Point.DIM) = rw c.in-Bad.is at c.in_ok-claim.ensures.answer in
+    let told = inv.text X text axes w start in
+    record {
+      answer = (record { some = inv.some; few = omega (arith, inv.few) }, if_told text (λ t h. bad_line X t left _ c.lines.line h g.P.Point.DIM axes bad) told);
+      taken = told_few X _ _ _ _ _ told c.next_claim.ensures.taken;
+    }
 
-pub returns-in-Ok-End-clause-answer : goal.returns-in-Ok-End-clause-answer
-returns-in-Ok-End-clause-answer g c = λ X text axes w start.
+pub returns-in-End-clause-checked : goal.returns-in-End-clause-checked
+returns-in-End-clause-checked g c = λ X text axes w start.
     let inv = c.lines.invariant in
     let left = ahead_of c.lines.reader.ahead ((g.D.Desk.state c.lines.desk).left Report) in
-    let end : IfTold left (λ bytes. bytes ≡ []) = rw c.in-Ok-End.field-0-is at c.in-Ok-End.ensures.answer in (
-      record { some = inv.some; few = omega (arith, inv.few) },
-      if_told text (λ t h. bad_at_end X t left _ c.lines.line h (λ f e. let t : IsTrue false = (c.if-has_ended.ensures X _ _ h.lines f.follows).1 e in cc) end) (inv.text X text axes w start),
-    )
+    let end : IfTold left (λ bytes. bytes ≡ []) = rw c.in-End.is at c.in_ok-claim.ensures.answer in
+    let told = inv.text X text axes w start in
+    record {
+      answer = (
+        record { some = inv.some; few = omega (arith, inv.few) },
+        if_told text (λ t h. bad_at_end X t left _ c.lines.line h (λ f e. let t : IsTrue false = (c.if-has_ended.ensures X _ _ h.lines f.follows).1 e in cc) end) told,
+      );
+      taken = told_few X _ _ _ _ _ told c.next_claim.ensures.taken;
+    }
 
-pub returns-then-has_ended-clause-answer : goal.returns-then-has_ended-clause-answer
-returns-then-has_ended-clause-answer g c = λ X text axes w start.
+pub returns-then-has_ended-clause-checked : goal.returns-then-has_ended-clause-checked
+returns-then-has_ended-clause-checked g c = λ X text axes w start.
     let inv = c.lines.invariant in
     let left = ahead_of c.lines.reader.ahead ((g.D.Desk.state c.lines.desk).left Report) in
-    let end : IfTold left (λ bytes. bytes ≡ []) = rw c.in-Ok-End.field-0-is at c.in-Ok-End.ensures.answer in
-    if_told text (λ t h. holds_at_end X t left _ c.lines.line h (λ f. (c.if-has_ended.ensures X _ _ h.lines f.follows).0 refl) end) (inv.text X text axes w start)
-
-pub returns-in-Ok-false-clause-taken : goal.returns-in-Ok-false-clause-taken
-returns-in-Ok-false-clause-taken g c = λ X text axes w start. told_few X _ _ _ _ _ (c.lines.invariant.text X text axes w start) c.next_claim.ensures.taken
-
-pub returns-in-Err-take-clause-taken : goal.returns-in-Err-take-clause-taken
-returns-in-Err-take-clause-taken g c = λ X text axes w start. told_few X _ _ _ _ _ (c.lines.invariant.text X text axes w start) c.next_claim.ensures.taken
-
-pub returns-in-Ok-Bad-clause-taken : goal.returns-in-Ok-Bad-clause-taken
-returns-in-Ok-Bad-clause-taken g c = λ X text axes w start. told_few X _ _ _ _ _ (c.lines.invariant.text X text axes w start) c.next_claim.ensures.taken
-
-pub returns-then-has_ended-clause-taken : goal.returns-then-has_ended-clause-taken
-returns-then-has_ended-clause-taken g c = λ X text axes w start. told_few X _ _ _ _ _ (c.lines.invariant.text X text axes w start) c.next_claim.ensures.taken
-
-pub returns-in-Ok-End-clause-taken : goal.returns-in-Ok-End-clause-taken
-returns-in-Ok-End-clause-taken g c = λ X text axes w start. told_few X _ _ _ _ _ (c.lines.invariant.text X text axes w start) c.next_claim.ensures.taken
-
-pub returns-in-Err-clause-taken : goal.returns-in-Err-clause-taken
-returns-in-Err-clause-taken g c = λ X text axes w start. told_few X _ _ _ _ _ (c.lines.invariant.text X text axes w start) c.next_claim.ensures.taken
+    let end : IfTold left (λ bytes. bytes ≡ []) = rw c.in-End.is at c.in_ok-claim.ensures.answer in
+    let told = inv.text X text axes w start in
+    record {
+      answer = if_told text (λ t h. holds_at_end X t left _ c.lines.line h (λ f. (c.if-has_ended.ensures X _ _ h.lines f.follows).0 refl) end) told;
+      taken = told_few X _ _ _ _ _ told c.next_claim.ensures.taken;
+    }

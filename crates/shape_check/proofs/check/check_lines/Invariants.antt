@@ -2,7 +2,6 @@ use Rattle.std.proofs.Common.{◌≡◌, ◌+◌, ◌≤◌, ◌^◌, true, leng
 use Rattle.shape_desk.specs.declared.desk.Place.TheVariants.{Report}
 use Rattle.shape_desk.specs.Desk.{OnlyReadsAt}
 use Rattle.shape_desk.specs.Line.{IfTold, ahead_of}
-use Rattle.thin_terms.specs.Thinning.{rule_by}
 use Rattle.report_terms.specs.Subjects.{Subject}
 use Rattle.shape_check.specs.Going.{GoingOn, Ruled, BehindHeading}
 use Rattle.shape_check.proofs.check.check_lines.Given as goal
@@ -12,12 +11,10 @@ invariant-lines g l = record {
   begun : (g.D.Desk.state l.desk).begun Report ≡ true;
   text : (X : Subject) (text : Option (List ℕ)) → length X.picture.sides ≡ g.P.Point.DIM → g.R.Judges.waits X.picture l.fn.row
       → IfTold text (λ t. GoingOn X t (ahead_of l.fn.reader.ahead ((g.D.Desk.state l.fn.desk).left Report))
-      (BehindHeading X (rule_by ((g.dyn-1.0.entry l.fn.rule.now.0).1.opening l.fn.rule.now.1) ((g.dyn-1.0.entry l.fn.rule.now.0).1.marks l.fn.rule.now.1) ((g.dyn-1.0.entry l.fn.rule.now.0).1.next l.fn.rule.now.1)) g.R.Judges.section) 2)
+      (BehindHeading X ((g.dyn-1.0.entry l.fn.rule.now.0).1.means l.fn.rule.now.1) g.R.Judges.section) 2)
       → IfTold text (λ t. GoingOn X t (ahead_of l.reader.ahead ((g.D.Desk.state l.desk).left Report))
-      (Ruled X (rule_by ((g.dyn-1.0.entry l.fn.rule.now.0).1.opening l.fn.rule.now.1) ((g.dyn-1.0.entry l.fn.rule.now.0).1.marks l.fn.rule.now.1) ((g.dyn-1.0.entry l.fn.rule.now.0).1.next l.fn.rule.now.1)) (g.R.Judges.follows X (rule_by ((g.dyn-1.0.entry l.fn.rule.now.0).1.opening l.fn.rule.now.1) ((g.dyn-1.0.entry l.fn.rule.now.0).1.marks l.fn.rule.now.1) ((g.dyn-1.0.entry l.fn.rule.now.0).1.next l.fn.rule.now.1)) l.row ((g.dyn-1.0.entry l.rule.now.0).1.state l.rule.now.1))) l.line);
-  same_opening : (g.dyn-1.0.entry l.rule.now.0).1.opening l.rule.now.1 ≡ (g.dyn-1.0.entry l.fn.rule.now.0).1.opening l.fn.rule.now.1;
-  same_marks : (g.dyn-1.0.entry l.rule.now.0).1.marks l.rule.now.1 ≡ (g.dyn-1.0.entry l.fn.rule.now.0).1.marks l.fn.rule.now.1;
-  same_next : (g.dyn-1.0.entry l.rule.now.0).1.next l.rule.now.1 ≡ (g.dyn-1.0.entry l.fn.rule.now.0).1.next l.fn.rule.now.1;
+      (Ruled X ((g.dyn-1.0.entry l.fn.rule.now.0).1.means l.fn.rule.now.1) (g.R.Judges.follows X ((g.dyn-1.0.entry l.fn.rule.now.0).1.means l.fn.rule.now.1) l.row ((g.dyn-1.0.entry l.rule.now.0).1.state l.rule.now.1))) l.line);
+  same_rule : (g.dyn-1.0.entry l.rule.now.0).1.means l.rule.now.1 ≡ (g.dyn-1.0.entry l.fn.rule.now.0).1.means l.fn.rule.now.1;
   some : 1 ≤ l.line;
   few : l.line + g.R.Judges.room l.row ≤ 2 ^ 62;
   reads : OnlyReadsAt Report (g.D.Desk.state l.fn.desk) (g.D.Desk.state l.desk);

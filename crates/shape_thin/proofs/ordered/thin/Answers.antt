@@ -1,9 +1,9 @@
-use Rattle.std.proofs.Common.{◌≡◌, ◌<◌, ◌≤◌, ℕ, Bool, true, false, List, [], ◌∷◌, ◌++◌, length, refl, rules, arith, sym, ap, ◌∙◌, subst}
+use Rattle.std.proofs.Common.{◌≡◌, ◌<◌, ◌≤◌, true, false, [], ◌∷◌, ◌++◌, length, refl, rules, arith, sym, ap, ◌∙◌, subst}
 use Rattle.std.specs.Prelude.{◌^◌}
 use Rattle.std.proofs.lemmas.List.{length_push, length-map}
 use Rattle.shape_terms.specs.Points.{box_count, raster_point}
 use Rattle.shape_terms.specs.Pictures.{Picture, object_points}
-use Rattle.thin_terms.specs.Thinning.{Facts, rule_by, without}
+use Rattle.thin_terms.specs.Thinning.{Facts, Rule, without}
 use Rattle.shape_terms.proofs.BoxLists.{few_objects}
 use Rattle.shape_terms.proofs.FramedBoxes.{box_point_within}
 use Rattle.thin_terms.proofs.ThinningKept.{thinning_keeps}
@@ -17,16 +17,13 @@ use Rattle.shape_thin.proofs.ordered.thin.Goals as goal
 pub loop-key-init : goal.loop-key-init
 loop-key-init g c =
     let X = c.args.grid.now in
-    let members = (g.dyn-1.0.entry c.args.rule.now.vtable).1 in
-    let rule = rule_by (members.opening c.args.rule.now.value) (members.marks c.args.rule.now.value) (members.next c.args.rule.now.value) in
+    let rule = (g.dyn-1.0.entry c.args.rule.now.vtable).1.means c.args.rule.now.value in
     let same : c.in_ok-left.left ≡ X = c.in_ok-left.ensures ∙ c.in_ok-copy.ensures in
     let w : Waits X.sides X X c.in_ok-distances.distances.items (λ i. ⊥) (has c.in_ok-keys.keys) =
     subst (λ (Y : Picture). Waits Y.sides Y Y c.in_ok-distances.distances.items (λ i. ⊥) (has c.in_ok-keys.keys)) same
     (subst (λ d. Waits c.in_ok-left.left.sides c.in_ok-left.left c.in_ok-left.left d (λ i. ⊥) (has c.in_ok-keys.keys)) c.as_slice.ensures.value c.in_ok-keys.ensures.waits) in
     record {
-      opening = search rules;
-      marks = search rules;
-      next = search rules;
+      same = search rules;
       course = rw (same, c.in_ok-free.ensures, c.new-events.ensures.items)
           (course_start rule X _ c.in_ok-distances.distances.items (has c.in_ok-keys.keys)
           (going_start g.P.Point.DIM rule X _ c.in_ok-distances.distances.items (has c.in_ok-keys.keys) c.sides-sides.ensures.picture (search rules) c.in_ok-distances.ensures w));
@@ -105,13 +102,11 @@ loop-key-preserved-in_ok-look_round g c =
     let state = (g.dyn-1.0.entry c.loop-key.rule.vtable).1.state c.loop-key.rule.value in
     let facts : Facts = record { neighbours = c.near_count.result; distance = k.distance } in
     let tips : c.ask-tips.result ≡ false = search rules in
-    let told = sym (ap (λ (m : List ℕ → Facts → Bool). m state facts) i.marks) ∙ (sym c.ask-tips.ensures.answer ∙ tips) in
-    let moved = c.ask-tips.ensures.moved ∙ ap (λ (n : List ℕ → Facts → List ℕ). n state facts) i.next in
+    let told = sym (ap (λ (r : Rule). r.marks state facts) i.same) ∙ (sym c.ask-tips.ensures.answer ∙ tips) in
+    let moved = c.ask-tips.ensures.moved ∙ ap (λ (r : Rule). r.next state facts) i.same in
     let done = items ∙ ap (λ b. c.loop-key.events.items ++ record { place = k.place; tips = b } ∷ []) tips in
     record {
-      opening = c.ask-tips.ensures.same_opening ∙ i.opening;
-      marks = c.ask-tips.ensures.same_marks ∙ i.marks;
-      next = c.ask-tips.ensures.same_next ∙ i.next;
+      same = c.ask-tips.ensures.same_rule ∙ i.same;
       course = course_more _ c.args.grid.now _ _ c.loop-key.left c.clear-then-not-tips.new.self c.loop-key.free c.clear.new.self _ c.loop-key.events.items
           c.put_event.new.events.items (has c.loop-key.keys) (has c.look_round.new.keys) k.place false q i.course l e done o
           (going_deleted _ c.args.grid.now _ _ c.loop-key.left c.loop-key.free _ (has c.loop-key.keys) i.course.going k c.in-Some.ensures.taken.0 q e c.clear.new.self c.clear.ensures
@@ -135,13 +130,11 @@ loop-key-preserved g c =
     let state = (g.dyn-1.0.entry c.loop-key.rule.vtable).1.state c.loop-key.rule.value in
     let facts : Facts = record { neighbours = c.near_count.result; distance = k.distance } in
     let tips : c.ask-tips.result ≡ true = search rules in
-    let told = sym (ap (λ (m : List ℕ → Facts → Bool). m state facts) i.marks) ∙ (sym c.ask-tips.ensures.answer ∙ tips) in
-    let moved = c.ask-tips.ensures.moved ∙ ap (λ (n : List ℕ → Facts → List ℕ). n state facts) i.next in
+    let told = sym (ap (λ (r : Rule). r.marks state facts) i.same) ∙ (sym c.ask-tips.ensures.answer ∙ tips) in
+    let moved = c.ask-tips.ensures.moved ∙ ap (λ (r : Rule). r.next state facts) i.same in
     let done = items ∙ ap (λ b. c.loop-key.events.items ++ record { place = k.place; tips = b } ∷ []) tips in
     record {
-      opening = c.ask-tips.ensures.same_opening ∙ i.opening;
-      marks = c.ask-tips.ensures.same_marks ∙ i.marks;
-      next = c.ask-tips.ensures.same_next ∙ i.next;
+      same = c.ask-tips.ensures.same_rule ∙ i.same;
       course = course_more _ c.args.grid.now _ _ c.loop-key.left c.loop-key.left c.loop-key.free c.clear.new.self _ c.loop-key.events.items
           c.put_event.new.events.items (has c.loop-key.keys) (has c.take_least.new.keys) k.place true q i.course l e done o
           (going_marked _ c.args.grid.now _ _ c.loop-key.left c.loop-key.free _ (has c.loop-key.keys) i.course.going k c.in-Some.ensures.taken.0 q e c.clear.new.self c.clear.ensures

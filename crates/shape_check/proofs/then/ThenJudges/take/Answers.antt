@@ -1,5 +1,4 @@
 use Rattle.std.proofs.Common.{◌≢◌, ap, sym, ◌∙◌}
-use Rattle.thin_terms.specs.Thinning.{rule_by}
 use Rattle.shape_report.specs.LineOf.{line_of}
 use Rattle.report_terms.specs.Sections.{Section, rank, section_of, lines_of}
 use Rattle.report_terms.proofs.SectionLaws.{rank_same}
@@ -8,14 +7,14 @@ use Rattle.shape_check.proofs.then.ThenJudges.take.Goals as goal
 
 pub returns-then-self-clause-answer : goal.returns-then-self-clause-answer
 returns-then-self-clause-answer g c = λ X lines ruled f m.
-    let by = rule_by ((g.dyn-1.0.entry c.args.rule.now.0).1.opening c.args.rule.now.1) ((g.dyn-1.0.entry c.args.rule.now.0).1.marks c.args.rule.now.1) ((g.dyn-1.0.entry c.args.rule.now.0).1.next c.args.rule.now.1) in
+    let by = (g.dyn-1.0.entry c.args.rule.now.0).1.means c.args.rule.now.1 in
     let now = (g.dyn-1.0.entry c.args.rule.now.0).1.state c.args.rule.now.1 in
     let h = row_past X g.J.SectionJudge.section g.R.Judges.section c.args.self.now.is_past (g.J.SectionJudge.stands X.picture by c.args.self.now.first now) (g.R.Judges.waits X.picture c.args.self.now.rest) (g.R.Judges.follows X by c.args.self.now.rest now) lines c.if-self.true f in
     c.take.ensures.answer X lines ruled h.1 (h.0.next _)
 
 pub returns-then-self-clause-follows : goal.returns-then-self-clause-follows
 returns-then-self-clause-follows g c = λ X lines ruled f m.
-    let by = rule_by ((g.dyn-1.0.entry c.args.rule.now.0).1.opening c.args.rule.now.1) ((g.dyn-1.0.entry c.args.rule.now.0).1.marks c.args.rule.now.1) ((g.dyn-1.0.entry c.args.rule.now.0).1.next c.args.rule.now.1) in
+    let by = (g.dyn-1.0.entry c.args.rule.now.0).1.means c.args.rule.now.1 in
     let now = (g.dyn-1.0.entry c.args.rule.now.0).1.state c.args.rule.now.1 in
     let t = g.R.Judges.section in
     let l = line_of g.P.Point.coords c.args.line.now in
@@ -24,7 +23,7 @@ returns-then-self-clause-follows g c = λ X lines ruled f m.
 
 pub returns-then-rank-clause-answer : goal.returns-then-rank-clause-answer
 returns-then-rank-clause-answer g c = λ X lines ruled f m.
-    let by = rule_by ((g.dyn-1.0.entry c.args.rule.now.0).1.opening c.args.rule.now.1) ((g.dyn-1.0.entry c.args.rule.now.0).1.marks c.args.rule.now.1) ((g.dyn-1.0.entry c.args.rule.now.0).1.next c.args.rule.now.1) in
+    let by = (g.dyn-1.0.entry c.args.rule.now.0).1.means c.args.rule.now.1 in
     let now = (g.dyn-1.0.entry c.args.rule.now.0).1.state c.args.rule.now.1 in
     let s = g.J.SectionJudge.section in
     let l = line_of g.P.Point.coords c.args.line.now in
@@ -34,7 +33,7 @@ returns-then-rank-clause-answer g c = λ X lines ruled f m.
 
 pub returns-then-rank-clause-follows : goal.returns-then-rank-clause-follows
 returns-then-rank-clause-follows g c = λ X lines ruled f m.
-    let by = rule_by ((g.dyn-1.0.entry c.args.rule.now.0).1.opening c.args.rule.now.1) ((g.dyn-1.0.entry c.args.rule.now.0).1.marks c.args.rule.now.1) ((g.dyn-1.0.entry c.args.rule.now.0).1.next c.args.rule.now.1) in
+    let by = (g.dyn-1.0.entry c.args.rule.now.0).1.means c.args.rule.now.1 in
     let now = (g.dyn-1.0.entry c.args.rule.now.0).1.state c.args.rule.now.1 in
     let s = g.J.SectionJudge.section in
     let l = line_of g.P.Point.coords c.args.line.now in
@@ -44,7 +43,7 @@ returns-then-rank-clause-follows g c = λ X lines ruled f m.
 
 pub returns-clause-answer : goal.returns-clause-answer
 returns-clause-answer g c = λ X lines ruled f m.
-    let by = rule_by ((g.dyn-1.0.entry c.args.rule.now.0).1.opening c.args.rule.now.1) ((g.dyn-1.0.entry c.args.rule.now.0).1.marks c.args.rule.now.1) ((g.dyn-1.0.entry c.args.rule.now.0).1.next c.args.rule.now.1) in
+    let by = (g.dyn-1.0.entry c.args.rule.now.0).1.means c.args.rule.now.1 in
     let now = (g.dyn-1.0.entry c.args.rule.now.0).1.state c.args.rule.now.1 in
     let s = g.J.SectionJudge.section in
     let t = g.R.Judges.section in
@@ -59,7 +58,7 @@ returns-clause-answer g c = λ X lines ruled f m.
 
 pub returns-clause-follows : goal.returns-clause-follows
 returns-clause-follows g c = λ X lines ruled f m.
-    let by = rule_by ((g.dyn-1.0.entry c.args.rule.now.0).1.opening c.args.rule.now.1) ((g.dyn-1.0.entry c.args.rule.now.0).1.marks c.args.rule.now.1) ((g.dyn-1.0.entry c.args.rule.now.0).1.next c.args.rule.now.1) in
+    let by = (g.dyn-1.0.entry c.args.rule.now.0).1.means c.args.rule.now.1 in
     let now = (g.dyn-1.0.entry c.args.rule.now.0).1.state c.args.rule.now.1 in
     let s = g.J.SectionJudge.section in
     let t = g.R.Judges.section in

@@ -1,0 +1,253 @@
+//! The report of the full picture of 2 by 2, changed in every small way, and the first bad line of each.
+//! The lines that are wanted were found by hand from the definitions; where the report changes, so do they.
+use crate::cases::{Case, answer};
+use shape_cli::Outcome;
+use std::alloc::Global;
+use std::test::Fail;
+
+/// The picture.
+const PICTURE: &[u8] = b"P1 2 2 1 1 1 1";
+
+/// Its report, as it is analysed. Each number in it has one digit, below 9.
+const REPORT: &[u8] = b"shape 1 pbm 2 2 none
+parts 4 1 1
+near 0 0 -1 0 1
+near 1 0 2 0 1
+near 0 1 0 2 1
+near 1 1 1 2 1
+contour 0 0 0 4 4
+at 0 0
+at 1 0
+at 1 1
+at 0 1
+seg 0 1 y 0 1 0
+seg 1 2 x 1 0 1
+seg 2 3 y 0 1 1
+seg 3 4 x 1 0 0
+turn x 1 0
+turn y 1 1
+turn x 1 1
+turn y 1 0
+turn x 1 0
+turn y 1 1
+turn x 1 1
+turn y 1 0
+del 0 0
+del 1 0
+del 0 1
+kept 1 1 1
+end
+";
+
+/// The first bad line where line 1, 2, .. is left out: the next line comes too early, and so is bad in its place. Of the four segments,
+/// on lines 12 to 15, three may begin anywhere and follow one another, and then the fourth is missing.
+const LEFT_OUT: [u64; 28] = [
+    1, 2, 3, 4, 5, 6, 7, 8, 9, 10, 11, 15, 15, 15, 15, 16, 17, 18, 19, 20, 21, 22, 23, 24, 25, 26,
+    27, 28,
+];
+
+/// The first bad line where line 1, 2, .. is doubled: always the second of the two. Nothing may be said twice, and nothing follows `end`.
+const DOUBLED: [u64; 28] = [
+    2, 3, 4, 5, 6, 7, 8, 9, 10, 11, 12, 13, 14, 15, 16, 17, 18, 19, 20, 21, 22, 23, 24, 25, 26, 27,
+    28, 29,
+];
+
+/// The first bad line where line 1, 2, .. is exchanged with the next: the next line comes too early. A later segment may come first, so that
+/// the earlier one behind it is the bad line.
+const EXCHANGED: [u64; 27] = [
+    1, 2, 3, 4, 5, 6, 7, 8, 9, 10, 11, 13, 14, 15, 15, 16, 17, 18, 19, 20, 21, 22, 23, 24, 25, 26,
+    27,
+];
+
+/// A report that still holds.
+const YES: u64 = 0;
+
+/// The first bad line where the first, second, .. number of line 1, 2, .. is raised by one: that line, but for numbers of segments.
+///
+/// A segment that begins one place later still holds its point, and the next one does not begin behind it; the last of the four
+/// begins behind the contour's last place. With its own coefficient 2 in the place of 1, a line holds the same points and more.
+const RAISED: [&[u64]; 28] = [
+    &[1, 1, 1],
+    &[2, 2, 2],
+    &[3, 3, 3, 3, 3],
+    &[4, 4, 4, 4, 4],
+    &[5, 5, 5, 5, 5],
+    &[6, 6, 6, 6, 6],
+    &[7, 7, 7, 7, 7],
+    &[8, 8],
+    &[9, 9],
+    &[10, 10],
+    &[11, 11],
+    &[13, 12, 12, YES, 12],
+    &[14, 13, YES, 13, 13],
+    &[15, 14, 14, YES, 14],
+    &[15, 15, YES, 15, 15],
+    &[16, 16],
+    &[17, 17],
+    &[18, 18],
+    &[19, 19],
+    &[20, 20],
+    &[21, 21],
+    &[22, 22],
+    &[23, 23],
+    &[24, 24],
+    &[25, 25],
+    &[26, 26],
+    &[27, 27, 27],
+    &[],
+];
+
+// The outcome of a check with this first bad line.
+fn verdict(line: u64) -> Outcome {
+    if line == YES {
+        Outcome::Yes
+    } else {
+        Outcome::No { line }
+    }
+}
+
+// What is said of a report.
+fn judged(alloc: Global, report: &[u8]) -> Result<Outcome, Fail> {
+    let case = Case {
+        line: "check pbm a b",
+        picture: PICTURE,
+        report,
+    };
+    let (outcome, _) = answer(alloc, case)?;
+    Ok(outcome)
+}
+
+// The lines of the report, each without its LF.
+fn lines(alloc: Global) -> Result<Vec<&'static [u8]>, Fail> {
+    let mut lines = Vec::new(alloc);
+    for line in REPORT.split(|&c| c == b'\n') {
+        if !line.is_empty() {
+            lines.push(line)?;
+        }
+    }
+    Ok(lines)
+}
+
+// A text of the lines from one place up to another, each with its LF.
+fn put(text: &mut Vec<u8>, lines: &[&[u8]], from: usize, to: usize) -> Result<(), Fail> {
+    for i in from..to {
+        if let Some(line) = lines.get(i) {
+            text.extend_from_slice(line)?;
+            text.push(b'\n')?;
+        }
+    }
+    Ok(())
+}
+
+// The report with the number of this place on a line raised by one, and how many numbers the line has.
+fn raised(
+    alloc: Global,
+    lines: &[&[u8]],
+    at: usize,
+    place: usize,
+) -> Result<(Vec<u8>, usize), Fail> {
+    let mut text = Vec::new(alloc);
+    put(&mut text, lines, 0, at)?;
+    let mut count: usize = 0;
+    for byte in lines.get(at).copied().unwrap_or_default() {
+        let is_number = byte.is_ascii_digit();
+        let is_raised = is_number && count == place;
+        text.push(if is_raised {
+            byte.wrapping_add(1)
+        } else {
+            *byte
+        })?;
+        count = if is_number {
+            count.saturating_add(1)
+        } else {
+            count
+        };
+    }
+    text.push(b'\n')?;
+    put(&mut text, lines, at.saturating_add(1), lines.len())?;
+    Ok((text, count))
+}
+
+#[test]
+fn the_report(rt: HostRuntime) -> Result<(), Fail> {
+    let alloc = rt.alloc();
+    let case = Case {
+        line: "analyse pbm a none",
+        picture: PICTURE,
+        report: b"",
+    };
+    let (outcome, text) = answer(alloc, case)?;
+    assert_eq!(rt; outcome, Outcome::Done);
+    assert_eq!(rt; text.as_slice(), REPORT);
+    assert_eq!(rt; judged(alloc, REPORT)?, Outcome::Yes);
+    Ok(())
+}
+
+#[test]
+fn cut_or_longer(rt: HostRuntime) -> Result<(), Fail> {
+    let alloc = rt.alloc();
+    let mut text = Vec::new(alloc);
+    let mut line: u64 = 1;
+    for byte in REPORT {
+        // A front is bad at the line that it has no LF of.
+        assert_eq!(rt; judged(alloc, &text)?, verdict(line));
+        text.push(*byte)?;
+        line = if *byte == b'\n' {
+            line.saturating_add(1)
+        } else {
+            line
+        };
+    }
+    assert_eq!(rt; judged(alloc, &text)?, Outcome::Yes);
+    text.push(b'\n')?;
+    assert_eq!(rt; judged(alloc, &text)?, verdict(line));
+    Ok(())
+}
+
+#[test]
+fn lines_left_out_doubled_or_exchanged(rt: HostRuntime) -> Result<(), Fail> {
+    let alloc = rt.alloc();
+    let lines = lines(alloc)?;
+    let last = lines.len();
+    assert_eq!(rt; last, 28);
+    for (at, want) in LEFT_OUT.iter().enumerate() {
+        let mut text = Vec::new(alloc);
+        put(&mut text, &lines, 0, at)?;
+        put(&mut text, &lines, at.saturating_add(1), last)?;
+        assert_eq!(rt; judged(alloc, &text)?, verdict(*want));
+    }
+    for (at, want) in DOUBLED.iter().enumerate() {
+        let mut text = Vec::new(alloc);
+        put(&mut text, &lines, 0, at.saturating_add(1))?;
+        put(&mut text, &lines, at, last)?;
+        assert_eq!(rt; judged(alloc, &text)?, verdict(*want));
+    }
+    for (at, want) in EXCHANGED.iter().enumerate() {
+        let next = at.saturating_add(1);
+        let mut text = Vec::new(alloc);
+        put(&mut text, &lines, 0, at)?;
+        put(&mut text, &lines, next, next.saturating_add(1))?;
+        put(&mut text, &lines, at, next)?;
+        put(&mut text, &lines, next.saturating_add(1), last)?;
+        assert_eq!(rt; judged(alloc, &text)?, verdict(*want));
+    }
+    Ok(())
+}
+
+#[test]
+fn numbers_raised(rt: HostRuntime) -> Result<(), Fail> {
+    let alloc = rt.alloc();
+    let lines = lines(alloc)?;
+    for (at, wants) in RAISED.iter().enumerate() {
+        for (place, want) in wants.iter().enumerate() {
+            let (text, count) = raised(alloc, &lines, at, place)?;
+            assert_eq!(rt; count, wants.len());
+            assert_eq!(rt;
+                judged(alloc, &text)?,
+                verdict(*want),
+                "line {at}, number {place}"
+            );
+        }
+    }
+    Ok(())
+}

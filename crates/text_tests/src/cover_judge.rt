@@ -1,0 +1,181 @@
+//! The judge of contours on a ring of eight pixels: which lines it takes, and when it is done.
+//! A further line that is not good is one more row of the table.
+use crate::grids::full;
+use judge_cover::CoverJudge;
+use shape_grid::Grid;
+use shape_refute::{Naive, Refutation, Share, Shares, StepShares};
+use shape_report::Line;
+use shape_space::P2;
+use std::alloc::Global;
+use std::test::Fail;
+
+// The picture of a ring round one background pixel, in a box of sides 3 and 3.
+fn ring(alloc: Global) -> Result<Grid<P2>, Fail> {
+    let mut grid = full(alloc, 3, 3)?;
+    let centre = P2 { x: 1, y: 1 };
+    if grid.sides().inside(centre) {
+        grid.clear(centre);
+    }
+    Ok(grid)
+}
+
+// A `contour` line from a crack of the upper row.
+fn begun(x: i32, side: u8, points: u32, segments: u32) -> Line<P2> {
+    Line::Contour {
+        p: P2 { x, y: 0 },
+        side,
+        points,
+        segments,
+    }
+}
+
+fn at(x: i32, y: i32) -> Line<P2> {
+    Line::At { p: P2 { x, y } }
+}
+
+fn seg(first: u32, last: u32, axis: u8, a: [i64; 2], mu: i64) -> Line<P2> {
+    let a = [a[0], a[1], 0];
+    Line::Seg {
+        first,
+        last,
+        line: Naive { a, mu, axis },
+    }
+}
+
+fn turn(axis: u8, i: u32, j: u32) -> Line<P2> {
+    Line::Turn { axis, i, j }
+}
+
+// The middle place of three, twice.
+fn middle() -> Shares {
+    let mut shares = Shares::new();
+    shares.push(Share {
+        weight: 2,
+        place: 1,
+    });
+    shares
+}
+
+// The outer places of three, each once.
+fn ends() -> Shares {
+    let mut shares = Shares::new();
+    shares.push(Share {
+        weight: 1,
+        place: 0,
+    });
+    shares.push(Share {
+        weight: 1,
+        place: 2,
+    });
+    shares
+}
+
+fn cut(axis: u8, low: Shares, high: Shares) -> Line<P2> {
+    let steps = StepShares::new();
+    Line::Cut {
+        axis,
+        why: Refutation { low, high, steps },
+    }
+}
+
+// The lines of the ring's two contours: four sides of two steps each, and four diagonal steps.
+fn lines() -> [Line<P2>; 38] {
+    [
+        begun(0, 0, 8, 4),
+        at(0, 0),
+        at(1, 0),
+        at(2, 0),
+        at(2, 1),
+        at(2, 2),
+        at(1, 2),
+        at(0, 2),
+        at(0, 1),
+        seg(0, 2, 1, [0, 1], 0),
+        seg(2, 4, 0, [1, 0], 2),
+        seg(4, 6, 1, [0, 1], 2),
+        seg(6, 8, 0, [1, 0], 0),
+        turn(0, 0, 0),
+        turn(1, 1, 1),
+        turn(0, 1, 1),
+        turn(1, 0, 0),
+        turn(0, 0, 0),
+        turn(1, 1, 1),
+        turn(0, 1, 1),
+        turn(1, 0, 0),
+        begun(1, 2, 4, 4),
+        at(1, 0),
+        at(0, 1),
+        at(1, 2),
+        at(2, 1),
+        seg(0, 1, 1, [1, 1], 1),
+        seg(1, 2, 1, [-1, 1], 1),
+        seg(2, 3, 1, [1, 1], 3),
+        seg(3, 4, 1, [-1, 1], -1),
+        cut(0, middle(), ends()),
+        turn(1, 0, 1),
+        turn(0, 0, 1),
+        cut(1, ends(), middle()),
+        cut(0, ends(), middle()),
+        turn(1, 0, 1),
+        turn(0, 0, 1),
+        cut(1, middle(), ends()),
+    ]
+}
+
+#[test]
+fn a_ring(rt: HostRuntime) -> Result<(), Fail> {
+    let grid = ring(rt.alloc())?;
+    let mut judge = CoverJudge::new(rt.alloc(), &grid)?;
+    for line in lines() {
+        assert!(rt; !judge.is_done());
+        assert!(rt; judge.take(&line));
+    }
+    assert!(rt; judge.is_done());
+    assert!(rt; !judge.take(&at(1, 0)));
+    Ok(())
+}
+
+// Whether a line is taken after the first ones of the ring.
+fn takes_after(alloc: Global, count: usize, line: &Line<P2>) -> Result<bool, Fail> {
+    let grid = ring(alloc)?;
+    let mut judge = CoverJudge::new(alloc, &grid)?;
+    for (i, good) in lines().iter().enumerate() {
+        if i == count {
+            return Ok(judge.take(line));
+        }
+        if !judge.take(good) {
+            return Ok(false);
+        }
+    }
+    Ok(judge.take(line))
+}
+
+#[test]
+fn bad_lines(rt: HostRuntime) -> Result<(), Fail> {
+    let alloc = rt.alloc();
+    let table = [
+        (0, begun(0, 3, 8, 4)),
+        (0, begun(0, 0, 7, 4)),
+        (0, begun(0, 0, 8, 0)),
+        (0, begun(1, 2, 4, 4)),
+        (0, Line::End),
+        (1, at(1, 0)),
+        (8, seg(0, 2, 1, [0, 1], 0)),
+        (9, seg(0, 3, 1, [0, 1], 0)),
+        (9, seg(0, 0, 1, [2, 1], 0)),
+        (9, seg(0, 2, 2, [0, 1], 0)),
+        (9, seg(0, 2, 1, [i64::MIN, i64::MAX], i64::MAX)),
+        (9, turn(0, 0, 0)),
+        (10, seg(1, 2, 1, [0, 1], 0)),
+        (13, turn(1, 2, 2)),
+        (13, turn(0, 3, 3)),
+        (13, turn(0, u32::MAX, 0)),
+        (30, cut(0, ends(), middle())),
+        (30, cut(0, Shares::new(), Shares::new())),
+        (31, cut(1, ends(), middle())),
+    ];
+    for (count, line) in &table {
+        assert!(rt; !takes_after(alloc, *count, line)?);
+    }
+    Ok(())
+}

@@ -1,0 +1,26 @@
+//! Tests of texts, judges and drawings: desks, the readers of pictures, reports, the judges of their lines, and drawings.
+//! They ask public names alone, and the crates under test have no tests of their own: what is proved of them is proved once.
+#![tactic(auto)]
+
+#[cfg(test)]
+mod cover_judge;
+#[cfg(test)]
+mod desk;
+#[cfg(test)]
+mod drawings;
+#[cfg(test)]
+mod field_judge;
+#[cfg(test)]
+mod grids;
+#[cfg(test)]
+mod picture;
+#[cfg(test)]
+mod plane_judge;
+#[cfg(test)]
+mod report;
+#[cfg(test)]
+mod report_lines;
+#[cfg(test)]
+mod thin_judge;
+#[cfg(test)]
+mod volume;

@@ -1,0 +1,130 @@
+//! Topological numbers and simple points, counted by hand.
+//! A further row is a mask, or a picture, and its numbers.
+ghost use Rattle.std.specs.Prelude.{◌≡◌};
+
+use crate::pictures::square;
+use shape_grid::Grid;
+use shape_space::{P2, P3, Steps};
+use shape_topo::{MaskedGrid, SimpleMask, background_number, is_simple, mask_of, object_number};
+use std::marker::Brand;
+use std::sync::ledger::{Blank, Ledger};
+use std::test::Fail;
+
+#[test]
+fn numbers_of_masks(rt: HostRuntime) {
+    // no near neighbour, all, one corner, two corners, two sides in a row, two sides round a corner
+    let masks = [0u32, 255, 1, 129, 24, 10];
+    let object = [0u8, 1, 1, 2, 2, 1];
+    let background = [1u8, 0, 1, 2, 2, 1];
+    for i in 0..6usize {
+        let mask = masks[i] % 256;
+        assert_eq!(rt; object_number::<P2>(mask), object[i]);
+        assert_eq!(rt; background_number::<P2>(mask), background[i]);
+    }
+}
+
+#[test]
+fn a_tunnel_in_space(rt: HostRuntime) {
+    // all near neighbours are object but +x, +x+y, +z, +y+z and +x+y+z, by their numbers
+    let mask = 0x3ffffffu32 & !(1u32 << 13 | 1u32 << 16 | 1u32 << 21 | 1u32 << 24 | 1u32 << 25);
+    let mask = mask % 0x4000000;
+    assert_eq!(rt;
+        (object_number::<P3>(mask), background_number::<P3>(mask)),
+        (1, 2)
+    );
+    assert!(rt; !P3::simple_mask(mask));
+    // with +x+z, which is beside +x and +z, the two components of the background are one
+    let joined = (mask & !(1u32 << 22)) % 0x4000000;
+    assert_eq!(rt;
+        (object_number::<P3>(joined), background_number::<P3>(joined)),
+        (1, 1)
+    );
+    assert!(rt; P3::simple_mask(joined));
+}
+
+#[test]
+fn the_table_and_the_counts(rt: HostRuntime) {
+    let mut simple = 0u32;
+    for mask in 0..256u32 {
+        let both_are_one = object_number::<P2>(mask) == 1 && background_number::<P2>(mask) == 1;
+        assert_eq!(rt; P2::simple_mask(mask), both_are_one);
+        if P2::simple_mask(mask) {
+            simple = simple.saturating_add(1);
+        }
+    }
+    assert_eq!(rt; simple, 116);
+}
+
+// Whether the corner, the middle and the end of the first row of a grid are simple, where they are object.
+fn first_row<L: Ledger>(blank: Blank, grid: &Grid<P2>) -> [bool; 3]
+    requires name { blank.name ≡ L.name }
+    requires parts { blank.parts ≡ L.parts }
+    requires whole { blank.parts ≡ 1 }
+{
+    let mut steps = Steps::<L>::new(blank);
+    let mut row = [false; 3];
+    for x in 0..3usize {
+        let p = P2 { x: x as i32, y: 0 };
+        if grid.has(p) {
+            row[x] = is_simple(grid, p, &mut steps);
+        }
+    }
+    row
+}
+
+// The same of a grid with masks.
+fn first_masked<L: Ledger>(blank: Blank, grid: &MaskedGrid<P2>) -> [bool; 3]
+    requires name { blank.name ≡ L.name }
+    requires parts { blank.parts ≡ L.parts }
+    requires whole { blank.parts ≡ 1 }
+{
+    let mut steps = Steps::<L>::new(blank);
+    let mut row = [false; 3];
+    for x in 0..3usize {
+        let p = P2 { x: x as i32, y: 0 };
+        if grid.has(p) {
+            row[x] = grid.is_simple(p, &mut steps);
+        }
+    }
+    row
+}
+
+#[test]
+fn masks_of_a_square(rt: HostRuntime) -> Result<(), Fail> {
+    let grid = square(rt.alloc())?;
+    assert_eq!(rt; mask_of(&grid, P2 { x: 0, y: 0 }), 208);
+    assert_eq!(rt; mask_of(&grid, P2 { x: 1, y: 1 }), 255);
+    assert_eq!(rt; mask_of(&grid, P2 { x: 3, y: -1 }), 32);
+    assert_eq!(rt;
+        first_row::<Brand>(Blank::new(1), &grid),
+        [true, true, true]
+    );
+    Ok(())
+}
+
+#[test]
+fn masks_after_a_deletion(rt: HostRuntime) -> Result<(), Fail> {
+    let grid = square(rt.alloc())?;
+    let mut masked = MaskedGrid::new(rt.alloc(), grid)?;
+    let centre = P2 { x: 1, y: 1 };
+    if masked.has(centre) {
+        assert_eq!(rt; masked.near_count(centre), 8);
+    }
+    let top = P2 { x: 1, y: 0 };
+    if masked.sides().inside(top) {
+        masked.clear(top);
+    }
+    if masked.has(centre) {
+        assert_eq!(rt; masked.mask(centre), 253);
+        assert_eq!(rt; masked.near_count(centre), 7);
+    }
+    assert!(rt; !masked.has(top));
+    assert_eq!(rt; masked.grid().count(), 8);
+    // the corners of the first row are ends now, and the square has a notch
+    assert_eq!(rt;
+        first_masked::<Brand>(Blank::new(1), &masked),
+        [true, false, true]
+    );
+    assert_eq!(rt; masked.into_grid().count(), 8);
+    Ok(())
+}
