@@ -8,7 +8,7 @@ use Rattle.report_terms.proofs.HoldsShows.{holds_shows}
 use Rattle.shape_desk.specs.Desk.{Files, DeskState, Rose, IsAtFront}
 use Rattle.shape_desk.specs.declared.desk.Place.TheVariants.{Report}
 use Rattle.shape_desk.specs.Line.{IfTold}
-use Rattle.shape_check.specs.Checks.{Checks, TakesFew}
+use Rattle.shape_check.specs.Checks.{HasChecked}
 use Rattle.shape_check.specs.declared.answer.Judgement.{Judgement}
 use Rattle.shape_check.specs.declared.answer.Judgement.TheVariants as judgement
 use Rattle.shape_check.specs.declared.answer.CheckFault.{CheckFault}
@@ -33,8 +33,10 @@ pub weaker : (left : Option (List ℕ)) (P Q : List ℕ → Type 0) → ((bytes 
 weaker None P Q f h = tt
 weaker (Some bytes) P Q f h = f bytes h
 
-pub judged : (X : Subject) (report : List ℕ) (old mid new : DeskState) (r : Result Judgement CheckFault) → IsAtFront old.files report (mid.left Report) → old.read_faults ≤ mid.read_faults → Checks X (mid.left Report) mid.read_faults new.read_faults r → IfTold (mid.left Report) (λ bytes. TakesFew X bytes (new.left Report)) → Judged X report old new r
-judged X report old mid new (Ok judgement.Yes) a l h t = (tt, of_file old.files report (mid.left Report) _ a (weaker (mid.left Report) (Holds X) _ (λ bytes k. (k, holds_shows X bytes k)) h), of_file old.files report (mid.left Report) _ a t)
-judged X report old mid new (Ok (judgement.No k)) a l h t = (h.0, of_file old.files report (mid.left Report) _ a h.1, of_file old.files report (mid.left Report) _ a t)
-judged X report old mid new (Err check.ReadFault) a l h t = inl (rose_earlier old.read_faults mid.read_faults new.read_faults l h)
-judged X report old mid new (Err check.NoMemory) a l h t = tt
+-- what the check of a file's report tells of the file
+pub judged : (X : Subject) (report : List ℕ) (old mid new : DeskState) (r : Result Judgement CheckFault) → IsAtFront old.files report (mid.left Report) → old.read_faults ≤ mid.read_faults → HasChecked X (mid.left Report) mid new r → Judged X report old new r
+judged X report old mid new (Ok judgement.Yes) a l h =
+    (tt, of_file old.files report (mid.left Report) _ a (weaker (mid.left Report) (Holds X) _ (λ bytes k. (k, holds_shows X bytes k)) h.answer), of_file old.files report (mid.left Report) _ a h.taken)
+judged X report old mid new (Ok (judgement.No k)) a l h = (h.answer.0, of_file old.files report (mid.left Report) _ a h.answer.1, of_file old.files report (mid.left Report) _ a h.taken)
+judged X report old mid new (Err check.ReadFault) a l h = inl (rose_earlier old.read_faults mid.read_faults new.read_faults l h.answer)
+judged X report old mid new (Err check.NoMemory) a l h = tt

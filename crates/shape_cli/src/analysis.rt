@@ -1,12 +1,9 @@
 //! The command `analyse`: the picture, then its report, then the output.
 //! The report is built whole before its first byte is written.
 ghost use Rattle.std.specs.Prelude.{◌≡◌, ◌<◌, ℕ, List, Some, IfOk, length, slice_get};
-ghost use Rattle.thin_terms.specs.Shelves.{names_of, rules_of};
-ghost use Rattle.thin_terms.specs.Thinning.{Rule};
-ghost use Rattle.report_terms.specs.Subjects.{subject_of};
-ghost use Rattle.report_terms.specs.Holds.{HoldsBy};
+ghost use Rattle.thin_terms.specs.Shelves.{names_of};
 ghost use Rattle.shape_rules.specs.Ruled.{rules_on};
-ghost use Rattle.shape_analyse.specs.Tallies.{IsTallyOf};
+ghost use Rattle.shape_analyse.specs.Analyses.{IsAnalysisOf};
 ghost use Rattle.shape_cli.specs.Commands.{Asked, read_source};
 ghost use Rattle.shape_cli.specs.Parts.{picture_of};
 ghost use Rattle.shape_cli.specs.Runs.{Ran, KeepsFiles};
@@ -29,13 +26,9 @@ pub(crate) fn analysis_of(
     which: usize,
 ) -> Result<Analysis, NoMemory>
     requires { which < length shelf.old }
-    ensures holds { (name : List ℕ) → slice_get (names_of shelf.old) which ≡ Some name
-        → IfOk result (λ a. HoldsBy
-        (subject_of (picture_of image.now) (rules_on opening marks next shelf.old)) name a.report) }
-    ensures tallied { (rule : Rule)
-        → slice_get (rules_of (rules_on opening marks next shelf.old)) which ≡ Some rule
-        → IfOk result (λ a. IsTallyOf (picture_of image.now) rule a.tally) }
-    ensures kept { rules_on opening marks next shelf.new ≡ rules_on opening marks next shelf.old }
+    ensures analysis { IfOk result (IsAnalysisOf (picture_of image.now) (names_of shelf.old)
+        (rules_on means shelf.old) which) }
+    ensures kept { rules_on means shelf.new ≡ rules_on means shelf.old }
 {
     match image {
         Image::Flat(grid) => analyse_flat(alloc, grid, shelf, which),
@@ -53,7 +46,7 @@ pub(crate) fn analyse_file<D: Desk>(
 ) -> Outcome
     requires { which < length shelf.old }
     ensures ran { (rule : List ℕ) → slice_get (names_of shelf.old) which ≡ Some rule
-        → Ran (rules_on opening marks next shelf.old)
+        → Ran (rules_on means shelf.old)
         (Asked.Analyse (read_source source.entry) rule)
         (D.state desk.old) (D.state desk.new) result }
     ensures kept { KeepsFiles (D.state desk.old) (D.state desk.new) }

@@ -23,11 +23,11 @@ use std::alloc::Global;
 /// The rule of an analysis is one on the shelf, that of a trial the last; a check goes by the rule that the report names.
 pub fn run<D: Desk>(alloc: Global, words: &[Vec<u8>], desk: &mut D, mut shelf: Shelf) -> Outcome
     ensures usage { (result ≡ Outcome.Usage)
-        ↔ IsNoForm (names_of (rules_on opening marks next shelf)) (texts words.now) }
+        ↔ IsNoForm (names_of (rules_on means shelf)) (texts words.now) }
     ensures untouched { result ≡ Outcome.Usage → desk.new ≡ desk.old }
-    ensures ran { Asks (names_of (rules_on opening marks next shelf)) (texts words.now)
-        (λ c. Ran (rules_on opening marks next shelf) c (D.state desk.old) (D.state desk.new) result)
-        ⊎ IsNoForm (names_of (rules_on opening marks next shelf)) (texts words.now) }
+    ensures ran { Asks (names_of (rules_on means shelf)) (texts words.now)
+        (λ c. Ran (rules_on means shelf) c (D.state desk.old) (D.state desk.new) result)
+        ⊎ IsNoForm (names_of (rules_on means shelf)) (texts words.now) }
     ensures kept { KeepsFiles (D.state desk.old) (D.state desk.new) }
 {
     match read_words(words, &shelf) {

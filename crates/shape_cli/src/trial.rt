@@ -38,7 +38,7 @@ fn image_of(alloc: Global, kind: Kind, seed: u32, side: u32) -> Result<Image, No
 // Checks a report that holds of the picture.
 fn confirm(alloc: Global, image: &Image, report: Report, shelf: &mut Shelf) -> Result<(), NoMemory>
     requires { Holds
-        (subject_of (picture_of image.now) (rules_on opening marks next shelf.old)) report }
+        (subject_of (picture_of image.now) (rules_on means shelf.old)) report }
 {
     let mut desk = SteadyDesk::new(Vec::new(alloc), report.into_text());
     match check_image(alloc, image, &mut desk, shelf) {
@@ -60,7 +60,7 @@ fn tally_of(
 ) -> Result<Tally, NoMemory>
     requires { AreTrial (read_kind kind) seed side }
     ensures { IfOk result
-        (IsTriedBy (rules_on opening marks next shelf.old) (read_kind kind) seed side) }
+        (IsTriedBy (rules_on means shelf.old) (read_kind kind) seed side) }
 {
     shelf.has_names();
     let last = shelf.len() - 1;
@@ -113,7 +113,7 @@ pub(crate) fn try_seed<D: Desk>(
     desk: &mut D,
 ) -> Outcome
     requires { AreTrial (read_kind kind) seed side }
-    ensures ran { Ran (rules_on opening marks next shelf.old)
+    ensures ran { Ran (rules_on means shelf.old)
         (Asked.Trial (read_kind kind) seed side) (D.state desk.old) (D.state desk.new) result }
     ensures kept { KeepsFiles (D.state desk.old) (D.state desk.new) }
 {

@@ -3,9 +3,8 @@
 ghost use Rattle.std.specs.Prelude.{◌≡◌, ◌≤◌, length, take, true};
 ghost use Rattle.shape_rules.specs.Ruled.{rules_on};
 ghost use Rattle.shape_desk.specs.Desk.{OnlyReads, OnlyReadsAt, WritesText};
-ghost use Rattle.shape_desk.specs.Line.{IfTold};
 ghost use Rattle.shape_desk.specs.declared.desk.Place.TheVariants.{Report};
-ghost use Rattle.shape_check.specs.Checks.{Checks, TakesFew};
+ghost use Rattle.shape_check.specs.Checks.{HasChecked};
 ghost use Rattle.report_terms.specs.Subjects.{subject_of};
 ghost use Rattle.shape_cli.specs.Commands.{Asked, read_source};
 ghost use Rattle.shape_cli.specs.Outcomes.{outcome_of};
@@ -28,13 +27,8 @@ pub(crate) fn check_image<D: Desk>(
     shelf: &mut Shelf,
 ) -> Result<Judgement, CheckFault>
     requires { (D.state desk.old).begun Report ≡ true }
-    ensures answer { Checks
-        (subject_of (picture_of image.now) (rules_on opening marks next shelf.old))
-        ((D.state desk.old).left Report)
-        (D.state desk.old).read_faults (D.state desk.new).read_faults result }
-    ensures taken { IfTold ((D.state desk.old).left Report) (λ text. TakesFew
-        (subject_of (picture_of image.now) (rules_on opening marks next shelf.old))
-        text ((D.state desk.new).left Report)) }
+    ensures checked { HasChecked (subject_of (picture_of image.now) (rules_on means shelf.old))
+        ((D.state desk.old).left Report) (D.state desk.old) (D.state desk.new) result }
     ensures reads { OnlyReadsAt Report (D.state desk.old) (D.state desk.new) }
 {
     match image {
@@ -52,14 +46,12 @@ fn judge<D: Desk>(
     desk: &mut D,
 ) -> Result<Judgement, CheckFault>
     ensures judged { Judged
-        (subject_of (picture_of image.now) (rules_on opening marks next shelf.old)) report.now
+        (subject_of (picture_of image.now) (rules_on means shelf.old)) report.now
         (D.state desk.old) (D.state desk.new) result }
     ensures only { OnlyReads (D.state desk.old) (D.state desk.new) }
 {
-    match desk.begin(Place::Report, report) {
-        Ok(()) => check_image(alloc, image, desk, shelf),
-        Err(_) => Err(CheckFault::ReadFault),
-    }
+    desk.begin(Place::Report, report)?;
+    check_image(alloc, image, desk, shelf)
 }
 
 // Puts the verdict line into a buffer.
@@ -107,7 +99,7 @@ pub(crate) fn check_file<D: Desk>(
     shelf: &mut Shelf,
     desk: &mut D,
 ) -> Outcome
-    ensures ran { Ran (rules_on opening marks next shelf.old)
+    ensures ran { Ran (rules_on means shelf.old)
         (Asked.Check (read_source source.entry) report.now)
         (D.state desk.old) (D.state desk.new) result }
     ensures kept { KeepsFiles (D.state desk.old) (D.state desk.new) }

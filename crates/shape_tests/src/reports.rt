@@ -1,6 +1,7 @@
 //! Reports of flat pictures that are known from outside, and their checks.
 //! A further picture is one more row of a table.
 ghost use Rattle.std.specs.Prelude.{◌==◌, [], ◌∷◌, if◌then◌else◌, slice_index};
+ghost use Rattle.thin_terms.specs.Thinning.{rule_by};
 
 use crate::runs::{checked, checked_by, desk, ran, words};
 use shape_cli::{Outcome, run, shelf};
@@ -203,11 +204,8 @@ struct Alternate {
 impl EndRule for Alternate {
     ghost state = { λ r. r.turn ∷ [] };
 
-    ghost opening = { λ r. 0 ∷ [] };
-
-    ghost marks = { λ r s f. slice_index s 0 == 1 };
-
-    ghost next = { λ r s f. (if slice_index s 0 == 1 then 0 else 1) ∷ [] };
+    ghost means = { λ r. rule_by (0 ∷ []) (λ s f. slice_index s 0 == 1)
+        (λ s f. (if slice_index s 0 == 1 then 0 else 1) ∷ []) };
 
     fn reset(&mut self) {
         self.turn = 0;

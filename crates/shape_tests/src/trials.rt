@@ -37,14 +37,11 @@ struct Tallying {
 
 impl EndRule for Tallying {
     ghost use Rattle.std.specs.Prelude.{false, []};
+    ghost use Rattle.thin_terms.specs.Thinning.{rule_by};
 
     ghost state = { λ r. [] };
 
-    ghost opening = { λ r. [] };
-
-    ghost marks = { λ r s f. false };
-
-    ghost next = { λ r s f. s };
+    ghost means = { λ r. rule_by [] (λ s f. false) (λ s f. s) };
 
     fn reset(&mut self) {}
 

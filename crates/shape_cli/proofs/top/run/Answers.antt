@@ -11,7 +11,7 @@ returns-in-Some-Analyse-clause-usage g c =
     let a = c.in-Some-Analyse in
     let found = rw a.field-0-is at a.ensures in
     let rule = a.field-0-1.now in
-    let asked = analysis_asked _ _ (texts c.args.words.now) (read_source a.source) rule a.which (s c.args.desk.now) (s c.analyse_file.new.desk) c.analyse_file.result (program_sides a.source) (names_on _ _ _ c.args.shelf) found.1 found.0 (c.analyse_file.ensures.ran rule found.1) in
+    let asked = analysis_asked _ _ (texts c.args.words.now) (read_source a.source) rule a.which (s c.args.desk.now) (s c.analyse_file.new.desk) c.analyse_file.result (program_sides a.source) (names_on _ c.args.shelf) found.1 found.0 (c.analyse_file.ensures.ran rule found.1) in
     form_run _ _ (texts c.args.words.now) (s c.args.desk.now) (s c.analyse_file.new.desk) c.analyse_file.result asked
 
 pub returns-in-Some-Analyse-clause-ran : goal.returns-in-Some-Analyse-clause-ran
@@ -20,15 +20,15 @@ returns-in-Some-Analyse-clause-ran g c =
     let a = c.in-Some-Analyse in
     let found = rw a.field-0-is at a.ensures in
     let rule = a.field-0-1.now in
-    inl (analysis_asked _ _ (texts c.args.words.now) (read_source a.source) rule a.which (s c.args.desk.now) (s c.analyse_file.new.desk) c.analyse_file.result (program_sides a.source) (names_on _ _ _ c.args.shelf) found.1 found.0 (c.analyse_file.ensures.ran rule found.1))
+    inl (analysis_asked _ _ (texts c.args.words.now) (read_source a.source) rule a.which (s c.args.desk.now) (s c.analyse_file.new.desk) c.analyse_file.result (program_sides a.source) (names_on _ c.args.shelf) found.1 found.0 (c.analyse_file.ensures.ran rule found.1))
 
 pub returns-clause-usage : goal.returns-clause-usage
 returns-clause-usage g c =
-    let none = subst (λ names. IsNoForm names (texts c.args.words.now)) (sym (names_on _ _ _ c.args.shelf)) c.in-None.ensures in
+    let none = subst (λ names. IsNoForm names (texts c.args.words.now)) (sym (names_on _ c.args.shelf)) c.in-None.ensures in
     (λ e. none, λ n. refl)
 
 pub returns-clause-ran : goal.returns-clause-ran
-returns-clause-ran g c = inr (subst (λ names. IsNoForm names (texts c.args.words.now)) (sym (names_on _ _ _ c.args.shelf)) c.in-None.ensures)
+returns-clause-ran g c = inr (subst (λ names. IsNoForm names (texts c.args.words.now)) (sym (names_on _ c.args.shelf)) c.in-None.ensures)
 
 pub returns-in-Some-Check-clause-usage : goal.returns-in-Some-Check-clause-usage
 returns-in-Some-Check-clause-usage g c =
