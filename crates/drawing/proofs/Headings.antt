@@ -8,11 +8,10 @@ use Rattle.std.proofs.lemmas.List.Elements.{All-from_get_or, recursion_from_All}
 use Rattle.shape_terms.specs.Points.{Point, AreSides}
 use Rattle.shape_desk.specs.Desk.{IsEnd}
 use Rattle.shape_desk.specs.Line.{HasNoLf, IfTold, IsTooLong, IsCutShort, TakesLine}
-use Rattle.report_terms.specs.Lines.{Line, spelling, IsLineOf}
+use Rattle.report_terms.specs.Lines.{Line, spelling, IsLineOf, spelled}
 use Rattle.report_terms.specs.Progress.{StartsWithLine, StartsWithNoLine}
-use Rattle.report_terms.proofs.Spelled.{spelling_injective}
-use Rattle.report_terms.proofs.TextLines.{spelling_past}
-use Rattle.report_terms.proofs.Checking.{no_line_at_end, no_line_without_lf, no_line_too_long}
+use Rattle.report_terms.proofs.Spelled.{spelling_injective, are_spelled}
+use Rattle.text_terms.proofs.Checking.{same_front, no_line_at_end, no_line_without_lf, no_line_too_long}
 use Rattle.drawing.specs.Reports.{IsHeading}
 use Rattle.drawing.specs.Heading.{GivesSides, FlatHeading, SidesOf, LacksHeading, HeadingAnswer}
 use Rattle.drawing.specs.declared.fault.DrawFault.{DrawFault}
@@ -38,20 +37,10 @@ sides_given inner coords q rule (Some s) given exactly = record {
 
 -- ---- the bytes
 
-same_front : (w v r s : List ℕ) → AllByRecursion (λ c. c ≡ 10 → ⊥) w → AllByRecursion (λ c. 10 < c) v → w ++ 10 ∷ r ≡ v ++ 10 ∷ s → v ≡ w
-same_front [] [] r s a b e = refl
-same_front [] (y ∷ v) r s a b e = let f : 10 ≡ y = cc in absurd (omega (arith, b.0))
-same_front (x ∷ w) [] r s a b e = let f : x ≡ 10 = cc in absurd (a.0 f)
-same_front (x ∷ w) (y ∷ v) r s a b e =
-    let f : y ≡ x = cc in
-    let g : w ++ 10 ∷ r ≡ v ++ 10 ∷ s = cc in
-    let h = same_front w v r s a.1 b.1 g in
-    λ i. f i ∷ h i
-
 -- a line that the bytes begin with has the spelling of the first line
 spelled_so : (d : ℕ) (bytes line rest : List ℕ) (l : Line) (after : List ℕ) → bytes ≡ (line ++ 10 ∷ []) ++ rest → HasNoLf line → StartsWithLine d bytes l after → spelling l ≡ line
 spelled_so d bytes line rest l after e free s =
-    same_front line (spelling l) rest after (recursion_from_All (λ c. c ≡ 10 → ⊥) line (All-from_get_or (λ c. c ≡ 10 → ⊥) line 0 (λ k h. free k h))) (spelling_past d l s.fields)
+    same_front line (spelling l) rest after (recursion_from_All (λ c. c ≡ 10 → ⊥) line (All-from_get_or (λ c. c ≡ 10 → ⊥) line 0 (λ k h. free k h))) ((are_spelled d).clean l s.fields)
     (sym (e ∙ append_assoc line (10 ∷ []) rest) ∙ s.split)
 
 -- the bytes begin with a line that the first line spells
@@ -109,12 +98,12 @@ no_heading bytes none = record {
 
 pub nothing_left : (old : Option (List ℕ)) → IsEnd old → IfTold old LacksHeading
 nothing_left None h = tt
-nothing_left (Some bytes) h = no_heading bytes (λ d. no_line_at_end d bytes h)
+nothing_left (Some bytes) h = no_heading bytes (λ d. no_line_at_end (spelled d) bytes h)
 
 pub first_too_long : (old : Option (List ℕ)) → IfTold old IsTooLong → IfTold old LacksHeading
 first_too_long None h = tt
-first_too_long (Some bytes) h = no_heading bytes (λ d. no_line_too_long d bytes h.long h.no_lf)
+first_too_long (Some bytes) h = no_heading bytes (λ d. no_line_too_long (spelled d) bytes h.long h.no_lf)
 
 pub first_cut_short : (old : Option (List ℕ)) → IfTold old IsCutShort → IfTold old LacksHeading
 first_cut_short None h = tt
-first_cut_short (Some bytes) h = no_heading bytes (λ d. no_line_without_lf d bytes h.no_lf)
+first_cut_short (Some bytes) h = no_heading bytes (λ d. no_line_without_lf (spelled d) bytes h.no_lf)

@@ -11,7 +11,7 @@ use Rattle.report_text.specs.Checks.{HasCome}
 use Rattle.report_text.proofs.Told.{if_told}
 use Rattle.report_terms.specs.Lines.{Line}
 use Rattle.report_terms.specs.Progress.{StartsWithLine}
-use Rattle.report_terms.proofs.TextLines.{are_spelled}
+use Rattle.report_terms.proofs.Spelled.{are_spelled}
 use Rattle.drawing.specs.Seen.{flat}
 use Rattle.drawing.specs.Svg.{given_sides, drawn}
 use Rattle.drawing.specs.Reports.{line_rank, in_order, FirstBad, IsOfVolume}

@@ -1,8 +1,6 @@
-pub mod Checking
 pub mod ContourGroups
 pub mod ContourSaid
 pub mod ContoursShown
-pub mod FirstBadOnce
 pub mod SectionLaws
 pub mod ThinningShown
 pub mod NamedRules
@@ -11,7 +9,6 @@ pub mod HoldsShows
 pub mod FramedFields
 pub mod LineLaws
 pub mod Spelled
-pub mod TextLines
 pub mod SectionLines
 pub mod CoverTaken
 pub mod CoverShown

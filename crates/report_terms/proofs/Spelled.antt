@@ -1,12 +1,13 @@
 -- No two lines have the same spelling, no word of a line has a blank, and no line is too long.
 -- Each follows from the laws of tables, and none has a clause for a kind.
-use Rattle.std.proofs.Common.{◌≡◌, ◌≤◌, ℕ, length, refl, ap, sym, subst, ◌∙◌}
+use Rattle.std.proofs.Common.{◌≡◌, ◌≤◌, ◌<◌, ℕ, length, refl, ap, sym, subst, ◌∙◌}
 use Rattle.std.specs.List.{AllByRecursion, join_with_byte}
 use Rattle.report_terms.specs.Kinds.{Split, split_words, table}
-use Rattle.report_terms.specs.Lines.{Line, split, joined, IsLineOf, line_words, spelling}
+use Rattle.report_terms.specs.Lines.{Line, split, joined, IsLineOf, line_words, spelling, spelled}
 use Rattle.text_terms.specs.Forms.{IsWord}
+use Rattle.text_terms.specs.Spellings.{IsSpelled}
 use Rattle.text_terms.proofs.WordLists.{join_injective}
-use Rattle.text_terms.proofs.TableLaws.{split_injective, words_of_split, split_short}
+use Rattle.text_terms.proofs.TableLaws.{past_join, split_injective, words_of_split, split_short}
 use Rattle.report_terms.proofs.LineLaws.{is_table, is_roomy}
 
 -- a line is known from its kind and its fields
@@ -33,3 +34,11 @@ spelling_injective d l m a b e =
 -- no line of a report of two or three axes is longer than 1024 bytes
 pub short_line : (d : ℕ) (l : Line) → d ≤ 3 → IsLineOf d l → length (spelling l) ≤ 1024
 short_line d l h a = subst (λ ws. length (join_with_byte 32 ws) ≤ 1024) (same_words d l a) (split_short (table d) (is_table d) (is_roomy d h) (split l) a)
+
+-- no byte of a line's spelling is LF or below it
+spelling_past : (d : ℕ) (l : Line) → IsLineOf d l → AllByRecursion (λ c. 10 < c) (spelling l)
+spelling_past d l a = past_join (line_words l) (words_of_line d l a)
+
+-- so the laws of all texts hold of these lines
+pub are_spelled : (d : ℕ) → IsSpelled (spelled d)
+are_spelled d = record { one = spelling_injective d; clean = spelling_past d }

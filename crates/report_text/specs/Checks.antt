@@ -20,27 +20,30 @@ pub record IsLineNumber (k : ℕ) : Type 0 where
 abbrev pub Answer : Type 0
 Answer = Result Judgement CheckFault
 
+-- what a fault tells of the count of faults of reading before and now: for a fault of reading it rose
+abbrev pub HasCause : (before now : ℕ) → CheckFault → Type 0
+HasCause before now ReadFault = Rose before now
+HasCause before now NoMemory = ⊤
+
 -- `text` is the bytes of the report, where they are told; then the count of faults of reading before and now.
--- Yes: the text holds. No: the line is the first bad one. A fault of reading: the count rose.
+-- Yes: the text holds. No: the line is the first bad one.
 abbrev pub Checks : {L : Type 0} → Report L → Option (List ℕ) → (before now : ℕ) → Answer → Type 0
 Checks R text before now (Ok Yes) = IfTold text (Holds R)
 Checks R text before now (Ok (No k)) = IsLineNumber k × IfTold text (λ bytes. FirstBad R bytes k)
-Checks R text before now (Err ReadFault) = Rose before now
-Checks R text before now (Err NoMemory) = ⊤
+Checks R text before now (Err fault) = HasCause before now fault
+
+-- a check of a report with this text, where it is told, led from one state of the desk to the next: what was answered, and how much
+-- of the text was taken
+pub record HasChecked {L : Type 0} (R : Report L) (text : Option (List ℕ)) (old new : DeskState) (result : Answer) : Type 0 where
+  pub answer : Checks R text old.read_faults new.read_faults result
+  pub taken : IfTold text (λ t. TakesFew R t (new.left Places.Report))
+
+-- after Yes the text is one of good lines, of which F is known
+abbrev pub KeepsLines : {L : Type 0} → Report L → (List L → Type 0) → Option (List ℕ) → Answer → Type 0
+KeepsLines R F text (Ok Yes) = IfTold text (IsTextOf R F)
+KeepsLines R F text (Ok (No k)) = ⊤
+KeepsLines R F text (Err fault) = ⊤
 
 -- the check has come to line n of a text: where the text is told, it begins with good lines of which F is known, and these bytes are left
 abbrev pub HasCome : {L : Type 0} → Report L → (List L → Type 0) → (text left : Option (List ℕ)) → ℕ → Type 0
 HasCome R F text left n = IfTold text (λ t. GoingOn R t left F n)
-
--- a fact, where the answer is yes
-abbrev pub IfYes : Answer → Type 0 → Type 0
-IfYes (Ok Yes) P = P
-IfYes (Ok (No k)) P = ⊤
-IfYes (Err fault) P = ⊤
-
--- what the check of a text did, by the desk before it and after it: the answer is right, at most 2048 bytes more than those of good lines were
--- taken, and after Yes the text is one of good lines of which F is known
-pub record HasChecked {L : Type 0} (R : Report L) (F : List L → Type 0) (text : Option (List ℕ)) (old new : DeskState) (answer : Answer) : Type 0 where
-  pub right : Checks R text old.read_faults new.read_faults answer
-  pub taken : IfTold text (λ t. TakesFew R t (new.left Places.Report))
-  pub kept : IfYes answer (IfTold text (IsTextOf R F))

@@ -5,14 +5,13 @@ ghost use Rattle.shape_desk.specs.Desk.{OnlyReadsAt};
 ghost use Rattle.shape_desk.specs.Line.{ahead_of};
 ghost use Rattle.shape_desk.specs.declared.desk.Place.TheVariants.{Report};
 ghost use Rattle.text_terms.specs.Reports.{report_of};
-ghost use Rattle.report_text.specs.Checks.{HasCome, HasChecked};
+ghost use Rattle.report_text.specs.Checks.{HasCome, HasChecked, KeepsLines};
 
 use crate::answer::{CheckFault, Judgement};
 use crate::judge::ReportJudge;
 use crate::line::ReportLine;
 use crate::next::{Next, next_claim};
 use shape_desk::{Desk, LineReader};
-use shape_space::NoMemory;
 use std::alloc::Global;
 
 /// Checks what is left of a report, where the next line has this number and the judge stands for those before it.
@@ -30,28 +29,30 @@ pub fn check_from<L: ReportLine, J: ReportJudge<L>, D: Desk>(
     ensures checked { (X : J.About) (text : Option (List ℕ))
         → HasCome (report_of L.form L.last (J.good X)) (J.stands X judge.old) text
         (ahead_of reader.old.ahead ((D.state desk.old).left Report)) first
-        → HasChecked (report_of L.form L.last (J.good X)) (J.stands X judge.new) text
+        → HasChecked (report_of L.form L.last (J.good X)) text
         (D.state desk.old) (D.state desk.new) result }
+    ensures kept { (X : J.About) (text : Option (List ℕ))
+        → HasCome (report_of L.form L.last (J.good X)) (J.stands X judge.old) text
+        (ahead_of reader.old.ahead ((D.state desk.old).left Report)) first
+        → KeepsLines (report_of L.form L.last (J.good X)) (J.stands X judge.new) text result }
     ensures reads { OnlyReadsAt Report (D.state desk.old) (D.state desk.new) }
 {
     let mut line = first;
     'lines: loop {
-        match next_claim::<L, D>(reader, desk) {
-            Ok(Next::Claim(claim)) => {
-                match judge.take(&claim) {
-                    Ok(true) => line += 1,
-                    Ok(false) => return Ok(Judgement::No { line }),
-                    Err(NoMemory) => return Err(CheckFault::NoMemory),
+        match next_claim::<L, D>(reader, desk)? {
+            Next::Claim(claim) => {
+                if !judge.take(&claim)? {
+                    return Ok(Judgement::No { line });
                 }
+                line += 1;
             }
-            Ok(Next::Bad) => return Ok(Judgement::No { line }),
-            Ok(Next::End) => {
+            Next::Bad => return Ok(Judgement::No { line }),
+            Next::End => {
                 if judge.has_ended() {
                     return Ok(Judgement::Yes);
                 }
                 return Ok(Judgement::No { line });
             }
-            Err(_) => return Err(CheckFault::ReadFault),
         }
     }
 }
@@ -70,12 +71,13 @@ pub fn check_by<L: ReportLine, J: ReportJudge<L>, D: Desk>(
     requires begun { (D.state desk.old).begun Report ≡ true }
     requires few { J.room judge.old < 2 ^ 62 - 1 }
     ensures checked { (X : J.About) → J.stands X judge.old []
-        → HasChecked (report_of L.form L.last (J.good X)) (J.stands X judge.new)
-        ((D.state desk.old).left Report) (D.state desk.old) (D.state desk.new) result }
+        → HasChecked (report_of L.form L.last (J.good X)) ((D.state desk.old).left Report)
+        (D.state desk.old) (D.state desk.new) result }
+    ensures kept { (X : J.About) → J.stands X judge.old []
+        → KeepsLines (report_of L.form L.last (J.good X)) (J.stands X judge.new)
+        ((D.state desk.old).left Report) result }
     ensures reads { OnlyReadsAt Report (D.state desk.old) (D.state desk.new) }
 {
-    let Ok(mut reader) = LineReader::new(alloc) else {
-        return Err(CheckFault::NoMemory);
-    };
+    let mut reader = LineReader::new(alloc)?;
     check_from(judge, &mut reader, desk, 1)
 }

@@ -15,8 +15,8 @@ use Rattle.text_terms.specs.Forms.{IsName}
 use Rattle.report_terms.specs.Kinds.{weight}
 use Rattle.report_terms.specs.Lines.{Line, spelling, line_text, text_of, IsLineOf}
 use Rattle.report_terms.specs.Subjects.{IsOnShelf}
-use Rattle.report_terms.specs.Sections.{Section, lines_of, NamesRule, GoodAfter}
-use Rattle.report_terms.proofs.Checking.{good_push}
+use Rattle.report_terms.specs.Sections.{Section, lines_of, NamesRule, GoodAfter, analysis}
+use Rattle.text_terms.proofs.Checking.{good_push}
 use Rattle.report_terms.proofs.HeadingFirst.{past_heading}
 use Rattle.report_terms.proofs.SectionLaws.{come_none, come_more, come_past, good_at, lines_push, lines_skip}
 use Rattle.report_terms.proofs.FramedFields.{within_short, distance_fits}
@@ -60,7 +60,7 @@ good_first X sides three fields on good =
     record {
       fields = All-push (IsLineOf (length X.subject.picture.sides)) [] l (All-nil (IsLineOf (length X.subject.picture.sides))) fields;
       short = All-push (λ m. length (spelling m) ≤ 1024) [] l (All-nil (λ m. length (spelling m) ≤ 1024)) (short_line (length X.subject.picture.sides) l three fields);
-      good = good_push X.subject [] l (λ k m e. cc) good;
+      good = good_push (analysis X.subject) [] l (λ k m e. cc) good;
       named = record { sides = sides; first = refl; on_shelf = on };
     }
 
@@ -76,7 +76,7 @@ pub good_more : (X : Aim) (lines : List Line) (l : Line) → AreGood X lines →
 good_more X lines l a three fields good = record {
   fields = All-push (IsLineOf (length X.subject.picture.sides)) lines l a.fields fields;
   short = All-push (λ m. length (spelling m) ≤ 1024) lines l a.short (short_line (length X.subject.picture.sides) l three fields);
-  good = good_push X.subject lines l a.good good;
+  good = good_push (analysis X.subject) lines l a.good good;
   named = heading_kept X lines l a.named good;
 }
 

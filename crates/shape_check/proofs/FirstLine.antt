@@ -9,39 +9,42 @@ use Rattle.shape_terms.specs.Pictures.{Picture}
 use Rattle.thin_terms.specs.Thinning.{Rule}
 use Rattle.thin_terms.specs.Shelves.{Named, AreNames, names_of, rules_of}
 use Rattle.report_terms.specs.Subjects.{Subject, subject_of, IsOnShelf}
-use Rattle.report_terms.specs.Lines.{Line}
-use Rattle.report_terms.specs.Sections.{Section, rank, lines_of, GoodAfter, NamesRule}
+use Rattle.report_terms.specs.Lines.{Line, spelled}
+use Rattle.report_terms.specs.Sections.{Section, rank, lines_of, GoodAfter, NamesRule, analysis}
 use Rattle.report_terms.specs.Holds.{FirstBad}
 use Rattle.report_terms.specs.Progress.{StartsWithLine}
 use Rattle.report_terms.proofs.SectionLaws.{come_none, come_more, come_past, none_past, lines_skip}
 use Rattle.report_terms.proofs.NamedRules.{one_named}
 use Rattle.report_terms.proofs.HeadingFirst.{past_heading}
-use Rattle.report_terms.proofs.Checking.{begins_none, begins_next, first_bad, one_line, no_line_at_end}
+use Rattle.report_terms.proofs.Spelled.{are_spelled}
+use Rattle.text_terms.specs.Going.{GoingOn}
+use Rattle.text_terms.proofs.Checking.{begins_none, begins_next, first_bad, one_line, no_line_at_end}
+use Rattle.report_text.specs.Checks.{Answer, HasCome}
+use Rattle.report_text.specs.declared.answer.CheckFault.TheVariants.{ReadFault, NoMemory}
+use Rattle.report_text.specs.declared.answer.Judgement.TheVariants.{Yes, No}
+use Rattle.report_text.proofs.Told.{if_told, told_start, told_few, none_ahead}
 use Rattle.shape_terms.proofs.Members.{Contains-map}
 use Rattle.shape_report.specs.Next.{TakesClaim, IsBad}
 use Rattle.shape_check.specs.Rows.{IsRuledBy, MayCome}
-use Rattle.shape_check.specs.Going.{GoingOn, BehindHeading}
+use Rattle.shape_check.specs.Going.{BehindHeading}
 use Rattle.shape_rules.specs.Ruled.{rules_on}
 use Rattle.shape_rules.proofs.Ruled.{names_on, rule_there}
-use Rattle.shape_check.specs.Checks.{Answer, Checks, TakesFew}
-use Rattle.shape_check.specs.declared.answer.CheckFault.TheVariants.{ReadFault, NoMemory}
-use Rattle.shape_check.specs.declared.answer.Judgement.TheVariants.{Yes, No}
+use Rattle.shape_check.specs.Checks.{Checks, TakesFew}
 use Rattle.shape_check.specs.Heading.{IsHeading, IsNoHeading, TakesHeading, LacksHeading, HeadingAnswer}
-use Rattle.shape_check.proofs.Going.{if_told, told_start, told_few}
 
 -- ---- what looking for the heading answers
 
 module _ (d : ℕ) (sides : Point) (names : List (List ℕ)) (old new : Option (List ℕ)) (before now : ℕ) where
   pub answer_claim : (l : Line) (r : Option ℕ) → IfTold old (λ bytes. TakesClaim d bytes new l) → MatchOption r (IsNoHeading sides names l) (IsHeading sides names l)
       → HeadingAnswer d sides names old new before now (Ok r)
-  answer_claim l None t h = if_told old (λ bytes k m rest starts. subst (IsNoHeading sides names) (sym (one_line d bytes m l rest k.rest starts k.starts).0) h) t
+  answer_claim l None t h = if_told old (λ bytes k m rest starts. subst (IsNoHeading sides names) (sym (one_line (spelled d) (are_spelled d) bytes m l rest k.rest starts k.starts).0) h) t
   answer_claim l (Some i) t h = if_told old (λ bytes k. record { line = l; takes = k; heading = h }) t
 
   pub answer_bad : IfTold old (IsBad d) → HeadingAnswer d sides names old new before now (Ok None)
   answer_bad t = if_told old (λ bytes k m rest starts. absurd (k.none m rest starts)) t
 
   pub answer_end : IfTold old (λ bytes. bytes ≡ []) → HeadingAnswer d sides names old new before now (Ok None)
-  answer_end t = if_told old (λ bytes e m rest starts. absurd (no_line_at_end d bytes e m rest starts)) t
+  answer_end t = if_told old (λ bytes e m rest starts. absurd (no_line_at_end (spelled d) bytes e m rest starts)) t
 
 -- a heading that names a rule on a shelf of distinct names names no other
 ruled_by : (X : Subject) → AreNames (names_of X.shelf) → (heading : List Line) (rule : Rule) → NamesRule X.shelf heading rule → IsRuledBy X heading rule
@@ -54,12 +57,12 @@ module _ (X : Subject) (sides : Point) (name : List ℕ) (rule : Rule) (given : 
   good_first : GoodAfter X [] (Line.Shape sides name)
   good_first = record { come = come_none X; claim = (refl, (given, (rule, on))) }
 
-  pub behind_heading : AreNames (names_of X.shelf) → (s : Section) → rank s ≡ 1 → (text : List ℕ) (new : Option (List ℕ)) → TakesClaim (length X.picture.sides) text new (Line.Shape sides name) → GoingOn X text new (BehindHeading X rule s) 2
+  pub behind_heading : AreNames (names_of X.shelf) → (s : Section) → rank s ≡ 1 → (text : List ℕ) (new : Option (List ℕ)) → TakesClaim (length X.picture.sides) text new (Line.Shape sides name) → GoingOn (analysis X) text new (BehindHeading X rule s) 2
   behind_heading apart s one text new t = record {
     lines = Line.Shape sides name ∷ [];
     bytes = t.rest;
     told = t.left;
-    front = begins_next X text [] text (Line.Shape sides name) t.rest (begins_none X text) t.starts good_first;
+    front = begins_next (analysis X) text [] text (Line.Shape sides name) t.rest (begins_none (analysis X) text) t.starts good_first;
     follows = record {
       ruled = ruled_by X apart _ rule (record { sides = sides; name = name; first = refl; on_shelf = on });
       come = come_past X Section.Heading s (Line.Shape sides name ∷ []) one (come_more X Section.Heading [] (Line.Shape sides name) (come_none X) refl) refl;
@@ -70,7 +73,7 @@ module _ (X : Subject) (sides : Point) (name : List ℕ) (rule : Rule) (given : 
 
 -- a text that begins with no heading has a bad first line
 pub no_heading : (X : Subject) (sides : Point) (text : List ℕ) → sides ≡ map pos X.picture.sides → LacksHeading (length X.picture.sides) sides (names_of X.shelf) text → FirstBad X text 1
-no_heading X sides text given lacks = first_bad X text [] text (begins_none X text) (λ l rest starts good. bad l rest starts good) (λ front e z. let m = ap length e in omega (arith, m, length-append front (Line.End ∷ [])))
+no_heading X sides text given lacks = first_bad (analysis X) (are_spelled (length X.picture.sides)) text [] text (begins_none (analysis X) text) (λ l rest starts good. bad l rest starts good) (λ front e z. let m = ap length e in omega (arith, m, length-append front (Line.End ∷ [])))
   where
     bad : (l : Line) (rest : List ℕ) → StartsWithLine (length X.picture.sides) text l rest → GoodAfter X [] l → ⊥
     bad (Line.Shape s n) rest starts good =
@@ -83,7 +86,7 @@ no_heading X sides text given lacks = first_bad X text [] text (begins_none X te
 module _ {R : Type 0} (means : R → Rule) (X : Picture) (shelf : List (Named R)) (d : ℕ) (axes : length X.sides ≡ d) (sides : Point) (given : sides ≡ map pos X.sides) where
   -- it was taken, and the rule of the entry that it names goes on
   pub heading_taken : AreNames (names_of shelf) → (i : ℕ) (r : R) → slice_get (rules_of shelf) i ≡ Some r → (s : Section) → rank s ≡ 1 → (text new : Option (List ℕ))
-      → IfTold text (λ bytes. TakesHeading d sides (names_of shelf) bytes new i) → IfTold text (λ t. GoingOn (subject_of X (rules_on means shelf)) t new (BehindHeading (subject_of X (rules_on means shelf)) (means r) s) 2)
+      → IfTold text (λ bytes. TakesHeading d sides (names_of shelf) bytes new i) → HasCome (analysis (subject_of X (rules_on means shelf))) (BehindHeading (subject_of X (rules_on means shelf)) (means r) s) text new 2
   heading_taken apart i r there s one text new h = if_told text (λ t k.
       behind_heading (subject_of X (rules_on means shelf)) sides k.heading.name (means r) given (rule_there means shelf i r k.heading.name there k.heading.there) (subst AreNames (sym (names_on means shelf)) apart) s one t new
       (subst (λ l. TakesClaim (length X.sides) t new l) k.heading.is (subst (λ e. TakesClaim e t new k.line) (sym axes) k.takes))) h
@@ -103,10 +106,6 @@ module _ (X : Subject) (rule : Rule) (s : Section) (one : rank s ≡ 1) (lines :
 
 -- ---- bytes taken ahead, faults before
 
-pub none_ahead : (ahead : List ℕ) (left : Option (List ℕ)) → ahead ≡ [] → ahead_of ahead left ≡ left
-none_ahead ahead None e = refl
-none_ahead ahead (Some left) e = ap (λ a. Some (a ++ left)) e
-
 pub checks_later : (X : Subject) (text : Option (List ℕ)) (before middle now : ℕ) (r : Answer) → before ≤ middle → Checks X text middle now r → Checks X text before now r
 checks_later X text before middle now (Ok Yes) l h = h
 checks_later X text before middle now (Ok (No k)) l h = h
@@ -115,4 +114,4 @@ checks_later X text before middle now (Err NoMemory) l h = tt
 
 -- little was taken of a text that no byte was taken ahead of
 pub few_ahead : (X : Subject) (ahead : List ℕ) (text left : Option (List ℕ)) → ahead ≡ [] → TakenAhead (ahead_of ahead text) left → IfTold text (λ t. TakesFew X t left)
-few_ahead X ahead text left e t = told_few X text text left (λ ls. ⊤) 1 (told_start X text (λ ls. ⊤) tt) (subst (λ l. TakenAhead l left) (none_ahead ahead text e) t)
+few_ahead X ahead text left e t = told_few (analysis X) (are_spelled (length X.picture.sides)) (λ ls. ⊤) 1 text text left (told_start (analysis X) text (λ ls. ⊤) tt) (subst (λ l. TakenAhead l left) (none_ahead ahead text e) t)

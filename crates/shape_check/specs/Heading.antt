@@ -6,8 +6,8 @@ use Rattle.shape_desk.specs.Line.{IfTold}
 use Rattle.report_terms.specs.Lines.{Line}
 use Rattle.report_terms.specs.Progress.{StartsWithLine}
 use Rattle.shape_report.specs.Next.{TakesClaim}
-use Rattle.shape_check.specs.Checks.{HasCause}
-use Rattle.shape_check.specs.declared.answer.CheckFault.{CheckFault}
+use Rattle.report_text.specs.Checks.{HasCause}
+use Rattle.report_text.specs.declared.answer.CheckFault.{CheckFault}
 
 -- the line gives these sides, and the name that stands at place i among the names
 pub record IsHeading (sides : Point) (names : List (List ℕ)) (l : Line) (i : ℕ) : Type 0 where

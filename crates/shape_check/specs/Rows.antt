@@ -2,6 +2,7 @@
 -- What a judge stands for is handed in; a further section is one more judge in the row.
 use Rattle.std.specs.Prelude.{◌≡◌, ◌≤◌, Bool, true, false, List, [], ◌∷◌, ◌++◌, length}
 use Rattle.thin_terms.specs.Thinning.{Rule}
+use Rattle.text_terms.specs.Reports.{EndsWith}
 use Rattle.report_terms.specs.Lines.{Line}
 use Rattle.report_terms.specs.Subjects.{Subject}
 use Rattle.report_terms.specs.Sections.{Section, rank, section_of, lines_of, HasCome, GoodAfter, NamesRule}
@@ -30,9 +31,8 @@ RowFollows X s t false Stands Waits Rest lines = IsAt X s Stands lines × Waits
 RowFollows X s t true Stands Waits Rest lines = HasReached X t lines × Rest lines
 
 -- the last of the lines is `end`
-pub record HasEnded (lines : List Line) : Type 0 where
-  pub front : List Line
-  pub is : lines ≡ front ++ Line.End ∷ []
+abbrev pub HasEnded : List Line → Type 0
+HasEnded lines = EndsWith Line.End lines
 
 -- the lines have come to the end, and the last line was not taken yet; or it was
 abbrev pub EndFollows : Subject → (ended : Bool) → List Line → Type 0

@@ -2,17 +2,19 @@
 //! Which line is good next is known to the row of judges; this file knows of texts alone.
 ghost use Rattle.std.specs.Prelude.{◌≡◌, ◌<◌, ◌-◌, ◌^◌, ℕ, List, Option, true, length};
 ghost use Rattle.shape_desk.specs.Desk.{OnlyReadsAt};
-ghost use Rattle.shape_desk.specs.Line.{IfTold, ahead_of};
+ghost use Rattle.shape_desk.specs.Line.{ahead_of};
 ghost use Rattle.shape_desk.specs.declared.desk.Place.TheVariants.{Report};
 ghost use Rattle.report_terms.specs.Subjects.{Subject, subject_of};
+ghost use Rattle.report_terms.specs.Sections.{analysis};
+ghost use Rattle.report_text.specs.Checks.{HasCome};
 ghost use Rattle.shape_rules.specs.Ruled.{rules_on};
 ghost use Rattle.shape_check.specs.Checks.{HasChecked};
-ghost use Rattle.shape_check.specs.Going.{GoingOn, BehindHeading};
+ghost use Rattle.shape_check.specs.Going.{BehindHeading};
 
-use crate::answer::{CheckFault, Judgement};
 use crate::heading::find_rule;
 use crate::judges::{Judges, Row};
 use crate::whole::{Flat, Solid};
+use report_text::{CheckFault, Judgement};
 use shape_desk::{Desk, LineReader};
 use shape_grid::Grid;
 use shape_report::{Next, next_claim};
@@ -31,8 +33,8 @@ fn check_lines<P: Point, R: Row<P>, D: Desk>(
     requires few { R.room row < 2 ^ 62 - 1 }
     ensures checked { (X : Subject) (text : Option (List ℕ)) → length X.picture.sides ≡ P.DIM
         → R.waits X.picture row
-        → IfTold text (λ t. GoingOn X t (ahead_of reader.old.ahead ((D.state desk.old).left Report))
-        (BehindHeading X (means rule.old) R.section) 2)
+        → HasCome (analysis X) (BehindHeading X (means rule.old) R.section) text
+        (ahead_of reader.old.ahead ((D.state desk.old).left Report)) 2
         → HasChecked X text (D.state desk.old) (D.state desk.new) result }
     ensures reads { OnlyReadsAt Report (D.state desk.old) (D.state desk.new) }
     ensures same_rule { means rule.new ≡ means rule.old }
@@ -68,8 +70,8 @@ fn check_behind<P: Point, R: Row<P>, D: Desk>(
     requires few { R.room row < 2 ^ 62 - 1 }
     ensures checked { (X : Subject) (text : Option (List ℕ)) → length X.picture.sides ≡ P.DIM
         → R.waits X.picture row
-        → IfTold text (λ t. GoingOn X t (ahead_of reader.old.ahead ((D.state desk.old).left Report))
-        (BehindHeading X (means rule.old) R.section) 2)
+        → HasCome (analysis X) (BehindHeading X (means rule.old) R.section) text
+        (ahead_of reader.old.ahead ((D.state desk.old).left Report)) 2
         → HasChecked X text (D.state desk.old) (D.state desk.new) result }
     ensures reads { OnlyReadsAt Report (D.state desk.old) (D.state desk.new) }
     ensures same_rule { means rule.new ≡ means rule.old }

@@ -8,7 +8,7 @@ ghost use Rattle.thin_terms.specs.Shelves.{names_of};
 ghost use Rattle.shape_report.specs.LineOf.{line_of};
 ghost use Rattle.shape_check.specs.Heading.{IsHeading, IsNoHeading, HeadingAnswer};
 
-use crate::answer::CheckFault;
+use report_text::CheckFault;
 use shape_desk::{Desk, LineReader};
 use shape_report::{Line, Next, next_claim};
 use shape_rules::Shelf;

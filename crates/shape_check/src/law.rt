@@ -5,10 +5,11 @@ ghost use Rattle.shape_desk.specs.Desk.{Rose};
 ghost use Rattle.report_terms.specs.Subjects.{Subject};
 ghost use Rattle.report_terms.specs.Holds.{Holds, FirstBad};
 ghost use Rattle.report_terms.specs.Shows.{TextShows};
-ghost use Rattle.shape_check.specs.Checks.{Answer, Checks};
-ghost use Rattle.shape_check.specs.Texts.{line_ends};
-ghost use Rattle.shape_check.specs.declared.answer.CheckFault.TheVariants.{NoMemory};
-ghost use Rattle.shape_check.specs.declared.answer.Judgement.TheVariants.{Yes};
+ghost use Rattle.text_terms.specs.Texts.{line_ends};
+ghost use Rattle.report_text.specs.Checks.{Answer};
+ghost use Rattle.report_text.specs.declared.answer.CheckFault.TheVariants.{NoMemory};
+ghost use Rattle.report_text.specs.declared.answer.Judgement.TheVariants.{Yes};
+ghost use Rattle.shape_check.specs.Checks.{Checks};
 
 /// A report that holds of a picture shows what it says: the counts of the picture; a nearest
 /// background point of the whole space for each object point, in raster order; and, where the picture
@@ -39,7 +40,6 @@ pub fn longer_reports_are_bad()
 {}
 
 /// A report that holds is answered `Yes`, where memory was found and no count of faults rose.
-#[tactic(auto, using(crate::proofs::Going::answered))]
 pub fn holding_is_answered()
     ensures { (X : Subject) (text : List ℕ) (before now : ℕ) (answer : Answer) → Holds X text
         → Checks X (Some text) before now answer → (Rose before now → ⊥) → answer ≢ Err NoMemory

@@ -2,7 +2,6 @@
 //! It goes through the report line by line and stands on no crate that analyses pictures.
 #![tactic(auto)]
 
-mod answer;
 mod check;
 mod counts;
 mod end;
@@ -15,5 +14,5 @@ mod then;
 mod thinned;
 mod whole;
 
-pub use answer::{CheckFault, Judgement};
 pub use check::{check_flat, check_solid};
+pub use report_text::{CheckFault, Judgement};

@@ -8,8 +8,8 @@ use Rattle.thin_terms.specs.Shelves.{Named}
 use Rattle.shape_desk.specs.Desk.{Files, DeskState, Rose, Puts, PutsFront, OnlyReads}
 use Rattle.shape_desk.specs.declared.desk.Place.TheVariants.{Report}
 use Rattle.shape_check.specs.Checks.{TakesFew}
-use Rattle.shape_check.specs.declared.answer.Judgement.{Judgement}
-use Rattle.shape_check.specs.declared.answer.Judgement.TheVariants as judgement
+use Rattle.report_text.specs.declared.answer.Judgement.{Judgement}
+use Rattle.report_text.specs.declared.answer.Judgement.TheVariants as judgement
 use Rattle.report_terms.specs.Subjects.{Subject, subject_of}
 use Rattle.report_terms.specs.Holds.{HoldsBy}
 use Rattle.shape_cli.specs.Commands.{Source, Asked}

@@ -9,10 +9,10 @@ use Rattle.shape_desk.specs.Desk.{Files, DeskState, Rose, IsAtFront}
 use Rattle.shape_desk.specs.declared.desk.Place.TheVariants.{Report}
 use Rattle.shape_desk.specs.Line.{IfTold}
 use Rattle.shape_check.specs.Checks.{HasChecked}
-use Rattle.shape_check.specs.declared.answer.Judgement.{Judgement}
-use Rattle.shape_check.specs.declared.answer.Judgement.TheVariants as judgement
-use Rattle.shape_check.specs.declared.answer.CheckFault.{CheckFault}
-use Rattle.shape_check.specs.declared.answer.CheckFault.TheVariants as check
+use Rattle.report_text.specs.declared.answer.Judgement.{Judgement}
+use Rattle.report_text.specs.declared.answer.Judgement.TheVariants as judgement
+use Rattle.report_text.specs.declared.answer.CheckFault.{CheckFault}
+use Rattle.report_text.specs.declared.answer.CheckFault.TheVariants as check
 use Rattle.shape_cli.specs.Runs.{OfFile}
 use Rattle.shape_cli.specs.Parts.{Judged}
 

@@ -9,8 +9,9 @@ use Rattle.thin_terms.specs.Shelves.{Named, names_of, rules_of}
 use Rattle.shape_rules.specs.Ruled.{rules_on}
 use Rattle.report_terms.specs.Subjects.{Subject}
 use Rattle.report_terms.specs.Holds.{Holds}
-use Rattle.shape_check.specs.Checks.{Answer, Checks}
-use Rattle.shape_check.specs.declared.answer.Judgement.TheVariants.{No}
+use Rattle.report_text.specs.Checks.{Answer}
+use Rattle.shape_check.specs.Checks.{Checks}
+use Rattle.report_text.specs.declared.answer.Judgement.TheVariants.{No}
 
 -- a report that holds is not answered no
 pub no_verdict : (X : Subject) (text : List ℕ) (left : Option (List ℕ)) (before now k : ℕ) (answer : Answer) → left ≡ Some text → Holds X text → Checks X left before now answer → answer ≡ Ok (No k) → ⊥

@@ -5,8 +5,8 @@ use Rattle.shape_picture.specs.declared.fault.PictureFault.{PictureFault}
 use Rattle.shape_picture.specs.declared.fault.PictureFault.TheVariants as fault
 use Rattle.shape_picture.specs.declared.fault.PictureError.{PictureError}
 use Rattle.shape_picture.specs.declared.fault.PictureError.TheVariants as error
-use Rattle.shape_check.specs.declared.answer.Judgement.{Judgement}
-use Rattle.shape_check.specs.declared.answer.Judgement.TheVariants as judgement
+use Rattle.report_text.specs.declared.answer.Judgement.{Judgement}
+use Rattle.report_text.specs.declared.answer.Judgement.TheVariants as judgement
 use Rattle.shape_cli.specs.declared.outcome.Outcome.{Outcome}
 use Rattle.shape_cli.specs.declared.outcome.Outcome.TheVariants as outcome
 

@@ -8,11 +8,12 @@ use Rattle.shape_desk.specs.Desk.{DeskState, Rose, IsMissing}
 use Rattle.shape_desk.specs.declared.desk.Place.TheVariants.{Report}
 use Rattle.shape_picture.specs.declared.fault.PictureError.{PictureError}
 use Rattle.shape_picture.specs.declared.fault.PictureError.TheVariants as error
-use Rattle.shape_check.specs.Checks.{IsLineNumber, TakesFew}
-use Rattle.shape_check.specs.declared.answer.Judgement.{Judgement}
-use Rattle.shape_check.specs.declared.answer.Judgement.TheVariants as judgement
-use Rattle.shape_check.specs.declared.answer.CheckFault.{CheckFault}
-use Rattle.shape_check.specs.declared.answer.CheckFault.TheVariants as check
+use Rattle.report_text.specs.Checks.{IsLineNumber}
+use Rattle.shape_check.specs.Checks.{TakesFew}
+use Rattle.report_text.specs.declared.answer.Judgement.{Judgement}
+use Rattle.report_text.specs.declared.answer.Judgement.TheVariants as judgement
+use Rattle.report_text.specs.declared.answer.CheckFault.{CheckFault}
+use Rattle.report_text.specs.declared.answer.CheckFault.TheVariants as check
 use Rattle.shape_cli.specs.declared.picture.Image.{Image}
 use Rattle.shape_cli.specs.declared.picture.Image.TheVariants as image
 use Rattle.shape_cli.specs.Commands.{Source, file_of}

@@ -149,7 +149,7 @@ impl<P: Point> Model for SeenLine<P> {
 
 impl<P: Point> ReportLine for Line<P> {
     ghost use Rattle.report_terms.specs.Lines as Terms;
-    ghost use Rattle.report_terms.proofs.TextLines.{are_spelled};
+    ghost use Rattle.report_terms.proofs.Spelled.{are_spelled};
     ghost use Rattle.shape_report.specs.LineOf.{line_of};
 
     type Seen = SeenLine<P>;

@@ -1,6 +1,7 @@
 use Rattle.std.proofs.Common.{◌≡◌, false, refl, arith, []}
 use Rattle.std.specs.Prelude.{IsTrue}
 use Rattle.std.proofs.lemmas.Bool.{OnTrue_at}
+use Rattle.std.proofs.lemmas.Result.{err_from_is_err_and}
 use Rattle.shape_desk.specs.declared.desk.Place.TheVariants.{Report}
 use Rattle.shape_desk.specs.Line.{IfTold, ahead_of}
 use Rattle.shape_desk.proofs.Writes.{OnlyReadsAt-more}
@@ -13,25 +14,57 @@ pub lines-preserved : goal.lines-preserved
 lines-preserved g c =
     let inv = c.lines.invariant in
     let next = c.next_claim.ensures in
-    let took = c.in-Ok-true.ensures in
+    let took = c.in_ok-take-in-Claim.ensures in
     let left = ahead_of c.lines.reader.ahead ((g.D.Desk.state c.lines.desk).left Report) in
     let new = ahead_of c.next_claim.new.reader.ahead ((g.D.Desk.state c.next_claim.new.desk).left Report) in
-    let l = g.L.ReportLine.seen c.in-Ok-Claim.claim in
-    let taken : IfTold left (λ bytes. TakesClaim g.L.ReportLine.form bytes new l) = rw c.in-Ok-Claim.field-0-is at c.in-Ok-Claim.ensures.answer in
+    let l = g.L.ReportLine.seen c.in-Claim.claim in
+    let taken : IfTold left (λ bytes. TakesClaim g.L.ReportLine.form bytes new l) = rw c.in-Claim.is at c.in_ok-claim.ensures.answer in
+    let good = c.if-not-branch.false in
     record {
       begun = next.reads.still_begun;
       come = λ X text start.
           let R = report_of g.L.ReportLine.form g.L.ReportLine.last (g.J.ReportJudge.good X) in
           if_told text (λ t h. one_more R g.met.L.ReportLine.laws (g.J.ReportJudge.stands X c.lines.judge) c.lines.line t left new l (g.J.ReportJudge.stands X c.take.new.self) h taken
-          ((took.answer X h.lines h.follows).0 c.in-Ok-true.field-0-test)
-          (OnTrue_at c.in-Ok-true.field-0-test (took.stands X h.lines h.follows))) (inv.come X text start);
+          ((took.answer X h.lines h.follows).0 good) (OnTrue_at good (took.stands X h.lines h.follows))) (inv.come X text start);
       some = omega arith;
-      few = omega (arith, inv.few, OnTrue_at c.in-Ok-true.field-0-test took.room);
+      few = omega (arith, inv.few, OnTrue_at good took.room);
       reads = OnlyReadsAt-more inv.reads next.reads;
     }
 
-pub returns-in-Ok-false-clause-checked : goal.returns-in-Ok-false-clause-checked
-returns-in-Ok-false-clause-checked g c = λ X text start.
+pub returns-in_err-claim-clause-checked : goal.returns-in_err-claim-clause-checked
+returns-in_err-claim-clause-checked g c = λ X text start.
+    let inv = c.lines.invariant in
+    let R = report_of g.L.ReportLine.form g.L.ReportLine.last (g.J.ReportJudge.good X) in
+    let is = g.met.L.ReportLine.laws in
+    let F = g.J.ReportJudge.stands X c.lines.judge in
+    let left = ahead_of c.lines.reader.ahead ((g.D.Desk.state c.lines.desk).left Report) in
+    let at_place = (g.D.Desk.state c.next_claim.new.desk).left Report in
+    let come = inv.come X text start in
+    let p = err_from_is_err_and c.from_residual.result c.from_residual.ensures.1 in
+    let rose = c.in_err-claim.ensures.answer in
+    let later = inv.reads.only.later in
+    rw (p.1, p.2) (record {
+      answer = omega arith;
+      taken = told_few R is F c.lines.line text left at_place come c.next_claim.ensures.taken;
+    })
+
+pub returns-in_err-take-in-Claim-clause-checked : goal.returns-in_err-take-in-Claim-clause-checked
+returns-in_err-take-in-Claim-clause-checked g c = λ X text start.
+    let inv = c.lines.invariant in
+    let R = report_of g.L.ReportLine.form g.L.ReportLine.last (g.J.ReportJudge.good X) in
+    let is = g.met.L.ReportLine.laws in
+    let F = g.J.ReportJudge.stands X c.lines.judge in
+    let left = ahead_of c.lines.reader.ahead ((g.D.Desk.state c.lines.desk).left Report) in
+    let at_place = (g.D.Desk.state c.next_claim.new.desk).left Report in
+    let come = inv.come X text start in
+    let p = err_from_is_err_and c.from_residual-in_err-take-in-Claim.result c.from_residual-in_err-take-in-Claim.ensures.1 in
+    rw (p.1, p.2) (record {
+      answer = tt;
+      taken = told_few R is F c.lines.line text left at_place come c.next_claim.ensures.taken;
+    })
+
+pub returns-then-not-branch-clause-checked : goal.returns-then-not-branch-clause-checked
+returns-then-not-branch-clause-checked g c = λ X text start.
     let inv = c.lines.invariant in
     let R = report_of g.L.ReportLine.form g.L.ReportLine.last (g.J.ReportJudge.good X) in
     let is = g.met.L.ReportLine.laws in
@@ -40,20 +73,19 @@ returns-in-Ok-false-clause-checked g c = λ X text start.
     let at_place = (g.D.Desk.state c.next_claim.new.desk).left Report in
     let come = inv.come X text start in
     let new = ahead_of c.next_claim.new.reader.ahead at_place in
-    let l = g.L.ReportLine.seen c.in-Ok-Claim.claim in
-    let taken : IfTold left (λ bytes. TakesClaim g.L.ReportLine.form bytes new l) = rw c.in-Ok-Claim.field-0-is at c.in-Ok-Claim.ensures.answer in
+    let l = g.L.ReportLine.seen c.in-Claim.claim in
+    let taken : IfTold left (λ bytes. TakesClaim g.L.ReportLine.form bytes new l) = rw c.in-Claim.is at c.in_ok-claim.ensures.answer in
     let bad = if_told text (λ t h. not_good R is F c.lines.line t left new l h taken (λ good.
-    let t = (c.in-Ok-false.ensures.answer X h.lines h.follows).1 good in
-    let z = c.in-Ok-false.field-0-test in
+    let t = (c.in_ok-take-in-Claim.ensures.answer X h.lines h.follows).1 good in
+    let z = c.if-not-branch.true in
     cc)) come in
     record {
-      right = (record { some = inv.some; few = omega (arith, inv.few) }, bad);
+      answer = (record { some = inv.some; few = omega (arith, inv.few) }, bad);
       taken = told_few R is F c.lines.line text left at_place come c.next_claim.ensures.taken;
-      kept = tt;
     }
 
-pub returns-in-Err-take-clause-checked : goal.returns-in-Err-take-clause-checked
-returns-in-Err-take-clause-checked g c = λ X text start.
+pub returns-in-Bad-clause-checked : goal.returns-in-Bad-clause-checked
+returns-in-Bad-clause-checked g c = λ X text start.
     let inv = c.lines.invariant in
     let R = report_of g.L.ReportLine.form g.L.ReportLine.last (g.J.ReportJudge.good X) in
     let is = g.met.L.ReportLine.laws in
@@ -61,26 +93,10 @@ returns-in-Err-take-clause-checked g c = λ X text start.
     let left = ahead_of c.lines.reader.ahead ((g.D.Desk.state c.lines.desk).left Report) in
     let at_place = (g.D.Desk.state c.next_claim.new.desk).left Report in
     let come = inv.come X text start in
+    let bad : IfTold left (IsBad g.L.ReportLine.form) = rw c.in-Bad.is at c.in_ok-claim.ensures.answer in
     record {
-      right = tt;
+      answer = (record { some = inv.some; few = omega (arith, inv.few) }, if_told text (λ t h. bad_line R is F c.lines.line t left h bad) come);
       taken = told_few R is F c.lines.line text left at_place come c.next_claim.ensures.taken;
-      kept = tt;
-    }
-
-pub returns-in-Ok-Bad-clause-checked : goal.returns-in-Ok-Bad-clause-checked
-returns-in-Ok-Bad-clause-checked g c = λ X text start.
-    let inv = c.lines.invariant in
-    let R = report_of g.L.ReportLine.form g.L.ReportLine.last (g.J.ReportJudge.good X) in
-    let is = g.met.L.ReportLine.laws in
-    let F = g.J.ReportJudge.stands X c.lines.judge in
-    let left = ahead_of c.lines.reader.ahead ((g.D.Desk.state c.lines.desk).left Report) in
-    let at_place = (g.D.Desk.state c.next_claim.new.desk).left Report in
-    let come = inv.come X text start in
-    let bad : IfTold left (IsBad g.L.ReportLine.form) = rw c.in-Ok-Bad.field-0-is at c.in-Ok-Bad.ensures.answer in
-    record {
-      right = (record { some = inv.some; few = omega (arith, inv.few) }, if_told text (λ t h. bad_line R is F c.lines.line t left h bad) come);
-      taken = told_few R is F c.lines.line text left at_place come c.next_claim.ensures.taken;
-      kept = tt;
     }
 
 pub returns-then-has_ended-clause-checked : goal.returns-then-has_ended-clause-checked
@@ -92,15 +108,14 @@ returns-then-has_ended-clause-checked g c = λ X text start.
     let left = ahead_of c.lines.reader.ahead ((g.D.Desk.state c.lines.desk).left Report) in
     let at_place = (g.D.Desk.state c.next_claim.new.desk).left Report in
     let come = inv.come X text start in
-    let end : IfTold left (λ bytes. bytes ≡ []) = rw c.in-Ok-End.field-0-is at c.in-Ok-End.ensures.answer in
+    let end : IfTold left (λ bytes. bytes ≡ []) = rw c.in-End.is at c.in_ok-claim.ensures.answer in
     record {
-      right = if_told text (λ t h. holds_at_end R is F c.lines.line t left h ((c.if-has_ended.ensures X h.lines h.follows).0 refl) end) come;
+      answer = if_told text (λ t h. holds_at_end R is F c.lines.line t left h ((c.if-has_ended.ensures X h.lines h.follows).0 refl) end) come;
       taken = told_few R is F c.lines.line text left at_place come c.next_claim.ensures.taken;
-      kept = if_told text (λ t h. text_at_end R is F c.lines.line t left h ((c.if-has_ended.ensures X h.lines h.follows).0 refl) end) come;
     }
 
-pub returns-in-Ok-End-clause-checked : goal.returns-in-Ok-End-clause-checked
-returns-in-Ok-End-clause-checked g c = λ X text start.
+pub returns-in-End-clause-checked : goal.returns-in-End-clause-checked
+returns-in-End-clause-checked g c = λ X text start.
     let inv = c.lines.invariant in
     let R = report_of g.L.ReportLine.form g.L.ReportLine.last (g.J.ReportJudge.good X) in
     let is = g.met.L.ReportLine.laws in
@@ -108,26 +123,21 @@ returns-in-Ok-End-clause-checked g c = λ X text start.
     let left = ahead_of c.lines.reader.ahead ((g.D.Desk.state c.lines.desk).left Report) in
     let at_place = (g.D.Desk.state c.next_claim.new.desk).left Report in
     let come = inv.come X text start in
-    let end : IfTold left (λ bytes. bytes ≡ []) = rw c.in-Ok-End.field-0-is at c.in-Ok-End.ensures.answer in
+    let end : IfTold left (λ bytes. bytes ≡ []) = rw c.in-End.is at c.in_ok-claim.ensures.answer in
     let bad = if_told text (λ t h. bad_at_end R is F c.lines.line t left h
     (λ e. let t : IsTrue false = (c.if-has_ended.ensures X h.lines h.follows).1 e in cc) end) come in
     record {
-      right = (record { some = inv.some; few = omega (arith, inv.few) }, bad);
+      answer = (record { some = inv.some; few = omega (arith, inv.few) }, bad);
       taken = told_few R is F c.lines.line text left at_place come c.next_claim.ensures.taken;
-      kept = tt;
     }
 
-pub returns-in-Err-clause-checked : goal.returns-in-Err-clause-checked
-returns-in-Err-clause-checked g c = λ X text start.
+pub returns-then-has_ended-clause-kept : goal.returns-then-has_ended-clause-kept
+returns-then-has_ended-clause-kept g c = λ X text start.
     let inv = c.lines.invariant in
     let R = report_of g.L.ReportLine.form g.L.ReportLine.last (g.J.ReportJudge.good X) in
     let is = g.met.L.ReportLine.laws in
     let F = g.J.ReportJudge.stands X c.lines.judge in
     let left = ahead_of c.lines.reader.ahead ((g.D.Desk.state c.lines.desk).left Report) in
-    let at_place = (g.D.Desk.state c.next_claim.new.desk).left Report in
     let come = inv.come X text start in
-    record {
-      right = let rose = c.in-Err.ensures.answer in let later = inv.reads.only.later in omega arith;
-      taken = told_few R is F c.lines.line text left at_place come c.next_claim.ensures.taken;
-      kept = tt;
-    }
+    let end : IfTold left (λ bytes. bytes ≡ []) = rw c.in-End.is at c.in_ok-claim.ensures.answer in
+    if_told text (λ t h. text_at_end R is F c.lines.line t left h ((c.if-has_ended.ensures X h.lines h.follows).0 refl) end) come

@@ -6,8 +6,8 @@ use Rattle.thin_terms.specs.Shelves.{names_of}
 use Rattle.shape_grid.proofs.SideLists.{sides_back}
 use Rattle.shape_rules.proofs.Ruled.{rules_same}
 use Rattle.shape_check.specs.Heading.{TakesHeading, LacksHeading}
-use Rattle.shape_check.proofs.Going.{takes_none}
-use Rattle.shape_check.proofs.FirstLine.{heading_taken, heading_missed, none_ahead, few_ahead, checks_later}
+use Rattle.report_text.proofs.Told.{takes_none, none_ahead}
+use Rattle.shape_check.proofs.FirstLine.{heading_taken, heading_missed, few_ahead, checks_later}
 use Rattle.shape_check.proofs.check.check.Goals as goal
 
 pub returns-in_err-reader-clause-checked : goal.returns-in_err-reader-clause-checked

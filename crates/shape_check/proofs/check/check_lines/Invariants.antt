@@ -1,19 +1,21 @@
 use Rattle.std.proofs.Common.{◌≡◌, ◌+◌, ◌≤◌, ◌^◌, true, length, List, ℕ, Option}
 use Rattle.shape_desk.specs.declared.desk.Place.TheVariants.{Report}
 use Rattle.shape_desk.specs.Desk.{OnlyReadsAt}
-use Rattle.shape_desk.specs.Line.{IfTold, ahead_of}
+use Rattle.shape_desk.specs.Line.{ahead_of}
 use Rattle.report_terms.specs.Subjects.{Subject}
-use Rattle.shape_check.specs.Going.{GoingOn, Ruled, BehindHeading}
+use Rattle.report_terms.specs.Sections.{analysis}
+use Rattle.report_text.specs.Checks.{HasCome}
+use Rattle.shape_check.specs.Going.{Ruled, BehindHeading}
 use Rattle.shape_check.proofs.check.check_lines.Given as goal
 
 abbrev pub invariant-lines : goal.invariant-lines
 invariant-lines g l = record {
   begun : (g.D.Desk.state l.desk).begun Report ≡ true;
   text : (X : Subject) (text : Option (List ℕ)) → length X.picture.sides ≡ g.P.Point.DIM → g.R.Judges.waits X.picture l.fn.row
-      → IfTold text (λ t. GoingOn X t (ahead_of l.fn.reader.ahead ((g.D.Desk.state l.fn.desk).left Report))
-      (BehindHeading X ((g.dyn-1.0.entry l.fn.rule.now.0).1.means l.fn.rule.now.1) g.R.Judges.section) 2)
-      → IfTold text (λ t. GoingOn X t (ahead_of l.reader.ahead ((g.D.Desk.state l.desk).left Report))
-      (Ruled X ((g.dyn-1.0.entry l.fn.rule.now.0).1.means l.fn.rule.now.1) (g.R.Judges.follows X ((g.dyn-1.0.entry l.fn.rule.now.0).1.means l.fn.rule.now.1) l.row ((g.dyn-1.0.entry l.rule.now.0).1.state l.rule.now.1))) l.line);
+      → HasCome (analysis X) (BehindHeading X ((g.dyn-1.0.entry l.fn.rule.now.0).1.means l.fn.rule.now.1) g.R.Judges.section) text
+      (ahead_of l.fn.reader.ahead ((g.D.Desk.state l.fn.desk).left Report)) 2
+      → HasCome (analysis X) (Ruled X ((g.dyn-1.0.entry l.fn.rule.now.0).1.means l.fn.rule.now.1) (g.R.Judges.follows X ((g.dyn-1.0.entry l.fn.rule.now.0).1.means l.fn.rule.now.1) l.row ((g.dyn-1.0.entry l.rule.now.0).1.state l.rule.now.1))) text
+      (ahead_of l.reader.ahead ((g.D.Desk.state l.desk).left Report)) l.line;
   same_rule : (g.dyn-1.0.entry l.rule.now.0).1.means l.rule.now.1 ≡ (g.dyn-1.0.entry l.fn.rule.now.0).1.means l.fn.rule.now.1;
   some : 1 ≤ l.line;
   few : l.line + g.R.Judges.room l.row ≤ 2 ^ 62;
