@@ -80,6 +80,14 @@ fn choose(lo: &Frac, hi: &Frac) -> Frac
     }
 }
 
+/// The coefficient of a bound with the other sign.
+pub fn turned(b: Bound) -> i64
+    requires { IsBounded b }
+    ensures { result ≡ neg_ℤ b.x }
+{
+    -b.x
+}
+
 // A lower bound as a fraction.
 fn lower_end(b: Bound) -> Frac
     requires falls { b.x <ℤ pos 0 }
@@ -89,7 +97,7 @@ fn lower_end(b: Bound) -> Frac
 {
     Frac {
         num: b.z,
-        den: opposite(b.x),
+        den: turned(b),
     }
 }
 

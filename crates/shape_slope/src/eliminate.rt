@@ -7,7 +7,7 @@ ghost use Rattle.shape_slope.specs.Combinations.{IsCombination};
 ghost use Rattle.shape_slope.specs.Spans.{IsSpan, IsAmid, IsSmallSlope};
 ghost use Rattle.shape_slope.specs.Solutions.{IsSolution, IsExcluded, IsElimination};
 
-use crate::bound::{leaves_room, overlap, slope_inside};
+use crate::bound::{leaves_room, overlap, slope_inside, turned};
 use crate::combination::Combination;
 use crate::exact::product;
 use crate::range::{Narrowed, Range, first_slopes};
@@ -125,7 +125,7 @@ fn excluded_by_two(rows: &[Row], r: Range) -> Excluded
         },
         second: Multiple {
             combination: r.upper,
-            times: -r.lower.bound.x,
+            times: turned(r.lower.bound),
         },
         rest: overlap(r.lower.bound, r.upper.bound),
     }
