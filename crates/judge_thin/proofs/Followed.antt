@@ -1,12 +1,12 @@
 -- The next event of a thinning is one: it is that of the least key.
 -- Laws over pictures, stages and keys alone.
-use Rattle.std.proofs.Common.{◌≡◌, ℕ, ◌↔◌, Bool, true, false, List, refl, sym, ◌∙◌, ap, subst, not}
+use Rattle.std.proofs.Common.{◌≡◌, ℕ, ◌↔◌, Bool, true, false, List, refl, sym, subst, not}
 use mathlib.Core.Bool.{beq}
 use Rattle.std.specs.Prelude.{MatchOption, Some}
 use Rattle.std.specs.Ordering.{is_gt}
 use Rattle.shape_terms.specs.Points.{Point, raster_point}
 use Rattle.shape_terms.specs.Pictures.{Picture}
-use Rattle.thin_terms.specs.Thinning.{Rule, Event, Facts, Stage, ThinStep, ThinsTo, IsCandidate, near_count, opening_stage, without}
+use Rattle.thin_terms.specs.Thinning.{Rule, Event, Facts, Stage, ThinStep, ThinsTo, IsCandidate, near_count, opening_stage}
 use Rattle.thin_terms.specs.Following.{IsNextEvent, AreAllEvents}
 use Rattle.thin_terms.proofs.ThinningOnce.{one_stage, one_step}
 use Rattle.shape_queue.specs.declared.key.Key.{Key}

@@ -1,4 +1,4 @@
-use Rattle.std.proofs.Common.{◌≡◌, true, false, Bool, refl, sym, ◌∙◌, not}
+use Rattle.std.proofs.Common.{◌≡◌, true, false, Bool, refl, sym, not}
 use Rattle.std.specs.Prelude.{◌↔◌, MatchOption, is_some, IsTrue}
 use Rattle.std.specs.declared.option.Option.{Option}
 use Rattle.std.specs.declared.option.Option.TheVariants.{None, Some}
