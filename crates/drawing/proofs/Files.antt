@@ -1,14 +1,13 @@
 -- What a run did, from what its parts did.
 -- Laws of desks and texts; no report is read here.
-use Rattle.std.proofs.Common.{◌≡◌, ℕ, ◌≤◌, inl, sym, ap, ◌∙◌, arith, List, [], ◌∷◌, length, get_or, Option, None, Some}
+use Rattle.std.proofs.Common.{◌≡◌, ℕ, ◌≤◌, inl, sym, ap, arith, List, [], ◌∷◌, length, get_or, Option, None, Some}
 use Rattle.std.specs.Prelude.{◌+◌, ◌-◌, ◌^◌, min, Result, Ok, Err}
 use Rattle.std.specs.declared.vec.Vec.{Vec}
-use Rattle.shape_desk.specs.Desk.{Files, DeskState, IsAtFront, OnlyReads, OnlyWrites, Rose}
+use Rattle.shape_desk.specs.Desk.{Files, DeskState, IsAtFront, Rose}
 use Rattle.shape_desk.specs.Line.{IfTold}
 use Rattle.drawing.specs.declared.fault.DrawFault.{DrawFault}
 use Rattle.drawing.specs.declared.fault.DrawFault.TheVariants.{NotReport, Volume, ReadFault, NoMemory}
-use Rattle.drawing.specs.Answers.{IsDrawingOf, IsNoReport, Refused, Draws, OfFile, FileRefused, FileDrawn, Ran, IsSilent, KeepsFiles, texts}
-use Rattle.drawing.specs.Outcomes.{refusal_of}
+use Rattle.drawing.specs.Answers.{IsDrawingOf, IsNoReport, Refused, Draws, OfFile, FileRefused, FileDrawn, texts}
 
 -- a fact of the bytes that are left at the front of a file is one of the file
 pub of_file : (files : Option Files) (name : List ℕ) (left : Option (List ℕ)) (P : List ℕ → Type 0) → IsAtFront files name left → IfTold left P → OfFile files name P
@@ -30,25 +29,6 @@ rose_under most before mid now h r = omega (arith, h, r)
 pub file_drawn : {V : Type 0} (bytes : V → List ℕ) (name : List ℕ) (old mid new : DeskState) (left : Option (List ℕ)) (r : Result V DrawFault) → IsAtFront old.files name left → old.read_faults ≤ mid.read_faults → Draws bytes left mid.read_faults new.read_faults r → FileDrawn bytes name old new r
 file_drawn bytes name old mid new left (Ok svg) a l h = of_file old.files name left (λ t. IsDrawingOf t (bytes svg)) a h
 file_drawn bytes name old mid new left (Err fault) a l h = file_refused name old mid new left fault a (λ r. rose_under (2 ^ 64 - 1) old.read_faults mid.read_faults new.read_faults l r) h
-
--- the outcome of a report that is not drawn
-pub ran_refused : (name : List ℕ) (old new : DeskState) (fault : DrawFault) → FileRefused name old new fault → IsSilent old new → Ran name old new (refusal_of fault)
-ran_refused name old new (NotReport k) h s = (h, s)
-ran_refused name old new Volume h s = (h, s)
-ran_refused name old new ReadFault h s = (h, s)
-ran_refused name old new NoMemory h s = s
-
--- a call that only read keeps the files
-pub reads_keep : (old new : DeskState) → OnlyReads old new → KeepsFiles old new
-reads_keep old new o = record { files = o.same_files; read_later = o.later; write_later = omega (arith, o.same_faults) }
-
--- and so does one that only wrote behind it
-pub writes_keep : (old mid new : DeskState) → OnlyReads old mid → OnlyWrites mid new → KeepsFiles old new
-writes_keep old mid new o w = record {
-  files = w.same_files ∙ o.same_files;
-  read_later = omega (arith, o.later, w.same_faults);
-  write_later = omega (arith, o.same_faults, w.later);
-}
 
 -- the one word of a command line
 pub one_word : {Z : Type 0} (words : List (Vec ℕ Z)) (w : Vec ℕ Z) → 1 ≤ length words → length words ≤ 1 → w ≡ get_or words 0 w → texts words ≡ w.items ∷ []

@@ -1,17 +1,15 @@
 -- What the first line of a text tells: sides, or that the text has no heading.
 -- Laws of lines, and of the bytes left where they are told.
-use Rattle.std.proofs.Common.{◌≡◌, ℕ, ◌≤◌, ◌<◌, refl, sym, ap, ◌∙◌, subst, arith, List, [], ◌∷◌, ◌++◌, length, Option, None, Some, IsSome}
+use Rattle.std.proofs.Common.{◌≡◌, ℕ, ◌≤◌, refl, sym, ap, ◌∙◌, subst, arith, List, [], ◌∷◌, ◌++◌, length, Option, None, Some, IsSome}
 use Rattle.std.specs.Prelude.{◌↔◌, Result, Ok, Err, IfSome, MatchOption, pos}
-use Rattle.std.specs.List.{AllByRecursion}
 use Rattle.std.proofs.lemmas.List.{append_assoc}
 use Rattle.std.proofs.lemmas.List.Elements.{All-from_get_or, recursion_from_All}
 use Rattle.shape_terms.specs.Points.{Point, AreSides}
-use Rattle.shape_desk.specs.Desk.{IsEnd}
 use Rattle.shape_desk.specs.Line.{HasNoLf, IfTold, IsTooLong, IsCutShort, TakesLine}
 use Rattle.report_terms.specs.Lines.{Line, spelling, IsLineOf, spelled}
 use Rattle.report_terms.specs.Progress.{StartsWithLine, StartsWithNoLine}
 use Rattle.report_terms.proofs.Spelled.{spelling_injective, are_spelled}
-use Rattle.text_terms.proofs.Checking.{same_front, no_line_at_end, no_line_without_lf, no_line_too_long}
+use Rattle.text_terms.proofs.Checking.{same_front, no_line_without_lf, no_line_too_long}
 use Rattle.drawing.specs.Reports.{IsHeading}
 use Rattle.drawing.specs.Heading.{GivesSides, FlatHeading, SidesOf, LacksHeading, HeadingAnswer}
 use Rattle.drawing.specs.declared.fault.DrawFault.{DrawFault}
@@ -95,10 +93,6 @@ no_heading bytes none = record {
   flat = λ l rest s i. none 2 l rest s;
   solid = λ (sides, rule, rest, s). none 3 (Line.Shape sides rule) rest s;
 }
-
-pub nothing_left : (old : Option (List ℕ)) → IsEnd old → IfTold old LacksHeading
-nothing_left None h = tt
-nothing_left (Some bytes) h = no_heading bytes (λ d. no_line_at_end (spelled d) bytes h)
 
 pub first_too_long : (old : Option (List ℕ)) → IfTold old IsTooLong → IfTold old LacksHeading
 first_too_long None h = tt

@@ -1,11 +1,10 @@
 -- Text that is put together piece by piece: one more piece of a list.
 -- Laws of lists alone.
-use Rattle.std.proofs.Common.{◌≡◌, inl, inr, ℕ, ◌+◌, ◌<◌, Bool, true, false, List, [], ◌∷◌, ◌++◌, length, get_or, take, map, refl, ap, sym, ◌∙◌, arith, append_assoc}
+use Rattle.std.proofs.Common.{◌≡◌, inl, inr, ℕ, ◌+◌, Bool, List, [], ◌∷◌, ◌++◌, map, refl, ap, sym, ◌∙◌, arith, append_assoc}
 use Rattle.std.specs.Prelude.{◌==◌, filter, flat_map}
 use Rattle.std.specs.List.{range_with_len}
 use Rattle.std.proofs.lemmas.Bool.{cond-true, cond-false, cases_Bool}
-use Rattle.std.proofs.lemmas.List.{take_more, map-append, append-nil, map-id}
-use Rattle.std.proofs.lemmas.List.Elements.{filter-append}
+use Rattle.std.proofs.lemmas.List.{append-nil, map-id}
 use Rattle.std.proofs.lemmas.List.FromFn.{map-range_with_len_more}
 use Rattle.std.proofs.lemmas.Grind.{flat_map-append}
 use Rattle.drawing.specs.declared.pixels.Pixel.{Pixel}
@@ -31,28 +30,6 @@ pub one_more : (s₀ s₁ s₂ all more : List ℕ) (a : List ℕ) → s₁ ≡ 
 one_more s₀ s₁ s₂ all more a p q m = q ∙ ap (λ t. t ++ a) p ∙ append_assoc s₀ all a ∙ ap (λ t. s₀ ++ t) (sym m)
 
 -- ---- pieces
-
--- the pieces of the elements that pass, with one element more
-pub more_passing : {X Y : Type 0} (f : Y → List ℕ) (p : Y → Bool) (h : X → Y) (xs : List X) (i : ℕ) (d : X) → i < length xs → flat_map f (filter p (map h (take (i + 1) xs))) ≡ flat_map f (filter p (map h (take i xs))) ++ flat_map f (filter p (h (get_or xs i d) ∷ []))
-more_passing f p h xs i d within =
-    ap (λ t. flat_map f (filter p (map h t))) (take_more xs i d within)
-    ∙ ap (λ t. flat_map f (filter p t)) (map-append h (take i xs) (get_or xs i d ∷ []))
-    ∙ ap (flat_map f) (filter-append p (map h (take i xs)) (h (get_or xs i d) ∷ []))
-    ∙ flat_map-append f (filter p (map h (take i xs))) (filter p (h (get_or xs i d) ∷ []))
-
-pub passing : {Y : Type 0} (f : Y → List ℕ) (p : Y → Bool) (y : Y) → p y ≡ true → flat_map f (filter p (y ∷ [])) ≡ f y
-passing f p y e = ap (flat_map f) (cond-true (p y) (y ∷ []) [] e) ∙ append-nil (f y)
-
-pub not_passing : {Y : Type 0} (f : Y → List ℕ) (p : Y → Bool) (y : Y) → p y ≡ false → flat_map f (filter p (y ∷ [])) ≡ []
-not_passing f p y e = ap (flat_map f) (cond-false (p y) (y ∷ []) [] e)
-
--- the pieces of all elements, with one element more
-pub more_pieces : {X Y : Type 0} (f : Y → List ℕ) (h : X → Y) (xs : List X) (i : ℕ) (d : X) → i < length xs → flat_map f (map h (take (i + 1) xs)) ≡ flat_map f (map h (take i xs)) ++ f (h (get_or xs i d))
-more_pieces f h xs i d within =
-    ap (λ t. flat_map f (map h t)) (take_more xs i d within)
-    ∙ ap (flat_map f) (map-append h (take i xs) (get_or xs i d ∷ []))
-    ∙ flat_map-append f (map h (take i xs)) (h (get_or xs i d) ∷ [])
-    ∙ ap (λ t. flat_map f (map h (take i xs)) ++ t) (append-nil (f (h (get_or xs i d))))
 
 -- the pieces of the numbers below n, with one number more
 pub more_numbers : (f : ℕ → List ℕ) (n : ℕ) → flat_map f (range_with_len 0 (n + 1)) ≡ flat_map f (range_with_len 0 n) ++ f n

@@ -1,14 +1,13 @@
 -- What the tests of a run's points show: that a line holds them all, and that the other coordinate keeps its sense.
 -- Laws over lists of points alone.
 use Rattle.std.proofs.Common.{◌≡◌, ℕ, ◌+◌, ◌<◌, ◌≤◌, List, length, map, get_or, sym, ◌∙◌, subst, arith, inl, inr}
-use Rattle.std.specs.Prelude.{ℤ, pos, negsuc, ◌≤ℤ◌}
-use Rattle.std.proofs.lemmas.Int.{ints}
+use Rattle.std.specs.Prelude.{pos, negsuc}
 use Rattle.std.proofs.Math.IntN.{ℤ_discrete}
-use Rattle.std.proofs.lemmas.List.{length-map, get_or-map, get_or_past}
+use Rattle.std.proofs.lemmas.List.{length-map, get_or-map}
 use Rattle.std.proofs.lemmas.List.Elements.{All-from_get_or}
 use native.Mathlib.Decide.{dec_lt}
-use Rattle.shape_terms.specs.Points.{Point, coordinate}
-use Rattle.shape_terms.specs.Naive.{Naive, HoldsPoint, HoldsAll, IsProper}
+use Rattle.shape_terms.specs.Points.{Point}
+use Rattle.shape_terms.specs.Naive.{Naive, HoldsPoint, HoldsAll}
 use Rattle.shape_terms.specs.Turns.{IsTurn, change_at}
 use Rattle.shape_terms.specs.Straight.{KeepsSense}
 
@@ -47,13 +46,3 @@ sense_kept t run none = elim (dec_lt 1 (length run)) [
     ])
   ]
 ]
-
--- a line of two coefficients is proper for an axis of the plane alone
-pub proper_flat : (t : ℕ) (n : Naive) → length n.a ≤ 2 → IsProper t n → t < 2
-proper_flat t n two p = elim (dec_lt t 2) [
-  | yes l ↦ l
-  | no l ↦ absurd (let h = p.main in none (coordinate n.a t) (get_or_past n.a t (pos 0) (omega arith)) h)
-]
-  where
-    none : (z : ℤ) → z ≡ pos 0 → pos 1 ≤ℤ z → ⊥
-    none z e h = omega (arith, ints)

@@ -58,9 +58,6 @@ none_is s X objects next taken v st e lines f p claim =
     let n : length lines ≡ taken = f.count ∙ ap (λ (t : FieldState). t.taken) (sym v) in
     none_left X objects next taken (length lines) p st e n (rw x at claim)
 
-pub stands_none : (s : FieldState) → s.taken ≡ 0 → StandsFor s []
-stands_none s e = record { count = sym e; good = λ k l h. cc }
-
 -- one more good line
 pub stands_push : (old new : FieldState) (lines : List Line) (l : Line) → new.picture ≡ old.picture → new.taken ≡ old.taken + 1 → StandsFor old lines → NearClaim old.picture lines l → StandsFor new (lines ++ l ∷ [])
 stands_push old new lines l same more s claim = record {

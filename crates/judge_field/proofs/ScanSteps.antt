@@ -9,8 +9,8 @@ use Rattle.std.proofs.lemmas.Option.{same_Some}
 use Rattle.shape_terms.specs.Rows.{cell, IsLowest}
 use Rattle.shape_terms.specs.AxisLines.{place, gap}
 use Rattle.shape_terms.proofs.AxisPlaces.{same_place}
-use Rattle.shape_envelope.proofs.LineNumbers.{line_low, line_high, line_place, line_of_number, number_of_line, number_below, lowest_inside}
-use Rattle.judge_field.specs.Scanned.{IsLeastAlong, HasScanned, HasScannedTo}
+use Rattle.shape_envelope.proofs.LineNumbers.{line_low, line_high, line_place, line_of_number, number_of_line, lowest_inside}
+use Rattle.judge_field.specs.Scanned.{IsLeastAlong, HasScannedTo}
 
 pub gap_up : (x y d : ℕ) → x + d ≡ y → gap x y ≡ d
 gap_up x y d e = grind (arith, ints)
@@ -49,12 +49,6 @@ stored_more next given start step x s apart inside is old = below_more _ x
     (get_or-set_same next (start + x * step) s 0 inside ∙ is)
 
 -- ---- all lines
-
-pub scanned_none : (c w rows : ℕ) (old new : List ℕ) → HasScannedTo c w rows 0 old new
-scanned_none c w rows old new low x high l h k less = absurd (omega arith)
-
-pub scanned_all : (c w rows n : ℕ) (old new : List ℕ) → n ≡ c * rows → HasScannedTo c w rows n old new → HasScanned c w rows old new
-scanned_all c w rows n old new e s low x high l h k = s low x high l h k (omega (arith, e, number_below c rows low high l k))
 
 pub line_scanned : (c w rows t : ℕ) (old mid new : List ℕ) → t < c * rows → HasScannedTo c w rows t old mid
     → ((x : ℕ) → x < w → IsLeastAlong (λ y. get_or old ((t % c + c * (w * (t / c))) + y * c) 0) w x (get_or new ((t % c + c * (w * (t / c))) + x * c) 0))

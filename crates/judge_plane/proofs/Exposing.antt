@@ -155,6 +155,3 @@ module _ (X : Picture) (face : ℕ) where
           | no m ↦ absurd (n (record { there = subst (Contains (exposed_at X face)) same c; left = λ t. m (subst (Contains taken) (sym same) t) }))
         ]
   ]
-
-  pub all_taken : (taken : List Point) (i n : ℕ) → AreTakenBelow X face taken i → n ≤ i → AreTakenBelow X face taken n
-  all_taken taken i n below l q c lower = below q c (omega arith)

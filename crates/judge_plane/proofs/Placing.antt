@@ -123,15 +123,6 @@ from_end sides points i places l h = record {
   named = λ k j m e. (let r = h.named k j m e in absurd (let s = slice_get_within points j (raster_point sides k) r.1 in omega (arith, r.0, s, l)));
 }
 
--- nothing is listed where all numbers are 0
-pub none_listed : (sides : List ℕ) (places : List ℕ) → length places ≡ box_count sides → ((k : ℕ) → slice_index places k ≡ 0) → ArePlaced sides [] places
-none_listed sides places all zeros = record {
-  all = all;
-  inside = λ p c. absurd (let m = c.1 in omega arith);
-  placed = λ k p e. cc;
-  named = λ k j m e. absurd (let s : suc j ≡ 0 = sym e ∙ zeros k in omega arith);
-}
-
 -- an element of a list of the program's points, as a point
 pub item_there : {A : Type 0} (f : A → Point) (xs : List A) (k : ℕ) (x : A) → k < length xs → x ≡ get_or xs k x → Contains (map f xs) (f x)
 item_there f xs k x l e = Contains-map f xs x (k, l, sym e)

@@ -74,6 +74,3 @@ module _ (sides : List ℕ) (points : List Point) (numbers sorted : List ℕ) (a
     λ c. (let r = of_map (raster_number sides) points n (in_numbers n c) in subst (Contains points) (sym (raster_point-raster_number sides r.0 (inside r.0 r.1)) ∙ ap (raster_point sides) r.2) r.1),
     λ c. Contains-permutation numbers sorted n moves (subst (λ k. Contains k n) (sym are) (subst (Contains (map (raster_number sides) points)) (raster_number-raster_point sides n l) (Contains-map (raster_number sides) points (raster_point sides n) c))),
   )
-
-  pub sorted_length : length sorted ≡ length points
-  sorted_length = length_permutation numbers sorted moves ∙ ap length are ∙ length-map points (raster_number sides)

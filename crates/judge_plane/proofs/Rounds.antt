@@ -107,9 +107,6 @@ pub record GatheredTo (exposed taken : List Point) (start i : ℕ) (points : Lis
   pub only : (q : Point) → Contains points q → IsLeft exposed taken q × ((m : ℕ) × (start ≤ m) × (r : Point) × (slice_get taken m ≡ Some r) × Near q r)
   pub each : (q : Point) → IsLeft exposed taken q → (m : ℕ) → start ≤ m → m < i → (r : Point) → slice_get taken m ≡ Some r → Near q r → Contains points q
 
-pub gathered_none : (exposed taken : List Point) (start : ℕ) → GatheredTo exposed taken start start []
-gathered_none exposed taken start = record { only = λ q c. absurd (let l = c.1 in omega arith); each = λ q h m a b r e n. absurd (omega arith) }
-
 pub gathered_more : (exposed taken : List Point) (start i : ℕ) (p : Point) (old new : List Point) → start ≤ i → slice_get taken i ≡ Some p → ((q : Point) → Contains new q ↔ (Contains old q ⊎ (IsLeft exposed taken q × Near q p))) → GatheredTo exposed taken start i old → GatheredTo exposed taken start (i + 1) new
 gathered_more exposed taken start i p old new l there h g = record {
   only = λ q c. elim ((h q).0 c) [ inl o ↦ g.only q o | inr n ↦ (n.0, (i, l, p, there, n.1)) ];

@@ -108,40 +108,6 @@ module _ (X : Picture) (c : Counts) (plane : Naive) (taken : List Point) (number
 
   -- ---- one more line
 
-  -- the cursor goes on
-  pub step_cursor : (i : ℕ) → AreTakenBelow X (c.begun - 1) taken i → AreInStep X (record c { cursor = i }) taken numbers
-  step_cursor i below = record {
-    faces = k.faces;
-    none = k.none;
-    exposed = k.exposed;
-    within = k.within;
-    below = below;
-    start = k.start;
-    given = k.given;
-    declared = k.declared;
-    early = k.early;
-    touching = k.touching;
-    refused = k.refused;
-    few = k.few;
-  }
-
-  -- a patch is begun
-  pub step_patch : (n : ℕ) → 1 ≤ n → length taken + n ≤ c.exposed → AreInStep X (record c { start = length taken; declared = n; refused = 0 }) taken numbers
-  step_patch n some left = record {
-    faces = k.faces;
-    none = k.none;
-    exposed = k.exposed;
-    within = k.within;
-    below = k.below;
-    start = omega arith;
-    given = omega arith;
-    declared = left;
-    early = λ l. refl;
-    touching = λ e. absurd (omega arith);
-    refused = omega arith;
-    few = k.few;
-  }
-
   -- a point is refused
   pub step_off : length (drop c.start taken) ≡ c.declared → c.refused < length numbers → AreInStep X (record c { refused = c.refused + 1 }) taken numbers
   step_off all l = record {
@@ -182,43 +148,6 @@ module _ (X : Picture) (c : Counts) (plane : Naive) (taken : List Point) (number
         refused = omega arith;
         few = few;
       }
-
--- a face is begun
-pub step_face : (X : Picture) (c : Counts) (taken : List Point) (numbers : List ℕ) (n : ℕ) → AreInStep X c taken numbers → c.begun < 6 → n ≡ length (exposed_at X c.begun) → AreInStep X (record { begun = c.begun + 1; exposed = n; start = 0; declared = 0; cursor = 0; refused = 0 }) [] []
-step_face X c taken numbers n k more e = record {
-  faces = omega arith;
-  none = λ z. absurd (omega arith);
-  exposed = λ h. e ∙ ap (λ f. length (exposed_at X f)) (let q : c.begun ≡ c.begun + 1 - 1 = omega arith in q);
-  within = λ p h. absurd (let l = h.1 in omega arith);
-  below = λ q h l. absurd (omega arith);
-  start = omega arith;
-  given = omega arith;
-  declared = omega arith;
-  early = λ l. refl;
-  touching = λ l. no_touching X.sides (exposed_at X (c.begun + 1 - 1)) [];
-  refused = omega arith;
-  few = omega arith;
-}
-  where
-    no_touching : (sides : List ℕ) (exposed taken : List Point) → AreTouching sides exposed taken [] []
-    no_touching sides exposed taken = record { rising = λ k l. absurd (omega arith); below = λ n h. absurd (let l = h.1 in omega arith); each = λ q t. absurd (let l = t.near.1.1 in omega arith); only = λ n h. absurd (let l = h.1 in omega arith) }
-
--- nothing is begun
-pub step_none : (X : Picture) → AreInStep X (record { begun = 0; exposed = 0; start = 0; declared = 0; cursor = 0; refused = 0 }) [] []
-step_none X = record {
-  faces = omega arith;
-  none = λ z. refl;
-  exposed = λ h. absurd (omega arith);
-  within = λ p h. absurd (let l = h.1 in omega arith);
-  below = λ q h l. absurd (omega arith);
-  start = omega arith;
-  given = omega arith;
-  declared = omega arith;
-  early = λ l. refl;
-  touching = λ l. record { rising = λ k l. absurd (omega arith); below = λ n h. absurd (let l = h.1 in omega arith); each = λ q t. absurd (let l = t.near.1.1 in omega arith); only = λ n h. absurd (let l = h.1 in omega arith) };
-  refused = omega arith;
-  few = omega arith;
-}
 
 -- ---- the next point of a patch
 

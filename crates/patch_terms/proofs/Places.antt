@@ -27,10 +27,6 @@ place_take (suc n) [] k h = refl
 place_take (suc n) (x ∷ xs) zero h = refl
 place_take (suc n) (x ∷ xs) (suc k) h = place_take n xs k (omega arith)
 
--- an element of the back of a list is one of the list
-pub of_back : {A : Type 0} (n : ℕ) (xs : List A) (x : A) → Contains (drop n xs) x → Contains xs x
-of_back n xs x c = let p = place_of (drop n xs) x c in of_place xs (n + p.0) x (sym (place_drop n xs p.0) ∙ p.1)
-
 pub of_front : {A : Type 0} (n : ℕ) (xs : List A) (x : A) → Contains (take n xs) x → (k : ℕ) × (k < n) × (slice_get xs k ≡ Some x)
 of_front n xs x c =
     let p = place_of (take n xs) x c in

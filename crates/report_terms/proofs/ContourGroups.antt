@@ -112,9 +112,6 @@ open_is lines front g e =
     let n : length (front ++ g ∷ []) - 1 ≡ length front = omega (arith, length-append front (g ∷ [])) in
     rw e (ap (λ k. slice_index_or (front ++ g ∷ []) k []) n ∙ get_or-append_seam front g [] [])
 
-pub standing_none : standing [] ≡ record { begun = 0; points = 0; declared = 0; stretches = []; gaps = 0 }
-standing_none = refl
-
 -- where segments are declared, a contour was begun
 pub declared_begun : (lines : List Line) → 0 < (standing lines).declared → 0 < (standing lines).begun
 declared_begun lines h = elim (cases_lt 0 (length (contour_groups lines))) [

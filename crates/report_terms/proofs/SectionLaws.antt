@@ -81,10 +81,6 @@ pub order_last : (s : Section) (lines : List Line) (l : Line) → All (λ e. ran
 order_last s [] l a = All-head (λ e. rank (section_of e) ≤ rank s) l [] a
 order_last s (m ∷ lines) l a = order_last s lines l (All-tail (λ e. rank (section_of e) ≤ rank s) m (lines ++ l ∷ []) a)
 
--- lines that have come to an earlier section than the last do not end with `end`
-pub not_ended : (X : Subject) (s : Section) (lines : List Line) → rank s < rank Section.End → HasCome X s (lines ++ Line.End ∷ []) → ⊥
-not_ended X s lines h c = let o : rank Section.End ≤ rank s = order_last s lines Line.End c.order in omega (arith, o, h)
-
 -- no line is good after `end`
 none_after_end : (X : Subject) (lines : List Line) (l : Line) → GoodAfter X (lines ++ Line.End ∷ []) l → ⊥
 none_after_end X lines l g =

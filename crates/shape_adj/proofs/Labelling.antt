@@ -4,7 +4,6 @@ use Rattle.std.proofs.Common.{◌≡◌, ℕ, zero, suc, ◌+◌, ◌<◌, ◌�
 use Rattle.std.specs.Prelude.{Option}
 use Rattle.std.specs.List.{Contains}
 use Rattle.std.proofs.lemmas.List.Elements.{Contains-push, Contains-push_cases}
-use Rattle.std.proofs.lemmas.List.{length-replicate}
 use native.Mathlib.Decide.{ℕ_discrete, dec_lt}
 use Rattle.shape_terms.specs.Parts.{NamesParts, InOrder}
 use Rattle.shape_adj.specs.Flood.{Flooding, Flooded, Put}
@@ -71,24 +70,6 @@ replicate_zero : (n i : ℕ) → slice_index (replicate n 0) i ≡ 0
 replicate_zero zero i = refl
 replicate_zero (suc n) zero = refl
 replicate_zero (suc n) (suc i) = replicate_zero n i
-
-pub labelling_start : (O : ℕ → Type 0) (R : ℕ → ℕ → Type 0) (size : ℕ) (labels : List ℕ) → labels ≡ replicate size 0 → Labelling O R size labels [] 0 0
-labelling_start O R size labels e = record {
-  same = ap length e ∙ length-replicate _ _;
-  empty = refl;
-  few = omega arith;
-  flooded = record {
-    member = λ p a. absurd (bad p a);
-    shut = λ p q a o r. absurd (bad p a);
-    parts = record { in_range = λ p a. absurd (bad p a); used = λ i a b. absurd (omega arith); adjacent = λ p q a b r. absurd (bad p a); connected = λ p q a b r. absurd (bad p a) };
-  };
-  passed = λ i l o. absurd (omega arith);
-  first = λ j l h. absurd (omega arith);
-  ordered = λ i j l h. absurd (bad i (omega arith));
-}
-  where
-    bad : (p : ℕ) → 1 ≤ slice_index labels p → ⊥
-    bad p a = let z : slice_index labels p ≡ 0 = rw e (replicate_zero size p) in omega arith
 
 module _ (O : ℕ → Type 0) (R : ℕ → ℕ → Type 0) (size s count : ℕ) (labels labels' work work' : List ℕ) (w : Labelling O R size labels work s count) where
   -- s is in a component of its own

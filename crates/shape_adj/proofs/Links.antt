@@ -1,6 +1,6 @@
 -- One place whose links are followed: its adjacent places get the label of the component.
 -- Lemmas over lists of labels and of places to be visited.
-use Rattle.std.proofs.Common.{◌≡◌, ℕ, zero, suc, ◌+◌, ◌<◌, ◌≤◌, List, [], ◌∷◌, ◌++◌, length, slice_index, set, get_or-set_same, get_or-set_other, length-set, length-append, arith, refl, sym, ◌∙◌, ap, subst, ◌⊎◌, inl, inr}
+use Rattle.std.proofs.Common.{◌≡◌, ℕ, zero, suc, ◌+◌, ◌<◌, ◌≤◌, List, [], ◌∷◌, ◌++◌, length, slice_index, set, get_or-set_same, get_or-set_other, length-set, length-append, arith, sym, ◌∙◌, ap, subst, ◌⊎◌, inl, inr}
 use Rattle.std.specs.Prelude.{Option, Some, None}
 use Rattle.std.specs.List.{Contains}
 use Rattle.std.proofs.lemmas.List.Elements.{Contains-push, Contains-append_left, Contains-push_cases}
@@ -23,9 +23,6 @@ put_set xs q v h = record { here = get_or-set_same xs q v 0 h; there = λ x n. g
 
 pub kept_set : (xs ys : List ℕ) (q v : ℕ) → slice_index ys q ≡ 0 → Kept xs ys → Kept xs (set ys q v)
 kept_set xs ys q v z k i l = get_or-set_other ys q i v 0 (λ e. let a : slice_index ys i ≡ 0 = ap (slice_index ys) e ∙ z in let b = k i l in omega arith) ∙ k i l
-
-pub kept_on : (xs ys zs : List ℕ) → Kept xs ys → Kept ys zs → Kept xs zs
-kept_on xs ys zs a b i l = b i (let e = a i l in omega arith) ∙ a i l
 
 -- ---- the links of one place
 
@@ -118,11 +115,6 @@ module _ (O : ℕ → Type 0) (R : ℕ → ℕ → Type 0) (size d : ℕ) (next 
       more x (inl i) = inr (subst (Contains (work ++ q ∷ [])) (sym i) (Contains-push work q))
       more x (inr (inl i)) = inl i
       more x (inr (inr i)) = inr (Contains-append_left work (q ∷ []) x i)
-
--- no link has been followed yet
-pub follow_start : (O : ℕ → Type 0) (R : ℕ → ℕ → Type 0) (size p label : ℕ) (next : ℕ → Option ℕ) (labels work : List ℕ) → length labels ≡ size → slice_index labels p ≡ label → Spreading O R label (λ x. (x ≡ p) ⊎ Contains work x) labels → ((x : ℕ) → Contains work x → slice_index labels x ≡ label)
-    → Followed O R size p label 0 next labels work (zeros labels + length work) labels
-follow_start O R size p label next labels work same at w all = record { kept = λ i l. refl; labelled = all; same = same; here = at; spreading = w; done = λ j q l o. absurd (omega arith); less = refl }
 
 -- every link has been followed
 pub follow_end : (O : ℕ → Type 0) (R : ℕ → ℕ → Type 0) (size d : ℕ) (next : ℕ → ℕ → Option ℕ) (net : IsNet size O R d next) (p label total k : ℕ) (labels work start : List ℕ) → d ≤ k → Followed O R size p label k (next p) labels work total start → Spreading O R label (Contains work) labels

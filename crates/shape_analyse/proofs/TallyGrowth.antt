@@ -1,6 +1,6 @@
 -- How the numbers of a picture grow: by a contour with its cover, and by a face.
 -- Laws of the definitions of `Tallies`, over plain variables.
-use Rattle.std.proofs.Common.{◌≡◌, ℕ, zero, suc, ◌+◌, List, [], ◌∷◌, ◌++◌, Some, length, take, refl, ap, sym, ◌∙◌, arith, rules}
+use Rattle.std.proofs.Common.{◌≡◌, ℕ, zero, suc, ◌+◌, List, [], ◌∷◌, ◌++◌, Some, length, take, ap, sym, ◌∙◌, arith}
 use Rattle.std.specs.Prelude.{slice_get}
 use Rattle.std.specs.List.{range_with_len}
 use Rattle.std.proofs.lemmas.List.Sums.{sum_by_push}
@@ -16,9 +16,6 @@ use Rattle.shape_rules.specs.Ruled.{rules_on}
 use Rattle.shape_terms.specs.Traces.{Contour}
 use Rattle.shape_terms.specs.Covers.{Stretch, IsCover}
 use Rattle.shape_analyse.specs.Tallies.{HasSegments, HaveCovers, HasThinning, exposed_in, exposed_count}
-
-pub no_covers : HaveCovers [] 0
-no_covers = record { covers = []; each = search rules; segments_are = refl }
 
 pub covers_more : (contours : List Contour) (k m n : ℕ) (c : Contour) → slice_get contours k ≡ Some c → HaveCovers (take k contours) m → HasSegments c n → HaveCovers (take (k + 1) contours) (m + n)
 covers_more contours k m n c there have more =

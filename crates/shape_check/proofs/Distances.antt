@@ -17,9 +17,6 @@ pub record DistancesTo (X : Picture) (i : ℕ) (distances : List ℕ) : Type 0 w
   pub long : length distances ≡ i
   pub least : (q : Point) → Object X q → raster_number X.sides q < i → HasDistance X q (get_or distances (raster_number X.sides q) 0)
 
-pub distances_none : (X : Picture) → DistancesTo X 0 []
-distances_none X = record { long = omega arith; least = λ q o l. absurd (omega arith) }
-
 pub distances_more : (X : Picture) (i s : ℕ) (distances : List ℕ) (p : Point) → p ≡ raster_point X.sides i → (Object X p → HasDistance X p s) → DistancesTo X i distances → DistancesTo X (i + 1) (distances ++ s ∷ [])
 distances_more X i s distances p e d h = record {
   long = omega (arith, length-append distances (s ∷ []), h.long);

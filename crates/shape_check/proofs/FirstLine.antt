@@ -18,13 +18,13 @@ use Rattle.report_terms.proofs.NamedRules.{one_named}
 use Rattle.report_terms.proofs.HeadingFirst.{past_heading}
 use Rattle.report_terms.proofs.Spelled.{are_spelled}
 use Rattle.text_terms.specs.Going.{GoingOn}
-use Rattle.text_terms.proofs.Checking.{begins_none, begins_next, first_bad, one_line, no_line_at_end}
+use Rattle.text_terms.proofs.Checking.{begins_none, begins_next, first_bad, one_line}
 use Rattle.report_text.specs.Checks.{Answer, HasCome}
 use Rattle.report_text.specs.declared.answer.CheckFault.TheVariants.{ReadFault, NoMemory}
 use Rattle.report_text.specs.declared.answer.Judgement.TheVariants.{Yes, No}
 use Rattle.report_text.proofs.Told.{if_told, told_start, told_few, none_ahead}
 use Rattle.shape_terms.proofs.Members.{Contains-map}
-use Rattle.shape_report.specs.Next.{TakesClaim, IsBad}
+use Rattle.shape_report.specs.Next.{TakesClaim}
 use Rattle.shape_check.specs.Rows.{IsRuledBy, MayCome}
 use Rattle.shape_check.specs.Going.{BehindHeading}
 use Rattle.shape_rules.specs.Ruled.{rules_on}
@@ -39,12 +39,6 @@ module _ (d : ℕ) (sides : Point) (names : List (List ℕ)) (old new : Option (
       → HeadingAnswer d sides names old new before now (Ok r)
   answer_claim l None t h = if_told old (λ bytes k m rest starts. subst (IsNoHeading sides names) (sym (one_line (spelled d) (are_spelled d) bytes m l rest k.rest starts k.starts).0) h) t
   answer_claim l (Some i) t h = if_told old (λ bytes k. record { line = l; takes = k; heading = h }) t
-
-  pub answer_bad : IfTold old (IsBad d) → HeadingAnswer d sides names old new before now (Ok None)
-  answer_bad t = if_told old (λ bytes k m rest starts. absurd (k.none m rest starts)) t
-
-  pub answer_end : IfTold old (λ bytes. bytes ≡ []) → HeadingAnswer d sides names old new before now (Ok None)
-  answer_end t = if_told old (λ bytes e m rest starts. absurd (no_line_at_end (spelled d) bytes e m rest starts)) t
 
 -- a heading that names a rule on a shelf of distinct names names no other
 ruled_by : (X : Subject) → AreNames (names_of X.shelf) → (heading : List Line) (rule : Rule) → NamesRule X.shelf heading rule → IsRuledBy X heading rule

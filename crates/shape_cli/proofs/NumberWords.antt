@@ -1,14 +1,14 @@
 -- The number of a range that a word spells.
 -- Over plain numbers and words; commands stand in `OneCommand`.
 use Rattle.std.proofs.Common.{◌≡◌, ℕ, suc, ◌<◌, ◌^◌, List, None, ap, sym, ◌∙◌, arith}
-use Rattle.std.specs.Prelude.{ℤ, pos, negsuc, ◌≤ℤ◌, ◌<ℤ◌, FitsSigned}
+use Rattle.std.specs.Prelude.{ℤ, pos, negsuc, ◌<ℤ◌, FitsSigned}
 use Rattle.std.specs.Int.{w64}
 use Rattle.std.specs.Fmt.{decimal, signed_decimal}
 use Rattle.std.proofs.lemmas.Fmt.{decimal_injective, decimal_is_IsNumeral}
 use Rattle.std.proofs.lemmas.Int.{ints}
 use Rattle.shape_desk.proofs.Numbers.{no_minus}
 use Rattle.report_text.specs.Reading.{ReadsNumberWord}
-use Rattle.shape_cli.specs.Commands.{IsNoNumber, SpellsNumber}
+use Rattle.shape_cli.specs.Commands.{IsNoNumber}
 
 fits : (n : ℕ) → n < 2 ^ 32 → FitsSigned w64 (pos n)
 fits n l = record { sfits = omega (arith, ints, l) }
@@ -26,6 +26,3 @@ too_small least most word z m f s less n l h e = let q = same word z n f (omega 
 
 pub too_large : (least most : ℕ) (word : List ℕ) (z : ℤ) → most < 2 ^ 32 → FitsSigned w64 z → word ≡ signed_decimal z → pos most <ℤ z → IsNoNumber least most word
 too_large least most word z m f s more n l h e = let q = same word z n f (omega (arith, m, h)) s e in omega (arith, ints, q, more, h)
-
-pub spelled_in : (least most : ℕ) (word : List ℕ) (z : ℤ) (n : ℕ) → word ≡ signed_decimal z → pos n ≡ z → pos least ≤ℤ z → z ≤ℤ pos most → SpellsNumber least most word n
-spelled_in least most word z n s e l h = record { from = omega (arith, ints, e, l); up_to = omega (arith, ints, e, h); spelled = s ∙ ap signed_decimal (sym e) }

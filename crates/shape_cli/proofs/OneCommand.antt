@@ -1,12 +1,12 @@
 -- Words spell one command at most, so what `run` says of the words is said of the command.
-use Rattle.std.proofs.Common.{◌≡◌, ◌⊎◌, inl, inr, ℕ, ◌<◌, ◌≤◌, ◌^◌, List, [], ◌∷◌, length, Some, get_or, refl, ap, sym, subst, ◌∙◌, arith}
+use Rattle.std.proofs.Common.{◌≡◌, ◌⊎◌, inl, inr, ℕ, ◌<◌, ◌≤◌, ◌^◌, List, length, Some, get_or, refl, ap, sym, subst, ◌∙◌, arith}
 use Rattle.std.specs.Prelude.{◌↔◌, codes, Contains, slice_get}
 use Rattle.thin_terms.specs.Thinning.{Rule}
 use Rattle.thin_terms.specs.Shelves.{Named, names_of}
 use Rattle.std.specs.Fmt.{decimal}
 use Rattle.std.proofs.lemmas.Option.{slice_get_within, get_or_from_slice_get}
 use Rattle.shape_desk.specs.Desk.{DeskState}
-use Rattle.shape_cli.specs.Commands.{Source, Asked, Kind, IsNoTrial, HasSides, HasNumbers, AreTrial, IsInRange, IsNoForm, Asks, words_of, with_words, kind_word, trial_words, most_side_of}
+use Rattle.shape_cli.specs.Commands.{Source, Asked, Kind, HasSides, HasNumbers, AreTrial, IsInRange, IsNoForm, Asks, words_of, with_words, kind_word, most_side_of}
 use Rattle.shape_cli.specs.Runs.{Ran}
 use Rattle.shape_cli.specs.Complete.{HasRun}
 use Rattle.shape_cli.specs.declared.outcome.Outcome.{Outcome}
@@ -90,12 +90,6 @@ not_named names first last source h q n m (Asked.Trial kind seed side) i e = q (
 not_named names first last source h q n m (Asked.Analyse t rule) i e = m (subst (Contains names) (sym (same_words first last _ rule source t h i.0 e).ends) i.1)
 not_named names first last source h q n m (Asked.Check t report) i e = n (same_words first last _ report source t h i e).begins
 
--- words that begin with no command's first word are of no form
-pub not_begun : (names : List (List ℕ)) (first last : List ℕ) (source : Source) → HasSides source → (first ≡ codes "trial" → ⊥) → (first ≡ codes "check" → ⊥) → (first ≡ codes "analyse" → ⊥) → IsNoForm names (with_words first source last)
-not_begun names first last source h q n m (Asked.Trial kind seed side) i e = q (trial_begins first last source kind seed side e)
-not_begun names first last source h q n m (Asked.Analyse t rule) i e = m (same_words first last _ rule source t h i.0 e).begins
-not_begun names first last source h q n m (Asked.Check t report) i e = n (same_words first last _ report source t h i e).begins
-
 pub ran : (shelf : List (Named Rule)) (words : List (List ℕ)) (old new : DeskState) (o : Outcome) (c : Asked) → HasRun shelf words old new o → IsInRange (names_of shelf) c → words ≡ words_of c → Ran shelf c old new o
 ran shelf words old new o c h i e = by_form h.ran
   where
@@ -140,25 +134,3 @@ check_asked shelf names words source report old new o h spelled r = record {
 -- a command that was run is a form, and its outcome is not `Usage`
 pub form_run : (shelf : List (Named Rule)) (names words : List (List ℕ)) (old new : DeskState) (o : Outcome) → Asks names words (λ c. Ran shelf c old new o) → (o ≡ outcome.Usage) ↔ IsNoForm names words
 form_run shelf names words old new o a = (λ e. absurd (subst (Ran shelf a.command old new) e a.holds), λ n. absurd (n a.command a.in_range a.spelled))
-
--- the words of a trial that was run
-pub trial_asked : (shelf : List (Named Rule)) (names words : List (List ℕ)) (kind : Kind) (seed side : ℕ) (old new : DeskState) (o : Outcome) → AreTrial kind seed side → words ≡ words_of (Asked.Trial kind seed side)
-    → Ran shelf (Asked.Trial kind seed side) old new o → Asks names words (λ c. Ran shelf c old new o)
-trial_asked shelf names words kind seed side old new o h spelled r = record {
-  command = Asked.Trial kind seed side;
-  in_range = h;
-  spelled = spelled;
-  holds = r;
-}
-
--- words behind the first of a trial that are of none are of no form
-pub not_tried : (names words : List (List ℕ)) → IsNoTrial words → IsNoForm names (codes "trial" ∷ words)
-not_tried names words n (Asked.Analyse source rule) i e = let f : codes "trial" ≡ codes "analyse" = cc in not_analyse (sym f)
-not_tried names words n (Asked.Check source report) i e = let f : codes "trial" ≡ codes "check" = cc in not_check (sym f)
-not_tried names words n (Asked.Trial kind seed side) i e = let f : words ≡ trial_words kind seed side = cc in n kind seed side i f
-
--- no words are of no form
-pub none_asked : (names : List (List ℕ)) → IsNoForm names []
-none_asked names (Asked.Analyse source rule) i e = cc
-none_asked names (Asked.Check source report) i e = cc
-none_asked names (Asked.Trial kind seed side) i e = cc

@@ -7,12 +7,12 @@ use Rattle.std.specs.Str.Parse.{AllDigits, digits_value_after, digits_value}
 use Rattle.std.proofs.lemmas.List.Sums.{take_while-cons}
 use Rattle.std.proofs.lemmas.Str.{digit_value_digit}
 use Rattle.std.proofs.lemmas.Str.Parse.{digit_from_value, digit_at, numerals_by_value, tells_digits}
-use Rattle.std.proofs.lemmas.Fmt.{decimal_is_IsNumeral, decimal_nonempty, first_decimal, decimal_digit, decimal_injective, signed_decimal_injective, decimal-digits_value}
+use Rattle.std.proofs.lemmas.Fmt.{decimal_is_IsNumeral, decimal_nonempty, first_decimal, decimal_digit, decimal_injective, decimal-digits_value}
 use Rattle.std.proofs.lemmas.Bool.Decides.{nat_tests}
 use Rattle.std.proofs.lemmas.List.{drop_more, length-take, take_min}
 use Rattle.std.specs.List.{prefix_len}
 use borrow.Author.Tests.{ne_eqb}
-use Rattle.shape_desk.specs.Number.{number_front, HasNoLeadingZero, SpellsNumber, ReadsNumber}
+use Rattle.shape_desk.specs.Number.{number_front, HasNoLeadingZero, SpellsNumber}
 
 -- ---- the run of digits
 
@@ -77,15 +77,6 @@ number_front-signed_decimal (pos n) rest f s =
     first (c ∷ cs) d l e = omega (arith, digit_from_value c d.0)
 number_front-signed_decimal (negsuc n) rest f s =
     ap (λ l. 45 ∷ l) (take_while-digits (decimal (suc n)) rest (digits_of_decimal (suc n) (omega (arith, f.sfits))) s)
-
--- what was put is read back: its number and its length
-pub ReadsNumber-signed_decimal : (z : ℤ) (rest : List ℕ) (r : Option (ℤ × ℕ)) → FitsSigned w64 z → is_ascii_digit (get_or rest 0 0) ≡ false → ReadsNumber (signed_decimal z ++ rest) r → r ≡ Some (z, length (signed_decimal z))
-ReadsNumber-signed_decimal z rest None f s h = absurd (h z f (number_front-signed_decimal z rest f s))
-ReadsNumber-signed_decimal z rest (Some a) f s h =
-    let front : number_front (signed_decimal z ++ rest) ≡ signed_decimal z = number_front-signed_decimal z rest f s in
-    let number : a.0 ≡ z = signed_decimal_injective a.0 z h.fits.sfits f.sfits (sym h.spelling ∙ front) in
-    let len : a.1 ≡ length (signed_decimal z) = h.len ∙ ap length front in
-    λ i. Some (number i, len i)
 
 -- ---- no spelling
 

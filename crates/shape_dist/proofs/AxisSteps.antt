@@ -1,10 +1,8 @@
 -- One axis more: what has spread along it is nearest on it too.
 -- Laws over pictures, cells and numbers alone; how a line spreads belongs elsewhere.
-use Rattle.std.proofs.Common.{◌≡◌, ◌≢◌, ℕ, ◌+◌, ◌*◌, ◌/◌, ◌^◌, ◌<◌, ◌≤◌, inl, inr, List, length, set, get_or, refl, sym, ap, ◌∙◌, subst, below_more, get_or-set_same, get_or-set_other, arith}
+use Rattle.std.proofs.Common.{◌≡◌, ◌≢◌, ℕ, ◌+◌, ◌*◌, ◌/◌, ◌<◌, ◌≤◌, List, length, set, get_or, refl, sym, ap, ◌∙◌, subst, below_more, get_or-set_same, get_or-set_other, arith}
 use Rattle.std.proofs.lemmas.Nat.{mul-le}
 use Rattle.std.specs.Prelude.{Option, Some, None, Result, Ok, Err, IfOk, pos}
-use Rattle.std.proofs.lemmas.Bool.{cases_lt}
-use Rattle.std.proofs.lemmas.List.{get_or_past}
 use Rattle.std.proofs.lemmas.Option.{same_Some}
 use Rattle.shape_terms.specs.Rows.{cell, IsLowest}
 use Rattle.shape_terms.specs.Points.{box_count}
@@ -14,7 +12,7 @@ use Rattle.shape_terms.specs.AxisLines.{place, gap, apart, IsBare}
 use Rattle.shape_terms.proofs.AxisPlaces.{place_of, place_line, place_high, place_below, same_digits}
 use Rattle.shape_envelope.proofs.LineNumbers.{lowest_inside}
 use Rattle.shape_dist.specs.declared.found.Found.{Found}
-use Rattle.shape_dist.specs.Spreads.{found, IsLeastOfLine, IsSpreadAt, HasSpread, IsNearestOn, HasNearestOn, AreNearestOn, moved, square_in, AreSmall}
+use Rattle.shape_dist.specs.Spreads.{found, IsLeastOfLine, IsSpreadAt, HasSpread, IsNearestOn, HasNearestOn, AreNearestOn, moved, square_in}
 
 -- two cases of a cell
 cell_cases : {P : Type 0} (o : Option Found) → (o ≡ None → P) → ((f : Found) → o ≡ Some f → P) → P
@@ -142,29 +140,11 @@ spread_of_copy line copy w x (Some g) same t = record {
   least = λ z h l e. t.least z h l (same z l ∙ e);
 }
 
--- the whole line is empty
-pub empty_line : (cells line : List (Option Found)) (row : List (Option ℕ)) (base step w : ℕ) → ((y : ℕ) → y < w → found line y ≡ found cells (base + y * step)) → ((y : ℕ) → y < w → cell row y ≡ square_in (found line y)) → ((y : ℕ) → cell row y ≡ None)
-    → (x : ℕ) → x < w → IsSpreadAt (found line) w x (found cells (base + x * step))
-empty_line cells line row base step w same squares none x l =
-    let empty : (y : ℕ) → y < w → found line y ≡ None = λ y h. no_square (found line y) (sym (squares y h) ∙ none y) in
-    subst (IsSpreadAt (found line) w x) (sym (sym (same x l) ∙ empty x l)) empty
-  where
-    no_square : (o : Option Found) → square_in o ≡ None → o ≡ None
-    no_square None e = refl
-    no_square (Some f) e = cc
-
 pub line_spreads : (new line : List (Option Found)) (row : List (Option ℕ)) (out : List ℕ) (base step w : ℕ) → length row ≡ w → ((y : ℕ) → y < w → cell row y ≡ square_in (found line y))
     → ((x : ℕ) → x < w → IsLowest row (pos x) (get_or out x 0)) → ((x : ℕ) → x < w → found new (base + x * step) ≡ moved (found line (get_or out x 0)) x (get_or out x 0))
     → (x : ℕ) → x < w → IsSpreadAt (found line) w x (found new (base + x * step))
 line_spreads new line row out base step w long squares lowest written x l =
     subst (IsSpreadAt (found line) w x) (sym (written x l)) (lowest_spreads (found line) row w x (get_or out x 0) squares (subst (λ n. get_or out x 0 < n) long (lowest_inside row (pos x) (get_or out x 0) (lowest x l))) (lowest x l))
-
--- copied squares are small
-pub copy_small : (cells line : List (Option Found)) (base step w : ℕ) → length line ≡ w → ((y : ℕ) → y < w → found line y ≡ found cells (base + y * step)) → ((y : ℕ) (f : Found) → y < w → found cells (base + y * step) ≡ Some f → f.s ≤ 2 ^ 30) → AreSmall line
-copy_small cells line base step w long same small i f e = elim (cases_lt i w) [
-  | inl l ↦ small i f l (sym (same i l) ∙ e)
-  | inr l ↦ let no : found line i ≡ None = get_or_past line i None (omega arith) in cc
-]
 
 -- a line that was copied, at whatever answer
 pub copied_result : {A E : Type 0} (r : Result A E) (cells new line : List (Option Found)) (base step n : ℕ) → length line ≡ n → ((y : ℕ) → y < n → found line y ≡ found cells (base + y * step))

@@ -1,6 +1,6 @@
 -- One line more of an axis.
 -- Laws over cells and numbers alone.
-use Rattle.std.proofs.Common.{◌≡◌, ℕ, ◌+◌, ◌*◌, ◌/◌, ◌%◌, ◌<◌, inl, inr, List, refl, sym, ap, ◌∙◌, subst, arith}
+use Rattle.std.proofs.Common.{◌≡◌, ℕ, ◌+◌, ◌*◌, ◌/◌, ◌%◌, ◌<◌, inl, inr, List, sym, ap, ◌∙◌, subst, arith}
 use Rattle.std.specs.Prelude.{Option}
 use Rattle.std.proofs.lemmas.Bool.{cases_eq}
 use Rattle.shape_terms.specs.AxisLines.{place}
@@ -9,12 +9,6 @@ use Rattle.shape_envelope.proofs.LineNumbers.{line_low, line_high, line_place, l
 use Rattle.shape_dist.specs.declared.found.Found.{Found}
 use Rattle.shape_dist.specs.Spreads.{found, IsSpreadAt, HasSpread, HasSpreadTo}
 use Rattle.shape_dist.proofs.AxisSteps.{spread_of_copy}
-
-pub spread_none : (c w rows : ℕ) (cells : List (Option Found)) → HasSpreadTo c w rows 0 cells cells
-spread_none c w rows cells = record {
-  done = λ low x high l h k less. absurd (omega arith);
-  rest = λ low x high l h k less. refl;
-}
 
 pub spread_all : (c w rows n : ℕ) (old new : List (Option Found)) → n ≡ c * rows → HasSpreadTo c w rows n old new → HasSpread c w rows old new
 spread_all c w rows n old new e s low x high l h k = s.done low x high l h k (omega (arith, e, number_below c rows low high l k))

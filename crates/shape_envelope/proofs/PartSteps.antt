@@ -57,15 +57,6 @@ built_empty row places starts m j n none b = record {
 
 -- ---- the last parts go where a new place wins
 
-pub cut_none : (row : List (Option ℕ)) (places starts : List ℕ) (m j n : ℕ) → AreBuilt row places starts m j n → IsCut row places starts m j n
-cut_none row places starts m j n b = record {
-  e = n;
-  parts = b.parts;
-  within = omega arith;
-  wins = λ x l h. absurd (omega arith);
-  alone = λ z x l g k f is before there. let no : cell row k ≡ None = b.none z k before in cc;
-}
-
 -- where j wins at x over the place that is lowest there, it wins over all
 wins_all : (row : List (Option ℕ)) (j x i : ℕ) (t : IsLowestBefore row j x i) → ((g : ℕ) → cell row j ≡ Some g → height g j (pos x) ≤ height t.f i (pos x)) → Wins row j x
 wins_all row j x i t h g k f is before there = omega (arith, h g is, t.least k f before there)
@@ -216,45 +207,10 @@ built_more row places starts m start j n s filled l few in_places in_starts =
       none = λ z. absurd (omega arith);
     }
 
--- the start is the end of the row, so j is nowhere lowest
-pub built_same : (row : List (Option ℕ)) (places starts : List ℕ) (m start j n : ℕ) → IsSettled row places starts m start j n → n ≤ start → 0 < n → m ≤ j → AreBuilt row places starts m (j + 1) n
-built_same row places starts m start j n s l some few =
-    let same : start ≡ n = omega (arith, s.within) in
-    record {
-      parts = subst (AreParts row places starts m (j + 1)) same s.parts;
-      few = omega arith;
-      none = λ z. absurd (omega (arith, s.alone z));
-    }
-
 -- ---- all places
-
-pub built_none : (row : List (Option ℕ)) (places starts : List ℕ) (n : ℕ) → AreBuilt row places starts 0 0 n
-built_none row places starts n = record {
-  parts = record {
-    first = λ s. absurd (omega arith);
-    rising = λ h k a d. absurd (omega arith);
-    below = λ k d. absurd (omega arith);
-    lowest = λ k x d a h more. absurd (omega arith);
-  };
-  few = omega arith;
-  none = λ z k l. absurd (omega arith);
-}
 
 past_end : (row : List (Option ℕ)) (k : ℕ) → length row ≤ k → cell row k ≡ None
 past_end row k l = get_or_past row k None l
-
-pub all_empty : (row : List (Option ℕ)) (places starts : List ℕ) (m n : ℕ) → AreBuilt row places starts m (length row) n → m ≡ 0 → (k : ℕ) → cell row k ≡ None
-all_empty row places starts m n b z k = elim (cases_lt k (length row)) [
-  | inl l ↦ b.none z k l
-  | inr l ↦ past_end row k l
-]
-
-pub some_filled : (row : List (Option ℕ)) (places starts : List ℕ) (m j n : ℕ) → AreBuilt row places starts m j n → 0 < m → ((k : ℕ) → cell row k ≡ None) → ⊥
-some_filled row places starts m j n b some none =
-    let t = b.parts.lowest 0 (get_or starts 0 0) some (omega arith) (b.parts.below 0 some) (λ q. b.parts.rising 0 1 (omega arith) q) in
-    let e : cell row (get_or places 0 0) ≡ None = none (get_or places 0 0) in
-    let f = t.filled in
-    cc
 
 pub lowest_of_all : (row : List (Option ℕ)) (x i : ℕ) → IsLowestBefore row (length row) x i → IsLowest row (pos x) i
 lowest_of_all row x i t = record {

@@ -63,9 +63,6 @@ narrow_none low high side n p q l a = (
   λ x. absurd (let f = ap (λ (z : ℤ). a *ℤ z) (flat side p q) in let y = x.1 in omega (arith, ints, rings, f, y, l)),
 )
 
-pub narrow_all : (low high side n : ℤ) → (pos 0 <ℤ side → ⊥) → (side <ℤ pos 0 → ⊥) → pos 0 ≤ℤ n → IsNarrowed low high side n low high
-narrow_all low high side n p q l a = (λ i. (i, (let f = ap (λ (z : ℤ). a *ℤ z) (flat side p q) in omega (arith, ints, rings, f, l))), λ x. x.0)
-
 -- ---- slopes with a denominator
 
 module _ (b s1 r1 s2 r2 : ℤ) (some : pos 1 ≤ℤ b) (n1 n2 : ℤ) (e1 : n1 ≡ b *ℤ r1 -ℤ pos 1) (e2 : n2 ≡ b *ℤ r2 -ℤ pos 1) (l h l1 h1 l2 h2 : ℤ) (low : l ≡ neg_ℤ b) (high : h ≡ b) (f : IsNarrowed l h s1 n1 l1 h1) (g : IsNarrowed l1 h1 s2 n2 l2 h2) where

@@ -1,9 +1,9 @@
 -- A refutation of a list refutes every longer list, where the last point is put last again.
 -- The program's weights stand elsewhere.
-use Rattle.std.proofs.Common.{◌≡◌, ℕ, zero, suc, ◌+◌, ◌<◌, ◌≤◌, List, [], ◌∷◌, ◌++◌, length, map, take, refl, ap, sym, subst, ◌∙◌, arith}
-use Rattle.std.specs.Prelude.{pos, All, slice_get, Some}
+use Rattle.std.proofs.Common.{◌≡◌, ℕ, zero, suc, ◌+◌, ◌<◌, ◌≤◌, List, [], ◌∷◌, ◌++◌, length, map, refl, ap, sym, subst, ◌∙◌, arith}
+use Rattle.std.specs.Prelude.{pos, All}
 use Rattle.std.specs.List.{AllByRecursion}
-use Rattle.std.proofs.lemmas.List.{length-append, get_or_append_left, map-append}
+use Rattle.std.proofs.lemmas.List.{length-append, get_or_append_left}
 use Rattle.std.proofs.Math.Seq.{get_or-append_seam}
 use Rattle.std.proofs.lemmas.List.Sums.{sum_by-cons}
 use Rattle.std.proofs.lemmas.List.Elements.{recursion_from_All}
@@ -12,7 +12,6 @@ use Rattle.shape_terms.specs.Points.{Point}
 use Rattle.shape_terms.specs.Adjacency.{moved}
 use Rattle.shape_terms.specs.Vectors.{times, difference, unit}
 use Rattle.shape_terms.specs.Refutations.{Share, Refutation, point_at, weighted_points, weighted_steps, total_weight, Refutes}
-use Rattle.patch_terms.proofs.ListPushes.{take_next}
 use Rattle.shape_plane.specs.ToldAnew.{told_place, told_share, told_anew}
 
 -- ---- places
@@ -83,13 +82,3 @@ refutes_longer d t old more q r h =
     }
 
 -- ---- share by share
-
-pub told_more : (from to i : ℕ) (shares new : List Share) (s : Share) → slice_get shares i ≡ Some s → new ≡ map (told_share from to) (take i shares) → new ++ told_share from to s ∷ [] ≡ map (told_share from to) (take (i + 1) shares)
-told_more from to i shares new s e h =
-    ap (λ (l : List Share). l ++ told_share from to s ∷ []) h
-    ∙ sym (map-append (told_share from to) (take i shares) (s ∷ []))
-    ∙ ap (map (told_share from to)) (take_next shares i s e)
-    ∙ ap (λ (k : ℕ). map (told_share from to) (take k shares)) (next i)
-  where
-    next : (i : ℕ) → suc i ≡ i + 1
-    next i = omega arith

@@ -1,17 +1,16 @@
 -- The points of a face, visited in raster order.
 -- The loop over them stands elsewhere.
-use Rattle.std.proofs.Common.{◌≡◌, ℕ, zero, suc, ◌+◌, ◌<◌, ◌≤◌, ◌⊎◌, inl, inr, true, false, List, [], ◌∷◌, ◌++◌, get_or, refl, ap, sym, subst, ◌∙◌, arith}
-use Rattle.std.specs.Prelude.{IsTrue, Contains, replicate, ◌↔◌}
+use Rattle.std.proofs.Common.{◌≡◌, ℕ, zero, suc, ◌+◌, ◌<◌, ◌≤◌, ◌⊎◌, inl, inr, List, [], ◌∷◌, ◌++◌, refl, ap, sym, subst, ◌∙◌, arith}
+use Rattle.std.specs.Prelude.{IsTrue, Contains, ◌↔◌}
 use Rattle.std.specs.Ordering.{nat_cmp}
 use Rattle.std.specs.Cmp.{nat_cmp_is}
 use Rattle.std.specs.declared.cmp.Ordering.TheVariants.{Less, Equal, Greater}
 use native.Mathlib.Decide.{ℕ_discrete}
 use Rattle.shape_terms.specs.Points.{Point, in_box, box_count, raster_number, raster_point}
-use Rattle.shape_terms.specs.Pictures.{Picture, at, blank}
+use Rattle.shape_terms.specs.Pictures.{Picture, at}
 use Rattle.shape_terms.specs.Steps.{Before}
 use Rattle.shape_terms.proofs.RasterOrder.{raster_rises}
 use Rattle.shape_terms.proofs.Boxes.{raster_point-raster_number, raster_below}
-use Rattle.std.proofs.lemmas.Bool.{and_parts}
 use Rattle.std.specs.Prelude.{slice_get, Some}
 use Rattle.std.proofs.Common.{take, drop}
 use Rattle.std.proofs.lemmas.List.{drop-map, length-append}
@@ -49,17 +48,6 @@ passed first left i p q es bp ep bq n l = elim (ℕ_discrete (raster_number left
   | no m ↦ (let f = ap (λ (z : List ℕ). raster_number z q) es in omega (arith, l, m, f))
 ]
 
-pub visited_past : (d t : ℕ) (first : Picture) (i : ℕ) (found : List FoundPatch) (left tried : Picture) (p : Point) → IsVisited d t first i found left tried → IsTrue (in_box left.sides p) → raster_number left.sides p ≡ i → (IsTrue (at left p) → ⊥) → IsVisited d t first (i + 1) found left tried
-visited_past d t first i found left tried p h b e n = record {
-  parting = h.parting;
-  refusing = h.refusing;
-  few = (let l = h.few in omega (arith, l));
-  left_sides = h.left_sides;
-  tried_sides = h.tried_sides;
-  none = h.none;
-  past = λ q a. passed first left i p q h.left_sides b e (in_sides left q a) (λ z. n (subst (λ (v : Point). IsTrue (at left v)) z a)) (h.past q a);
-}
-
 pub visited_part : (d t : ℕ) (first : Picture) (i : ℕ) (found found' : List FoundPatch) (left tried left' tried' : Picture) (p : Point) (x : FoundPatch) → IsVisited d t first i found left tried → IsTrue (in_box left.sides p) → raster_number left.sides p ≡ i
     → left'.sides ≡ left.sides → tried'.sides ≡ left'.sides → ((q : Point) → IsTrue (at tried' q) → ⊥) → (IsTrue (at left' p) → ⊥) → IsNewPart t left left' x.patch → AreRefusedOf d t x.patch (λ q. IsTrue (at left' q)) x.refused → found' ≡ found ++ x ∷ [] → IsVisited d t first (i + 1) found' left' tried'
 visited_part d t first i found found' left tried left' tried' p x h b e el et none n w r ep = subst (λ (f : List FoundPatch). IsVisited d t first (i + 1) f left' tried') (sym ep) (record {
@@ -73,31 +61,6 @@ visited_part d t first i found found' left tried left' tried' p x h b e el et no
 })
 
 -- ---- the beginning and the end
-
-blank_none : (sides : List ℕ) (q : Point) → IsTrue (at (blank sides) q) → ⊥
-blank_none sides q a = let b = (and_parts (in_box sides q) _ a).1 in let c = all_false (box_count sides) (raster_number sides q) in let d : false ≡ true = sym c ∙ b in cc
-  where
-    all_false : (n i : ℕ) → get_or (replicate n false) i false ≡ false
-    all_false zero i = refl
-    all_false (suc n) zero = refl
-    all_false (suc n) (suc i) = all_false n i
-
-pub visited_none : (d t : ℕ) (first tried : Picture) → tried ≡ blank first.sides → IsVisited d t first 0 [] first tried
-visited_none d t first tried e = record {
-  parting = record {
-    free = λ q a. (a, λ m. (let l = m.1 in omega (arith, l)));
-    rest = λ q a. inl a;
-    taken = λ q m. absurd (let l = m.1 in omega (arith, l));
-    once = λ i j x a b. absurd (omega arith);
-    part = λ k x f. cc;
-  };
-  refusing = record { each = λ k x f. cc };
-  few = omega arith;
-  left_sides = refl;
-  tried_sides = ap (λ (T : Picture). T.sides) e;
-  none = λ q a. blank_none first.sides q (subst (λ (T : Picture). IsTrue (at T q)) e a);
-  past = λ q a. omega arith;
-}
 
 pub visited_all : (d t : ℕ) (first : Picture) (i : ℕ) (found : List FoundPatch) (left tried : Picture) → IsVisited d t first i found left tried → box_count first.sides ≤ i → (q : Point) → IsTrue (at left q) → ⊥
 visited_all d t first i found left tried h l q a =

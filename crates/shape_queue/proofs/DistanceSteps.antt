@@ -70,9 +70,6 @@ distances_more X facts i f ds h e d =
           | no n ↦ subst (HasDistance X q) (sym (get_or-set_other ds (raster_number X.sides f.p) (raster_number X.sides q) f.s 0 n)) (old n)
         ]
 
-pub distances_start : (X : Picture) (ds : List ℕ) → length ds ≡ box_count X.sides → AreDistancesSoFar X 0 ds
-distances_start X ds e = record { filled = e; least = λ m l k. absurd (omega arith) }
-
 pub distances_end : (X : Picture) (i : ℕ) (ds : List ℕ) → length (object_points X) ≤ i → AreDistancesSoFar X i ds → AreDistances X ds
 distances_end X i ds l d = record {
   filled = d.filled;

@@ -14,12 +14,9 @@ use Rattle.shape_terms.proofs.NeighbourNumbers.{near_number}
 use Rattle.shape_queue.specs.declared.key.Key.{Key}
 use Rattle.shape_queue.specs.Waiting.{key_at, Waits, Put}
 use Rattle.shape_queue.specs.Standing.{NearFrom}
-use Rattle.shape_queue.proofs.WaitingSteps.{settled_more, passed_more, waits_less, waits_none}
+use Rattle.shape_queue.proofs.WaitingSteps.{settled_more, passed_more, waits_less}
 
 -- ---- all points
-
-pub all_start : (X : Picture) (ds : List ℕ) (keys : Key → Bool) → ((k : Key) → keys k ≡ false) → Waits X.sides X X ds (λ j. 0 ≤ j) keys
-all_start X ds keys none = waits_none X.sides X X ds (λ j. 0 ≤ j) keys none (λ i l. omega arith)
 
 pub all_more : (X : Picture) (ds : List ℕ) (i : ℕ) (old new : Key → Bool) (b : Bool) → i < box_count X.sides → Waits X.sides X X ds (λ j. i ≤ j) old → Object X (raster_point X.sides i)
     → (b ≡ true) ↔ IsSimple X (raster_point X.sides i) → Put old new (key_at ds i) b → Waits X.sides X X ds (λ j. i + 1 ≤ j) new
@@ -35,9 +32,6 @@ all_more_at X ds i q old new l e w o (b, is, put) = all_more X ds i old new b l 
 pub all_pass : (X : Picture) (ds : List ℕ) (i : ℕ) (old : Key → Bool) → Waits X.sides X X ds (λ j. i ≤ j) old → (Object X (raster_point X.sides i) → ⊥) → Waits X.sides X X ds (λ j. i + 1 ≤ j) old
 all_pass X ds i old w closed = passed_more X.sides X X ds (λ j. i ≤ j) (λ j. i + 1 ≤ j) old old w (raster_point X.sides i) closed
     (λ j m n h. let d : j ≢ i = λ e. n (ap (raster_point X.sides) e) in omega arith)
-
-pub all_end : (X : Picture) (ds : List ℕ) (i : ℕ) (old : Key → Bool) → box_count X.sides ≤ i → Waits X.sides X X ds (λ j. i ≤ j) old → Waits X.sides X X ds (λ j. ⊥) old
-all_end X ds i old l w = waits_less X.sides X X ds (λ j. i ≤ j) (λ j. ⊥) old (λ j m h. omega arith) w
 
 pub one_more_object : (X : Picture) (i : ℕ) → i < box_count X.sides → Object X (raster_point X.sides i) → length (objects_from X i) ≡ length (objects_from X (i + 1)) + 1
 one_more_object X i l o = let e = ap length (objects_next X i l (sym (at_raster_point X i l) ∙ o)) in omega arith

@@ -67,14 +67,6 @@ pub waits_less : (sides : List ℕ) (left free : Picture) (distances : List ℕ)
     → ((i : ℕ) → i < box_count sides → later i → later' i) → Waits sides left free distances later keys → Waits sides left free distances later' keys
 waits_less sides left free distances later later' keys less w = record { proper = w.proper; settled = λ i m n. w.settled i m (λ z. n (less i m z)) }
 
--- no key, and all places to be looked at later
-pub waits_none : (sides : List ℕ) (left free : Picture) (distances : List ℕ) (later : ℕ → Type 0) (keys : Key → Bool) → ((k : Key) → keys k ≡ false)
-    → ((i : ℕ) → i < box_count sides → later i) → Waits sides left free distances later keys
-waits_none sides left free distances later keys none all = record {
-  proper = λ k h. absurd (let t : false ≡ true = sym (none k) ∙ h in cc);
-  settled = λ i m n. absurd (n (all i m));
-}
-
 -- ---- the least key
 
 module _ (sides : List ℕ) (left free : Picture) (distances : List ℕ) (old : Key → Bool) (w : Waits sides left free distances (λ i. ⊥) old) (k : Key) (there : old k ≡ true) where

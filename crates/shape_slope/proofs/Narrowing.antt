@@ -9,13 +9,13 @@ use Rattle.shape_slope.specs.declared.combination.Combination.{Combination}
 use Rattle.shape_slope.specs.declared.range.Range.{Range}
 use Rattle.shape_slope.specs.declared.range.Narrowed.{Narrowed}
 use Rattle.shape_slope.specs.declared.range.Narrowed.TheVariants.{Room, Clash}
-use Rattle.shape_slope.specs.Rows.{row_at, IsRow, AreOpposite, IsSystem, Meets}
+use Rattle.shape_slope.specs.Rows.{row_at, IsRow, IsSystem, Meets}
 use Rattle.shape_slope.specs.Combinations.{IsCombination}
 use Rattle.shape_slope.specs.Ranges.{IsRange, LeaveRoom, IsClear, IsMet, IsNarrower, HasNarrower, IsWhole}
 use Rattle.shape_terms.proofs.Products.{rings}
 use Rattle.shape_terms.proofs.Order.{mul-lt_ℤ}
 use Rattle.shape_slope.proofs.Tighter.{follows_upper, follows_lower}
-use Rattle.shape_slope.proofs.Together.{leave_room, not_opposite}
+use Rattle.shape_slope.proofs.Together.{leave_room}
 
 -- ---- one combination more
 
@@ -59,12 +59,6 @@ pub opposite_met : (rows : List Row) (old : Range) (c : Combination) (i j : ℕ)
     → c.first_weight ≡ pos (unsigned_abs (row_at rows j).y) → c.second_weight ≡ pos (unsigned_abs (row_at rows i).y) → HasNarrower rows old (λ p q. Meets p q c.bound.x c.bound.z) n → HasNarrower rows old (λ p q. LeaveRoom p q (row_at rows i) (row_at rows j)) n
 opposite_met rows old c i j n ei ej h ev ew m = mapped rows old (λ p q. Meets p q c.bound.x c.bound.z) _ n (λ p q. leave_room rows c i j p q ei ej h ev ew) m
 
-pub past_met : (rows : List Row) (old : Range) (i j : ℕ) → IsRange rows old → (AreOpposite (row_at rows i).y (row_at rows j).y → ⊥) → IsNarrower rows old (λ p q. LeaveRoom p q (row_at rows i) (row_at rows j)) old
-past_met rows old i j r h = record { range = r; within = λ p q hq m. m; met = λ p q hq m. not_opposite p q (row_at rows i) (row_at rows j) h }
-
-pub crossed_none : (rows : List Row) (old : Range) (j : ℕ) → IsRange rows old → IsNarrower rows old (IsClear rows j 2) old
-crossed_none rows old j r = record { range = r; within = λ p q h i. i; met = λ p q h m i a b. absurd (omega arith) }
-
 pub crossed_more : (rows : List Row) (old best new : Range) (i j : ℕ) → IsNarrower rows old (IsClear rows j i) best → IsNarrower rows best (λ p q. LeaveRoom p q (row_at rows i) (row_at rows j)) new → IsNarrower rows old (IsClear rows j (i + 1)) new
 crossed_more rows old best new i j x n = record {
   range = n.range;
@@ -81,9 +75,6 @@ flat_met rows old c j n y ex ez = mapped rows old (λ p q. Meets p q c.bound.x c
   flat = λ e. rw (sym ex, sym ez) m;
   room = λ i a b. (λ u v. absurd (omega (arith, ints, v, y)), λ u v. absurd (omega (arith, ints, u, y)));
 })
-
-pub steep_met : (rows : List Row) (old : Range) (j : ℕ) (n : Narrowed) → ((row_at rows j).y ≡ pos 0 → ⊥) → HasNarrower rows old (IsClear rows j j) n → HasNarrower rows old (IsMet rows j) n
-steep_met rows old j n y = mapped rows old (IsClear rows j j) (IsMet rows j) n (λ p q m. record { flat = λ e. absurd (y e); room = m })
 
 pub whole_more : (rows : List Row) (old new : Range) (j : ℕ) → IsWhole rows j old → IsNarrower rows old (IsMet rows j) new → IsWhole rows (j + 1) new
 whole_more rows old new j w x = record {

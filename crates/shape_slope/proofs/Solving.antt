@@ -12,7 +12,7 @@ use Rattle.shape_slope.specs.declared.combination.Combination.{Combination}
 use Rattle.shape_slope.specs.declared.eliminate.Solution.{Solution}
 use Rattle.shape_slope.specs.Rows.{row_at, IsGap, level, Meets, MeetsRow, IsSystem}
 use Rattle.shape_slope.specs.Combinations.{IsCombination}
-use Rattle.shape_slope.specs.Ranges.{IsInside, IsRange, LeavesRoom, IsMet, IsWhole, IsClashing}
+use Rattle.shape_slope.specs.Ranges.{IsInside, IsRange, LeavesRoom, IsMet, IsWhole}
 use Rattle.shape_slope.specs.Spans.{MeetsAt, IsSpan, IsAmid, IsSmallSlope, IsTight}
 use Rattle.shape_slope.specs.Solutions.{IsSolution, IsExcluded}
 use Rattle.shape_terms.proofs.Products.{rings}
@@ -89,17 +89,6 @@ solution_is rows f r s g o z w i t am hg sg sm ea eb ec = record {
         flat_met (row_at rows k).x (row_at rows k).y (row_at rows k).z f.num f.den g.num g.den e (omega (arith, ints, hg)) ((w.met k l f.num f.den (let d = z.den in omega (arith, ints, d)) i).flat e)
 
 -- ---- no slopes
-
-pub one_excludes : (rows : List Row) (c : Combination) → IsClashing rows c → IsExcluded rows (record { first = record { combination = c; times = pos 1 }; second = record { combination = c; times = pos 0 }; rest = c.bound.z })
-one_excludes rows c h = record {
-  first = record { combination = h.combination; low = omega (arith, ints); high = omega (arith, ints) };
-  second = record { combination = h.combination; low = omega (arith, ints); high = omega (arith, ints) };
-  gone = (let e = h.never.flat in omega (arith, ints, e));
-  rest = omega (arith, ints);
-  rest_low = h.never.over;
-  rest_high = (let s = h.combination.z_small in omega (arith, s));
-  pair = inl (h.pair, omega (arith, ints));
-}
 
 -- two bounds that leave no room are not both bounds of the first slope alone
 some_pair : (rows : List Row) (r : Range) → IsSystem rows → IsRange rows r → (r.upper.bound.z *ℤ r.lower.bound.x) ≤ℤ (r.lower.bound.z *ℤ r.upper.bound.x) → IsGap (row_at rows r.lower.second).cause ⊎ IsGap (row_at rows r.upper.second).cause

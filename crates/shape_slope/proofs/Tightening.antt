@@ -7,7 +7,7 @@ use native.Mathlib.Decide.{ℕ_discrete}
 use Rattle.shape_slope.specs.declared.row.Row.{Row}
 use Rattle.shape_space.specs.declared.frac.Frac.{Frac}
 use Rattle.shape_slope.specs.declared.span.Span.{Span}
-use Rattle.shape_slope.specs.Rows.{row_at, level, IsSystem}
+use Rattle.shape_slope.specs.Rows.{row_at, level}
 use Rattle.shape_slope.specs.Spans.{MeetsAt, IsSpan, IsTightened, IsTight}
 use Rattle.shape_slope.proofs.Tighter.{follows_upper, follows_lower}
 
@@ -55,24 +55,6 @@ tight_more rows f old new j t x = record {
     | no q ↦ t.met k (omega arith) n m hm (x.closer n m hm i) e
   ];
 }
-
--- the rows that keep the second slope between -1 and 1
-pub tight_first : (rows : List Row) (f : Frac) → IsSystem rows → IsTight rows f 4 (record { lower = 2; upper = 3 })
-tight_first rows f s =
-    let a = s.plus_second.y in
-    let b = s.minus_second.y in
-    let l = s.some in
-    record {
-      span = record { lower_place = omega arith; upper_place = omega arith; lower_second = omega arith; upper_second = omega arith; falls = omega (arith, ints, a); rises = omega (arith, ints, b) };
-      met = met;
-    }
-  where
-    met : (j : ℕ) → j < 4 → (n m : ℤ) → pos 0 <ℤ m → MeetsAt rows f n m 2 × MeetsAt rows f n m 3 → ((row_at rows j).y ≡ pos 0 → ⊥) → MeetsAt rows f n m j
-    met zero k n m hm i e = absurd (e s.plus_first.y)
-    met (suc zero) k n m hm i e = absurd (e s.minus_first.y)
-    met (suc (suc zero)) k n m hm i e = i.0
-    met (suc (suc (suc zero))) k n m hm i e = i.1
-    met (suc (suc (suc (suc j)))) k n m hm i e = absurd (omega arith)
 
 pub compared : (b : Bool) (x z y w x' z' y' w' : ℤ) → x ≡ x' → z ≡ z' → y ≡ y' → w ≡ w' → IsTrue b ↔ (z *ℤ pos (unsigned_abs y)) <ℤ (w *ℤ pos (unsigned_abs x)) → IsTrue b ↔ (z' *ℤ pos (unsigned_abs y')) <ℤ (w' *ℤ pos (unsigned_abs x'))
 compared b x z y w x' z' y' w' ex ez ey ew h = rw (sym ex, sym ez, sym ey, sym ew) h

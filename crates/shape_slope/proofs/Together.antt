@@ -55,10 +55,6 @@ leave_room rows c i j p q ei ej h v w m = room (row_at rows i) (row_at rows j) v
       λ a b. room_of s.x s.y s.z r.x r.y r.z c.second_weight c.first_weight c.bound.x c.bound.z p q (omega (arith, ints, w, b)) (omega (arith, ints, v, a)) (omega (arith, ints, x)) (omega (arith, ints, z)) m,
     )
 
--- rows that are not opposite leave room
-pub not_opposite : (p q : ℤ) (r s : Row) → (AreOpposite r.y s.y → ⊥) → LeaveRoom p q r s
-not_opposite p q r s h = (λ a b. absurd (h (inl (a, b))), λ a b. absurd (h (inr (b, a))))
-
 -- the combination of two rows is small
 pub combined_small : (a b : Row) (v w x z : ℤ) → IsSteep a → IsSteep b → v ≡ pos (unsigned_abs b.y) → w ≡ pos (unsigned_abs a.y)
     → ((m n : ℕ) → unsigned_abs v ≤ m → unsigned_abs a.x ≤ n → unsigned_abs w ≤ m → unsigned_abs b.x ≤ n → unsigned_abs x ≤ m * n + m * n)

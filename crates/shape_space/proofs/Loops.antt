@@ -1,11 +1,11 @@
 -- One axis more in the loops over the sides of a box.
 -- Counts and raster numbers are built from the last axis to the first, points from the first to the last.
-use Rattle.std.proofs.Common.{◌≡◌, ◌⊎◌, inl, inr, ◌+◌, ◌*◌, ◌/◌, ◌%◌, ◌<◌, ◌≤◌, ℕ, zero, suc, false, ℤ, pos, ◌≤ℤ◌, ◌<ℤ◌, [], ◌∷◌, ◌++◌, length, take, drop, set, refl, sym, ◌∙◌, arith, mul_comm}
+use Rattle.std.proofs.Common.{◌≡◌, ◌⊎◌, inl, inr, ◌+◌, ◌*◌, ◌<◌, ◌≤◌, ℕ, zero, suc, false, ℤ, pos, ◌≤ℤ◌, ◌<ℤ◌, [], ◌∷◌, ◌++◌, length, take, drop, refl, sym, ◌∙◌, arith, mul_comm}
 use Rattle.std.specs.Prelude.{nat_abs, IsTrue}
 use Rattle.std.proofs.lemmas.Int.{ints}
 use Rattle.std.proofs.lemmas.Bool.{false_from_ne_true}
 use Rattle.std.proofs.lemmas.Nat.{mul-le}
-use Rattle.std.proofs.lemmas.List.{drop_more, append-nil, take_all, drop_all, take_more_set, append_assoc}
+use Rattle.std.proofs.lemmas.List.{drop_more, append-nil, take_all, drop_all}
 use Rattle.shape_terms.specs.Points.{Point, coordinate, AreSides, sides_of, in_box, raster_number, raster_point, box_count}
 use Rattle.shape_terms.proofs.Boxes.{in_box_first, in_box_coordinate, raster_below, abs_low}
 
@@ -49,12 +49,6 @@ raster_part g ns p k j i r x e l m h a b ins sides =
     omega (arith, s, t, fewer_points g ns j sides)
 
 -- ---- points
-
-pub raster_point_step : (ns p p2 : Point) (k left : ℕ) (side v : ℤ) (all : Point) → k < length ns → length p ≡ length ns → side ≡ coordinate ns k → v ≡ pos (left % nat_abs side) → p2 ≡ set p k v
-    → take k p ++ raster_point (sides_of (drop k ns)) left ≡ all → take (k + 1) p2 ++ raster_point (sides_of (drop (k + 1) ns)) (left / nat_abs side) ≡ all
-raster_point_step ns p p2 k left side v all l m s e f h =
-    let t : take k p ++ (pos (left % nat_abs (coordinate ns k)) ∷ raster_point (sides_of (drop (k + 1) ns)) (left / nat_abs (coordinate ns k))) ≡ all = rw (drop_more ns k (pos 0) l) at h in
-    rw (f, take_more_set p k v (omega arith), e, s) (append_assoc (take k p) (pos (left % nat_abs (coordinate ns k)) ∷ []) (raster_point (sides_of (drop (k + 1) ns)) (left / nat_abs (coordinate ns k))) ∙ t)
 
 pub raster_point_done : (ns p : Point) (k left i : ℕ) → length p ≡ length ns → length ns ≤ k → take k p ++ raster_point (sides_of (drop k ns)) left ≡ raster_point (sides_of ns) i → p ≡ raster_point (sides_of ns) i
 raster_point_done ns p k left i e l h =

@@ -4,11 +4,11 @@ use Rattle.std.proofs.Common.{◌≡◌, ◌⊎◌, inl, inr, ◌+◌, ◌*◌, 
 use Rattle.std.specs.Prelude.{nat_abs, IsTrue}
 use Rattle.std.proofs.lemmas.Int.{ints}
 use Rattle.std.proofs.lemmas.Bool.{false_from_ne_true}
-use Rattle.std.proofs.lemmas.List.{drop_more, length-map}
+use Rattle.std.proofs.lemmas.List.{drop_more}
 use Rattle.shape_terms.specs.Points.{Point, coordinate, AreSides, sides_of, box_count, raster_point}
 use Rattle.shape_terms.specs.FramedBox.{framed_sides, framed_point}
 use Rattle.shape_terms.specs.Parts.{InFrame}
-use Rattle.shape_terms.proofs.Boxes.{abs_is, in_box_first, in_box_more, in_box_length, raster_below, raster_point_in, raster_number-raster_point, raster_point-raster_number}
+use Rattle.shape_terms.proofs.Boxes.{abs_is, in_box_first, in_box_more, raster_below, raster_point_in, raster_number-raster_point, raster_point-raster_number}
 use Rattle.shape_terms.proofs.FramedBoxes.{fewer_framed}
 use Rattle.shape_terms.specs.Places.{raised, in_frame, framed_number}
 
@@ -25,13 +25,6 @@ pub in_frame_more : (n : ℕ) (sides : List ℕ) (x : ℤ) (p : Point) → negsu
 in_frame_more n sides x p l h r =
     let is = abs_is (x +ℤ pos 1) (omega (arith, ints)) in
     in_box_more (n + 2) (framed_sides sides) (x +ℤ pos 1) (raised p) (omega (arith, ints)) (omega (arith, ints)) r
-
-pub in_frame_length : (sides : List ℕ) (p : Point) → IsTrue (in_frame sides p) → length p ≡ length sides
-in_frame_length sides p h =
-    let e : length (raised p) ≡ length (framed_sides sides) = in_box_length (framed_sides sides) (raised p) h in
-    let a = length-map p (λ x. x +ℤ pos 1) in
-    let b = length-map sides (λ n. n + 2) in
-    omega arith
 
 -- the point is in the framed box where each coordinate is from -1 up to the side
 pub in_frame_by : (ns p : Point) → length p ≡ length ns → ((k : ℕ) → k < length ns → (negsuc 0 ≤ℤ coordinate p k) × (coordinate p k ≤ℤ coordinate ns k)) → IsTrue (in_frame (sides_of ns) p)

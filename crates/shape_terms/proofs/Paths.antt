@@ -1,7 +1,6 @@
 -- Paths in a set: connectedness is an equivalence on its points.
 -- Laws over any set and adjacency alone.
-use Rattle.std.proofs.Common.{refl, arith, lit≤}
-use Rattle.shape_terms.specs.Parts.{Connected, HasParts}
+use Rattle.shape_terms.specs.Parts.{Connected}
 
 pub starts_in : {A : Type 0} {R : A → A → Type 0} {Y : A → Type 0} {p q : A} → Connected R Y p q → Y p
 starts_in (Connected.here y) = y
@@ -23,15 +22,3 @@ ends_in (Connected.onward y s c) = ends_in c
 pub in_greater : {A : Type 0} {R : A → A → Type 0} {Y Z : A → Type 0} {p q : A} → ((x : A) → Y x → Z x) → Connected R Y p q → Connected R Z p q
 in_greater {p = p} f (Connected.here y) = Connected.here (f p y)
 in_greater f (Connected.onward {p = p} y s c) = Connected.onward (f p y) s (in_greater f c)
-
--- a set each point of which leads to one of its points has one part
-pub one_part : {A : Type 0} (R : A → A → Type 0) (Y : A → Type 0) → ((x y : A) → R x y → R y x) → (b : A) → Y b → ((q : A) → Y q → Connected R Y q b) → HasParts R Y 1
-one_part R Y s b y f = (
-  (λ p. 1),
-  record {
-    in_range = λ p h. (lit≤ tt, lit≤ tt);
-    used = λ k l u. (b, y, omega arith);
-    adjacent = λ p q a c r. refl;
-    connected = λ p q a c e. joined_to (f p a) (turned_back s (f q c));
-  },
-)

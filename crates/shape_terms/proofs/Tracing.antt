@@ -60,9 +60,6 @@ pub first-walk : (X : Picture) (start : Crack) (steps : ℕ) → 1 ≤ steps →
 first-walk X start zero l = absurd (omega arith)
 first-walk X start (suc n) l = refl
 
-pub traced_first : (X : Picture) (start : Crack) → Tracing X start (successor X start) 1 (cond (stays X start) [] (start.pixel ∷ []))
-traced_first X start = record { reached = reached_first X start; points_are = sym (left_pixels-push X [] start) }
-
 pub traced_more : (X : Picture) → length X.sides ≡ 2 → (start c : Crack) (steps : ℕ) (points : List Point) → IsCrack X start → Tracing X start c steps points → (c ≡ start → ⊥)
     → Tracing X start (successor X c) (steps + 1) (points ++ cond (stays X c) [] (c.pixel ∷ []))
 traced_more X axes start c steps points k t away = record {

@@ -10,7 +10,7 @@ use Rattle.shape_terms.specs.Points.{Point}
 use Rattle.shape_terms.specs.Pictures.{Picture, at}
 use Rattle.shape_terms.specs.Adjacency.{Near, Side, Round, origin, near_steps, near_step, near_point}
 use Rattle.shape_terms.specs.Parts.{Connected}
-use Rattle.thin_terms.specs.Simple.{Holding, ObjectRound, BackgroundRound, BackgroundAtSides, HasObjectNumber, HasBackgroundNumber, IsSimple}
+use Rattle.thin_terms.specs.Simple.{Holding, ObjectRound, BackgroundRound, BackgroundAtSides, IsSimple}
 use Rattle.thin_terms.proofs.Deletion.{same_parts}
 use Rattle.shape_terms.proofs.Paths.{ends_in}
 use Rattle.shape_terms.proofs.PartCount.{one_count}
@@ -201,11 +201,9 @@ module _ (Y : Picture) (p : Point) (m : ℕ) (axes : length p ≡ length Y.sides
   sides_match = holding_matches background_match (λ k h g. (side_step_is p k h.0).0 g)
       (λ q h s. let o = of_near q h.1.0 in (side_step_is p (of q) o.0).1 (subst (Side p) (sym o.1) s))
 
-  pub object_number_is : (n : ℕ) → HasMaskObjectNumber (length p) m n → HasObjectNumber Y p n
   unfolding d
   object_number_is n h = parts_across object_match h
 
-  pub background_number_is : (n : ℕ) → HasMaskBackgroundNumber (length p) m n → HasBackgroundNumber Y p n
   unfolding d
   background_number_is n h = parts_across sides_match h
 

@@ -29,28 +29,6 @@ pub record AreMasksSoFar (Y : Picture) (i : ℕ) (masks : List ℕ) : Type 0 whe
   pub filled : length masks ≡ box_count Y.sides
   pub each : (j : ℕ) → j < i → j < box_count Y.sides → Object Y (raster_point Y.sides j) → IsNearMask Y (raster_point Y.sides j) (slice_index masks j)
 
-pub masks_start : (Y : Picture) (ms : List ℕ) → length ms ≡ box_count Y.sides → AreMasksSoFar Y 0 ms
-masks_start Y ms e = record { filled = e; each = λ j l. absurd (omega arith) }
-
-pub masks_more : (Y : Picture) (i : ℕ) (ms : List ℕ) (m : ℕ) → i < box_count Y.sides → AreMasksSoFar Y i ms → IsNearMask Y (raster_point Y.sides i) m → AreMasksSoFar Y (i + 1) (set ms i m)
-masks_more Y i ms m b h is = record {
-  filled = length-set ms i m ∙ h.filled;
-  each = λ j l c o. elim (ℕ_discrete j i) [
-    | yes e ↦ subst (λ j. IsNearMask Y (raster_point Y.sides j) (slice_index (set ms i m) j)) (sym e)
-        (subst (IsNearMask Y (raster_point Y.sides i)) (sym (get_or-set_same ms i m 0 (let f = h.filled in omega arith))) is)
-    | no n ↦ subst (IsNearMask Y (raster_point Y.sides j)) (sym (get_or-set_other ms i j m 0 n)) (h.each j (omega arith) c o)
-  ];
-}
-
-pub masks_pass : (Y : Picture) (i : ℕ) (ms : List ℕ) → AreMasksSoFar Y i ms → (Object Y (raster_point Y.sides i) → ⊥) → AreMasksSoFar Y (i + 1) ms
-masks_pass Y i ms h n = record {
-  filled = h.filled;
-  each = λ j l c o. h.each j (let f : j ≢ i = λ e. n (subst (λ j. Object Y (raster_point Y.sides j)) e o) in omega arith) c o;
-}
-
-pub masks_end : (Y : Picture) (i : ℕ) (ms : List ℕ) → box_count Y.sides ≤ i → AreMasksSoFar Y i ms → AreMasks Y ms
-masks_end Y i ms l h = record { filled = h.filled; each = λ j c o. h.each j (omega arith) c o }
-
 -- ---- a point is taken out
 
 -- the neighbour of q with the number j is object, and is not p where q is a neighbour of p with a number below k
@@ -154,15 +132,6 @@ module _ (Y : Picture) (p : Point) (filled : length Y.values ≡ box_count Y.sid
 
   was : (q : Point) → Object (without Y p) q → Object Y q
   was q o = sym (value_elsewhere Y p q false b (not_p q o)) ∙ o
-
-  pub taken_start : (ms : List ℕ) → AreMasks Y ms → AreTaken Y p 0 ms
-  taken_start ms h = record {
-    filled = h.filled;
-    each = λ i l o j. (
-      (λ x. let a = (h.each i l (was (raster_point Y.sides i) o) j).0 x in (a.0, (a.1, λ e. omega (arith, a.0)))),
-      (λ a. (h.each i l (was (raster_point Y.sides i) o) j).1 (a.0, a.1.0)),
-    );
-  }
 
   pub taken_end : (k : ℕ) (ms : List ℕ) → length p ≡ length Y.sides → near_total (length p) ≤ k → AreTaken Y p k ms → AreMasks (without Y p) ms
   taken_end k ms axes l h = record {

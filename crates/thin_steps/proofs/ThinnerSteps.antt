@@ -29,9 +29,6 @@ module _ {left free : Picture} {ds : List ℕ} {keys : Key → Bool} (fits : ∥
   pub fits_sides : free.sides ≡ left.sides
   fits_sides = ∥∥₁_elim fits (Prim.hlevel props) (λ a. a.stands.free_sides)
 
-  pub fits_some : IsSubset free left
-  fits_some q o = ∥∥₁_elim fits (Prim.hlevel props) (λ a. ((a.stands.free_is q).0 o).0)
-
   module _ (k : Key) (there : keys k ≡ true) where
     pub fits_place : k.place < box_count left.sides
     fits_place = ∥∥₁_elim fits (Prim.hlevel props) (λ a. key_place a.opening a.marked a.state left free ds keys a.stands a.waits k there)

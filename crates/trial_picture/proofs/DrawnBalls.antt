@@ -1,12 +1,10 @@
 -- Draws that go on from a state, and the balls that they give.
 -- Laws of the rule alone; nothing here knows of grids.
-use Rattle.std.proofs.Common.{◌≡◌, ◌+◌, ◌*◌, ◌/◌, ◌%◌, ◌<◌, ◌≤◌, ℕ, zero, suc, ℤ, pos, List, [], ◌∷◌, ◌++◌, map, length, take, set, refl, sym, ap, ◌∙◌, arith}
+use Rattle.std.proofs.Common.{◌≡◌, ◌+◌, ◌*◌, ◌/◌, ◌%◌, ◌<◌, ℕ, zero, suc, ℤ, pos, List, [], ◌∷◌, ◌++◌, map, length, take, set, refl, sym, ap, ◌∙◌, arith}
 use Rattle.std.specs.List.{range_with_len}
 use Rattle.std.proofs.lemmas.List.{take_more_set}
-use Rattle.std.proofs.lemmas.List.FromFn.{map-range_with_len_more, length-map-range_with_len, get_or-map-range_with_len}
-use Rattle.std.proofs.lemmas.Int.{ints}
-use Rattle.shape_terms.specs.Points.{Point, coordinate}
-use Rattle.shape_terms.specs.FramedBox.{IsWithin}
+use Rattle.std.proofs.lemmas.List.FromFn.{map-range_with_len_more}
+use Rattle.shape_terms.specs.Points.{Point}
 use Rattle.trial_picture.specs.Balls.{drawn_state, draw, ball_centre, ball_radius}
 
 -- the states after a state are those after the seed
@@ -52,13 +50,3 @@ first_more d n s k p v x l h e is =
     let z : k + 0 ≡ 0 * (d + 1) + k = omega arith in
     let w : v ≡ f k = is ∙ ap (λ y. pos (y % n)) (e ∙ draw-add s k 0 ∙ ap (draw s) z) in
     take_more_set p k v l ∙ (λ i. h i ++ w i ∷ []) ∙ sym (map-range_with_len_more f 0 k k (omega arith))
-
--- the coordinates of a centre are those of a point of the box
-pub centre_within : (d n s : ℕ) → 1 ≤ n → n ≤ 2048 → IsWithin (pos 0) (pos 2047) (ball_centre d n s 0)
-centre_within d n s some most k l =
-    let f : ℕ → ℤ = λ i. pos (draw s (0 * (d + 1) + i) % n) in
-    let m : k < d = omega (arith, length-map-range_with_len f 0 d) in
-    let e : coordinate (ball_centre d n s 0) k ≡ f k = get_or-map-range_with_len f 0 d k k (pos 0) m (omega arith) in
-    let x = draw s (0 * (d + 1) + k) in
-    let below : x % n ≤ 2047 = omega arith in
-    rw e (omega (arith, ints), omega (arith, ints))
