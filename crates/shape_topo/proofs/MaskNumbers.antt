@@ -201,12 +201,6 @@ module _ (Y : Picture) (p : Point) (m : ℕ) (axes : length p ≡ length Y.sides
   sides_match = holding_matches background_match (λ k h g. (side_step_is p k h.0).0 g)
       (λ q h s. let o = of_near q h.1.0 in (side_step_is p (of q) o.0).1 (subst (Side p) (sym o.1) s))
 
-  unfolding d
-  object_number_is n h = parts_across object_match h
-
-  unfolding d
-  background_number_is n h = parts_across sides_match h
-
   -- the mask is simple exactly where the point is
   pub simple_is : IsSimpleMask (length p) m ↔ IsSimple Y p
   unfolding d
