@@ -2,27 +2,15 @@
 -- A further kind of line is one clause of `is_form`.
 use Rattle.std.proofs.Common.{◌≡◌, ◌+◌, ◌≤◌, ℕ, zero, suc, true, Some, length, refl, arith, lit≤}
 use Rattle.std.specs.Prelude.{codes}
-use Rattle.text_terms.specs.Forms.{IsWord, IsForm, name, behind, ◌⨾◌, counted}
+use Rattle.text_terms.specs.Forms.{IsWord, IsForm, name, behind, ◌⨾◌}
 use Rattle.text_terms.specs.Tables.{kind_among, is_word, IsTable, IsRoomy}
-use Rattle.text_terms.proofs.FieldLaws.{count_form, weight_form, point_form, row_form, few_form}
-use Rattle.text_terms.proofs.FormLaws.{nothing_form, behind_form, both_form, shaped_form, axes_form}
+use Rattle.text_terms.proofs.FieldLaws.{count_form, weight_form, point_form, row_form}
+use Rattle.text_terms.proofs.FormLaws.{nothing_form, behind_form, both_form, axes_form}
 use Rattle.text_terms.proofs.TableLaws.{literal}
+use Rattle.text_terms.proofs.WeightLaws.{why_form}
 use Rattle.text_terms.proofs.Words.{natural_form, letter_form, long_form, name_form}
-use Rattle.report_terms.specs.Forms.{step}
-use Rattle.report_terms.specs.Kinds.{count, weight, point, share, step_share, why, Kind, kinds, first_word, kind_word, form_of, table}
-use Rattle.report_terms.proofs.Words.{sign_form, step_form}
-
--- ---- fields
-
-pub share_form : IsForm share
-share_form = shaped_form _ _ (weight ⨾ count) (λ a. refl) (λ b. refl) (both_form _ _ weight_form count_form)
-
-pub step_share_form : (d : ℕ) → IsForm (step_share d)
-step_share_form d = shaped_form _ _ (weight ⨾ step d) (λ a. refl) (λ b. refl) (both_form _ _ weight_form (step_form d))
-
-pub why_form : (d : ℕ) → IsForm (why d)
-why_form d = shaped_form _ _ (counted 4 share ⨾ counted 4 share ⨾ counted 4 (step_share d)) (λ a. refl) (λ b. refl)
-    (both_form _ _ (few_form share share_form) (both_form _ _ (few_form share share_form) (few_form (step_share d) (step_share_form d))))
+use Rattle.report_terms.specs.Kinds.{point, Kind, kinds, first_word, kind_word, form_of, table}
+use Rattle.report_terms.proofs.Words.{sign_form}
 
 -- ---- words
 

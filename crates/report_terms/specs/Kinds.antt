@@ -3,27 +3,14 @@
 use Rattle.std.specs.Prelude.{ℕ, zero, suc, ℤ, List, [], ◌∷◌, codes}
 use Rattle.std.specs.Int.{w64}
 use Rattle.shape_terms.specs.Points.{Point}
-use Rattle.shape_terms.specs.Refutations.{Share, StepShare, Refutation}
+use Rattle.shape_terms.specs.Refutations.{Refutation}
 use Rattle.patch_terms.specs.Patches.{Sense}
-use Rattle.text_terms.specs.Forms.{Form, natural, signed, letter, name, nothing, behind, ◌⨾◌, counted, shaped, of_axes}
+use Rattle.text_terms.specs.Forms.{Form, natural, signed, letter, name, nothing, behind, ◌⨾◌, of_axes}
 pub use Rattle.text_terms.specs.Fields.{count, weight, point, row}
+use Rattle.text_terms.specs.Weights.{why}
 use Rattle.text_terms.specs.Tables as Tables
 use Rattle.text_terms.specs.Tables.{Table}
-use Rattle.report_terms.specs.Forms.{sign, step}
-
--- ---- fields
-
--- a place with its weight before it
-abbrev pub share : Form Share
-share = shaped (λ p. record { weight = p.0; place = p.1 }) (λ s. (s.weight, s.place)) (weight ⨾ count)
-
--- a step along one of d axes with its weight before it
-abbrev pub step_share : ℕ → Form StepShare
-step_share d = shaped (λ p. record { weight = p.0; step = p.1 }) (λ s. (s.weight, s.step)) (weight ⨾ step d)
-
--- weights of at most four places on each side and of four steps
-abbrev pub why : ℕ → Form Refutation
-why d = shaped (λ p. record { low = p.0; high = p.1.0; steps = p.1.1 }) (λ r. (r.low, (r.high, r.steps))) (counted 4 share ⨾ counted 4 share ⨾ counted 4 (step_share d))
+use Rattle.report_terms.specs.Forms.{sign}
 
 -- ---- kinds
 

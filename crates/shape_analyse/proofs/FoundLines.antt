@@ -10,8 +10,7 @@ use Rattle.shape_terms.specs.Naive.{Naive}
 use Rattle.shape_terms.specs.Refutations.{Share, Step, StepShare, Refutation, IsStepOf, Refutes}
 use Rattle.shape_terms.specs.Covers.{Evidence, IsEvidence, gap_run}
 use Rattle.text_terms.specs.Forms.{counted}
-use Rattle.report_terms.specs.Forms.{IsStepIn}
-use Rattle.report_terms.specs.Kinds.{share, step_share, why}
+use Rattle.text_terms.specs.Weights.{IsStepIn, share, step_share, why}
 use Rattle.report_terms.specs.Lines.{Line, IsLineOf}
 use Rattle.shape_slope.specs.Pairs.{AreSmallWeights}
 use Rattle.shape_cover.specs.Found.{Found, stretches_of, found_at, IsCoverOf, IsShortLine, AreShortShares, IsShortEvidence}

@@ -2,3 +2,6 @@ pub mod Entries
 pub mod Meet
 pub mod Rows
 pub mod Steps
+pub mod Ranges
+pub mod Walk
+pub mod PointPairs

@@ -1,7 +1,8 @@
 //! The spelling of a line: its words, each behind a blank, put one after another.
 //! A further kind of line is one more case of `put_line` and a function that puts its words.
 ghost use Rattle.std.specs.Prelude.{◌≡◌, ◌≤◌, ◌<◌, [], length, take};
-ghost use Rattle.report_terms.specs.Kinds.{Kind, weight, why as why_form, form_of};
+ghost use Rattle.text_terms.specs.Weights.{why as why_form};
+ghost use Rattle.report_terms.specs.Kinds.{Kind, weight, form_of};
 ghost use Rattle.report_terms.specs.Lines.{split, IsLineOf, spelling};
 ghost use Rattle.shape_rules.specs.Names.{word_of};
 ghost use Rattle.shape_refute.specs.Senses.{sense_of};
@@ -12,8 +13,7 @@ ghost use Rattle.shape_report.specs.Spelling.{kind_text, split_text};
 use crate::field::put_sense;
 use crate::kind::kind;
 use crate::line::Line;
-use crate::put_why::put_why;
-use report_text::Text;
+use report_text::{Text, put_why};
 use shape_desk::put_word;
 use shape_refute::{Naive, Refutation, Sense};
 use shape_rules::Name;
