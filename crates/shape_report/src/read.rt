@@ -10,11 +10,11 @@ ghost use Rattle.shape_report.specs.Reading.{HasNoThird, ReadsKind, ReadsFields,
 use crate::field::{name, sense};
 use crate::kind::kind;
 use crate::line::Line;
-use report_text::{Words, read_why};
 use report_text::field::{
     count, flat_axis, flat_coefficients, point, side, signed, solid_axis, solid_coefficients,
     weight,
 };
+use report_text::{Words, read_why};
 use shape_refute::Naive;
 use shape_space::Point;
 
