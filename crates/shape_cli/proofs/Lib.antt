@@ -1,9 +1,12 @@
 pub mod Files
+pub mod Formats
 pub mod Endings
 pub mod Sources
 pub mod WordLists
 pub mod SideWords
+pub mod SourceWords
 pub mod OneCommand
+pub mod Reading
 pub mod Complete
 pub mod NumberWords
 pub mod TriedReports

@@ -1,4 +1,7 @@
 pub mod Outcomes
+pub mod Numbers
+pub mod Sources
+pub mod Kinds
 pub mod Commands
 pub mod Trials
 pub mod Runs

@@ -4,11 +4,12 @@ ghost use Rattle.std.specs.Prelude.{◌≡◌, true};
 ghost use Rattle.shape_desk.specs.Desk.{OnlyReads, OnlyReadsAt};
 ghost use Rattle.shape_desk.specs.declared.desk.Place.TheVariants.{Picture};
 ghost use Rattle.shape_picture.specs.Answers.{PictureAnswer};
-ghost use Rattle.shape_cli.specs.Commands.{read_source};
+ghost use Rattle.shape_cli.specs.Sources.{format_of, read_source};
+ghost use Rattle.shape_cli.specs.Kinds.{read_report_kind};
 ghost use Rattle.shape_cli.specs.Parts.{Opened, seen};
-ghost use Rattle.shape_cli.specs.Runs.{format_of};
 
-use crate::words::Source;
+use crate::kind::ReportKind;
+use crate::source::Source;
 use shape_desk::{Desk, Place};
 use shape_grid::Grid;
 use shape_picture::{PictureError, read_pbm, read_raw};
@@ -40,13 +41,14 @@ fn read_image<D: Desk>(
     }
 }
 
-// Reads the picture at a source.
+// Reads the picture at a source, for a report of a kind.
 pub(crate) fn open_picture<D: Desk>(
     alloc: Global,
+    kind: ReportKind,
     source: Source<'_>,
     desk: &mut D,
 ) -> Result<Image, PictureError>
-    ensures opened { Opened (read_source source.entry)
+    ensures opened { Opened (read_report_kind kind) (read_source source.entry)
         (D.state desk.old) (D.state desk.new) (seen result) }
     ensures only { OnlyReads (D.state desk.old) (D.state desk.new) }
 {

@@ -2,7 +2,7 @@ use Rattle.std.proofs.Common.{ap}
 use Rattle.shape_cli.specs.Commands.{texts}
 use Rattle.shape_cli.proofs.SideWords.{no_volume}
 use Rattle.shape_cli.proofs.WordLists.{four_items}
-use Rattle.shape_cli.proofs.words.source_at.Goals as goal
+use Rattle.shape_cli.proofs.source.source_at.Goals as goal
 
 pub returns-in_err-read_sides-in-len4 : goal.returns-in_err-read_sides-in-len4
 returns-in_err-read_sides-in-len4 c =

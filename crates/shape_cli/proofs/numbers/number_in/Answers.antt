@@ -1,9 +1,9 @@
 use Rattle.std.proofs.Common.{None, arith, subst}
 use Rattle.std.proofs.lemmas.Int.{ints}
-use Rattle.shape_cli.specs.Commands.{IsNoNumber}
+use Rattle.shape_cli.specs.Numbers.{IsNoNumber}
 use Rattle.report_text.specs.Reading.{ReadsNumberWord}
 use Rattle.shape_cli.proofs.NumberWords.{none_spelled, too_small, too_large}
-use Rattle.shape_cli.proofs.words.number_in.Goals as goal
+use Rattle.shape_cli.proofs.numbers.number_in.Goals as goal
 
 pub returns-in_err-n : goal.returns-in_err-n
 returns-in_err-n c = rw c.from_residual.ensures (none_spelled c.args.least c.args.most c.args.word.now.items (omega arith) (subst (λ w. ReadsNumberWord w None) c.as_slice.ensures.value c.in_err-n.ensures))

@@ -1,8 +1,8 @@
 use Rattle.std.proofs.Common.{subst}
 use Rattle.std.proofs.Math.Facts.{to_z-of_z}
-use Rattle.shape_cli.specs.Commands.{ReadsCoordinate}
+use Rattle.shape_cli.specs.Numbers.{ReadsCoordinate}
 use Rattle.shape_cli.proofs.SideWords.{read_coordinate}
-use Rattle.shape_cli.proofs.words.coordinate.Goals as goal
+use Rattle.shape_cli.proofs.numbers.coordinate.Goals as goal
 
 pub returns : goal.returns
 returns c =

@@ -1,5 +1,5 @@
 use Rattle.report_text.proofs.Numbers.{no_number, longer_word}
-use Rattle.shape_cli.proofs.words.number.Goals as goal
+use Rattle.shape_cli.proofs.numbers.number.Goals as goal
 
 pub returns-in_err-value : goal.returns-in_err-value
 returns-in_err-value c = rw c.from_residual.ensures (no_number c.args.word.now c.in_err-value.ensures)

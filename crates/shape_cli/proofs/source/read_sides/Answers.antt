@@ -1,6 +1,6 @@
 use Rattle.std.proofs.Math.Facts.{to_z-of_z}
 use Rattle.shape_cli.proofs.SideWords.{no_first, no_second, no_third, three_read}
-use Rattle.shape_cli.proofs.words.read_sides.Goals as goal
+use Rattle.shape_cli.proofs.source.read_sides.Goals as goal
 
 pub returns-in_err-x : goal.returns-in_err-x
 returns-in_err-x c = rw c.from_residual.ensures (no_first c.args.x.now.items c.args.y.now.items c.args.z.now.items c.in_err-x.ensures)

@@ -1,0 +1,94 @@
+-- The kinds of reports: what each is called, which pictures it is about, and what its texts mean.
+-- A further kind is a constructor of `ReportKind` and of `Wanted`, and a line of each table.
+use Rattle.std.specs.Prelude.{◌≡◌, ℕ, List, [], ◌∷◌, codes, ⊤, Contains, slice_get, Some}
+use Rattle.shape_terms.specs.Pictures.{Picture}
+use Rattle.thin_terms.specs.Thinning.{Rule}
+use Rattle.thin_terms.specs.Shelves.{Named}
+use Rattle.text_terms.specs.Reports.{Report}
+use Rattle.report_terms.specs.Subjects.{subject_of}
+use Rattle.report_terms.specs.Lines.{Line}
+use Rattle.report_terms.specs.Sections.{analysis}
+use Rattle.report_terms.specs.Holds.{HoldsBy}
+use Rattle.report_terms.specs.Shows.{TextShows}
+use Rattle.shape_picture.specs.Answers.{Format}
+use Rattle.shape_cli.specs.Sources.{Kind, Source, format_of}
+use Rattle.shape_cli.specs.declared.kind.ReportKind.{ReportKind as ProgramReportKind}
+use Rattle.shape_cli.specs.declared.kind.ReportKind.TheVariants as kind
+use Rattle.shape_cli.specs.declared.kind.Wanted.{Wanted as ProgramWanted}
+use Rattle.shape_cli.specs.declared.kind.Wanted.TheVariants as wanted
+
+-- a kind of report
+pub data ReportKind : Type 0 where
+  Analysis : ReportKind
+
+-- a report that is wanted of a picture: an analysis by the rule with a name
+pub data Wanted : Type 0 where
+  Analysis : (rule : List ℕ) → Wanted
+
+-- its kind
+abbrev pub kind_of : Wanted → ReportKind
+kind_of (Wanted.Analysis rule) = ReportKind.Analysis
+
+-- all kinds
+abbrev pub report_kinds : List ReportKind
+report_kinds = ReportKind.Analysis ∷ []
+
+-- ---- words
+
+-- the word that asks for a report of the kind
+abbrev pub make_word : ReportKind → List ℕ
+make_word ReportKind.Analysis = codes "analyse"
+
+-- the word that asks for its check
+abbrev pub check_word : ReportKind → List ℕ
+check_word ReportKind.Analysis = codes "check"
+
+-- the words behind those of the source of the picture
+abbrev pub last_words : Wanted → List (List ℕ)
+last_words (Wanted.Analysis rule) = rule ∷ []
+
+-- what these words name is there: the rule of an analysis is one of these names
+abbrev pub IsNamed : List (List ℕ) → Wanted → Type 0
+IsNamed names (Wanted.Analysis rule) = Contains names rule
+
+-- ---- pictures
+
+-- there are reports of the kind about pictures of this kind
+abbrev pub Takes : ReportKind → Kind → Type 0
+Takes ReportKind.Analysis kind = ⊤
+
+-- the format of the pictures at a source that a report of the kind may be about
+abbrev pub format_for : ReportKind → Source → Format
+format_for ReportKind.Analysis source = format_of source
+
+-- ---- meanings, where these rules are on the shelf
+
+-- the lines of a report of the kind
+abbrev pub LineOf : ReportKind → Type 0
+LineOf ReportKind.Analysis = Line
+
+-- the report of the kind about a picture
+abbrev pub report_of : List (Named Rule) → (kind : ReportKind) → Picture → Report (LineOf kind)
+report_of shelf ReportKind.Analysis X = analysis (subject_of X shelf)
+
+-- the text shows what a report of the kind that holds of the picture says of it
+abbrev pub ShowsOf : List (Named Rule) → ReportKind → Picture → List ℕ → Type 0
+ShowsOf shelf ReportKind.Analysis X text = TextShows (subject_of X shelf) text
+
+-- the text is the report of the picture that was wanted
+abbrev pub Makes : List (Named Rule) → Wanted → Picture → List ℕ → Type 0
+Makes shelf (Wanted.Analysis rule) X text = HoldsBy (subject_of X shelf) rule text
+
+-- ---- the program's own
+
+-- the kind that the program reads
+abbrev pub read_report_kind : ProgramReportKind → ReportKind
+read_report_kind kind.Analysis = ReportKind.Analysis
+
+-- the report that the program makes
+abbrev pub read_wanted : ProgramWanted → Wanted
+read_wanted (wanted.Analysis rule which) = Wanted.Analysis rule.now
+
+-- the place of the rule among the names is the one that the program found
+abbrev pub IsFound : List (List ℕ) → ProgramWanted → Type 0
+IsFound names (wanted.Analysis rule which) = slice_get names which ≡ Some rule.now

@@ -1,0 +1,104 @@
+//! The commands that make a report: the picture, then its report, then the output.
+//! The report is built whole before its first byte is written. A further kind is a variant of `Made`, and an arm of each `match`.
+ghost use Rattle.std.specs.Prelude.{◌≡◌, ◌<◌, IfOk, length};
+ghost use Rattle.thin_terms.specs.Shelves.{names_of};
+ghost use Rattle.shape_rules.specs.Ruled.{rules_on};
+ghost use Rattle.shape_desk.specs.Desk.{WritesText};
+ghost use Rattle.shape_analyse.specs.Analyses.{IsAnalysisOf};
+ghost use Rattle.shape_cli.specs.Sources.{read_source};
+ghost use Rattle.shape_cli.specs.Kinds.{Makes, IsFound, read_wanted};
+ghost use Rattle.shape_cli.specs.Commands.{Asked};
+ghost use Rattle.shape_cli.specs.Parts.{picture_of, made_text};
+ghost use Rattle.shape_cli.specs.Runs.{Ran, KeepsFiles};
+
+use crate::kind::Wanted;
+use crate::outcome::{Outcome, refused};
+use crate::picture::{Image, open_picture};
+use crate::source::Source;
+use shape_analyse::{Analysis, analyse_flat, analyse_solid};
+use shape_desk::Desk;
+use shape_report::{Report, WriteFault, write_report};
+use shape_rules::Shelf;
+use shape_space::NoMemory;
+use std::alloc::Global;
+
+/// A report that was made.
+#[derive(Drop)]
+pub enum Made {
+    Analysis(Report),
+}
+
+impl Made {
+    // Writes its text.
+    fn write<D: Desk>(&self, desk: &mut D) -> Result<(), WriteFault>
+        ensures { WritesText (made_text self.now) (D.state desk.old) (D.state desk.new) result }
+    {
+        match self {
+            Made::Analysis(report) => write_report(report, desk),
+        }
+    }
+}
+
+// The analysis of a picture by the rule with a number.
+pub(crate) fn analysis_of(
+    alloc: Global,
+    image: &Image,
+    shelf: &mut Shelf,
+    which: usize,
+) -> Result<Analysis, NoMemory>
+    requires { which < length shelf.old }
+    ensures analysis { IfOk result (IsAnalysisOf (picture_of image.now) (names_of shelf.old)
+        (rules_on means shelf.old) which) }
+    ensures kept { rules_on means shelf.new ≡ rules_on means shelf.old }
+{
+    match image {
+        Image::Flat(grid) => analyse_flat(alloc, grid, shelf, which),
+        Image::Solid(grid) => analyse_solid(alloc, grid, shelf, which),
+    }
+}
+
+// The report that is wanted of a picture.
+fn make(
+    alloc: Global,
+    image: &Image,
+    wanted: Wanted<'_>,
+    shelf: &mut Shelf,
+) -> Result<Made, NoMemory>
+    requires found { IsFound (names_of shelf.old) wanted }
+    ensures { IfOk result (λ made. Makes (rules_on means shelf.old) (read_wanted wanted.entry)
+        (picture_of image.now) (made_text made)) }
+{
+    match wanted {
+        Wanted::Analysis { which, .. } => {
+            Ok(Made::Analysis(analysis_of(alloc, image, shelf, which)?.report))
+        }
+    }
+}
+
+// Makes the report that is wanted of the picture at a source.
+pub(crate) fn make_file<D: Desk>(
+    alloc: Global,
+    source: Source<'_>,
+    wanted: Wanted<'_>,
+    shelf: &mut Shelf,
+    desk: &mut D,
+) -> Outcome
+    requires found { IsFound (names_of shelf.old) wanted }
+    ensures ran { Ran (rules_on means shelf.old)
+        (Asked.Make (read_source source.entry) (read_wanted wanted.entry))
+        (D.state desk.old) (D.state desk.new) result }
+    ensures kept { KeepsFiles (D.state desk.old) (D.state desk.new) }
+{
+    let image = match open_picture(alloc, wanted.kind(), source, desk) {
+        Ok(image) => image,
+        Err(error) => return refused(error),
+    };
+    let made = match make(alloc, &image, wanted, shelf) {
+        Ok(made) => made,
+        Err(_) => return Outcome::NoMemory,
+    };
+    match made.write(desk) {
+        Ok(()) => Outcome::Done,
+        Err(_) => Outcome::WriteFault,
+    }
+}
