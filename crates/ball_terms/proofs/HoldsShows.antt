@@ -35,7 +35,7 @@ record AreListed (X : Picture) (number : ℕ) (balls : List Ball) (lines : List 
 -- and up to the end
 record AreWhole (X : Picture) (lines : List Line) : Type 0 where
   balls : List Ball
-  are : lines ≡ listing X.sides balls
+  are : lines ≡ listing (map pos X.sides) balls
   holds : AreBalls X balls
 
 -- what good lines say where they stand
@@ -147,7 +147,7 @@ module _ (X : Picture) (balls : List Ball) (are : AreBalls X balls) where
       earlier : (k : ℕ) (b : Ball) → slice_get balls k ≡ Some b → length (take k balls) < length balls
       earlier k b e = let l = slice_get_within balls k b e in omega (arith, length-take-le k balls (omega arith))
 
-  listed_good : GoodSoFar (ball_report X) (listing X.sides balls)
+  listed_good : GoodSoFar (ball_report X) (listing (map pos X.sides) balls)
   listed_good zero l e = subst (λ m. Claim X Standing.Opening m) first (record { sides_are = refl; few = are.few })
     where
       first : Line.Balls (map pos X.sides) (length balls) ≡ l
@@ -160,7 +160,7 @@ module _ (X : Picture) (balls : List Ball) (are : AreBalls X balls) where
       let T = spelled (length X.sides) in (
         begun X (length balls) balls,
         record {
-          split = lists.text_is ∙ sym (append-nil (text_of T (listing X.sides balls)));
+          split = lists.text_is ∙ sym (append-nil (text_of T (listing (map pos X.sides) balls)));
           fields = lists.fields;
           short = λ i d h. short_line (length X.sides) three _ (lists.fields i d h);
           good = listed_good;
