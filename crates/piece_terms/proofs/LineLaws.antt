@@ -15,7 +15,7 @@ use Rattle.text_terms.proofs.FieldLaws.{count_form, point_form, row_form}
 use Rattle.text_terms.proofs.Words.{natural_form, letter_form, long_form}
 use Rattle.text_terms.proofs.TableLaws.{literal, spelled_through, split_short}
 use Rattle.text_terms.proofs.CourseLaws.{course_ends}
-use Rattle.report_terms.proofs.LineLaws.{why_form}
+use Rattle.text_terms.proofs.WeightLaws.{why_form}
 use Rattle.piece_terms.specs.SplitLines.{SplitLine}
 use Rattle.piece_terms.specs.Lines.{Kind, first_word, Fields, form_of, table, Line, split, joined, spelled}
 use Rattle.piece_terms.specs.PieceReports.{State, step, Claim, HasEnded, course, piece_report}

@@ -9,7 +9,7 @@ use Rattle.text_terms.specs.Forms.{Form, natural, signed, letter, nothing, behin
 use Rattle.text_terms.specs.Fields.{count, point, row}
 use Rattle.text_terms.specs.Spellings.{Spelled}
 use Rattle.text_terms.specs.Tables.{Table, Split, spelled_via}
-use Rattle.report_terms.specs.Kinds.{why}
+use Rattle.text_terms.specs.Weights.{why}
 use Rattle.piece_terms.specs.SplitLines.{SplitLine}
 
 -- ---- kinds
