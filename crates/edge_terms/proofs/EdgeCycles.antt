@@ -1,7 +1,7 @@
 -- The corner paths of the cycles of a picture, one for each of its contours.
 -- A cycle is told by its first crack, so the path that was followed from there is that of the cycle.
 use Rattle.std.proofs.Common.{◌≡◌, ℕ, suc, ◌+◌, ◌<◌, List, [], ◌∷◌, ◌++◌, length, map, get_or, ap, sym, ◌∙◌, subst, refl, arith}
-use Rattle.std.specs.Prelude.{Contains, slice_get, Some}
+use Rattle.std.specs.Prelude.{◌-◌, Contains, slice_get, slice_index_or, Some}
 use Rattle.std.proofs.lemmas.List.{length-map, get_or-map, get_or_default, get_or_append_left}
 use Rattle.std.proofs.lemmas.Option.{get_or_from_slice_get}
 use Rattle.std.proofs.Math.Seq.{get_or-append_seam}
@@ -19,6 +19,12 @@ no_contour = record { start = record { pixel = []; side = 0 }; points = [] }
 -- a picture has one list of corner paths
 pub edge_cycles_same : (X : Picture) (a b : List EdgeCycle) → AreEdgeCycles X a → AreEdgeCycles X b → a ≡ b
 edge_cycles_same X a b h k = h.cycles_are ∙ ap (map edge_cycle_of) (cycles_same X h.cracks k.cracks h.are k.are) ∙ sym k.cycles_are
+
+-- the path of the cycle that was begun last
+pub open_path_is : (cycles : List EdgeCycle) (n : ℕ) (k : EdgeCycle) → slice_get cycles n ≡ Some k → (slice_index_or cycles (n + 1 - 1) no_cycle).path ≡ k.path
+open_path_is cycles n k there =
+    let e : n + 1 - 1 ≡ n = omega arith in
+    ap (λ i. (slice_index_or cycles i no_cycle).path) e ∙ ap (λ (c : EdgeCycle). c.path) (get_or_from_slice_get cycles n k no_cycle there)
 
 -- the cycle was followed from the first crack of the contour
 pub record IsFrom (X : Picture) (k : Contour) (c : EdgeCycle) : Type 0 where

@@ -1,11 +1,10 @@
 -- An edge report that holds shows what it tells: the claims of its lines, one after another, are facts about the whole picture.
 -- How the lines of one cycle tell it stands in `CycleTold`.
-use Rattle.std.proofs.Common.{◌≡◌, ◌+◌, ◌-◌, ◌<◌, ◌≤◌, ℕ, zero, suc, List, [], ◌∷◌, ◌++◌, length, take, Some, refl, ap, sym, ◌∙◌, subst, arith, append-nil, append_assoc, length-append}
-use Rattle.std.specs.Prelude.{slice_get, slice_index_or, flat_map, All}
+use Rattle.std.proofs.Common.{◌≡◌, ◌+◌, ◌<◌, ◌≤◌, ℕ, zero, suc, List, [], ◌∷◌, ◌++◌, length, take, Some, refl, ap, sym, ◌∙◌, subst, arith, append-nil, append_assoc, length-append}
+use Rattle.std.specs.Prelude.{slice_get, flat_map, All}
 use Rattle.std.specs.List.{AllZip}
 use Rattle.std.proofs.lemmas.List.{length-map, map-append, take_all}
 use Rattle.std.proofs.lemmas.Grind.{flat_map-append}
-use Rattle.std.proofs.lemmas.Option.{get_or_from_slice_get}
 use Rattle.shape_terms.specs.Pictures.{Picture}
 use Rattle.shape_terms.specs.Covers.{Stretch, gap_run}
 use Rattle.text_terms.specs.Courses.{reached}
@@ -14,12 +13,12 @@ use Rattle.text_terms.proofs.CourseLaws.{reached_push}
 use Rattle.text_terms.proofs.ListPushes.{take_next, take_front, get_last}
 use Rattle.edge_terms.specs.EdgeEvidence.{IsEdgeEvidence}
 use Rattle.edge_terms.specs.EdgeCovers.{IsArc}
-use Rattle.edge_terms.specs.EdgeCycles.{EdgeCycle, AreEdgeCycles, no_cycle}
-use Rattle.edge_terms.specs.CycleLines.{Standing, open_path, IsFull, AreAllTold, IsCycleHead, IsNextArc, IsNextGap, nothing_taken}
+use Rattle.edge_terms.specs.EdgeCycles.{EdgeCycle, AreEdgeCycles}
+use Rattle.edge_terms.specs.CycleLines.{Standing, IsFull, AreAllTold, IsCycleHead, IsNextArc, IsNextGap, nothing_taken}
 use Rattle.edge_terms.specs.Lines.{Line, spelled}
 use Rattle.edge_terms.specs.EdgeReports.{State, next, CycleClaim, Claim, course, edge_report}
 use Rattle.edge_terms.specs.EdgeFacts.{CycleFact, cycle_lines, edge_lines, CycleShows, EdgesShow}
-use Rattle.edge_terms.proofs.EdgeCycles.{edge_cycles_same}
+use Rattle.edge_terms.proofs.EdgeCycles.{edge_cycles_same, open_path_is}
 use Rattle.edge_terms.proofs.CycleTold.{Held, held_stretches, Told, told_lines, SaysCycle, told_arc, told_gap, says_arc, says_gap, lines_arc, lines_gap, none_there, whole_fact, whole_shows, whole_lines}
 
 -- ---- lists
@@ -113,12 +112,6 @@ module _ (X : Picture) (cycles : List EdgeCycle) (are : AreEdgeCycles X cycles) 
         said = record { start = refl; steps = head.count; some = head.arcs.0; few = (let h = head.arcs.1 in let e = head.count in omega arith); arc = λ k a e. cc; gap = λ k e f. cc };
       }) (ap (λ k. State.Open (record { begun = k + 1; declared = m; stretches = []; gaps = 0 })) w.count)
 
-  -- the path of the cycle that was begun last
-  path_is : (n : ℕ) (t : Told) (cycle : EdgeCycle) → slice_get cycles n ≡ Some cycle → open_path cycles (standing_of n t) ≡ cycle.path
-  path_is n t cycle there =
-      let k : n + 1 - 1 ≡ n = omega arith in
-      ap (λ i. (slice_index_or cycles i no_cycle).path) k ∙ ap (λ (c : EdgeCycle). c.path) (get_or_from_slice_get cycles n cycle no_cycle there)
-
   more_lines : (w h : ℕ) (front : List CycleFact) (lines told now : List Line) (l : Line) → lines ≡ Line.Edges w h ∷ (flat_map cycle_lines front ++ told) → told ++ l ∷ [] ≡ now → lines ++ l ∷ [] ≡ Line.Edges w h ∷ (flat_map cycle_lines front ++ now)
   more_lines w h front lines told now l e f = ap (λ ls. ls ++ l ∷ []) e ∙ ap (λ ls. Line.Edges w h ∷ ls) (append_assoc (flat_map cycle_lines front) told (l ∷ []) ∙ ap (λ ls. flat_map cycle_lines front ++ ls) f)
 
@@ -128,7 +121,7 @@ module _ (X : Picture) (cycles : List EdgeCycle) (are : AreEdgeCycles X cycles) 
   arc_more lines w h front t k line says g =
       let a : Held = record { stretch = k; line = line } in
       let none : t.gaps ≡ [] = none_there t.gaps g.early in
-      let good = subst (λ p. IsArc p t.declared (held_stretches t.arcs) k.first k.last line) (path_is (length front) t says.cycle says.there) g.arc in
+      let good = subst (λ p. IsArc p t.declared (held_stretches t.arcs) k.first k.last line) (open_path_is cycles (length front) says.cycle says.there) g.arc in
       Cycles w h front (told_arc t a) (record {
         sides = says.sides;
         lines_are = more_lines w h front lines (told_lines t) (told_lines (told_arc t a)) (Line.Arc k line) says.lines_are (lines_arc t a none);
@@ -142,7 +135,7 @@ module _ (X : Picture) (cycles : List EdgeCycle) (are : AreEdgeCycles X cycles) 
   gap_more : (lines : List Line) (w h : ℕ) (front : List CycleFact) (t : Told) (e : _) → SaysLast X cycles w h front t lines → IsNextGap cycles (standing_of (length front) t) e
       → Says X cycles (lines ++ Line.Gap e ∷ []) (next (State.Open (standing_of (length front) t)) (Line.Gap e))
   gap_more lines w h front t e says g =
-      let good = subst (λ p. IsEdgeEvidence (gap_run p (held_stretches t.arcs) (length t.gaps)) e) (path_is (length front) t says.cycle says.there) g.shows in
+      let good = subst (λ p. IsEdgeEvidence (gap_run p (held_stretches t.arcs) (length t.gaps)) e) (open_path_is cycles (length front) says.cycle says.there) g.shows in
       Cycles w h front (told_gap t e) (record {
         sides = says.sides;
         lines_are = more_lines w h front lines (told_lines t) (told_lines (told_gap t e)) (Line.Gap e) says.lines_are (lines_gap t e);
