@@ -1,7 +1,7 @@
 -- An edge report grows by one good line at a time: one law for each kind of line that is added.
 -- Laws over what was found; the program stands in none.
-use Rattle.std.proofs.Common.{◌≡◌, ◌+◌, ◌<◌, ◌≤◌, ◌^◌, ℕ, suc, ℤ, pos, negsuc, List, [], ◌∷◌, ◌++◌, length, map, take, get_or, Some, refl, ap, sym, ◌∙◌, subst, arith, append-nil}
-use Rattle.std.specs.Prelude.{All, FitsSigned, nat_abs, slice_get, slice_index_or}
+use Rattle.std.proofs.Common.{◌≡◌, ◌+◌, ◌<◌, ◌≤◌, ◌^◌, ℕ, ℤ, pos, negsuc, List, [], ◌∷◌, ◌++◌, length, map, take, get_or, Some, refl, ap, sym, ◌∙◌, subst, arith, append-nil}
+use Rattle.std.specs.Prelude.{FitsSigned, nat_abs, slice_get, slice_index_or}
 use Rattle.std.specs.Int.{w64}
 use Rattle.std.proofs.lemmas.List.{length-map, length-take-le, take_all, take_more, get_or-map}
 use Rattle.std.proofs.lemmas.List.Elements.{All-nil, All-push}
@@ -11,21 +11,18 @@ use Rattle.shape_terms.specs.Points.{Point}
 use Rattle.shape_terms.specs.Pictures.{Picture}
 use Rattle.shape_terms.specs.Contours.{Crack, IsCrack}
 use Rattle.shape_terms.specs.Traces.{Contour, AreContours}
-use Rattle.shape_terms.specs.Covers.{Stretch, gap_run}
-use Rattle.shape_terms.specs.Refutations.{Share, Step, StepShare, Refutation, IsStepOf}
-use Rattle.text_terms.specs.Forms.{counted}
-use Rattle.text_terms.specs.Weights.{IsStepIn, share, step_share, why}
+use Rattle.shape_terms.specs.Covers.{gap_run}
+use Rattle.shape_terms.specs.Refutations.{Step, IsStepOf}
+use Rattle.text_terms.specs.Weights.{IsStepIn}
 use Rattle.text_terms.specs.Spellings.{line_text, text_of}
 use Rattle.text_terms.specs.Reports.{Holds}
-use Rattle.text_terms.specs.Courses.{reached}
 use Rattle.text_terms.proofs.Checking.{good_push}
 use Rattle.text_terms.proofs.CourseLaws.{reached_push}
 use Rattle.edge_terms.specs.Corners.{corner_path}
 use Rattle.edge_terms.specs.EdgeEvidence.{EdgeEvidence, IsEdgeEvidence}
-use Rattle.edge_terms.specs.EdgeCovers.{Arc, arc_in, stretches_of, IsArc, IsEdgeCover, IsShortStandard, IsShortGap, EdgeFound, IsEdgeCoverFrom}
-use Rattle.edge_terms.specs.EdgeCycles.{EdgeCycle, edge_cycle_of, AreEdgeCycles}
-use Rattle.edge_terms.specs.CycleLines.{Standing, AreAllTold, nothing_taken}
-use Rattle.edge_terms.specs.Kinds.{standard}
+use Rattle.edge_terms.specs.EdgeCovers.{Arc, arc_in, stretches_of, IsArc, IsEdgeCover, IsShortGap, EdgeFound, IsEdgeCoverFrom}
+use Rattle.edge_terms.specs.EdgeCycles.{EdgeCycle, edge_cycle_of}
+use Rattle.edge_terms.specs.CycleLines.{nothing_taken}
 use Rattle.edge_terms.specs.Lines.{Line, spelled}
 use Rattle.edge_terms.specs.EdgeReports.{State, next, Claim, course, edge_report}
 use Rattle.edge_terms.specs.EdgeFacts.{arc_line, gap_line}
@@ -57,6 +54,7 @@ tells_more X s text new l t fields claim e = record {
 
 -- the end
 pub tells_holds : (X : Picture) (s : State) (text new : List ℕ) → Tells X s text → Claim X s Line.End → new ≡ text ++ line_text spelled Line.End → Holds (edge_report X) new
+unfolding tells_more
 tells_holds X s text new t claim e =
     let all = tells_more X s text new Line.End t tt claim e in
     (t.lines, record { split = all.text_is ∙ sym (append-nil (text_of spelled (t.lines ++ Line.End ∷ []))); fields = all.fields; short = all.short; good = all.good })
@@ -84,19 +82,21 @@ pub gap_fits : (run : List Point) (e : EdgeEvidence) → IsEdgeEvidence run e �
 gap_fits run (EdgeEvidence.Bend i j) h s = s
 gap_fits run (EdgeEvidence.Fold w) h s = (
   (s.few_low, λ i d l. (s.low i d l, s.low_places i d l)),
-  ((s.few_high, λ i d l. (s.high i d l, s.high_places i d l)),
-    (s.few_steps, λ i d l. (s.steps i d l, step_in 2 1 (slice_index_or w.steps i d).step (h.refutes.steps_of_axis i d l)))),
+  (
+    (s.few_high, λ i d l. (s.high i d l, s.high_places i d l)),
+    (s.few_steps, λ i d l. (s.steps i d l, step_in 2 1 (slice_index_or w.steps i d).step (h.refutes.steps_of_axis i d l))),
+  ),
 )
 
 -- ---- lines
 
 -- the line of the sides
-pub sides_told : (X : Picture) (w h : ℕ) (new : List ℕ) → X.sides ≡ w ∷ h ∷ [] → spelled.IsLine (Line.Edges w h) → new ≡ line_text spelled (Line.Edges w h) → HasTold X 0 new
-sides_told X w h new sides fields e = record {
+pub sides_told : (X : Picture) (w h : ℕ) (text new : List ℕ) → X.sides ≡ w ∷ h ∷ [] → text ≡ [] → spelled.IsLine (Line.Edges w h) → new ≡ text ++ line_text spelled (Line.Edges w h) → HasTold X 0 new
+sides_told X w h text new sides none fields e = record {
   standing = nothing_taken;
   begun = refl;
   full = λ some. absurd (omega arith);
-  tells = tells_more X State.Opening [] new (Line.Edges w h) (tells_none X) fields sides e;
+  tells = tells_more X State.Opening text new (Line.Edges w h) (subst (Tells X State.Opening) (sym none) (tells_none X)) fields sides e;
 }
 
 module _ (X : Picture) (k : ℕ) (start : Crack) (f : EdgeFound) (at : IsFoundAt X k start f) (text new : List ℕ) where
@@ -107,15 +107,21 @@ module _ (X : Picture) (k : ℕ) (start : Crack) (f : EdgeFound) (at : IsFoundAt
   stretch_is j l = get_or-map (λ (a : Arc). a.stretch) f.arcs j _ _ l
 
   -- the line of the cycle
-  pub cycle_told : HasTold X k text → spelled.IsLine (Line.Cycle start f.steps (length f.arcs)) → new ≡ text ++ line_text spelled (Line.Cycle start f.steps (length f.arcs)) → Tells X (State.Open (with_arcs k f 0)) new
-  cycle_told t fields e =
-      let l = Line.Cycle start f.steps (length f.arcs) in
-      let more = tells_more X (State.Open t.standing) text new l t.tells fields (record {
+  pub cycle_told : (n m : ℕ) → n ≡ f.steps → m ≡ length f.arcs → HasTold X k text → spelled.IsLine (Line.Cycle start n m) → new ≡ text ++ line_text spelled (Line.Cycle start n m) → Tells X (State.Open (with_arcs k f 0)) new
+  cycle_told n m steps arcs t fields e =
+      let more = tells_more X (State.Open t.standing) text new (Line.Cycle start n m) t.tells fields (record {
         cycles = at.cycles;
         are = at.are;
-        claim = record { full = t.full; path = at.path; next = ap (slice_get at.cycles) t.begun ∙ at.there; count = at.steps; arcs = (at.cover.claims.some, (let few = at.cover.claims.few in let n = at.steps in omega arith)) };
+        claim = record {
+          full = t.full;
+          path = at.path;
+          next = ap (slice_get at.cycles) t.begun ∙ at.there;
+          count = steps ∙ at.steps;
+          arcs = ((let some = at.cover.claims.some in omega (arith, arcs)), (let few = at.cover.claims.few in let p = at.steps in omega (arith, steps, arcs)));
+        };
       }) e in
-      subst (λ n. Tells X (State.Open (record { begun = n + 1; declared = length f.arcs; stretches = []; gaps = 0 })) new) t.begun more
+      subst (λ b. Tells X (State.Open (record { begun = b + 1; declared = length f.arcs; stretches = []; gaps = 0 })) new) t.begun
+      (subst (λ d. Tells X (State.Open (record { begun = t.standing.begun + 1; declared = d; stretches = []; gaps = 0 })) new) arcs more)
 
   -- the line of the next arc
   pub arc_told : (j : ℕ) → j < length f.arcs → Tells X (State.Open (with_arcs k f j)) text → spelled.IsLine (arc_line (arc_in f.arcs j)) → new ≡ text ++ line_text spelled (arc_line (arc_in f.arcs j)) → Tells X (State.Open (with_arcs k f (j + 1))) new
