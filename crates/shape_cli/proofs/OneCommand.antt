@@ -22,6 +22,8 @@ use Rattle.shape_cli.proofs.SourceWords.{same_source}
 again : (f : First) → begin_with (first_word f) ≡ Some f
 again (First.Make ReportKind.Analysis) = refl
 again (First.Check ReportKind.Analysis) = refl
+again (First.Make ReportKind.Edges) = refl
+again (First.Check ReportKind.Edges) = refl
 again First.Trial = refl
 
 pub one_beginning : (f g : First) → first_word f ≡ first_word g → f ≡ g
@@ -45,6 +47,8 @@ same_wanted s t (Wanted.Analysis rule) (Wanted.Analysis rule') k h i e =
     let p = same_source s t (rule ∷ []) (rule' ∷ []) refl h i e in
     let n : rule ≡ rule' = (let l = p.rest in cc) in
     record { source = p.source; wanted = ap (λ r. Wanted.Analysis r) n }
+same_wanted s t Wanted.Edges Wanted.Edges k h i e = record { source = (same_source s t [] [] refl h i e).source; wanted = refl }
+same_wanted s t w v k h i e = absurd (let f = k in cc)
 
 -- the words of trials tell them apart
 same_kind : (k l : Kind) → kind_word k ≡ kind_word l → k ≡ l

@@ -1,6 +1,7 @@
 pub mod Outcomes
 pub mod Numbers
 pub mod Sources
+pub mod Formats
 pub mod Kinds
 pub mod Commands
 pub mod Trials

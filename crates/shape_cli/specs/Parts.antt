@@ -8,6 +8,9 @@ use Rattle.text_terms.specs.Reports.{FirstBad}
 use Rattle.text_terms.specs.Going.{TakesFew}
 use Rattle.shape_desk.specs.Desk.{DeskState, Rose, IsMissing}
 use Rattle.shape_desk.specs.declared.desk.Place.TheVariants.{Report}
+use Rattle.edge_terms.specs.Corners.{HasSmallSides}
+use Rattle.shape_picture.specs.Answers.{Format}
+use Rattle.shape_picture.specs.declared.fault.PictureFault.{PictureFault}
 use Rattle.shape_picture.specs.declared.fault.PictureError.{PictureError}
 use Rattle.shape_picture.specs.declared.fault.PictureError.TheVariants as error
 use Rattle.report_text.specs.Checks.{IsLineNumber}
@@ -19,9 +22,9 @@ use Rattle.shape_cli.specs.declared.picture.Image.{Image}
 use Rattle.shape_cli.specs.declared.picture.Image.TheVariants as image
 use Rattle.shape_cli.specs.declared.making.Made.{Made}
 use Rattle.shape_cli.specs.declared.making.Made.TheVariants as made
-use Rattle.shape_cli.specs.Sources.{Source, file_of}
+use Rattle.shape_cli.specs.Sources.{Kind, IsFlat}
 use Rattle.shape_cli.specs.Kinds.{ReportKind, report_of}
-use Rattle.shape_cli.specs.Runs.{OfFile, IsPictureOf, IsFaultOf, IsRightReport, yes_text, no_text}
+use Rattle.shape_cli.specs.Runs.{OfFile, IsRightReport, yes_text, no_text}
 
 -- the picture that was read, flat or solid
 abbrev pub picture_of : Image → Picture
@@ -33,16 +36,32 @@ abbrev pub seen : Result Image PictureError → Result Picture PictureError
 seen (Ok v) = Ok (picture_of v)
 seen (Err e) = Err e
 
--- what the reading of a source gives, for a report of the kind: its picture, its fault, or the cause of the failure
-abbrev pub Opened : ReportKind → Source → DeskState → DeskState → Result Picture PictureError → Type 0
-Opened kind source old new (Ok X) = IsPictureOf old.files kind source X
-Opened kind source old new (Err (error.Bad f)) = IsFaultOf old.files kind source f
-Opened kind source old new (Err error.ReadFault) = Rose old.read_faults new.read_faults ⊎ IsMissing old.files (file_of source)
-Opened kind source old new (Err error.NoMemory) = ⊤
+-- the kind of the picture that was read
+abbrev pub image_kind : Image → Kind
+image_kind (image.Flat X) = Kind.Flat
+image_kind (image.Solid X) = Kind.Solid
+
+-- what is asked of a picture of which a report of the kind is made or checked
+abbrev pub Suits : ReportKind → Image → Type 0
+Suits ReportKind.Analysis image = ⊤
+Suits ReportKind.Edges image = IsFlat (image_kind image) × HasSmallSides (picture_of image)
+
+-- what the reading of a file in a format gives: its picture, its fault, or the cause of the failure
+abbrev pub Opened : Format → List ℕ → DeskState → DeskState → Result Picture PictureError → Type 0
+Opened F file old new (Ok X) = OfFile old.files file (F.spells X)
+Opened F file old new (Err (error.Bad f)) = OfFile old.files file (F.has_fault f)
+Opened F file old new (Err error.ReadFault) = Rose old.read_faults new.read_faults ⊎ IsMissing old.files file
+Opened F file old new (Err error.NoMemory) = ⊤
+
+-- what a format says of bytes: the picture that they spell, or a fault
+abbrev pub TellsOf : Format → List ℕ → Result Image PictureFault → Type 0
+TellsOf F bytes (Ok v) = F.spells (picture_of v) bytes
+TellsOf F bytes (Err f) = F.has_fault f bytes
 
 -- the bytes of a report that was made
 abbrev pub made_text : Made → List ℕ
 made_text (made.Analysis text) = text
+made_text (made.Edges text) = text
 
 -- the verdict line
 abbrev pub verdict_text : Judgement → List ℕ

@@ -13,6 +13,11 @@ use Rattle.shape_cli.specs.declared.source.Source.TheVariants as source
 pub data Kind : Type 0 where
   Flat Solid : Kind
 
+-- a flat picture
+abbrev pub IsFlat : Kind → Type 0
+IsFlat Kind.Flat = ⊤
+IsFlat Kind.Solid = ⊥
+
 -- where a picture is read: a PBM in a file, or a raw volume of these sides in one
 pub data Source : Type 0 where
   Pbm : (file : List ℕ) → Source

@@ -3,7 +3,7 @@
 ghost use Rattle.std.specs.Prelude.{◌≡◌, ℕ, List, MatchOption, None, Some, Contains, ◌∷◌, [], slice_get};
 ghost use Rattle.thin_terms.specs.Shelves.{names_of};
 ghost use Rattle.shape_cli.specs.Sources.{source_words, kind_at, read_kind, read_source};
-ghost use Rattle.shape_cli.specs.Kinds.{ReportKind as AskedKind, Takes, read_report_kind};
+ghost use Rattle.shape_cli.specs.Kinds.{ReportKind as AskedKind, Takes, IsFound, kind_of, last_words, read_report_kind, read_wanted};
 ghost use Rattle.shape_cli.specs.Commands.{First as AskedFirst, AreTrial, IsNoForm, IsNoRest, IsNoSourceFor, IsRead, IsAtHand, begin_with, first_word, texts, trial_words, words_of, read_command, read_first};
 
 use crate::kind::{ReportKind, Wanted};
@@ -55,6 +55,12 @@ fn beginning(word: &[u8]) -> Option<First>
     if word == b"check".as_slice() {
         return Some(First::Check(ReportKind::Analysis));
     }
+    if word == b"edges".as_slice() {
+        return Some(First::Make(ReportKind::Edges));
+    }
+    if word == b"checkedges".as_slice() {
+        return Some(First::Check(ReportKind::Edges));
+    }
     if word == b"trial".as_slice() {
         return Some(First::Trial);
     }
@@ -102,6 +108,18 @@ fn read_analysis<'a>(rest: &'a [Vec<u8>], shelf: &Shelf) -> Option<Command<'a>>
     Some(Command::Make { source, wanted })
 }
 
+// A report for which no more words are wanted than those of a source.
+fn read_plain<'a>(wanted: Wanted<'a>, rest: &'a [Vec<u8>]) -> Option<Command<'a>>
+    requires plain { last_words (read_wanted wanted) ≡ [] }
+    requires found { (names : List (List ℕ)) → IsFound names wanted }
+    ensures { (names : List (List ℕ)) → MatchOption result
+        (IsNoRest names (AskedFirst.Make (kind_of (read_wanted wanted.entry))) (texts rest.now))
+        (IsRead names (AskedFirst.Make (kind_of (read_wanted wanted.entry))) (texts rest.now)) }
+{
+    let source = source_for(wanted.kind(), rest)?;
+    Some(Command::Make { source, wanted })
+}
+
 // The making of a report of a kind that the words behind the first spell.
 fn read_making<'a>(kind: ReportKind, rest: &'a [Vec<u8>], shelf: &Shelf) -> Option<Command<'a>>
     ensures { MatchOption result
@@ -110,6 +128,7 @@ fn read_making<'a>(kind: ReportKind, rest: &'a [Vec<u8>], shelf: &Shelf) -> Opti
 {
     match kind {
         ReportKind::Analysis => read_analysis(rest, shelf),
+        ReportKind::Edges => read_plain(Wanted::Edges, rest),
     }
 }
 

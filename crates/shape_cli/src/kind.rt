@@ -11,6 +11,8 @@ use crate::source::Kind;
 pub enum ReportKind {
     /// The analysis: counts, distances, outline and thinning.
     Analysis,
+    /// The standard segments of the corner paths of a flat picture.
+    Edges,
 }
 
 impl ReportKind {
@@ -18,8 +20,9 @@ impl ReportKind {
     pub(crate) fn takes(self, kind: Kind) -> bool
         ensures { IsTrue result ↔ Takes (read_report_kind self) (read_kind kind) }
     {
-        match (self, kind) {
-            (ReportKind::Analysis, _) => true,
+        match self {
+            ReportKind::Analysis => true,
+            ReportKind::Edges => kind.is_flat(),
         }
     }
 }
@@ -29,6 +32,8 @@ impl ReportKind {
 pub enum Wanted<'a> {
     /// The analysis by a rule: its name, and its number on the shelf.
     Analysis { rule: &'a [u8], which: usize },
+    /// The standard segments of its corner paths.
+    Edges,
 }
 
 impl Wanted<'_> {
@@ -38,6 +43,7 @@ impl Wanted<'_> {
     {
         match self {
             Wanted::Analysis { .. } => ReportKind::Analysis,
+            Wanted::Edges => ReportKind::Edges,
         }
     }
 }

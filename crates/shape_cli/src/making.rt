@@ -5,10 +5,11 @@ ghost use Rattle.thin_terms.specs.Shelves.{names_of};
 ghost use Rattle.shape_rules.specs.Ruled.{rules_on};
 ghost use Rattle.shape_desk.specs.Desk.{WritesText};
 ghost use Rattle.shape_analyse.specs.Analyses.{IsAnalysisOf};
-ghost use Rattle.shape_cli.specs.Sources.{read_source};
-ghost use Rattle.shape_cli.specs.Kinds.{Makes, IsFound, read_wanted};
+ghost use Rattle.text_terms.specs.Reports.{Holds};
+ghost use Rattle.shape_cli.specs.Sources.{kind_at, read_source};
+ghost use Rattle.shape_cli.specs.Kinds.{Makes, Takes, IsFound, kind_of, read_wanted};
 ghost use Rattle.shape_cli.specs.Commands.{Asked};
-ghost use Rattle.shape_cli.specs.Parts.{picture_of, made_text};
+ghost use Rattle.shape_cli.specs.Parts.{Suits, picture_of, made_text};
 ghost use Rattle.shape_cli.specs.Runs.{Ran, KeepsFiles};
 
 use crate::kind::Wanted;
@@ -17,15 +18,17 @@ use crate::picture::{Image, open_picture};
 use crate::source::Source;
 use shape_analyse::{Analysis, analyse_flat, analyse_solid};
 use shape_desk::Desk;
+use shape_edges::{EdgeReport, edges};
 use shape_report::{Report, WriteFault, write_report};
 use shape_rules::Shelf;
-use shape_space::NoMemory;
+use shape_space::{NoMemory, P2, P3};
 use std::alloc::Global;
 
 /// A report that was made.
 #[derive(Drop)]
 pub enum Made {
     Analysis(Report),
+    Edges(EdgeReport),
 }
 
 impl Made {
@@ -35,6 +38,7 @@ impl Made {
     {
         match self {
             Made::Analysis(report) => write_report(report, desk),
+            Made::Edges(report) => report.write(desk),
         }
     }
 }
@@ -65,6 +69,7 @@ fn make(
     shelf: &mut Shelf,
 ) -> Result<Made, NoMemory>
     requires found { IsFound (names_of shelf.old) wanted }
+    requires suits { Suits (kind_of (read_wanted wanted)) image.now }
     ensures { IfOk result (λ made. Makes (rules_on means shelf.old) (read_wanted wanted.entry)
         (picture_of image.now) (made_text made)) }
 {
@@ -72,6 +77,7 @@ fn make(
         Wanted::Analysis { which, .. } => {
             Ok(Made::Analysis(analysis_of(alloc, image, shelf, which)?.report))
         }
+        Wanted::Edges => Ok(Made::Edges(edges(alloc, image.flat())?)),
     }
 }
 
@@ -84,6 +90,7 @@ pub(crate) fn make_file<D: Desk>(
     desk: &mut D,
 ) -> Outcome
     requires found { IsFound (names_of shelf.old) wanted }
+    requires takes { Takes (kind_of (read_wanted wanted)) (kind_at (read_source source)) }
     ensures ran { Ran (rules_on means shelf.old)
         (Asked.Make (read_source source.entry) (read_wanted wanted.entry))
         (D.state desk.old) (D.state desk.new) result }

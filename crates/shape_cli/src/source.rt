@@ -1,7 +1,7 @@
 //! The sources of pictures: where a picture is read, and the words that say so.
 //! A further source is a variant, and an arm of each `match`.
 ghost use Rattle.std.specs.Prelude.{◌≡◌, ◌≢◌, ◌↔◌, ◌∷◌, [], MatchOption, IsTrue, nat_abs};
-ghost use Rattle.shape_cli.specs.Sources.{Kind as AskedKind, IsNoSides, IsNoSource, most_side_of, kind_word, kind_at, file_of, side_words, source_words, read_kind, read_source};
+ghost use Rattle.shape_cli.specs.Sources.{Kind as AskedKind, IsFlat, IsNoSides, IsNoSource, most_side_of, kind_word, kind_at, file_of, side_words, source_words, read_kind, read_source};
 ghost use Rattle.shape_cli.specs.Commands.{texts};
 
 use crate::numbers::coordinate;
@@ -17,6 +17,16 @@ pub enum Kind {
 }
 
 impl Kind {
+    /// Whether its pictures are flat.
+    pub(crate) fn is_flat(self) -> bool
+        ensures { IsTrue result ↔ IsFlat (read_kind self) }
+    {
+        match self {
+            Kind::Flat => true,
+            Kind::Solid => false,
+        }
+    }
+
     /// The greatest side of its pictures.
     pub(crate) fn most_side(self) -> u32
         ensures { result ≡ most_side_of (read_kind self) }

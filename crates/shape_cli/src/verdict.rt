@@ -7,17 +7,18 @@ ghost use Rattle.shape_desk.specs.declared.desk.Place.TheVariants.{Report};
 ghost use Rattle.report_text.specs.Checks.{HasChecked};
 ghost use Rattle.report_terms.specs.Subjects.{subject_of};
 ghost use Rattle.report_terms.specs.Sections.{analysis};
-ghost use Rattle.shape_cli.specs.Sources.{read_source};
-ghost use Rattle.shape_cli.specs.Kinds.{report_of, read_report_kind};
+ghost use Rattle.shape_cli.specs.Sources.{kind_at, read_source};
+ghost use Rattle.shape_cli.specs.Kinds.{Takes, report_of, read_report_kind};
 ghost use Rattle.shape_cli.specs.Commands.{Asked};
 ghost use Rattle.shape_cli.specs.Outcomes.{outcome_of};
-ghost use Rattle.shape_cli.specs.Parts.{Judged, IsCounted, picture_of, verdict_text};
+ghost use Rattle.shape_cli.specs.Parts.{Suits, Judged, IsCounted, picture_of, verdict_text};
 ghost use Rattle.shape_cli.specs.Runs.{Ran, KeepsFiles};
 
 use crate::kind::ReportKind;
 use crate::outcome::{Outcome, refused};
 use crate::picture::{Image, open_picture};
 use crate::source::Source;
+use judge_edges::check_edges;
 use shape_check::{CheckFault, Judgement, check_flat, check_solid};
 use shape_desk::{Desk, Failed, Place, put_all, put_number, put_word};
 use shape_rules::Shelf;
@@ -50,7 +51,8 @@ fn check_image<D: Desk>(
     shelf: &mut Shelf,
     desk: &mut D,
 ) -> Result<Judgement, CheckFault>
-    requires { (D.state desk.old).begun Report ≡ true }
+    requires begun { (D.state desk.old).begun Report ≡ true }
+    requires suits { Suits (read_report_kind kind) image.now }
     ensures checked { HasChecked
         (report_of (rules_on means shelf.old) (read_report_kind kind) (picture_of image.now))
         ((D.state desk.old).left Report) (D.state desk.old) (D.state desk.new) result }
@@ -58,6 +60,7 @@ fn check_image<D: Desk>(
 {
     match kind {
         ReportKind::Analysis => check_analysis(alloc, image, shelf, desk),
+        ReportKind::Edges => check_edges(alloc, image.flat(), desk),
     }
 }
 
@@ -70,6 +73,7 @@ fn judge<D: Desk>(
     shelf: &mut Shelf,
     desk: &mut D,
 ) -> Result<Judgement, CheckFault>
+    requires suits { Suits (read_report_kind kind) image.now }
     ensures judged { Judged (rules_on means shelf.old) (read_report_kind kind)
         (picture_of image.now) report.now (D.state desk.old) (D.state desk.new) result }
     ensures only { OnlyReads (D.state desk.old) (D.state desk.new) }
@@ -124,6 +128,7 @@ pub(crate) fn check_file<D: Desk>(
     shelf: &mut Shelf,
     desk: &mut D,
 ) -> Outcome
+    requires takes { Takes (read_report_kind kind) (kind_at (read_source source)) }
     ensures ran { Ran (rules_on means shelf.old)
         (Asked.Check (read_source source.entry) (read_report_kind kind) report.now)
         (D.state desk.old) (D.state desk.new) result }
