@@ -13,6 +13,8 @@ pub enum ReportKind {
     Analysis,
     /// The standard segments of the corner paths of a flat picture.
     Edges,
+    /// The object as a union of balls.
+    Balls,
 }
 
 impl ReportKind {
@@ -23,6 +25,7 @@ impl ReportKind {
         match self {
             ReportKind::Analysis => true,
             ReportKind::Edges => kind.is_flat(),
+            ReportKind::Balls => true,
         }
     }
 }
@@ -34,6 +37,8 @@ pub enum Wanted<'a> {
     Analysis { rule: &'a [u8], which: usize },
     /// The standard segments of its corner paths.
     Edges,
+    /// Balls whose union is its object.
+    Balls,
 }
 
 impl Wanted<'_> {
@@ -44,6 +49,7 @@ impl Wanted<'_> {
         match self {
             Wanted::Analysis { .. } => ReportKind::Analysis,
             Wanted::Edges => ReportKind::Edges,
+            Wanted::Balls => ReportKind::Balls,
         }
     }
 }

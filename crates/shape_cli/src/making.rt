@@ -6,6 +6,7 @@ ghost use Rattle.shape_rules.specs.Ruled.{rules_on};
 ghost use Rattle.shape_desk.specs.Desk.{WritesText};
 ghost use Rattle.shape_analyse.specs.Analyses.{IsAnalysisOf};
 ghost use Rattle.text_terms.specs.Reports.{Holds};
+ghost use Rattle.ball_terms.specs.Reports.{ball_report};
 ghost use Rattle.shape_cli.specs.Sources.{kind_at, read_source};
 ghost use Rattle.shape_cli.specs.Kinds.{Makes, Takes, IsFound, kind_of, read_wanted};
 ghost use Rattle.shape_cli.specs.Commands.{Asked};
@@ -17,6 +18,7 @@ use crate::outcome::{Outcome, refused};
 use crate::picture::{Image, open_picture};
 use crate::source::Source;
 use shape_analyse::{Analysis, analyse_flat, analyse_solid};
+use shape_balls::{BallReport, balls};
 use shape_desk::Desk;
 use shape_edges::{EdgeReport, edges};
 use shape_report::{Report, WriteFault, write_report};
@@ -29,6 +31,8 @@ use std::alloc::Global;
 pub enum Made {
     Analysis(Report),
     Edges(EdgeReport),
+    FlatBalls(BallReport<P2>),
+    SolidBalls(BallReport<P3>),
 }
 
 impl Made {
@@ -39,6 +43,8 @@ impl Made {
         match self {
             Made::Analysis(report) => write_report(report, desk),
             Made::Edges(report) => report.write(desk),
+            Made::FlatBalls(report) => report.write(desk),
+            Made::SolidBalls(report) => report.write(desk),
         }
     }
 }
@@ -61,6 +67,16 @@ pub(crate) fn analysis_of(
     }
 }
 
+// The ball report of a picture.
+fn balls_of(alloc: Global, image: &Image) -> Result<Made, NoMemory>
+    ensures { IfOk result (λ made. Holds (ball_report (picture_of image.now)) (made_text made)) }
+{
+    match image {
+        Image::Flat(grid) => Ok(Made::FlatBalls(balls(alloc, grid)?)),
+        Image::Solid(grid) => Ok(Made::SolidBalls(balls(alloc, grid)?)),
+    }
+}
+
 // The report that is wanted of a picture.
 fn make(
     alloc: Global,
@@ -78,6 +94,7 @@ fn make(
             Ok(Made::Analysis(analysis_of(alloc, image, shelf, which)?.report))
         }
         Wanted::Edges => Ok(Made::Edges(edges(alloc, image.flat())?)),
+        Wanted::Balls => balls_of(alloc, image),
     }
 }
 

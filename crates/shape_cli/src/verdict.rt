@@ -7,6 +7,7 @@ ghost use Rattle.shape_desk.specs.declared.desk.Place.TheVariants.{Report};
 ghost use Rattle.report_text.specs.Checks.{HasChecked};
 ghost use Rattle.report_terms.specs.Subjects.{subject_of};
 ghost use Rattle.report_terms.specs.Sections.{analysis};
+ghost use Rattle.ball_terms.specs.Reports.{ball_report};
 ghost use Rattle.shape_cli.specs.Sources.{kind_at, read_source};
 ghost use Rattle.shape_cli.specs.Kinds.{Takes, report_of, read_report_kind};
 ghost use Rattle.shape_cli.specs.Commands.{Asked};
@@ -18,6 +19,7 @@ use crate::kind::ReportKind;
 use crate::outcome::{Outcome, refused};
 use crate::picture::{Image, open_picture};
 use crate::source::Source;
+use judge_balls::check_balls;
 use judge_edges::check_edges;
 use shape_check::{CheckFault, Judgement, check_flat, check_solid};
 use shape_desk::{Desk, Failed, Place, put_all, put_number, put_word};
@@ -43,6 +45,23 @@ pub(crate) fn check_analysis<D: Desk>(
     }
 }
 
+// Checks the ball report that is begun against a picture.
+fn check_ball_report<D: Desk>(
+    alloc: Global,
+    image: &Image,
+    desk: &mut D,
+) -> Result<Judgement, CheckFault>
+    requires { (D.state desk.old).begun Report ≡ true }
+    ensures checked { HasChecked (ball_report (picture_of image.now))
+        ((D.state desk.old).left Report) (D.state desk.old) (D.state desk.new) result }
+    ensures reads { OnlyReadsAt Report (D.state desk.old) (D.state desk.new) }
+{
+    match image {
+        Image::Flat(grid) => check_balls(alloc, grid, desk),
+        Image::Solid(grid) => check_balls(alloc, grid, desk),
+    }
+}
+
 // Checks the report of a kind that is begun against a picture.
 fn check_image<D: Desk>(
     alloc: Global,
@@ -61,6 +80,7 @@ fn check_image<D: Desk>(
     match kind {
         ReportKind::Analysis => check_analysis(alloc, image, shelf, desk),
         ReportKind::Edges => check_edges(alloc, image.flat(), desk),
+        ReportKind::Balls => check_ball_report(alloc, image, desk),
     }
 }
 

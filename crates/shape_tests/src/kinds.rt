@@ -6,14 +6,18 @@ use shape_cli::Outcome;
 use shape_picture::PictureFault;
 use std::test::Fail;
 
-// A square of four pixels.
+// A square of four pixels, and a full volume of eight voxels.
 const SQUARE: &[u8] = b"P1 2 2 1 1 1 1";
+
+const CUBE: &[u8] = &[1; 8];
 
 #[test]
 fn reports_that_are_made_hold(rt: HostRuntime) -> Result<(), Fail> {
     let alloc = rt.alloc();
     for (make, check, picture) in [
         ("edges pbm a", "checkedges pbm a b", SQUARE),
+        ("balls pbm a", "checkballs pbm a b", SQUARE),
+        ("balls raw 2 2 2 a", "checkballs raw 2 2 2 a b", CUBE),
     ] {
         let case = Case {
             line: make,
@@ -34,7 +38,7 @@ fn reports_that_are_made_hold(rt: HostRuntime) -> Result<(), Fail> {
     Ok(())
 }
 
-// A line of each report that is not good: of two steps that go one way.
+// A line of each report that is not good: of two steps that go one way, of a ball that is left out.
 #[test]
 fn forged_lines_are_told(rt: HostRuntime) -> Result<(), Fail> {
     let alloc = rt.alloc();
@@ -44,6 +48,12 @@ fn forged_lines_are_told(rt: HostRuntime) -> Result<(), Fail> {
             "checkedges pbm a b",
             b"fold".as_slice(),
             b"bend 0 1".as_slice(),
+        ),
+        (
+            "balls pbm a",
+            "checkballs pbm a b",
+            b"ball ".as_slice(),
+            b"end".as_slice(),
         ),
     ] {
         let case = Case {
@@ -102,6 +112,9 @@ fn words_of_further_kinds(rt: HostRuntime) -> Result<(), Fail> {
         "checkedges raw 2 2 2 a b",
         "edges pbm a none",
         "checkedges pbm a",
+        "balls pbm a none",
+        "balls raw 2 2 193 a",
+        "checkballs pbm a",
     ] {
         let case = Case {
             line,

@@ -1,7 +1,7 @@
 use Rattle.std.proofs.Common.{subst}
 use Rattle.shape_cli.specs.Sources.{read_source}
 use Rattle.shape_cli.specs.Kinds.{read_wanted}
-use Rattle.shape_cli.specs.Parts.{Suits, picture_of, made_text}
+use Rattle.shape_cli.specs.Parts.{picture_of, made_text}
 use Rattle.shape_cli.specs.Runs.{IsPictureOf}
 use Rattle.shape_cli.specs.declared.outcome.Outcome.TheVariants.{Done}
 use Rattle.shape_cli.proofs.Endings.{cut_short, made}

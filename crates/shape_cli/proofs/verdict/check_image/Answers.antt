@@ -18,3 +18,7 @@ returns-in-Edges-clause-checked g c =
     let checked = subst (λ X. HasChecked (edge_report X) ((s c.args.desk.now).left Report) (s c.args.desk.now) (s c.check_edges.new.desk) c.check_edges.result) c.flat.ensures c.check_edges.ensures.checked in
     checked_as c.args.kind ReportKind.Edges _ (picture_of c.args.image.now) _ (s c.args.desk.now) (s c.check_edges.new.desk) c.check_edges.result (ap read_report_kind c.in-Edges.is) checked
 
+pub returns-in-Balls-clause-checked : goal.returns-in-Balls-clause-checked
+returns-in-Balls-clause-checked g c =
+    let s = g.D.Desk.state in
+    checked_as c.args.kind ReportKind.Balls _ (picture_of c.args.image.now) _ (s c.args.desk.now) (s c.check_ball_report.new.desk) c.check_ball_report.result (ap read_report_kind c.in-Balls.is) c.check_ball_report.ensures.checked
