@@ -10,7 +10,7 @@ pub use Rattle.text_terms.specs.Fields.{count, weight, point, row}
 use Rattle.text_terms.specs.Weights.{why}
 use Rattle.text_terms.specs.Tables as Tables
 use Rattle.text_terms.specs.Tables.{Table}
-use Rattle.report_terms.specs.Forms.{sign}
+use Rattle.report_terms.specs.Forms.{number, sign}
 
 -- ---- kinds
 
@@ -43,7 +43,7 @@ first_word Kind.End = codes "end"
 
 -- what the fields of a line of this kind are
 abbrev pub Fields : Kind → Type 0
-Fields Kind.Shape = Point × List ℕ
+Fields Kind.Shape = ℕ × (Point × List ℕ)
 Fields Kind.Parts = ℕ × (ℕ × ℕ)
 Fields Kind.Near = Point × (Point × ℕ)
 Fields Kind.Contour = Point × (ℕ × (ℕ × ℕ))
@@ -67,7 +67,7 @@ kind_word _ = codes "raw"
 
 -- the fields of a kind of line in reports of pictures with d axes
 abbrev pub form_of : ℕ → (k : Kind) → Form (Fields k)
-form_of d Kind.Shape = behind (codes "1") (behind (kind_word d) (point d ⨾ name))
+form_of d Kind.Shape = number d ⨾ behind (kind_word d) (point d ⨾ name)
 form_of d Kind.Parts = count ⨾ count ⨾ count
 form_of d Kind.Near = point d ⨾ point d ⨾ weight
 form_of d Kind.Contour = of_axes 2 d (point 2 ⨾ natural 4 ⨾ count ⨾ count)
