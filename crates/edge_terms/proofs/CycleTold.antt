@@ -143,9 +143,6 @@ at_both (a ∷ arcs) (e ∷ gaps) h zero l = (refl, refl)
 at_both (a ∷ arcs) (e ∷ gaps) h (suc k) l = at_both arcs gaps (omega arith) k (omega arith)
 
 module _ (c : EdgeCycle) (t : Told) (w : SaysCycle c t) (all : length t.arcs ≡ t.declared) (each : length t.gaps ≡ t.declared) where
-  abbrev whole_arcs : List Arc
-  whole_arcs = with_gaps t.arcs t.gaps
-
   abbrev pub whole_fact : CycleFact
   whole_fact = record { start = t.start; steps = t.steps; arcs = with_gaps t.arcs t.gaps }
 

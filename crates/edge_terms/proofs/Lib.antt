@@ -2,7 +2,6 @@ pub mod Coordinates
 pub mod Shearing
 pub mod EdgeRuns
 pub mod EdgeExcludes
-pub mod EdgeDecides
 pub mod CornerSteps
 pub mod RunArcs
 pub mod RunCoverOf

@@ -19,7 +19,7 @@ use crate::places::{Places, come_next};
 use crate::round::{greatest, load, part};
 use shape_crack::{Contour, Contours, Crack, contours};
 use shape_grid::Grid;
-use shape_refute::{Naive, Refusal, Turn, refuses};
+use shape_refute::{Naive, Refusal, refuses};
 use shape_report::Line;
 use shape_space::{NoMemory, P2};
 use std::alloc::Global;
@@ -247,8 +247,8 @@ impl CoverJudge {
     ///
     /// A `contour` line gives the first crack, the number of points and that of segments of the next
     /// contour, once the one before has all its lines; an `at` line gives the next point, a `seg` line
-    /// the next segment with a line that holds it, and a `turn` or a `cut` line why the run of the next
-    /// gap is not straight for the next axis. A line of another kind is not good here.
+    /// the next segment with a line that holds it, and the line of a gap why the run of the next gap is not
+    /// straight for the next axis. A line of another kind is not good here.
     pub fn take(&mut self, line: &Line<P2>) -> bool
         ensures answer { (X : Picture) (lines : List Terms.Line) → StandsFor X self.old lines
             → (IsTrue result ↔ FlatClaim X lines (line_of point_of line.now)) }
@@ -265,8 +265,7 @@ impl CoverJudge {
             } => self.begin(Crack { p, side }, points, segments),
             Line::At { p } => self.go_on(p),
             Line::Seg { first, last, line } => self.take_segment(Places { first, last }, &line),
-            Line::Turn { axis, i, j } => self.take_gap(axis, &Refusal::Turned(Turn { i, j })),
-            Line::Cut { axis, why } => self.take_gap(axis, &Refusal::Cut(why)),
+            Line::Gap { axis, refusal } => self.take_gap(axis, &refusal),
             _ => false,
         }
     }

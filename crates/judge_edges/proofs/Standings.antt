@@ -42,12 +42,6 @@ next_arc cycles s path n m b e line before same all declared listed more early p
       arc = record { begins = p.begins; rises = p.rises; short = p.short; after = p.after; closes = p.closes; held = subst (λ (l : List Point). IsStandardFor (arc l b e) line) same held };
     }
 
--- and the next arc has such places
-pub arc_places : (cycles : List EdgeCycle) (s : Standing) (n m b e : ℕ) (line : Standard) (before : List Stretch) → n ≡ length (open_path cycles s) → m ≡ s.declared → before ≡ s.stretches → IsNextArc cycles s b e line → AreNextPlaces n m before b e
-arc_places cycles s n m b e line before all declared listed a =
-    subst (λ k. AreNextPlaces k m before b e) (sym all) (subst (λ k. AreNextPlaces (length (open_path cycles s)) k before b e) (sym declared) (subst (λ ss. AreNextPlaces (length (open_path cycles s)) s.declared ss b e) (sym listed)
-    (record { begins = a.arc.begins; rises = a.arc.rises; short = a.arc.short; after = a.arc.after; closes = a.arc.closes })))
-
 -- the run of a gap by its places
 pub gap_is : (path : List Point) (stretches : List Stretch) (k b e : ℕ) → b ≡ next_first path stretches k - 1 → e ≡ (slice_index_or stretches k (record { first = 0; last = 0 })).last + 1 → arc path b e ≡ gap_run path stretches k
 gap_is path stretches k b e p q = λ i. arc path (p i) (q i)

@@ -1,8 +1,25 @@
--- The form of one word that the reports of pictures have beside those of all texts: senses.
+-- Forms of one word that the reports of pictures have beside those of all texts: numbers of reports and senses.
 -- The other forms stand in `text_terms`; which fields a kind of line has stands in `Kinds`.
-use Rattle.std.specs.Prelude.{◌==◌, ℕ, true, if◌then◌else◌, List, get_or, codes}
+use Rattle.std.specs.Prelude.{◌==◌, ◌≤◌, ◌+◌, ◌-◌, ◌&&◌, ℕ, Bool, true, nat_le, if◌then◌else◌, List, [], ◌∷◌, get_or, codes}
 use Rattle.patch_terms.specs.Patches.{Sense}
 use Rattle.text_terms.specs.Forms.{Form, one_word}
+
+-- the greatest number that a report of pictures with d axes has
+abbrev pub last_number : ℕ → ℕ
+last_number d = 1
+
+-- the numbers of reports of pictures with d axes, each of one digit
+abbrev pub IsNumber : ℕ → ℕ → Type 0
+IsNumber d n = (1 ≤ n) × (n ≤ last_number d)
+
+abbrev pub is_number : ℕ → ℕ → Bool
+is_number d n = nat_le 1 n && nat_le n (last_number d)
+
+abbrev pub digit : ℕ → ℕ
+digit n = 48 + n
+
+abbrev pub number : ℕ → Form ℕ
+number d = one_word (IsNumber d) (is_number d) (λ n. digit n ∷ []) (λ w. get_or w 0 0 - 48) 1
 
 -- the sign of a sense, and the sense that is guessed of a word
 abbrev pub sense_word : Sense → List ℕ

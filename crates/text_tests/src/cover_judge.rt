@@ -3,7 +3,7 @@
 use crate::grids::full;
 use judge_cover::CoverJudge;
 use shape_grid::Grid;
-use shape_refute::{Naive, Refutation, Share, Shares, StepShares};
+use shape_refute::{Naive, Refusal, Refutation, Share, Shares, StepShares, Turn};
 use shape_report::Line;
 use shape_space::P2;
 use std::alloc::Global;
@@ -43,7 +43,8 @@ fn seg(first: u32, last: u32, axis: u8, a: [i64; 2], mu: i64) -> Line<P2> {
 }
 
 fn turn(axis: u8, i: u32, j: u32) -> Line<P2> {
-    Line::Turn { axis, i, j }
+    let refusal = Refusal::Turned(Turn { i, j });
+    Line::Gap { axis, refusal }
 }
 
 // The middle place of three, twice.
@@ -72,10 +73,8 @@ fn ends() -> Shares {
 
 fn cut(axis: u8, low: Shares, high: Shares) -> Line<P2> {
     let steps = StepShares::new();
-    Line::Cut {
-        axis,
-        why: Refutation { low, high, steps },
-    }
+    let refusal = Refusal::Cut(Refutation { low, high, steps });
+    Line::Gap { axis, refusal }
 }
 
 // The lines of the ring's two contours: four sides of two steps each, and four diagonal steps.

@@ -17,6 +17,7 @@ fn a_small_report(rt: HostRuntime) -> Result<(), Fail> {
         return Err(Fail::from(AllocError));
     };
     let head = Line::Shape {
+        number: 1,
         sides: P2 { x: 2, y: 1 },
         rule,
     };
