@@ -15,14 +15,10 @@ use Rattle.shape_terms.specs.GapCover.{stretch_at, AreGapped}
 use Rattle.report_terms.specs.ContourFacts.{Segment, stretches_of, GapKind, GapFact, in_pairs, SegmentShows, RefusalShows, ContourShows}
 use Rattle.shape_terms.proofs.ArcRuns.{length-arc}
 use Rattle.shape_terms.proofs.CoverOf.{covers}
+use Rattle.shape_terms.proofs.Senses.{sense_no_turn}
 use Rattle.report_terms.proofs.CoverTaken.{CoverSoFar, IsListed}
 
 -- ---- straight segments
-
--- a run that keeps its sense has no turn
-pub sense_no_turn : (t : ℕ) (run : List Point) → KeepsSense t run → (i j : ℕ) → IsTurn t run i j → ⊥
-sense_no_turn t run (inl h) i j u = u.not_forward (h i u.first, h j u.second)
-sense_no_turn t run (inr h) i j u = u.not_backward (h i u.first, h j u.second)
 
 straight_for : (points : List Point) (m : ℕ) (before : List Stretch) (b e t : ℕ) (line : Naive) → IsSegment points m before b e t line → IsStraightFor t (arc points b e)
 straight_for points m before b e t line s = record {

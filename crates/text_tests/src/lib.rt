@@ -15,6 +15,8 @@ mod grids;
 #[cfg(test)]
 mod picture;
 #[cfg(test)]
+mod piece_reports;
+#[cfg(test)]
 mod plane_judge;
 #[cfg(test)]
 mod report;
