@@ -1,9 +1,9 @@
 -- A report of pieces that holds shows for each contour of the picture a split with the fewest pieces.
 -- What good lines list stands in `Listed`; here they are read off a report.
-use Rattle.std.proofs.Common.{◌≡◌, ℕ, suc, List, [], ◌∷◌, ◌++◌, map, take, refl, ap, sym, ◌∙◌, subst, append-nil}
+use Rattle.std.proofs.Common.{◌≡◌, ℕ, suc, List, [], ◌∷◌, ◌++◌, take, refl, ◌∙◌, subst, append-nil}
 use Rattle.std.specs.Prelude.{slice_get, filter_map, Some}
 use Rattle.shape_terms.specs.Pictures.{Picture}
-use Rattle.shape_terms.specs.Traces.{Contour, AreContours, contour_of}
+use Rattle.shape_terms.specs.Traces.{Contour, AreContours}
 use Rattle.shape_terms.proofs.ContourLists.{contours_same}
 use Rattle.text_terms.specs.Courses.{Course, after}
 use Rattle.text_terms.specs.Reports.{Holds}

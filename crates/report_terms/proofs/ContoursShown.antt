@@ -6,7 +6,7 @@ use Rattle.std.proofs.lemmas.List.{length-append, map-append, take_all}
 use Rattle.std.proofs.lemmas.List.Elements.{All-nil, All-push, All-map}
 use Rattle.std.proofs.lemmas.Option.{get_or_from_slice_get}
 use Rattle.shape_terms.specs.Pictures.{Picture}
-use Rattle.shape_terms.specs.Traces.{Contour, AreContours, contour_of}
+use Rattle.shape_terms.specs.Traces.{Contour, AreContours}
 use Rattle.shape_terms.specs.Covers.{IsSegment, Evidence, IsEvidence, gap_run}
 use Rattle.report_terms.specs.ContourFacts.{ContourFact, stretches_of, GapFact, GapKind, ContourShows, ContoursShow}
 use Rattle.report_terms.specs.Lines.{Line, IsLineOf}

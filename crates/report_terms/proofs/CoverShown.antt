@@ -7,8 +7,7 @@ use Rattle.std.proofs.lemmas.List.Elements.{All-from_get_or}
 use Rattle.std.proofs.lemmas.Option.{slice_get-map, slice_get-get_or, get_or_from_slice_get}
 use Rattle.shape_terms.specs.Points.{Point}
 use Rattle.shape_terms.specs.Naive.{Naive}
-use Rattle.shape_terms.specs.Turns.{IsTurn}
-use Rattle.shape_terms.specs.Straight.{KeepsSense, IsStraightFor, IsStraight}
+use Rattle.shape_terms.specs.Straight.{IsStraightFor, IsStraight}
 use Rattle.shape_terms.specs.Contours.{Crack}
 use Rattle.shape_terms.specs.Covers.{Stretch, IsSegment, Evidence, IsEvidence, arc, gap_run}
 use Rattle.shape_terms.specs.GapCover.{stretch_at, AreGapped}
