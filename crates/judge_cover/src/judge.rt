@@ -1,5 +1,5 @@
 //! The judge: it goes through the contours of the picture, and through the lines of each.
-//! What a line says of its segment or its gap is tested in `line` and `places`.
+//! Which places a segment goes from and to is tested in `places`.
 ghost use Rattle.std.specs.Prelude.{◌≡◌, ◌+◌, ◌-◌, ◌*◌, ◌/◌, ◌%◌, ◌<◌, ◌≤◌, ◌^◌, ◌↔◌, [], ◌∷◌, ◌++◌, List, length, map, slice_index_or, IsTrue, IfOk};
 ghost use Rattle.std.specs.Bool.{OnTrue};
 ghost use Rattle.shape_terms.specs.Pictures.{Picture};
@@ -14,12 +14,11 @@ ghost use Rattle.judge_cover.specs.CoverState.{StandsFor, room_of, open_points, 
 ghost use Rattle.judge_cover.specs.Places.{stretch_of};
 ghost use Rattle.shape_refute.specs.Evidences.{evidence_of};
 
-use crate::line::holds_segment;
 use crate::places::{Places, come_next};
 use crate::round::{greatest, load, part};
 use shape_crack::{Contour, Contours, Crack, contours};
 use shape_grid::Grid;
-use shape_refute::{Naive, Refusal, refuses};
+use shape_refute::{Naive, Refusal, holds_segment, refuses};
 use shape_report::Line;
 use shape_space::{NoMemory, P2};
 use std::alloc::Global;

@@ -11,7 +11,7 @@ use Rattle.text_terms.proofs.CourseLaws.{ended_exactly}
 use Rattle.piece_terms.specs.SplitLines.{Standing}
 use Rattle.piece_terms.specs.Lines.{Line}
 use Rattle.piece_terms.specs.PieceReports.{State, IsHeading, ListClaim, Claim, HasEnded, course}
-use Rattle.piece_terms.proofs.HoldsShows.{contours_same}
+use Rattle.shape_terms.proofs.ContourLists.{contours_same}
 use Rattle.piece_terms.proofs.LineLaws.{ends_by}
 use Rattle.shape_crack.specs.Terms.{point_of}
 use Rattle.judge_pieces.specs.PieceState.{Listed}

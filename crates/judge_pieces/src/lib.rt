@@ -10,7 +10,6 @@ mod lister;
 mod phase;
 mod put;
 mod read;
-mod segment;
 mod stand;
 
 pub use check::check_pieces;

@@ -1,5 +1,5 @@
 //! Where the lines that list the splits of contours stand, with the contours themselves: which of these lines is good next.
-//! What a line says of the points of a piece is tested in `segment`, and which line comes next in `stand`.
+//! Which line comes next is tested in `stand`.
 ghost use Rattle.std.specs.Prelude.{◌≡◌, ◌<◌, ◌≤◌, ◌^◌, ◌↔◌, length, map, IsTrue, IfOk};
 ghost use Rattle.std.specs.Bool.{OnTrue};
 ghost use Rattle.shape_terms.specs.Traces.{AreContours};
@@ -15,11 +15,10 @@ ghost use Rattle.judge_pieces.specs.Judged.{IsStepped, phase_after, room_in};
 ghost use Rattle.judge_pieces.specs.declared.phase.Phase.TheVariants.{Listing};
 
 use crate::line::PieceLine;
-use crate::segment::holds_segment;
 use crate::stand::Stand;
 use shape_crack::{Contour, Contours, Crack, contours};
 use shape_grid::Grid;
-use shape_refute::{Naive, Refusal, refuses};
+use shape_refute::{Naive, Refusal, holds_segment, refuses};
 use shape_space::{NoMemory, P2};
 use std::alloc::Global;
 use std::marker::Model;

@@ -1,10 +1,10 @@
 -- A report of pieces that holds shows for each contour of the picture a split with the fewest pieces.
 -- What good lines list stands in `Listed`; here they are read off a report.
-use Rattle.std.proofs.Common.{◌≡◌, ℕ, suc, List, [], ◌∷◌, ◌++◌, map, take, refl, ap, sym, ◌∙◌, subst, append-nil}
+use Rattle.std.proofs.Common.{◌≡◌, ℕ, suc, List, [], ◌∷◌, ◌++◌, take, refl, ◌∙◌, subst, append-nil}
 use Rattle.std.specs.Prelude.{slice_get, filter_map, Some}
 use Rattle.shape_terms.specs.Pictures.{Picture}
-use Rattle.shape_terms.specs.Traces.{Contour, AreContours, contour_of}
-use Rattle.shape_terms.proofs.SameCycles.{cycles_same}
+use Rattle.shape_terms.specs.Traces.{Contour, AreContours}
+use Rattle.shape_terms.proofs.ContourLists.{contours_same}
 use Rattle.text_terms.specs.Courses.{Course, after}
 use Rattle.text_terms.specs.Reports.{Holds}
 use Rattle.piece_terms.specs.SplitLines.{Standing, at_start, after_line}
@@ -12,10 +12,6 @@ use Rattle.piece_terms.specs.Lines.{Line}
 use Rattle.piece_terms.specs.PieceReports.{State, ListClaim, Claim, course, piece_report}
 use Rattle.piece_terms.specs.Shown.{facts_of, listed, SplitsShow, PiecesShow}
 use Rattle.piece_terms.proofs.Listed.{GoodFrom, all_shown}
-
--- a picture has one list of contours
-pub contours_same : (X : Picture) (a b : List Contour) → AreContours X a → AreContours X b → a ≡ b
-contours_same X a b h k = h.contours_are ∙ ap (map (contour_of X)) (cycles_same X h.cycles k.cycles h.are k.are) ∙ sym k.contours_are
 
 -- each line is good in the state that the lines before it led to
 abbrev pub GoodSteps : {L S : Type 0} → Course L S → S → List L → Type 0

@@ -19,6 +19,8 @@ mod grids;
 #[cfg(test)]
 mod picture;
 #[cfg(test)]
+mod piece_reports;
+#[cfg(test)]
 mod plane_judge;
 #[cfg(test)]
 mod report;
