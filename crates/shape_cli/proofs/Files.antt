@@ -9,6 +9,7 @@ use Rattle.text_terms.specs.Reports.{Holds}
 use Rattle.report_terms.specs.Subjects.{subject_of}
 use Rattle.report_terms.proofs.HoldsShows as analysis
 use Rattle.edge_terms.proofs.EdgesShown as edges
+use Rattle.piece_terms.proofs.HoldsShows as pieces
 use Rattle.ball_terms.proofs.HoldsShows as balls
 use Rattle.shape_desk.specs.Desk.{Files, DeskState, Rose, IsAtFront}
 use Rattle.shape_desk.specs.declared.desk.Place.TheVariants.{Report}
@@ -44,6 +45,7 @@ weaker (Some bytes) P Q f h = f bytes h
 shows : (shelf : List (Named Rule)) (kind : ReportKind) (X : Picture) (bytes : List ℕ) → Holds (report_of shelf kind X) bytes → ShowsOf shelf kind X bytes
 shows shelf ReportKind.Analysis X bytes h = analysis.holds_shows (subject_of X shelf) bytes h
 shows shelf ReportKind.Edges X bytes h = edges.holds_shows X bytes h
+shows shelf ReportKind.Pieces X bytes h = pieces.holds_shows X bytes h
 shows shelf ReportKind.Balls X bytes h = balls.holds_shows X bytes h
 
 -- the check of a report of one kind

@@ -64,4 +64,5 @@ module _ (most : ℕ) (F : Format) (is : IsFormat F) where
 pub format_is : (kind : ReportKind) (source : Source) → IsFormat (format_for kind source)
 format_is ReportKind.Analysis source = format_of_source source
 format_is ReportKind.Edges source = narrowed_is 1000 (format_of source) (format_of_source source)
+format_is ReportKind.Pieces source = format_of_source source
 format_is ReportKind.Balls source = format_of_source source

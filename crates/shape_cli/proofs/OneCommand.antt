@@ -24,6 +24,8 @@ again (First.Make ReportKind.Analysis) = refl
 again (First.Check ReportKind.Analysis) = refl
 again (First.Make ReportKind.Edges) = refl
 again (First.Check ReportKind.Edges) = refl
+again (First.Make ReportKind.Pieces) = refl
+again (First.Check ReportKind.Pieces) = refl
 again (First.Make ReportKind.Balls) = refl
 again (First.Check ReportKind.Balls) = refl
 again First.Trial = refl
@@ -50,6 +52,7 @@ same_wanted s t (Wanted.Analysis rule) (Wanted.Analysis rule') k h i e =
     let n : rule ≡ rule' = (let l = p.rest in cc) in
     record { source = p.source; wanted = ap (λ r. Wanted.Analysis r) n }
 same_wanted s t Wanted.Edges Wanted.Edges k h i e = record { source = (same_source s t [] [] refl h i e).source; wanted = refl }
+same_wanted s t Wanted.Pieces Wanted.Pieces k h i e = record { source = (same_source s t [] [] refl h i e).source; wanted = refl }
 same_wanted s t Wanted.Balls Wanted.Balls k h i e = record { source = (same_source s t [] [] refl h i e).source; wanted = refl }
 same_wanted s t w v k h i e = absurd (let f = k in cc)
 

@@ -43,6 +43,7 @@ analysis_by_none names rest at last w n = analysis_by names rest (λ s rule h t 
 same_count : (w v : Wanted) → kind_of w ≡ kind_of v → length (last_words w) ≡ length (last_words v)
 same_count (Wanted.Analysis rule) (Wanted.Analysis rule') k = refl
 same_count Wanted.Edges Wanted.Edges k = refl
+same_count Wanted.Pieces Wanted.Pieces k = refl
 same_count Wanted.Balls Wanted.Balls k = refl
 same_count w v k = absurd (let f = k in cc)
 
@@ -67,6 +68,7 @@ named_at names i rule there = (i, slice_get_within names i rule there, get_or_fr
 named : (names : List (List ℕ)) (w : ProgramWanted) → IsFound names w → IsNamed names (read_wanted w)
 named names (wanted.Analysis rule which) f = named_at names which rule.now f
 named names wanted.Edges f = tt
+named names wanted.Pieces f = tt
 named names wanted.Balls f = tt
 
 in_range : (names : List (List ℕ)) (c : Command) → IsAtHand names c → IsInRange names (read_command c)

@@ -45,6 +45,7 @@ image_kind (image.Solid X) = Kind.Solid
 abbrev pub Suits : ReportKind → Image → Type 0
 Suits ReportKind.Analysis image = ⊤
 Suits ReportKind.Edges image = IsFlat (image_kind image) × HasSmallSides (picture_of image)
+Suits ReportKind.Pieces image = IsFlat (image_kind image)
 Suits ReportKind.Balls image = ⊤
 
 -- what the reading of a file in a format gives: its picture, its fault, or the cause of the failure
@@ -63,6 +64,7 @@ TellsOf F bytes (Err f) = F.has_fault f bytes
 abbrev pub made_text : Made → List ℕ
 made_text (made.Analysis text) = text
 made_text (made.Edges text) = text
+made_text (made.Pieces text) = text
 made_text (made.FlatBalls listed) = listed.text
 made_text (made.SolidBalls listed) = listed.text
 

@@ -61,6 +61,12 @@ fn beginning(word: &[u8]) -> Option<First>
     if word == b"checkedges".as_slice() {
         return Some(First::Check(ReportKind::Edges));
     }
+    if word == b"pieces".as_slice() {
+        return Some(First::Make(ReportKind::Pieces));
+    }
+    if word == b"checkpieces".as_slice() {
+        return Some(First::Check(ReportKind::Pieces));
+    }
     if word == b"balls".as_slice() {
         return Some(First::Make(ReportKind::Balls));
     }
@@ -135,6 +141,7 @@ fn read_making<'a>(kind: ReportKind, rest: &'a [Vec<u8>], shelf: &Shelf) -> Opti
     match kind {
         ReportKind::Analysis => read_analysis(rest, shelf),
         ReportKind::Edges => read_plain(Wanted::Edges, rest),
+        ReportKind::Pieces => read_plain(Wanted::Pieces, rest),
         ReportKind::Balls => read_plain(Wanted::Balls, rest),
     }
 }

@@ -13,6 +13,8 @@ pub enum ReportKind {
     Analysis,
     /// The standard segments of the corner paths of a flat picture.
     Edges,
+    /// The fewest straight pieces of the contours of a flat picture.
+    Pieces,
     /// The object as a union of balls.
     Balls,
 }
@@ -25,6 +27,7 @@ impl ReportKind {
         match self {
             ReportKind::Analysis => true,
             ReportKind::Edges => kind.is_flat(),
+            ReportKind::Pieces => kind.is_flat(),
             ReportKind::Balls => true,
         }
     }
@@ -37,6 +40,8 @@ pub enum Wanted<'a> {
     Analysis { rule: &'a [u8], which: usize },
     /// The standard segments of its corner paths.
     Edges,
+    /// The fewest straight pieces of its contours.
+    Pieces,
     /// Balls whose union is its object.
     Balls,
 }
@@ -49,6 +54,7 @@ impl Wanted<'_> {
         match self {
             Wanted::Analysis { .. } => ReportKind::Analysis,
             Wanted::Edges => ReportKind::Edges,
+            Wanted::Pieces => ReportKind::Pieces,
             Wanted::Balls => ReportKind::Balls,
         }
     }

@@ -21,6 +21,7 @@ use shape_analyse::{Analysis, analyse_flat, analyse_solid};
 use shape_balls::{BallReport, balls};
 use shape_desk::Desk;
 use shape_edges::{EdgeReport, edges};
+use shape_pieces::{PieceReport, pieces};
 use shape_report::{Report, WriteFault, write_report};
 use shape_rules::Shelf;
 use shape_space::{NoMemory, P2, P3};
@@ -31,6 +32,7 @@ use std::alloc::Global;
 pub enum Made {
     Analysis(Report),
     Edges(EdgeReport),
+    Pieces(PieceReport),
     FlatBalls(BallReport<P2>),
     SolidBalls(BallReport<P3>),
 }
@@ -43,6 +45,7 @@ impl Made {
         match self {
             Made::Analysis(report) => write_report(report, desk),
             Made::Edges(report) => report.write(desk),
+            Made::Pieces(report) => report.write(desk),
             Made::FlatBalls(report) => report.write(desk),
             Made::SolidBalls(report) => report.write(desk),
         }
@@ -94,6 +97,7 @@ fn make(
             Ok(Made::Analysis(analysis_of(alloc, image, shelf, which)?.report))
         }
         Wanted::Edges => Ok(Made::Edges(edges(alloc, image.flat())?)),
+        Wanted::Pieces => Ok(Made::Pieces(pieces(alloc, image.flat())?)),
         Wanted::Balls => balls_of(alloc, image),
     }
 }

@@ -106,6 +106,7 @@ fn suited(kind: ReportKind, image: Image) -> Result<Image, PictureFault>
             None => Ok(image),
         },
         ReportKind::Analysis => Ok(image),
+        ReportKind::Pieces => Ok(image),
         ReportKind::Balls => Ok(image),
     }
 }

@@ -21,6 +21,7 @@ use crate::picture::{Image, open_picture};
 use crate::source::Source;
 use judge_balls::check_balls;
 use judge_edges::check_edges;
+use judge_pieces::check_pieces;
 use shape_check::{CheckFault, Judgement, check_flat, check_solid};
 use shape_desk::{Desk, Failed, Place, put_all, put_number, put_word};
 use shape_rules::Shelf;
@@ -80,6 +81,7 @@ fn check_image<D: Desk>(
     match kind {
         ReportKind::Analysis => check_analysis(alloc, image, shelf, desk),
         ReportKind::Edges => check_edges(alloc, image.flat(), desk),
+        ReportKind::Pieces => check_pieces(alloc, image.flat(), desk),
         ReportKind::Balls => check_ball_report(alloc, image, desk),
     }
 }

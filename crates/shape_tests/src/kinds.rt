@@ -16,6 +16,7 @@ fn reports_that_are_made_hold(rt: HostRuntime) -> Result<(), Fail> {
     let alloc = rt.alloc();
     for (make, check, picture) in [
         ("edges pbm a", "checkedges pbm a b", SQUARE),
+        ("pieces pbm a", "checkpieces pbm a b", SQUARE),
         ("balls pbm a", "checkballs pbm a b", SQUARE),
         ("balls raw 2 2 2 a", "checkballs raw 2 2 2 a b", CUBE),
     ] {
@@ -38,7 +39,7 @@ fn reports_that_are_made_hold(rt: HostRuntime) -> Result<(), Fail> {
     Ok(())
 }
 
-// A line of each report that is not good: of two steps that go one way, of a ball that is left out.
+// A line of each report that is not good: of two steps that go one way, of a piece that its line leaves out, of a ball that is left out.
 #[test]
 fn forged_lines_are_told(rt: HostRuntime) -> Result<(), Fail> {
     let alloc = rt.alloc();
@@ -48,6 +49,12 @@ fn forged_lines_are_told(rt: HostRuntime) -> Result<(), Fail> {
             "checkedges pbm a b",
             b"fold".as_slice(),
             b"bend 0 1".as_slice(),
+        ),
+        (
+            "pieces pbm a",
+            "checkpieces pbm a b",
+            b"piece".as_slice(),
+            b"piece 0 1 y 0 1 1".as_slice(),
         ),
         (
             "balls pbm a",
@@ -112,6 +119,9 @@ fn words_of_further_kinds(rt: HostRuntime) -> Result<(), Fail> {
         "checkedges raw 2 2 2 a b",
         "edges pbm a none",
         "checkedges pbm a",
+        "pieces raw 2 2 2 a",
+        "checkpieces raw 2 2 2 a b",
+        "pieces pbm a none",
         "balls pbm a none",
         "balls raw 2 2 193 a",
         "checkballs pbm a",
