@@ -1,9 +1,8 @@
 -- The keys of a queue while a rank is put into its set or taken out, and the least of them.
 -- Laws over keys and lists alone.
-use Rattle.std.proofs.Common.{◌≡◌, ◌≢◌, ◌⊎◌, inl, inr, ℕ, ◌*◌, ◌<◌, ◌≤◌, Bool, true, false, cond, eqb, ltb, List, length, slice_index, refl, sym, ◌∙◌, ap, subst, arith}
+use Rattle.std.proofs.Common.{◌≡◌, ◌⊎◌, inl, inr, ℕ, ◌<◌, Bool, true, false, cond, eqb, ltb, List, length, slice_index, refl, sym, ◌∙◌, ap, subst, arith}
 use Rattle.std.specs.Prelude.{◌&&◌}
 use Rattle.std.proofs.lemmas.Bool.{eqb-true, eq-eqb, ltb-true, lt-ltb}
-use Rattle.std.specs.Ordering.{is_gt}
 use Rattle.std.specs.BTreeMap.{is_at}
 use native.Mathlib.Decide.{ℕ_discrete, dec_lt}
 use Rattle.shape_bits.specs.Sets.{In, bit_of, IsPut, IsLeast}

@@ -5,8 +5,6 @@
 #[cfg(test)]
 mod pictures;
 #[cfg(test)]
-mod queue;
-#[cfg(test)]
 mod refute;
 #[cfg(test)]
 mod rules;

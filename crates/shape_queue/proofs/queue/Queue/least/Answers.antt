@@ -1,4 +1,4 @@
-use Rattle.std.proofs.Common.{◌≡◌, ◌<◌, ◌≤◌, ◌∙◌, ℕ, List, length, vec_len, slice_index, rules, arith}
+use Rattle.std.proofs.Common.{◌≡◌, ◌<◌, ◌∙◌, ℕ, List, length, vec_len, slice_index, rules, arith}
 use Rattle.std.proofs.lemmas.List.{get_or_default}
 use Rattle.shape_queue.specs.Ranks.{AreFitting, rank_in}
 use Rattle.shape_queue.proofs.RankLaws.{rank_small}
