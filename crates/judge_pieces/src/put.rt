@@ -27,7 +27,8 @@ fn put_pieces(sides: P2, text: &mut Text)
 // Puts the words of a `chain` line.
 fn put_chain(start: Crack, points: u32, pieces: u32, text: &mut Text)
     requires { text.old ≡ [] }
-    ensures { text.new ≡ kind_text table Kind.Chain (point_of start.p, (start.side, (points, pieces))) }
+    ensures { text.new
+        ≡ kind_text table Kind.Chain (point_of start.p, (start.side, (points, pieces))) }
 {
     text.put(b"chain");
     text.point(start.p);

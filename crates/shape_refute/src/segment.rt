@@ -12,7 +12,8 @@ use shape_space::P2;
 
 // Whether the line holds each point.
 fn holds_all(run: &[P2], line: &Naive) -> bool
-    ensures { IsTrue result ↔ HoldsAll line.now.axis (naive_of 2 line.now) (map flat_point run.now) }
+    ensures { IsTrue result
+        ↔ HoldsAll line.now.axis (naive_of 2 line.now) (map flat_point run.now) }
 {
     for i in 0..run.len() {
         if !holds(line, run[i]) {
