@@ -1,99 +1,80 @@
 //! Contours of small pictures, walked by hand.
-//! A further picture is its object points, the first crack of each contour, and the points of all.
-use crate::pictures::{at, of_points};
-use shape_crack::{Crack, contours, is_crack, successor, trace};
+//! A further picture is one more row of a table.
+use crate::pictures::{at, drawn, put_point};
+use shape_crack::{Contour, Crack, contours, is_crack, successor, trace};
 use shape_grid::Grid;
 use shape_space::P2;
 use std::alloc::Global;
 use std::test::Fail;
 
-// The first crack of each contour, and the points of all of them.
-fn contours_of(alloc: Global, grid: &Grid<P2>) -> Result<(Vec<Crack>, Vec<P2>), Fail> {
-    let all = contours(alloc, grid)?;
-    let mut starts = Vec::new(alloc);
-    let mut points = Vec::new(alloc);
-    for k in 0..all.len() {
-        let contour = all.contour(k);
-        starts.push(contour.start())?;
-        for i in 0..contour.len() {
-            points.push(contour.point(i))?;
-        }
+// Puts the first crack of a contour and its points behind a text.
+fn put_contour(text: &mut String, contour: &Contour) -> Result<(), Fail> {
+    let Crack { p, side } = contour.start();
+    write!(text, "{} {} {side}:", p.x, p.y)?;
+    for i in 0..contour.len() {
+        put_point(text, contour.point(i), ",")?;
     }
-    Ok((starts, points))
+    Ok(())
 }
 
-// The crack of a pixel and one of its sides.
-const fn over(x: i32, y: i32, side: u8) -> Crack {
-    Crack { p: at(x, y), side }
+// The contours of a picture.
+fn told(alloc: Global, grid: &Grid<P2>) -> Result<String, Fail> {
+    let mut text = String::new(alloc);
+    let all = contours(alloc, grid)?;
+    for k in 0..all.len() {
+        put_contour(&mut text, all.contour(k))?;
+    }
+    Ok(text)
 }
+
+const CONTOURS: [(&str, &str); 4] = [
+    ("#", "0 0 0: 0 0,"),
+    ("##/##", "0 0 0: 0 0, 1 0, 1 1, 0 1,"),
+    ("#./.#", "0 0 0: 0 0, 1 1,"),
+    (
+        "###/#.#/###",
+        "0 0 0: 0 0, 1 0, 2 0, 2 1, 2 2, 1 2, 0 2, 0 1,1 0 2: 1 0, 0 1, 1 2, 2 1,",
+    ),
+];
 
 #[test]
 fn contours_of_small_pictures(rt: HostRuntime) -> Result<(), Fail> {
-    let alloc = rt.alloc();
-
-    let one = of_points(alloc, at(1, 1), &[at(0, 0)])?;
-    let (starts, points) = contours_of(alloc, &one)?;
-    assert_eq!(rt; starts.as_slice(), [over(0, 0, 0)].as_slice());
-    assert_eq!(rt; points.as_slice(), [at(0, 0)].as_slice());
-
-    let full = of_points(alloc, at(2, 2), &[at(0, 0), at(1, 0), at(0, 1), at(1, 1)])?;
-    let (starts, points) = contours_of(alloc, &full)?;
-    assert_eq!(rt; starts.as_slice(), [over(0, 0, 0)].as_slice());
-    assert_eq!(rt;
-        points.as_slice(),
-        [at(0, 0), at(1, 0), at(1, 1), at(0, 1)].as_slice()
-    );
-
-    let corner = of_points(alloc, at(2, 2), &[at(0, 0), at(1, 1)])?;
-    let (starts, points) = contours_of(alloc, &corner)?;
-    assert_eq!(rt; starts.as_slice(), [over(0, 0, 0)].as_slice());
-    assert_eq!(rt; points.as_slice(), [at(0, 0), at(1, 1)].as_slice());
+    for (rows, want) in &CONTOURS {
+        let grid = drawn(rt.alloc(), rows)?;
+        assert!(rt; told(rt.alloc(), &grid)?.as_str() == *want, "{rows}");
+    }
     Ok(())
 }
 
-#[test]
-fn contours_of_a_ring(rt: HostRuntime) -> Result<(), Fail> {
-    let alloc = rt.alloc();
-    let outer = [
-        at(0, 0),
-        at(1, 0),
-        at(2, 0),
-        at(2, 1),
-        at(2, 2),
-        at(1, 2),
-        at(0, 2),
-        at(0, 1),
-    ];
-    let ring = of_points(alloc, at(3, 3), &outer)?;
-    let (starts, points) = contours_of(alloc, &ring)?;
-    assert_eq!(rt;
-        starts.as_slice(),
-        [over(0, 0, 0), over(1, 0, 2)].as_slice()
-    );
-    assert_eq!(rt; points.len(), 12);
-    assert_eq!(rt; &points[..8], outer.as_slice());
-    assert_eq!(rt;
-        &points[8..],
-        [at(1, 0), at(0, 1), at(1, 2), at(2, 1)].as_slice()
-    );
-    Ok(())
+// The crack behind one, and the contour from it on; nothing where it is none.
+fn behind(alloc: Global, grid: &Grid<P2>, c: Crack) -> Result<String, Fail> {
+    let mut text = String::new(alloc);
+    if is_crack(grid, c) {
+        let next = successor(grid, c);
+        write!(text, "{} {} {}, ", next.p.x, next.p.y, next.side)?;
+        put_contour(&mut text, &trace(alloc, grid, c)?)?;
+    }
+    Ok(text)
 }
 
 #[test]
 fn one_crack_after_another(rt: HostRuntime) -> Result<(), Fail> {
-    let alloc = rt.alloc();
-    let full = of_points(alloc, at(2, 1), &[at(0, 0), at(1, 0)])?;
-    let first = over(1, 0, 1);
-    assert!(rt; !is_crack(&full, over(0, 0, 1)));
-    assert!(rt; over(0, 0, 3) < first);
-    let first_is_crack = is_crack(&full, first);
-    assert!(rt; first_is_crack);
-    assert_eq!(rt; successor(&full, first), over(1, 0, 2));
-
-    let contour = trace(alloc, &full, first)?;
-    assert_eq!(rt; contour.start(), first);
-    assert_eq!(rt; contour.len(), 2);
-    assert_eq!(rt; contour.point(0), at(1, 0));
-    assert_eq!(rt; contour.point(1), at(0, 0));
+    let grid = drawn(rt.alloc(), "##")?;
+    let inside = Crack {
+        p: at(0, 0),
+        side: 1,
+    };
+    let outside = Crack {
+        p: at(1, 0),
+        side: 1,
+    };
+    assert!(rt; behind(rt.alloc(), &grid, inside)?.as_str() == "");
+    assert!(rt; behind(rt.alloc(), &grid, outside)?.as_str() == "1 0 2, 1 0 1: 1 0, 0 0,");
+    assert!(rt;
+        Crack {
+            p: at(0, 0),
+            side: 3
+        } < outside
+    );
     Ok(())
 }

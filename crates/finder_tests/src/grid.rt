@@ -1,31 +1,18 @@
 //! One small grid, changed and copied.
-//! Its values and its points are told by hand.
-use crate::pictures::{at, blank};
+//! Its points are told by hand.
+use crate::pictures::{at, drawn, told_points};
 use std::test::Fail;
 
 #[test]
 fn a_small_grid(rt: HostRuntime) -> Result<(), Fail> {
-    let alloc = rt.alloc();
-    let mut grid = blank(alloc, at(2, 2))?;
-    let corner = at(1, 0);
-    let other = at(0, 1);
-    if grid.sides().inside(corner) {
-        grid.set(corner);
+    let mut grid = drawn(rt.alloc(), ".#/#.")?;
+    let copy = grid.copy(rt.alloc())?;
+    let p = at(0, 1);
+    if grid.sides().inside(p) {
+        grid.clear(p);
     }
-    if grid.sides().inside(other) {
-        grid.set(other);
-    }
-    let copy = grid.copy(alloc)?;
-    if grid.sides().inside(other) {
-        grid.clear(other);
-    }
-    assert_eq!(rt; (grid.count(), copy.count()), (1, 2));
-    assert!(rt; grid.has(corner) && !grid.has(other) && copy.has(other));
-    assert!(rt; !grid.has(at(2, 0)));
-    let mut points = Vec::new(alloc);
-    for p in copy.objects() {
-        points.push(p)?;
-    }
-    assert_eq!(rt; points.as_slice(), [corner, other].as_slice());
+    assert!(rt; told_points(rt.alloc(), &grid)?.as_str() == " 1 0," && grid.count() == 1);
+    assert!(rt; told_points(rt.alloc(), &copy)?.as_str() == " 1 0, 0 1," && copy.count() == 2);
+    assert!(rt; !grid.has(p) && !grid.has(at(2, 0)));
     Ok(())
 }

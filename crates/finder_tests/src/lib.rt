@@ -5,6 +5,8 @@
 #[cfg(test)]
 mod adj;
 #[cfg(test)]
+mod boxes;
+#[cfg(test)]
 mod cover;
 #[cfg(test)]
 mod crack;
@@ -16,6 +18,8 @@ mod envelope;
 mod grid;
 #[cfg(test)]
 mod line;
+#[cfg(test)]
+mod patches;
 #[cfg(test)]
 mod pictures;
 #[cfg(test)]

@@ -1,0 +1,86 @@
+//! Patches of a face of small pictures and volumes, found by hand, and their evidence, judged again.
+//! Weights are judged by `shape_refute`, which knows nothing of how they are found.
+ghost use Rattle.std.specs.Prelude.{◌<◌};
+
+use crate::pictures::{of_marks, put_point};
+use shape_adj::Pairing;
+use shape_plane::{Patch, patches};
+use shape_refute::{Refutation, Sense, holds, refutes};
+use shape_space::{P2, P3};
+use std::alloc::Global;
+use std::test::Fail;
+
+// The points of a patch.
+fn points_of<P: Pairing>(alloc: Global, patch: &Patch<P>) -> Result<Vec<P>, Fail> {
+    let mut points = Vec::new(alloc);
+    for i in 0..patch.len() {
+        points.push(patch.point(i))?;
+    }
+    Ok(points)
+}
+
+// What is told of a point that a patch refused: whether the weights refute the patch with it.
+fn refused<P: Pairing>(
+    alloc: Global,
+    patch: &Patch<P>,
+    p: P,
+    why: &Refutation,
+) -> Result<&'static str, Fail> {
+    let mut points = points_of(alloc, patch)?;
+    points.push(p)?;
+    let is_refuted = refutes(&points, patch.naive().axis as usize, why);
+    Ok(if is_refuted {
+        " refused,"
+    } else {
+        " left out,"
+    })
+}
+
+// Puts the points of a patch, each held by its plane, and those that it refused behind a text.
+fn put_patch<P: Pairing>(text: &mut String, alloc: Global, patch: &Patch<P>) -> Result<(), Fail> {
+    for i in 0..patch.len() {
+        let p = patch.point(i);
+        put_point(text, p, if holds(&patch.naive(), p) { "," } else { "?" })?;
+    }
+    for i in 0..patch.refused() {
+        let (p, why) = patch.refusal(i);
+        put_point(text, p, refused(alloc, patch, p, &why)?)?;
+    }
+    Ok(text.push(';')?)
+}
+
+// A volume of 3 by 1 by 2, which has a valley from below.
+const VALLEY: &[u8] = b"#.#.#.";
+
+// The patches of the valley, from before or behind along an axis.
+fn told(alloc: Global, axis: usize, sense: Sense) -> Result<String, Fail>
+    requires { axis < 3 }
+{
+    let grid = of_marks(alloc, P3 { x: 3, y: 1, z: 2 }, VALLEY)?;
+    let found = patches(alloc, &grid, axis, sense)?;
+    let mut text = String::new(alloc);
+    for i in 0..found.len() {
+        put_patch(&mut text, alloc, found.patch(i))?;
+    }
+    Ok(text)
+}
+
+#[test]
+fn patches_of_a_valley(rt: HostRuntime) -> Result<(), Fail> {
+    let below = " 0 0 0, 1 0 1, 2 0 0 refused,; 2 0 0,;";
+    assert!(rt; told(rt.alloc(), 2, Sense::Minus)?.as_str() == below);
+    assert!(rt; told(rt.alloc(), 1, Sense::Minus)?.as_str() == " 0 0 0, 1 0 1, 2 0 0,;");
+    Ok(())
+}
+
+#[test]
+fn an_arch_of_the_plane_is_two_patches(rt: HostRuntime) -> Result<(), Fail> {
+    let grid = of_marks(rt.alloc(), P2 { x: 3, y: 2 }, b"#.#.#.")?;
+    let found = patches(rt.alloc(), &grid, 1, Sense::Plus)?;
+    let mut text = String::new(rt.alloc());
+    for i in 0..found.len() {
+        put_patch(&mut text, rt.alloc(), found.patch(i))?;
+    }
+    assert!(rt; text.as_str() == " 0 0, 1 1, 2 0 refused,; 2 0,;");
+    Ok(())
+}
