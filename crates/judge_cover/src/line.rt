@@ -1,13 +1,24 @@
 //! Whether a naive line holds a segment: each of its points, along which the other coordinate keeps its sense.
 //! The places of segments are tested in `places`.
 ghost use Rattle.std.specs.Prelude.{◌<◌, ◌^◌, ◌↔◌, IsTrue, map, length};
+ghost use Rattle.std.specs.Bool.{OnTrue};
 ghost use Rattle.shape_terms.specs.Naive.{HoldsAll, IsNaiveFor};
 ghost use Rattle.shape_terms.specs.Straight.{KeepsSense};
 ghost use Rattle.shape_refute.specs.Terms.{naive_of};
 ghost use Rattle.shape_crack.specs.Terms.{point_of};
 
+use crate::places::Places;
 use shape_refute::{Naive, Turn, holds, is_proper, turns};
 use shape_space::P2;
+
+/// A segment: its places, and a line that holds its points.
+#[derive(Clone, Copy)]
+pub struct Segment {
+    /// The places.
+    pub places: Places,
+    /// The line.
+    pub line: Naive,
+}
 
 // Whether the line holds each point.
 fn holds_all(run: &[P2], line: &Naive) -> bool
@@ -39,7 +50,8 @@ fn keeps_sense(run: &[P2], axis: usize) -> bool
 // Whether a line is a proper one that holds the run, along which the other coordinate keeps its sense.
 pub(crate) fn holds_segment(run: &[P2], line: &Naive) -> bool
     requires few { length run.now < 2 ^ 31 }
-    ensures { IsTrue result ↔ (IsNaiveFor line.now.axis (map point_of run.now) (naive_of 2 line.now)
+    ensures axis { OnTrue result (line.now.axis < 2) }
+    ensures held { IsTrue result ↔ (IsNaiveFor line.now.axis (map point_of run.now) (naive_of 2 line.now)
         × KeepsSense line.now.axis (map point_of run.now)) }
 {
     if line.axis > 1 || !is_proper::<P2>(line) {

@@ -5,3 +5,4 @@ pub mod Steps
 pub mod Ranges
 pub mod Walk
 pub mod PointPairs
+pub mod SmallPoints
