@@ -19,6 +19,8 @@ mod line;
 #[cfg(test)]
 mod pictures;
 #[cfg(test)]
+mod pieces;
+#[cfg(test)]
 mod plane;
 #[cfg(test)]
 mod segment;

@@ -19,7 +19,7 @@ use Rattle.report_terms.specs.Lines.{Line}
 use Rattle.report_terms.specs.ContourLines.{Standing, standing, no_contour, open_contour, IsFull, IsContourHead, IsNextPoint, IsNextSegment, IsNextLeast, IsNextGap, OutlineClaim}
 use Rattle.report_terms.specs.Sections.{FlatClaim, AllContours}
 use Rattle.report_terms.proofs.ContourGroups.{declared_begun, standing_begun, standing_point, standing_segment, standing_least, standing_gap}
-use Rattle.report_terms.proofs.ContoursShown.{contours_same}
+use Rattle.shape_terms.proofs.ContourLists.{contours_same}
 use Rattle.judge_cover.specs.CoverState.{CoverState, StandsFor, IsTaken, LastIsTaken, points_in, owed, room_of, with_contour, with_point, with_segment, with_least, with_gap}
 
 -- a line is good where its claim is true of the judge's contours

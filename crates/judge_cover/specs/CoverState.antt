@@ -9,7 +9,7 @@ use Rattle.shape_terms.specs.Covers.{Stretch, arc}
 use Rattle.shape_terms.specs.Naive.{IsNaiveFor}
 use Rattle.report_terms.specs.Lines.{Line}
 use Rattle.judge_cover.specs.declared.places.Places.{Places}
-use Rattle.judge_cover.specs.declared.line.Segment.{Segment as Taken}
+use Rattle.judge_cover.specs.declared.places.Segment.{Segment as Taken}
 use Rattle.judge_cover.specs.Places.{stretch_of, segment_of}
 use Rattle.report_terms.specs.ContourFacts.{Segment}
 use Rattle.report_terms.specs.ContourLines.{Standing, standing, open_contour}

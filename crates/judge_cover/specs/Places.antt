@@ -5,7 +5,7 @@ use Rattle.shape_terms.specs.Covers.{Stretch}
 use Rattle.shape_refute.specs.Terms.{naive_of}
 use Rattle.report_terms.specs.ContourFacts.{Segment}
 use Rattle.judge_cover.specs.declared.places.Places.{Places}
-use Rattle.judge_cover.specs.declared.line.Segment.{Segment as Taken}
+use Rattle.judge_cover.specs.declared.places.Segment.{Segment as Taken}
 
 -- the stretch from place to place
 abbrev pub stretch_of : Places → Stretch

@@ -1,5 +1,5 @@
 //! The judge: it goes through the contours of the picture, and through the lines of each.
-//! What a line says of its segment or its gap is tested in `line` and `places`.
+//! Which places a segment goes from and to is tested in `places`.
 ghost use Rattle.std.specs.Prelude.{◌≡◌, ◌+◌, ◌-◌, ◌*◌, ◌/◌, ◌%◌, ◌<◌, ◌≤◌, ◌^◌, ◌↔◌, [], ◌∷◌, ◌++◌, List, length, map, take, slice_index_or, All, IsTrue, IfOk};
 ghost use Rattle.std.specs.Bool.{OnTrue};
 ghost use Rattle.shape_terms.specs.Points.{coordinate};
@@ -17,12 +17,11 @@ ghost use Rattle.judge_cover.specs.CoverState.{StandsFor, IsTaken, LastIsTaken, 
 ghost use Rattle.judge_cover.specs.Places.{segment_of};
 ghost use Rattle.shape_refute.specs.Evidences.{evidence_of};
 
-use crate::line::{Segment, holds_segment};
-use crate::places::{Places, come_next};
+use crate::places::{Places, Segment, come_next};
 use crate::round::{greatest, load, part};
 use shape_crack::{Contour, Contours, Crack, contours};
 use shape_grid::Grid;
-use shape_refute::{Bounds, Naive, Refusal, is_least, refuses};
+use shape_refute::{Bounds, Naive, Refusal, holds_segment, is_least, refuses};
 use shape_report::Line;
 use shape_space::{NoMemory, P2};
 use std::alloc::Global;

@@ -7,22 +7,18 @@ use Rattle.std.proofs.lemmas.List.Elements.{All-nil, All-push, All-map}
 use Rattle.std.proofs.lemmas.Option.{get_or_from_slice_get}
 use Rattle.shape_terms.specs.Pictures.{Picture}
 use Rattle.shape_terms.specs.Points.{coordinate}
-use Rattle.shape_terms.specs.Traces.{Contour, AreContours, contour_of}
+use Rattle.shape_terms.specs.Traces.{Contour, AreContours}
 use Rattle.shape_terms.specs.Covers.{IsSegment, Evidence, IsEvidence, arc, gap_run}
 use Rattle.least_terms.specs.Least.{ShowsLeast}
 use Rattle.report_terms.specs.ContourFacts.{Segment, ContourFact, stretches_of, GapFact, ContourShows, ContoursShow}
 use Rattle.report_terms.specs.Lines.{Line, IsLineOf}
 use Rattle.report_terms.specs.ContourLines.{last_segment, WantsNone, is_contour, contour_groups, open_group, point_of, segment_of, gap_of, declared_of, standing, no_contour, open_contour, IsFull, IsNextGap, OutlineClaim, ContourClaim, ContoursComplete}
 use Rattle.report_terms.specs.Shows.{outline_of, contour_fact}
-use Rattle.shape_terms.proofs.SameCycles.{cycles_same}
+use Rattle.shape_terms.proofs.ContourLists.{contours_same}
 use Rattle.text_terms.proofs.ListPushes.{take_next}
 use Rattle.report_terms.proofs.CoverTaken.{refused_by}
 use Rattle.report_terms.proofs.ContourGroups.{group_begun, group_more, open_is, declared_begun}
 use Rattle.report_terms.proofs.ContourSaid.{SaysContour, said_head, said_point, said_segment, said_least, said_refusal, said_whole}
-
--- a picture has one list of contours
-pub contours_same : (X : Picture) (a b : List Contour) → AreContours X a → AreContours X b → a ≡ b
-contours_same X a b h k = h.contours_are ∙ ap (map (contour_of X)) (cycles_same X h.cycles k.cycles h.are k.are) ∙ sym k.contours_are
 
 take_more : {A : Type 0} (xs : List A) (n : ℕ) (x : A) → slice_get xs n ≡ Some x → take n xs ++ x ∷ [] ≡ take (n + 1) xs
 take_more xs n x e = take_next xs n x e ∙ ap (λ k. take k xs) (let q : suc n ≡ n + 1 = omega arith in q)

@@ -1,30 +1,16 @@
 -- The fields of each kind of line are a form, so the kinds are a table, and the laws of tables hold of all lines.
 -- A further kind of line is one clause of `is_form`.
-use Rattle.std.proofs.Common.{◌≡◌, ◌+◌, ◌≤◌, ℕ, zero, suc, true, Some, length, refl, arith, lit≤}
-use Rattle.std.specs.Prelude.{codes}
-use Rattle.text_terms.specs.Forms.{IsWord, IsForm, name, ◌⨾◌}
+use Rattle.std.proofs.Common.{◌≡◌, ◌+◌, ◌≤◌, ℕ, true, Some, length, refl, arith, lit≤}
+use Rattle.text_terms.specs.Forms.{IsForm, name, ◌⨾◌}
 use Rattle.text_terms.specs.Tables.{kind_among, is_word, IsTable, IsRoomy}
 use Rattle.text_terms.proofs.FieldLaws.{count_form, weight_form, point_form, row_form}
 use Rattle.text_terms.proofs.FormLaws.{nothing_form, behind_form, both_form, axes_form}
-use Rattle.text_terms.proofs.TableLaws.{literal}
+use Rattle.text_terms.specs.PictureKinds.{kind_word}
+use Rattle.text_terms.proofs.PictureKindLaws.{word_kind, kind_short}
 use Rattle.text_terms.proofs.WeightLaws.{why_form}
 use Rattle.text_terms.proofs.Words.{natural_form, letter_form, long_form, name_form}
-use Rattle.report_terms.specs.Kinds.{point, Kind, kinds, first_word, kind_word, form_of, table}
+use Rattle.report_terms.specs.Kinds.{point, Kind, kinds, first_word, form_of, table}
 use Rattle.report_terms.proofs.Words.{number_form, sign_form}
-
--- ---- words
-
-word_kind : (n : ℕ) → IsWord (kind_word n)
-word_kind zero = literal (codes "raw") refl
-word_kind (suc zero) = literal (codes "raw") refl
-word_kind (suc (suc zero)) = literal (codes "pbm") refl
-word_kind (suc (suc (suc n))) = literal (codes "raw") refl
-
-kind_short : (n : ℕ) → length (kind_word n) ≡ 3
-kind_short zero = refl
-kind_short (suc zero) = refl
-kind_short (suc (suc zero)) = refl
-kind_short (suc (suc (suc n))) = refl
 
 -- ---- kinds, one clause for each
 

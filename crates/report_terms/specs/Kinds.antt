@@ -1,6 +1,6 @@
 -- The kinds of report lines, and the fields of each: a form for each kind, read as the format says it aloud.
 -- A further kind is a constructor, its first word, its fields and its form; what a line claims stands elsewhere.
-use Rattle.std.specs.Prelude.{ℕ, zero, suc, ℤ, List, [], ◌∷◌, codes}
+use Rattle.std.specs.Prelude.{ℕ, ℤ, List, [], ◌∷◌, codes}
 use Rattle.std.specs.Int.{w64}
 use Rattle.shape_terms.specs.Points.{Point}
 use Rattle.shape_terms.specs.Refutations.{Refutation}
@@ -8,6 +8,7 @@ use Rattle.patch_terms.specs.Patches.{Sense}
 use Rattle.text_terms.specs.Forms.{Form, natural, signed, letter, name, nothing, behind, ◌⨾◌, of_axes}
 pub use Rattle.text_terms.specs.Fields.{count, weight, point, row}
 use Rattle.text_terms.specs.Weights.{why}
+use Rattle.text_terms.specs.PictureKinds.{kind_word}
 use Rattle.text_terms.specs.Tables as Tables
 use Rattle.text_terms.specs.Tables.{Table}
 use Rattle.report_terms.specs.Forms.{number, sign}
@@ -61,11 +62,6 @@ Fields Kind.Del = Point
 Fields Kind.Tip = Point
 Fields Kind.Kept = ℕ × (ℕ × ℕ)
 Fields Kind.End = Unit {0}
-
--- the word for pictures with so many axes
-abbrev pub kind_word : ℕ → List ℕ
-kind_word (suc (suc zero)) = codes "pbm"
-kind_word _ = codes "raw"
 
 -- the fields of a kind of line in reports of pictures with d axes
 abbrev pub form_of : ℕ → (k : Kind) → Form (Fields k)

@@ -20,7 +20,7 @@ use Rattle.report_terms.specs.Sections.{Section, lines_of, NamesRule, GoodAfter,
 use Rattle.text_terms.proofs.Checking.{good_push}
 use Rattle.report_terms.proofs.HeadingFirst.{past_heading}
 use Rattle.report_terms.proofs.SectionLaws.{come_none, come_more, come_past, good_at, lines_push, lines_skip}
-use Rattle.report_terms.proofs.FramedFields.{within_short, distance_fits}
+use Rattle.text_terms.proofs.FramedFields.{within_short, distance_fits}
 use Rattle.report_terms.proofs.Spelled.{short_line}
 use Rattle.shape_grid.proofs.SideLists.{sides_back}
 use Rattle.shape_analyse.specs.Growing.{Aim, heading_of, HasHeading, AreGood, IsGrowing, IsTextOf}

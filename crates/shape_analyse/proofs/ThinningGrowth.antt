@@ -16,7 +16,7 @@ use Rattle.text_terms.proofs.ListPushes.{take_next, filter_map-same, filter_map-
 use Rattle.report_terms.proofs.SectionLaws.{none_past, come_more, come_past, good_at, lines_push}
 use Rattle.report_terms.proofs.HeadingFirst.{gives_rule}
 use Rattle.report_terms.proofs.ThinningShown.{step_at}
-use Rattle.report_terms.proofs.FramedFields.{within_short}
+use Rattle.text_terms.proofs.FramedFields.{within_short}
 use Rattle.shape_thin.specs.Runs.{event_point}
 use Rattle.shape_analyse.specs.Growing.{Aim, heading_of, IsSurveyed, HasEvents, HasKept, event_line}
 use Rattle.shape_analyse.proofs.Growth.{names_rule, text_push, good_more}

@@ -6,3 +6,4 @@ pub mod Ranges
 pub mod Walk
 pub mod PointPairs
 pub mod SmallPoints
+pub mod HeldRuns

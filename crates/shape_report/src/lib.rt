@@ -3,7 +3,6 @@
 #![tactic(auto)]
 
 mod field;
-mod kind;
 mod law;
 mod line;
 mod read;

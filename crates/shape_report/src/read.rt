@@ -8,13 +8,12 @@ ghost use Rattle.shape_report.specs.LineOf.{line_of};
 ghost use Rattle.shape_report.specs.Reading.{HasNoThird, ReadsKind, ReadsFields, ReadsLine};
 
 use crate::field::{name, number, sense};
-use crate::kind::kind;
 use crate::line::Line;
 use report_text::field::{
     count, flat_axis, flat_coefficients, point, side, signed, solid_axis, solid_coefficients,
     weight,
 };
-use report_text::{Words, read_why};
+use report_text::{Words, kind, read_why};
 use shape_refute::{Bounds, Naive, Refusal, Turn};
 use shape_space::Point;
 

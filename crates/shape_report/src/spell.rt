@@ -14,9 +14,8 @@ ghost use Rattle.shape_report.specs.LineOf.{line_of};
 ghost use Rattle.shape_report.specs.Spelling.{kind_text, split_text};
 
 use crate::field::{put_number, put_sense};
-use crate::kind::kind;
 use crate::line::Line;
-use report_text::{Text, put_why};
+use report_text::{Text, kind, put_why};
 use shape_desk::put_word;
 use shape_refute::{Bounds, Naive, Refusal, Refutation, Sense};
 use shape_rules::Name;

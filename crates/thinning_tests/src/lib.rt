@@ -5,6 +5,8 @@
 #[cfg(test)]
 mod pictures;
 #[cfg(test)]
+mod queue;
+#[cfg(test)]
 mod refute;
 #[cfg(test)]
 mod rules;
