@@ -102,6 +102,7 @@ stands_more s t lines l h order risen sketch same = record {
     given_more (Line.Contour a b c d ∷ lines) l h = refl
     given_more (Line.At a ∷ lines) l h = refl
     given_more (Line.Seg a b c d e ∷ lines) l h = refl
+    given_more (Line.Least a ∷ lines) l h = refl
     given_more (Line.Gap a b ∷ lines) l h = refl
     given_more (Line.Face a b c ∷ lines) l h = refl
     given_more (Line.Patch a b c ∷ lines) l h = refl

@@ -1,7 +1,7 @@
 -- The cracks of a picture are few, so its contours have few lines.
 -- Bounds alone; how lines are counted down stands in `Standings`.
 use Rattle.std.proofs.Common.{◌≡◌, ℕ, ◌*◌, ◌<◌, ◌≤◌, ◌^◌, Bool, List, [], ◌∷◌, length, map, get_or, ap, sym, ◌∙◌, arith, inl, inr}
-use Rattle.std.specs.Prelude.{◌≢◌, ◌==◌, not, filter, flat_map, All, AllPairs, Contains, slice_index_or}
+use Rattle.std.specs.Prelude.{◌≢◌, ◌==◌, not, filter, flat_map, All, AllPairs, Contains, None, slice_index_or}
 use Rattle.std.proofs.lemmas.Bool.{cond-true, cond-false, cases_Bool}
 use Rattle.std.proofs.lemmas.List.{length-append, length-map, get_or_default}
 use Rattle.std.proofs.lemmas.List.Sums.{sum_by-cons}
@@ -66,8 +66,8 @@ first_few [] = omega arith
 first_few (k ∷ contours) = omega (arith, sum_by-cons (λ (k : Contour). length k.points) k contours)
 
 -- the lines of all contours
-pub few_lines : (X : Picture) (contours : List Contour) → AreContours X contours → box_count X.sides ≤ 2 ^ 23 → room_of (record { contours = contours; standing = record { begun = 0; points = 0; declared = 0; stretches = []; gaps = 0 } }) < 2 ^ 60
-few_lines X contours are few =
+pub few_lines : (number : ℕ) (X : Picture) (contours : List Contour) → AreContours X contours → box_count X.sides ≤ 2 ^ 23 → room_of (record { number = number; contours = contours; standing = record { begun = 0; points = 0; declared = 0; stretches = []; last = None; gaps = 0 } }) < 2 ^ 60
+few_lines number X contours are few =
     let cracks = few_cracks X (flat_map (λ c. c) are.cycles) (λ c i. (are.are.each c).1 i) are.are.once in
     let all = few_in_all X are.cycles are.are.cycle in
     let n : length contours ≡ length are.cycles = ap length are.contours_are ∙ length-map are.cycles (contour_of X) in

@@ -1,7 +1,8 @@
 -- A contour's points twice round, as they are put down one by one, and the arcs that are parts of this list.
 -- Laws over lists of points alone.
 use Rattle.std.proofs.Common.{◌≡◌, ℕ, zero, suc, ◌+◌, ◌-◌, ◌*◌, ◌%◌, ◌<◌, ◌≤◌, List, [], ◌∷◌, ◌++◌, length, map, take, drop, refl, ap, sym, ◌∙◌, arith}
-use Rattle.std.specs.Prelude.{slice_get, Some}
+use Rattle.std.specs.Prelude.{All, slice_get, slice_index_or, Some}
+use Rattle.std.proofs.lemmas.List.Elements.{All-map}
 use Rattle.std.specs.List.{range_with_len}
 use Rattle.std.proofs.lemmas.List.{length-map, map-append}
 use Rattle.std.proofs.lemmas.Option.{get_or_from_slice_get}
@@ -71,3 +72,9 @@ pub two_rounds : {A : Type 0} (f : A → Point) (round : List A) (contour : List
 two_rounds f round contour some e =
     let n : length (arc contour 0 (2 * length contour - 1)) ≡ 2 * length contour - 1 + 1 - 0 = length-arc contour 0 (2 * length contour - 1) in
     omega (arith, sym (length-map round f) ∙ ap length e ∙ n)
+
+-- what holds of each point of a contour holds of each point of an arc of it
+pub in_arc : (P : Point → Type 0) (contour : List Point) (first last : ℕ) → 1 ≤ length contour → All P contour → All P (arc contour first last)
+in_arc P contour first last some h =
+    let places = range_with_len first (last + 1 - first) in
+    All-map P (λ i. point_at contour (i % length contour)) places (λ k d l. h (slice_index_or places k d % length contour) [] (omega arith))

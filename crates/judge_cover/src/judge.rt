@@ -1,24 +1,27 @@
 //! The judge: it goes through the contours of the picture, and through the lines of each.
 //! Which places a segment goes from and to is tested in `places`.
-ghost use Rattle.std.specs.Prelude.{◌≡◌, ◌+◌, ◌-◌, ◌*◌, ◌/◌, ◌%◌, ◌<◌, ◌≤◌, ◌^◌, ◌↔◌, [], ◌∷◌, ◌++◌, List, length, map, slice_index_or, IsTrue, IfOk};
+ghost use Rattle.std.specs.Prelude.{◌≡◌, ◌+◌, ◌-◌, ◌*◌, ◌/◌, ◌%◌, ◌<◌, ◌≤◌, ◌^◌, ◌↔◌, [], ◌∷◌, ◌++◌, List, length, map, take, slice_index_or, All, IsTrue, IfOk};
 ghost use Rattle.std.specs.Bool.{OnTrue};
+ghost use Rattle.shape_terms.specs.Points.{coordinate};
 ghost use Rattle.shape_terms.specs.Pictures.{Picture};
 ghost use Rattle.shape_terms.specs.Covers.{IsEvidence, arc, next_first, gap_run};
+ghost use Rattle.least_terms.specs.Least.{ShowsLeast};
 ghost use Rattle.report_terms.specs.Lines as Terms;
-ghost use Rattle.report_terms.specs.ContourLines.{open_contour, HasAllLines, IsFull, IsContourHead, IsNextPoint, IsNextSegment, IsNextGap};
+ghost use Rattle.report_terms.specs.ContourLines.{open_contour, HasAllLines, IsFull, WantsNone, IsContourHead, IsNextPoint, IsNextSegment, IsNextLeast, IsNextGap};
 ghost use Rattle.report_terms.specs.Sections.{FlatClaim, AllContours};
 ghost use Rattle.shape_report.specs.LineOf.{line_of};
 ghost use Rattle.shape_refute.specs.Terms.{naive_of};
+ghost use Rattle.shape_refute.specs.PairTerms.{IsSmall, pairs_of};
 ghost use Rattle.shape_crack.specs.Terms.{point_of, crack_of};
-ghost use Rattle.judge_cover.specs.CoverState.{StandsFor, room_of, open_points, with_contour, with_point, with_segment, with_gap};
-ghost use Rattle.judge_cover.specs.Places.{stretch_of};
+ghost use Rattle.judge_cover.specs.CoverState.{StandsFor, IsTaken, LastIsTaken, room_of, open_points, with_contour, with_point, with_segment, with_least, with_gap};
+ghost use Rattle.judge_cover.specs.Places.{segment_of};
 ghost use Rattle.shape_refute.specs.Evidences.{evidence_of};
 
-use crate::places::{Places, come_next};
+use crate::places::{Places, Segment, come_next};
 use crate::round::{greatest, load, part};
 use shape_crack::{Contour, Contours, Crack, contours};
 use shape_grid::Grid;
-use shape_refute::{Naive, Refusal, holds_segment, refuses};
+use shape_refute::{Bounds, Naive, Refusal, holds_segment, is_least, refuses};
 use shape_report::Line;
 use shape_space::{NoMemory, P2};
 use std::alloc::Global;
@@ -31,6 +34,8 @@ use std::marker::Model;
 /// and is only dropped.
 #[derive(Drop)]
 pub struct CoverJudge {
+    // The number of the report.
+    number: u8,
     contours: Contours,
     // How many contours were begun; and of the last of them:
     begun: u32,
@@ -40,6 +45,8 @@ pub struct CoverJudge {
     declared: u32,
     // the places of those it was given,
     segments: Vec<Places>,
+    // the segment of the last line, where that is a `seg` line,
+    last: Option<Segment>,
     // how many gap lines it has,
     gaps: u32,
     // and its points, twice round.
@@ -49,23 +56,25 @@ pub struct CoverJudge {
 impl Model for CoverJudge {
     ghost use Rattle.std.specs.Prelude.{map, vec_capacity};
     ghost use Rattle.shape_crack.specs.Terms.{point_of};
-    ghost use Rattle.judge_cover.specs.CoverState.{CoverState, IsInStep, HasRound, state_of};
+    ghost use Rattle.judge_cover.specs.CoverState.{CoverState, IsInStep, HasRound, standing_of, state_of};
 
     ghost Value = { CoverState };
 
-    ghost view = { λ j. state_of j.contours j.begun j.points j.declared j.segments.items j.gaps };
+    ghost view = { λ j. state_of j.number j.contours j.begun j.points j.declared j.segments.items
+        j.last j.gaps };
 
     ghost invariant = { λ j. IsInStep j.contours
-        (state_of j.contours j.begun j.points j.declared j.segments.items j.gaps).standing
+        (standing_of j.begun j.points j.declared j.segments.items j.last j.gaps)
         × HasRound j.contours
-        (state_of j.contours j.begun j.points j.declared j.segments.items j.gaps).standing
+        (standing_of j.begun j.points j.declared j.segments.items j.last j.gaps)
         (map point_of j.round.items) (vec_capacity j.round) (vec_capacity j.segments) };
 }
 
 impl CoverJudge {
-    /// A judge that has taken no line. It takes all its memory here.
-    pub fn new(alloc: Global, grid: &Grid<P2>) -> Result<CoverJudge, NoMemory>
+    /// A judge of a report with this number that has taken no line. It takes all its memory here.
+    pub fn new(alloc: Global, grid: &Grid<P2>, number: u8) -> Result<CoverJudge, NoMemory>
         ensures stands { IfOk result (λ j. StandsFor grid.now j []) }
+        ensures number { IfOk result (λ j. j.number ≡ number) }
         ensures room { IfOk result (λ j. room_of j < 2 ^ 60) }
     {
         grid.is_picture();
@@ -74,11 +83,13 @@ impl CoverJudge {
         let segments = Vec::with_capacity(alloc, greatest)?;
         let round = Vec::with_capacity(alloc, 2 * greatest)?;
         Ok(CoverJudge {
+            number,
             contours,
             begun: 0,
             points: 0,
             declared: 0,
             segments,
+            last: None,
             gaps: 0,
             round,
         })
@@ -112,6 +123,7 @@ impl CoverJudge {
     fn begin(&mut self, start: Crack, points: u32, segments: u32) -> bool
         ensures answer { IsTrue result
             ↔ IsContourHead self.old.contours self.old.standing (crack_of start) points segments }
+        ensures number { self.new.number ≡ self.old.number }
         ensures contours { self.new.contours ≡ self.old.contours }
         ensures next { OnTrue result (self.new.standing ≡ with_contour self.old.standing segments) }
     {
@@ -127,6 +139,7 @@ impl CoverJudge {
         self.begun += 1;
         self.points = 0;
         self.declared = segments;
+        self.last = None;
         self.gaps = 0;
         true
     }
@@ -135,6 +148,7 @@ impl CoverJudge {
     fn go_on(&mut self, p: P2) -> bool
         ensures answer { IsTrue result
             ↔ IsNextPoint self.old.contours self.old.standing (point_of p) }
+        ensures number { self.new.number ≡ self.old.number }
         ensures contours { self.new.contours ≡ self.old.contours }
         ensures next { OnTrue result (self.new.standing ≡ with_point self.old.standing) }
     {
@@ -146,6 +160,7 @@ impl CoverJudge {
             return false;
         }
         self.points += 1;
+        self.last = None;
         true
     }
 
@@ -156,21 +171,31 @@ impl CoverJudge {
         requires within { last < 2 * length (open_points self.now) }
         ensures value { map point_of result.now ≡ arc (open_points self.now) first last }
         ensures few { length result.now < 2 ^ 31 }
+        ensures small { All IsSmall result.now }
     {
         self.open().is_closed_path();
         part(self.round.as_slice(), first, last)
     }
 
+    // Whether no `least` line is wanted next.
+    fn wants_none(&self) -> bool
+        ensures { IsTrue result ↔ WantsNone self.now.number self.now.standing }
+    {
+        self.number != 2 || self.last.is_none()
+    }
+
     // Takes a `seg` line.
     fn take_segment(&mut self, next: Places, line: &Naive) -> bool
         ensures answer { IsTrue result
-            ↔ IsNextSegment self.old.contours self.old.standing next.first next.last
-            line.now.axis (naive_of 2 line.now) }
+            ↔ IsNextSegment self.old.number self.old.contours self.old.standing
+            next.first next.last line.now.axis (naive_of 2 line.now) }
+        ensures number { self.new.number ≡ self.old.number }
         ensures contours { self.new.contours ≡ self.old.contours }
         ensures next { OnTrue result
-            (self.new.standing ≡ with_segment self.old.standing (stretch_of next)) }
+            (self.new.standing ≡ with_segment self.old.standing
+            (segment_of (record { places = next; line = line.now }))) }
     {
-        if self.segments.len() as u32 >= self.declared || self.gaps != 0 {
+        if self.segments.len() as u32 >= self.declared || self.gaps != 0 || !self.wants_none() {
             return false;
         }
         let n = self.open().len();
@@ -181,6 +206,40 @@ impl CoverJudge {
             return false;
         }
         self.segments.push_reserved(next);
+        self.last = Some(Segment {
+            places: next,
+            line: *line,
+        });
+        true
+    }
+
+    // Whether the pairs show the line of the segment of the last line to be least.
+    fn is_shown(&self, segment: &Segment, bounds: &Bounds) -> bool
+        requires { IsTaken self.now.contours self.now.standing (segment_of segment.now) }
+        ensures { IsTrue result ↔ ShowsLeast segment.now.line.axis
+            (arc (open_points self.now) segment.now.places.first segment.now.places.last)
+            (coordinate (take 2 segment.now.line.a) segment.now.line.axis) (pairs_of bounds.now) }
+    {
+        let places = segment.places;
+        is_least(self.arc(places.first, places.last), &segment.line, bounds)
+    }
+
+    // Takes a `least` line.
+    fn take_least(&mut self, bounds: &Bounds) -> bool
+        ensures answer { IsTrue result ↔ IsNextLeast self.old.number self.old.contours
+            self.old.standing (pairs_of bounds.now) }
+        ensures number { self.new.number ≡ self.old.number }
+        ensures contours { self.new.contours ≡ self.old.contours }
+        ensures next { OnTrue result (self.new.standing ≡ with_least self.old.standing) }
+        ensures taken { LastIsTaken self.old.contours self.old.standing self.old.standing.last }
+    {
+        let Some(segment) = self.last else {
+            return false;
+        };
+        if self.number != 2 || !self.is_shown(&segment, bounds) {
+            return false;
+        }
+        self.last = None;
         true
     }
 
@@ -227,17 +286,20 @@ impl CoverJudge {
     // Takes a gap line.
     fn take_gap(&mut self, axis: u8, refusal: &Refusal) -> bool
         ensures answer { IsTrue result
-            ↔ IsNextGap self.old.contours self.old.standing axis (evidence_of refusal.now) }
+            ↔ IsNextGap self.old.number self.old.contours self.old.standing axis
+            (evidence_of refusal.now) }
+        ensures number { self.new.number ≡ self.old.number }
         ensures contours { self.new.contours ≡ self.old.contours }
         ensures next { OnTrue result (self.new.standing ≡ with_gap self.old.standing) }
     {
-        if self.gaps >= 2 * self.declared || !self.is_covered() {
+        if self.gaps >= 2 * self.declared || !self.is_covered() || !self.wants_none() {
             return false;
         }
         let k = self.gaps as usize / 2;
         if axis as u32 != self.gaps % 2 || !self.is_refused(k, axis as usize, refusal) {
             return false;
         }
+        self.last = None;
         self.gaps += 1;
         true
     }
@@ -246,13 +308,15 @@ impl CoverJudge {
     ///
     /// A `contour` line gives the first crack, the number of points and that of segments of the next
     /// contour, once the one before has all its lines; an `at` line gives the next point, a `seg` line
-    /// the next segment with a line that holds it, and the line of a gap why the run of the next gap is not
-    /// straight for the next axis. A line of another kind is not good here.
+    /// the next segment with a line that holds it, in a report with the number 2 a `least` line behind it two
+    /// pairs of places that show this line to be least, and the line of a gap why the run of the next gap is
+    /// not straight for the next axis. A line of another kind is not good here.
     pub fn take(&mut self, line: &Line<P2>) -> bool
         ensures answer { (X : Picture) (lines : List Terms.Line) → StandsFor X self.old lines
-            → (IsTrue result ↔ FlatClaim X lines (line_of point_of line.now)) }
+            → (IsTrue result ↔ FlatClaim self.old.number X lines (line_of point_of line.now)) }
         ensures stands { (X : Picture) (lines : List Terms.Line) → StandsFor X self.old lines
             → OnTrue result (StandsFor X self.new (lines ++ line_of point_of line.now ∷ [])) }
+        ensures number { self.new.number ≡ self.old.number }
         ensures room { OnTrue result (room_of self.new < room_of self.old) }
     {
         match *line {
@@ -264,6 +328,7 @@ impl CoverJudge {
             } => self.begin(Crack { p, side }, points, segments),
             Line::At { p } => self.go_on(p),
             Line::Seg { first, last, line } => self.take_segment(Places { first, last }, &line),
+            Line::Least { bounds } => self.take_least(&bounds),
             Line::Gap { axis, refusal } => self.take_gap(axis, &refusal),
             _ => false,
         }

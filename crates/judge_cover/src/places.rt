@@ -1,8 +1,10 @@
 //! The places of the segments of a contour, counted from 0 at its first point, round and round.
-//! Whether a line holds a segment is tested in `line`.
+//! Whether a line holds a segment is tested in `shape_refute`.
 ghost use Rattle.std.specs.Prelude.{◌<◌, ◌≤◌, ◌+◌, ◌-◌, ◌^◌, ◌↔◌, [], ◌∷◌, ◌++◌, IsTrue, IfSome, All, length, map, slice_get, slice_index_or};
 ghost use Rattle.judge_cover.specs.CoverState.{IsAround};
 ghost use Rattle.judge_cover.specs.Places.{stretch_of, AreNextPlaces};
+
+use shape_refute::Naive;
 
 /// The first and the last place of a segment.
 #[derive(Clone, Copy, Debug, PartialEq, Eq)]
@@ -11,6 +13,15 @@ pub struct Places {
     pub first: u32,
     /// The last place, less than one round on.
     pub last: u32,
+}
+
+/// A segment: its places, and a line that holds its points.
+#[derive(Clone, Copy)]
+pub struct Segment {
+    /// The places.
+    pub places: Places,
+    /// The line.
+    pub line: Naive,
 }
 
 // Whether places come after those before.

@@ -73,6 +73,25 @@ row_side : (t : ℕ) (c b : ℤ) → t < 2 → coordinate (row t c b) (other_axi
 row_side (suc (suc t)) c b l = absurd (omega arith)
 row_side t c b l = refl
 
+-- ---- lines that hold a run
+
+-- a line that holds the run meets each pair of its places
+pub holds_meets : (t : ℕ) (run : List Point) (n : Naive) (i j : ℕ) → i < length run → j < length run → IsNaiveFor t run n → Meets t run n i j
+holds_meets t run n i j li lj h =
+    let p = h.holds i [] li in
+    let q = h.holds j [] lj in
+    within (dot n.a (difference (point_at run j) (point_at run i))) (dot n.a (point_at run j)) (dot n.a (point_at run i)) n.mu (coordinate n.a t) (dot-difference n.a (point_at run j) (point_at run i)) p.low q.high
+  where
+    within : (d v w mu b : ℤ) → d ≡ v -ℤ w → mu ≤ℤ w → v <ℤ (mu +ℤ b) → d <ℤ b
+    within d v w mu b e f g = omega (arith, ints, e, f, g)
+
+-- pairs that show it make the line least
+pub shows_least : (t : ℕ) (run : List Point) (n : Naive) (p : Pairs) → IsNaiveFor t run n → ShowsLeast t run (coordinate n.a t) p → IsLeastLine t run n
+shows_least t run n p h k = record {
+  line = h;
+  least = λ m o. by_lt_z (coordinate m.a t) (coordinate n.a t) (λ x. absurd (k.none m o.proper x (holds_meets t run m p.low1 p.high1 k.first_low k.first_high o) (holds_meets t run m p.low2 p.high2 k.second_low k.second_high o))) (λ x. x);
+}
+
 -- ---- the slopes of lines
 module _ (t : ℕ) (run : List Point) (l : t < 2) (flat : (i : ℕ) → i < length run → length (point_at run i) ≡ 2) where
   pub meets_slope : (n : Naive) (i j : ℕ) → i < length run → j < length run → Meets t run n i j ↔ (coordinate n.a (other_axis t) *ℤ side_of t (point_at run i) (point_at run j)) <ℤ (coordinate n.a t *ℤ room_of t (point_at run i) (point_at run j))
@@ -80,16 +99,6 @@ module _ (t : ℕ) (run : List Point) (l : t < 2) (flat : (i : ℕ) → i < leng
     where
       less : (c s b d v : ℤ) → v ≡ c *ℤ s +ℤ b *ℤ d → v <ℤ b ↔ (c *ℤ s) <ℤ (b *ℤ (pos 1 -ℤ d))
       less c s b d v e = (λ h. omega (arith, ints, rings, e, h), λ h. omega (arith, ints, rings, e, h))
-
-  -- a line that holds the run meets each pair
-  pub holds_meets : (n : Naive) (i j : ℕ) → i < length run → j < length run → IsNaiveFor t run n → Meets t run n i j
-  holds_meets n i j li lj h =
-      let p = h.holds i [] li in
-      let q = h.holds j [] lj in
-      within (dot n.a (difference (point_at run j) (point_at run i))) (dot n.a (point_at run j)) (dot n.a (point_at run i)) n.mu (coordinate n.a t) (dot-difference n.a (point_at run j) (point_at run i)) p.low q.high
-    where
-      within : (d v w mu b : ℤ) → d ≡ v -ℤ w → mu ≤ℤ w → v <ℤ (mu +ℤ b) → d <ℤ b
-      within d v w mu b e f g = omega (arith, ints, e, f, g)
 
   pub side_size : (n : Naive) → IsProper t n → (neg_ℤ (coordinate n.a t) ≤ℤ coordinate n.a (other_axis t)) × (coordinate n.a (other_axis t) ≤ℤ coordinate n.a t)
   side_size n h = size (coordinate n.a (other_axis t)) (coordinate n.a t) (h.others (other_axis t) (other_is t l))
@@ -104,8 +113,8 @@ module _ (t : ℕ) (run : List Point) (l : t < 2) (flat : (i : ℕ) → i < leng
       let pj = point_at run j in
       let a = coordinate n.a (other_axis t) in
       let b = coordinate n.a t in
-      near a b (side_of t pi pj) (coordinate pj t -ℤ coordinate pi t) h.proper.main s.0 s.1 (same (dot n.a (difference pj pi)) (a *ℤ side_of t pi pj +ℤ b *ℤ (coordinate pj t -ℤ coordinate pi t)) b up (holds_meets n i j li lj h))
-      (opposite (dot n.a (difference pi pj)) a (coordinate pi (other_axis t)) (coordinate pj (other_axis t)) b (coordinate pi t) (coordinate pj t) down (holds_meets n j i lj li h))
+      near a b (side_of t pi pj) (coordinate pj t -ℤ coordinate pi t) h.proper.main s.0 s.1 (same (dot n.a (difference pj pi)) (a *ℤ side_of t pi pj +ℤ b *ℤ (coordinate pj t -ℤ coordinate pi t)) b up (holds_meets t run n i j li lj h))
+      (opposite (dot n.a (difference pi pj)) a (coordinate pi (other_axis t)) (coordinate pj (other_axis t)) b (coordinate pi t) (coordinate pj t) down (holds_meets t run n j i lj li h))
     where
       same : (v w b : ℤ) → v ≡ w → v <ℤ b → w <ℤ b
       same v w b e h = omega (arith, ints, e, h)
@@ -151,11 +160,4 @@ module _ (t : ℕ) (run : List Point) (l : t < 2) (flat : (i : ℕ) → i < leng
     -- where a line holds the run, some slope has a small denominator
     pub short : (n : Naive) → IsNaiveFor t run n → unsigned_abs s1 ≤ 8192 → unsigned_abs s2 ≤ 8192 → HasShort s1 r1 s2 r2
     short n h z1 z2 = short_slope s1 r1 s2 r2 (coordinate n.a (other_axis t)) (coordinate n.a t) z1 z2 (pair_near n p.low1 p.high1 l1 h1 h) (pair_near n p.low2 p.high2 l2 h2 h)
-        (line_slope n h.proper (holds_meets n p.low1 p.high1 l1 h1 h) (holds_meets n p.low2 p.high2 l2 h2 h))
-
-    -- pairs that show it make the line least
-    pub shows_least : (n : Naive) → IsNaiveFor t run n → ShowsLeast t run (coordinate n.a t) p → IsLeastLine t run n
-    shows_least n h k = record {
-      line = h;
-      least = λ m o. by_lt_z (coordinate m.a t) (coordinate n.a t) (λ x. absurd (k.none m o.proper x (holds_meets m p.low1 p.high1 l1 h1 o) (holds_meets m p.low2 p.high2 l2 h2 o))) (λ x. x);
-    }
+        (line_slope n h.proper (holds_meets t run n p.low1 p.high1 l1 h1 h) (holds_meets t run n p.low2 p.high2 l2 h2 h))

@@ -1,7 +1,8 @@
 -- The groups of lines of contours, when one more line comes: it begins a group, or belongs to the last.
 -- Laws of lists of lines; which contours a picture has does not matter here.
 use Rattle.std.proofs.Common.{◌≡◌, ℕ, ◌+◌, ◌-◌, ◌<◌, Bool, true, false, List, [], ◌∷◌, ◌++◌, length, refl, ap, sym, ◌∙◌, arith, inl, inr}
-use Rattle.std.specs.Prelude.{◌≤◌, ℤ, not, filter_map, take_while, slice_index_or}
+use Rattle.std.specs.Prelude.{◌≤◌, ℤ, not, filter_map, take_while, slice_index_or, Some, None}
+use Rattle.least_terms.specs.Least.{Pairs}
 use Rattle.std.proofs.lemmas.Bool.{cond-true, cond-false, cases_Bool, cases_lt}
 use Rattle.std.proofs.lemmas.List.{length-append, map-append}
 use Rattle.std.proofs.lemmas.List.Sums.{take_while-cons}
@@ -10,7 +11,7 @@ use Rattle.shape_terms.specs.Points.{Point}
 use Rattle.report_terms.specs.Lines.{Line}
 use Rattle.shape_terms.specs.Covers.{Evidence}
 use Rattle.report_terms.specs.ContourFacts.{Segment, stretches_of, GapFact, kind_of}
-use Rattle.report_terms.specs.ContourLines.{groups, is_contour, contour_groups, open_group, point_of, segment_of, gap_of, declared_of, standing, standing_with}
+use Rattle.report_terms.specs.ContourLines.{groups, is_contour, contour_groups, open_group, point_of, segment_of, gap_of, declared_of, last_segment, standing, standing_with}
 use Rattle.text_terms.proofs.ListPushes.{filter_map-same, filter_map-push}
 
 module _ (test : Line → Bool) where
@@ -124,7 +125,7 @@ declared_begun lines h = elim (cases_lt 0 (length (contour_groups lines))) [
     none (x ∷ xs) e = absurd (omega arith)
 
 -- a `contour` line begins the next contour
-pub standing_begun : (lines : List Line) (p : Point) (side n m : ℕ) → standing (lines ++ Line.Contour p side n m ∷ []) ≡ record { begun = (standing lines).begun + 1; points = 0; declared = m; stretches = []; gaps = 0 }
+pub standing_begun : (lines : List Line) (p : Point) (side n m : ℕ) → standing (lines ++ Line.Contour p side n m ∷ []) ≡ record { begun = (standing lines).begun + 1; points = 0; declared = m; stretches = []; last = None; gaps = 0 }
 standing_begun lines p side n m =
     let l = Line.Contour p side n m in
     let e = group_begun is_contour lines l refl in
@@ -138,6 +139,12 @@ declared_stays [] l h = h
 declared_stays (Line.Contour p s n m ∷ g) l h = refl
 declared_stays (x ∷ g) l h = refl
 
+-- the last line gives its segment
+pub last_push : (g : List Line) (l : Line) → last_segment (g ++ l ∷ []) ≡ segment_of l
+last_push [] l = refl
+last_push (x ∷ []) l = refl
+last_push (x ∷ y ∷ g) l = last_push (y ∷ g) l
+
 -- any other line belongs to the contour that was begun last
 grown : (lines : List Line) (l : Line) → is_contour l ≡ false → 0 < (standing lines).begun → standing (lines ++ l ∷ []) ≡ standing_with (standing lines).begun (open_group lines ++ l ∷ [])
 grown lines l t h =
@@ -148,7 +155,7 @@ grown lines l t h =
     λ i. standing_with (a i) (b i)
 
 -- an `at` line gives one more point
-pub standing_point : (lines : List Line) (p : Point) → 0 < (standing lines).begun → standing (lines ++ Line.At p ∷ []) ≡ record (standing lines) { points = (standing lines).points + 1 }
+pub standing_point : (lines : List Line) (p : Point) → 0 < (standing lines).begun → standing (lines ++ Line.At p ∷ []) ≡ record (standing lines) { points = (standing lines).points + 1; last = None }
 standing_point lines p h =
     let l = Line.At p in
     let g = open_group lines in
@@ -156,11 +163,12 @@ standing_point lines p h =
     let d = declared_stays g l refl in
     let b = filter_map-same segment_of g l refl in
     let c = filter_map-same gap_of g l refl in
-    grown lines l refl h ∙ (λ i. record { begun = (standing lines).begun; points = a i; declared = d i; stretches = stretches_of (b i); gaps = length (c i) })
+    let o = last_push g l in
+    grown lines l refl h ∙ (λ i. record { begun = (standing lines).begun; points = a i; declared = d i; stretches = stretches_of (b i); last = o i; gaps = length (c i) })
 
--- a `seg` line gives one more stretch
+-- a `seg` line gives one more segment
 pub standing_segment : (lines : List Line) (b e t : ℕ) (row : List ℤ) (mu : ℤ) → 0 < (standing lines).begun
-    → standing (lines ++ Line.Seg b e t row mu ∷ []) ≡ record (standing lines) { stretches = (standing lines).stretches ++ record { first = b; last = e } ∷ [] }
+    → standing (lines ++ Line.Seg b e t row mu ∷ []) ≡ record (standing lines) { stretches = (standing lines).stretches ++ record { first = b; last = e } ∷ []; last = Some (record { stretch = record { first = b; last = e }; axis = t; line = record { a = row; mu = mu } }) }
 standing_segment lines b e t row mu h =
     let l = Line.Seg b e t row mu in
     let g = open_group lines in
@@ -169,10 +177,23 @@ standing_segment lines b e t row mu h =
     let d = declared_stays g l refl in
     let c : stretches_of (filter_map segment_of (g ++ l ∷ [])) ≡ stretches_of (filter_map segment_of g) ++ s.stretch ∷ [] = ap stretches_of (filter_map-push segment_of g l s refl) ∙ map-append (λ (x : Segment). x.stretch) (filter_map segment_of g) (s ∷ []) in
     let f = filter_map-same gap_of g l refl in
-    grown lines l refl h ∙ (λ i. record { begun = (standing lines).begun; points = length (a i); declared = d i; stretches = c i; gaps = length (f i) })
+    let o = last_push g l in
+    grown lines l refl h ∙ (λ i. record { begun = (standing lines).begun; points = length (a i); declared = d i; stretches = c i; last = o i; gaps = length (f i) })
+
+-- a `least` line gives none of these
+pub standing_least : (lines : List Line) (pairs : Pairs) → 0 < (standing lines).begun → standing (lines ++ Line.Least pairs ∷ []) ≡ record (standing lines) { last = None }
+standing_least lines pairs h =
+    let l = Line.Least pairs in
+    let g = open_group lines in
+    let a = filter_map-same point_of g l refl in
+    let d = declared_stays g l refl in
+    let b = filter_map-same segment_of g l refl in
+    let c = filter_map-same gap_of g l refl in
+    let o = last_push g l in
+    grown lines l refl h ∙ (λ i. record { begun = (standing lines).begun; points = length (a i); declared = d i; stretches = stretches_of (b i); last = o i; gaps = length (c i) })
 
 -- a gap line gives one more refusal
-pub standing_gap : (lines : List Line) (t : ℕ) (evidence : Evidence) → 0 < (standing lines).begun → standing (lines ++ Line.Gap t evidence ∷ []) ≡ record (standing lines) { gaps = (standing lines).gaps + 1 }
+pub standing_gap : (lines : List Line) (t : ℕ) (evidence : Evidence) → 0 < (standing lines).begun → standing (lines ++ Line.Gap t evidence ∷ []) ≡ record (standing lines) { last = None; gaps = (standing lines).gaps + 1 }
 standing_gap lines t evidence h =
     let l = Line.Gap t evidence in
     let f : GapFact = record { axis = t; kind = kind_of evidence } in
@@ -181,4 +202,5 @@ standing_gap lines t evidence h =
     let d = declared_stays g l refl in
     let b = filter_map-same segment_of g l refl in
     let c : length (filter_map gap_of (g ++ l ∷ [])) ≡ length (filter_map gap_of g) + 1 = ap length (filter_map-push gap_of g l f refl) ∙ length-append (filter_map gap_of g) (f ∷ []) in
-    grown lines l refl h ∙ (λ i. record { begun = (standing lines).begun; points = length (a i); declared = d i; stretches = stretches_of (b i); gaps = c i })
+    let o = last_push g l in
+    grown lines l refl h ∙ (λ i. record { begun = (standing lines).begun; points = length (a i); declared = d i; stretches = stretches_of (b i); last = o i; gaps = c i })

@@ -1,7 +1,7 @@
 -- All the segments of a contour, with two good refusals for each gap, show its cover.
 -- Lists of segments and refusals alone; how the lines of a report give them stands in `ContourSaid`.
 use Rattle.std.proofs.Common.{◌≡◌, inl, inr, ℕ, zero, suc, ◌+◌, ◌-◌, ◌*◌, ◌<◌, ◌≤◌, refl, ap, sym, ◌∙◌, subst, arith, List, [], ◌∷◌, ◌++◌, length, take, get_or, Some}
-use Rattle.std.specs.Prelude.{◌/◌, ◌%◌, pos, slice_get, IfSome, option_map}
+use Rattle.std.specs.Prelude.{◌/◌, ◌%◌, pos, slice_get, IfSome, Option, None, option_map}
 use Rattle.std.proofs.lemmas.List.{length-map, length-take-le, take-map, take_all, take_more, get_or_default}
 use Rattle.std.proofs.lemmas.List.Elements.{All-from_get_or}
 use Rattle.std.proofs.lemmas.Option.{slice_get-map, slice_get-get_or, get_or_from_slice_get}
@@ -15,7 +15,7 @@ use Rattle.report_terms.specs.ContourFacts.{Segment, stretches_of, GapKind, GapF
 use Rattle.shape_terms.proofs.ArcRuns.{length-arc}
 use Rattle.shape_terms.proofs.CoverOf.{covers}
 use Rattle.shape_terms.proofs.Senses.{sense_no_turn}
-use Rattle.report_terms.proofs.CoverTaken.{CoverSoFar, IsListed}
+use Rattle.report_terms.proofs.CoverTaken.{CoverSoFar, IsListed, AreLeast}
 
 -- ---- straight segments
 
@@ -62,9 +62,9 @@ slice_get-taken (x ∷ xs) (suc k) = slice_get-taken xs k
 no_segment : Segment
 no_segment = record { stretch = record { first = 0; last = 0 }; axis = 0; line = record { a = []; mu = pos 0 } }
 
-module _ (points : List Point) (m : ℕ) (segments : List Segment) (gaps : List GapFact) (c : CoverSoFar points m segments gaps) (some : 1 ≤ m) (number : length segments ≡ m) (all : length gaps ≡ 2 * m) where
+module _ (number : ℕ) (points : List Point) (m : ℕ) (segments : List Segment) (last : Option Segment) (gaps : List GapFact) (c : CoverSoFar number points m segments last gaps) (some : 1 ≤ m) (many : length segments ≡ m) (all : length gaps ≡ 2 * m) where
   length-stretches : length (stretches_of segments) ≡ m
-  length-stretches = length-map segments (λ (s : Segment). s.stretch) ∙ number
+  length-stretches = length-map segments (λ (s : Segment). s.stretch) ∙ many
 
   -- the k-th segment
   record Nth (k : ℕ) : Type 0 where
@@ -76,7 +76,7 @@ module _ (points : List Point) (m : ℕ) (segments : List Segment) (gaps : List 
 
   nth : (k : ℕ) → k < m → Nth k
   nth k h =
-      let e = slice_get-get_or segments k no_segment (omega (arith, number)) in
+      let e = slice_get-get_or segments k no_segment (omega (arith, many)) in
       let s = get_or segments k no_segment in
       let f : slice_get (stretches_of segments) k ≡ Some s.stretch = slice_get-map (λ (s : Segment). s.stretch) segments k ∙ ap (option_map (λ (s : Segment). s.stretch)) e in
       record {
@@ -89,7 +89,7 @@ module _ (points : List Point) (m : ℕ) (segments : List Segment) (gaps : List 
 
   -- the stretches before the k-th
   before_is : (k : ℕ) → k ≤ m → (stretches_of (take k segments) ≡ take k (stretches_of segments)) × (length (stretches_of (take k segments)) ≡ k)
-  before_is k h = (sym (take-map (λ (s : Segment). s.stretch) k segments), length-map (take k segments) (λ (s : Segment). s.stretch) ∙ length-take-le k segments (omega (arith, number)))
+  before_is k h = (sym (take-map (λ (s : Segment). s.stretch) k segments), length-map (take k segments) (λ (s : Segment). s.stretch) ∙ length-take-le k segments (omega (arith, many)))
 
   -- the places rise from one segment to the next
   rises : (k : ℕ) → k + 1 < m → ((stretch_at (stretches_of segments) k).first < (stretch_at (stretches_of segments) (k + 1)).first) × ((stretch_at (stretches_of segments) k).last < (stretch_at (stretches_of segments) (k + 1)).last)
@@ -155,12 +155,21 @@ module _ (points : List Point) (m : ℕ) (segments : List Segment) (gaps : List 
       let g = s.good in
       record { axis = s.axis; line = g.naive; sense = g.sense }
 
+  -- behind the gap lines no `least` line is wanted
+  all_shown : last ≡ None
+  all_shown = closed last c.early
+    where
+      closed : (o : Option Segment) → ((s : Segment) → o ≡ Some s → gaps ≡ []) → o ≡ None
+      closed None h = refl
+      closed (Some s) h = absurd (let e = ap length (h s refl) in omega (arith, all, some, e))
+
   -- the contour is shown
-  pub cover_shows : (start : Crack) → ContourShows (record { outline = record { start = start; points = points }; segments = segments; gaps = in_pairs gaps })
+  pub cover_shows : (start : Crack) → ContourShows number (record { outline = record { start = start; points = points }; segments = segments; gaps = in_pairs gaps })
   cover_shows start = record {
     cover = covers points (stretches_of segments) gapped;
     lines = All-from_get_or (SegmentShows points) segments no_segment segment_shows;
-    all_gaps = pairs_length gaps m all ∙ sym number;
+    least = λ e. subst (AreLeast points segments) all_shown (c.least e);
+    all_gaps = pairs_length gaps m all ∙ sym many;
     gaps = λ k g e.
         let p = pairs_get gaps k g e in
         let a = halves k in

@@ -14,7 +14,7 @@ use Rattle.thin_terms.specs.Thinning.{Rule}
 use Rattle.report_terms.specs.Subjects.{Subject}
 use Rattle.report_terms.specs.Lines.{Line, text_of, IsLineOf}
 use Rattle.report_terms.specs.ThinningLines.{PartsFact, event_of, events_of, kept_fact, kept_facts}
-use Rattle.report_terms.specs.Sections.{Section, rank, section_of, lines_of, CountsClaim, NearClaim, NamesRule, IsComplete, HasCome, GoodSoFar}
+use Rattle.report_terms.specs.Sections.{Section, rank, section_of, lines_of, number_of, CountsClaim, NearClaim, NamesRule, IsComplete, HasCome, GoodSoFar}
 use Rattle.report_terms.specs.ContourLines.{ContourClaim}
 use Rattle.report_terms.specs.FaceLines.{FaceClaim}
 use Rattle.report_terms.specs.Holds.{Holds}
@@ -104,7 +104,7 @@ lines_field X lines good one e =
 
 -- each line of a contour is good after the lines of contours before it
 contours_good : (X : Subject) (lines : List Line) → All (IsLineOf (length X.picture.sides)) lines → GoodSoFar X lines → IsComplete X Section.Heading lines → (j : ℕ) (l : Line) → slice_get (lines_of Section.Contours lines) j ≡ Some l
-    → IsLineOf (length X.picture.sides) l × ContourClaim X.picture (take j (lines_of Section.Contours lines)) l
+    → IsLineOf (length X.picture.sides) l × ContourClaim (number_of (lines_of Section.Heading lines)) X.picture (take j (lines_of Section.Contours lines)) l
 contours_good X lines fields good one j l e =
     let s = stood (λ m. rank (section_of m) == 3) lines j l e in
     (subst (IsLineOf (length X.picture.sides)) (get_or_from_slice_get lines s.place l l s.there) (fields s.place l (slice_get_within lines s.place l s.there)), (claims_of_section X Section.Contours lines (omega arith) good one j l e).1)
@@ -154,7 +154,7 @@ holds_shows X text (lines, b) =
       shows = record {
         parts = lines_parts X all b.good one (complete Section.Counted (omega arith));
         nears = lines_field X all b.good one (complete Section.Nearest (omega arith));
-        contours = λ flat. lines_contours X.picture (length X.picture.sides) (lines_of Section.Contours all) (contours_good X all b.fields b.good one) ((complete Section.Contours (omega arith)).flat flat);
+        contours = λ flat. lines_contours (number_of (lines_of Section.Heading all)) X.picture (length X.picture.sides) (lines_of Section.Contours all) (contours_good X all b.fields b.good one) ((complete Section.Contours (omega arith)).flat flat);
         faces = λ solid. lines_faces X.picture (lines_of Section.Faces all) (faces_good X all b.good one) ((complete Section.Faces (omega arith)).solid solid);
         thinning = thinned.2;
       };

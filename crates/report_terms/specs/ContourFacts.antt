@@ -6,6 +6,7 @@ use Rattle.shape_terms.specs.Pictures.{Picture}
 use Rattle.shape_terms.specs.Naive.{Naive, IsNaiveFor}
 use Rattle.shape_terms.specs.Straight.{KeepsSense, IsStraightFor}
 use Rattle.shape_terms.specs.Traces.{Contour, AreContours}
+use Rattle.least_terms.specs.Least.{IsLeastLine}
 use Rattle.shape_terms.specs.Covers.{Stretch, IsCover, Evidence, arc, gap_run}
 
 -- a segment: its stretch of the contour, and a naive line with its main axis
@@ -49,6 +50,10 @@ pub record SegmentShows (points : List Point) (s : Segment) : Type 0 where
   pub line : IsNaiveFor s.axis (arc points s.stretch.first s.stretch.last) s.line
   pub sense : KeepsSense s.axis (arc points s.stretch.first s.stretch.last)
 
+-- the line has the least main coefficient of all proper lines of its axis that hold each place of the stretch
+abbrev pub SegmentIsLeast : List Point → Segment → Type 0
+SegmentIsLeast points s = IsLeastLine s.axis (arc points s.stretch.first s.stretch.last) s.line
+
 -- the run is not straight for the axis, and where weights refuse it, no proper naive line of that axis holds it
 pub record RefusalShows (run : List Point) (fact : GapFact) : Type 0 where
   pub not_straight : IsStraightFor fact.axis run → ⊥
@@ -61,14 +66,15 @@ pub record GapShows (run : List Point) (facts : GapFact × GapFact) : Type 0 whe
   pub refused_x : RefusalShows run facts.0
   pub refused_y : RefusalShows run facts.1
 
--- the segments are exactly the cover of the contour, each with its line, and each has a gap, whose run is not straight
-pub record ContourShows (fact : ContourFact) : Type 0 where
+-- the segments are exactly the cover of the contour, each with its line, which is least in a report with the number 2; and each has a gap, whose run is not straight
+pub record ContourShows (number : ℕ) (fact : ContourFact) : Type 0 where
   pub cover : IsCover fact.outline.points (stretches_of fact.segments)
   pub lines : All (SegmentShows fact.outline.points) fact.segments
+  pub least : number ≡ 2 → All (SegmentIsLeast fact.outline.points) fact.segments
   pub all_gaps : length fact.gaps ≡ length fact.segments
   pub gaps : (k : ℕ) (g : GapFact × GapFact) → slice_get fact.gaps k ≡ Some g → GapShows (gap_run fact.outline.points (stretches_of fact.segments) k) g
 
 -- the contours are those of the picture, and each has its cover
-pub record ContoursShow (X : Picture) (facts : List ContourFact) : Type 0 where
+pub record ContoursShow (number : ℕ) (X : Picture) (facts : List ContourFact) : Type 0 where
   pub outlines : AreContours X (map (λ (f : ContourFact). f.outline) facts)
-  pub each : All ContourShows facts
+  pub each : All (ContourShows number) facts

@@ -1,12 +1,13 @@
 -- The lines of contours in a report: how they stand in groups, and when one is good after those before it.
 -- Only the lines of this section stand here; how sections follow each other stands in `Sections`.
 use Rattle.std.specs.Prelude.{◌≡◌, ℕ, ◌-◌, ◌*◌, ◌/◌, ◌%◌, ◌<◌, ◌≤◌, Bool, true, false, not, if◌then◌else◌, List, [], ◌∷◌, length, filter_map, take_while, slice_get, slice_index_or, Option, Some, None}
-use Rattle.shape_terms.specs.Points.{Point}
+use Rattle.shape_terms.specs.Points.{Point, coordinate}
 use Rattle.shape_terms.specs.Pictures.{Picture}
 use Rattle.shape_terms.specs.Naive.{Naive}
 use Rattle.shape_terms.specs.Contours.{Crack}
 use Rattle.shape_terms.specs.Traces.{Contour, AreContours}
-use Rattle.shape_terms.specs.Covers.{Stretch, IsSegment, Evidence, IsEvidence, gap_run}
+use Rattle.shape_terms.specs.Covers.{Stretch, IsSegment, Evidence, IsEvidence, arc, gap_run}
+use Rattle.least_terms.specs.Least.{Pairs, ShowsLeast}
 use Rattle.report_terms.specs.ContourFacts.{Segment, stretches_of, GapFact, kind_of}
 use Rattle.report_terms.specs.Lines.{Line}
 
@@ -51,14 +52,21 @@ abbrev pub declared_of : List Line → ℕ
 declared_of (Line.Contour _ _ _ m ∷ _) = m
 declared_of _ = 0
 
+-- the segment of the last line, where that is a `seg` line
+abbrev pub last_segment : List Line → Option Segment
+last_segment [] = None
+last_segment (l ∷ []) = segment_of l
+last_segment (l ∷ m ∷ lines) = last_segment (m ∷ lines)
+
 -- ---- where the lines stand
 
--- how many contours were begun; and of the last of them, how many points it was given, how many segments its `contour` line gives, the stretches of those it was given, and how many gap lines it has
+-- how many contours were begun; and of the last of them, how many points it was given, how many segments its `contour` line gives, the stretches of those it was given, the segment of the last line where that is a `seg` line, and how many gap lines it has
 pub record Standing : Type 0 where
   pub begun : ℕ
   pub points : ℕ
   pub declared : ℕ
   pub stretches : List Stretch
+  pub last : Option Segment
   pub gaps : ℕ
 
 -- the same where so many contours were begun, the last with this group of lines
@@ -68,6 +76,7 @@ standing_with n group = record {
   points = length (filter_map point_of group);
   declared = declared_of group;
   stretches = stretches_of (filter_map segment_of group);
+  last = last_segment group;
   gaps = length (filter_map gap_of group);
 }
 
@@ -108,32 +117,46 @@ pub record IsNextPoint (contours : List Contour) (s : Standing) (p : Point) : Ty
   pub early : s.stretches ≡ []
   pub next : slice_get (open_contour contours s).points s.points ≡ Some p
 
--- the claim of a `seg` line: all points are given, a segment is wanted, no gap line came yet, and the segment is good after those before it
-pub record IsNextSegment (contours : List Contour) (s : Standing) (b e t : ℕ) (line : Naive) : Type 0 where
+-- the line right before is no `seg` line that wants a `least` line, as each one does in a report with the number 2
+abbrev pub WantsNone : (number : ℕ) → Standing → Type 0
+WantsNone number s = number ≡ 2 → s.last ≡ None
+
+-- the claim of a `seg` line: all points are given, a segment is wanted, no `least` line is and no gap line came yet, and the segment is good after those before it
+pub record IsNextSegment (number : ℕ) (contours : List Contour) (s : Standing) (b e t : ℕ) (line : Naive) : Type 0 where
   pub points : s.points ≡ length (open_contour contours s).points
   pub more : length s.stretches < s.declared
+  pub shown : WantsNone number s
   pub early : s.gaps ≡ 0
   pub segment : IsSegment (open_contour contours s).points s.declared s.stretches b e t line
 
--- the claim of a gap line: all points and segments are given, the gap line of this axis comes next, and its evidence is good for the run of its gap
-pub record IsNextGap (contours : List Contour) (s : Standing) (t : ℕ) (evidence : Evidence) : Type 0 where
+-- the claim of a `least` line: in a report with the number 2, the line right before is a `seg` line, and the pairs of places of its run show its line to be least
+pub record IsNextLeast (number : ℕ) (contours : List Contour) (s : Standing) (pairs : Pairs) : Type 0 where
+  pub second : number ≡ 2
+  pub segment : Segment
+  pub before : s.last ≡ Some segment
+  pub shows : ShowsLeast segment.axis (arc (open_contour contours s).points segment.stretch.first segment.stretch.last) (coordinate segment.line.a segment.axis) pairs
+
+-- the claim of a gap line: all points and segments are given, no `least` line is wanted, the gap line of this axis comes next, and its evidence is good for the run of its gap
+pub record IsNextGap (number : ℕ) (contours : List Contour) (s : Standing) (t : ℕ) (evidence : Evidence) : Type 0 where
   pub points : s.points ≡ length (open_contour contours s).points
   pub segments : length s.stretches ≡ s.declared
+  pub shown : WantsNone number s
   pub more : s.gaps < 2 * s.declared
   pub axis : t ≡ s.gaps % 2
   pub good : IsEvidence t (gap_run (open_contour contours s).points s.stretches (s.gaps / 2)) evidence
 
--- the claim of a line of a contour, where `contours` are the picture's
-abbrev pub OutlineClaim : List Contour → Standing → Line → Type 0
-OutlineClaim contours s (Line.Contour p side n m) = IsContourHead contours s (record { pixel = p; side = side }) n m
-OutlineClaim contours s (Line.At p) = IsNextPoint contours s p
-OutlineClaim contours s (Line.Seg b e t a mu) = IsNextSegment contours s b e t (record { a = a; mu = mu })
-OutlineClaim contours s (Line.Gap t evidence) = IsNextGap contours s t evidence
-OutlineClaim contours s _ = ⊥
+-- the claim of a line of a contour in a report with this number, where `contours` are the picture's
+abbrev pub OutlineClaim : (number : ℕ) → List Contour → Standing → Line → Type 0
+OutlineClaim number contours s (Line.Contour p side n m) = IsContourHead contours s (record { pixel = p; side = side }) n m
+OutlineClaim number contours s (Line.At p) = IsNextPoint contours s p
+OutlineClaim number contours s (Line.Seg b e t a mu) = IsNextSegment number contours s b e t (record { a = a; mu = mu })
+OutlineClaim number contours s (Line.Least pairs) = IsNextLeast number contours s pairs
+OutlineClaim number contours s (Line.Gap t evidence) = IsNextGap number contours s t evidence
+OutlineClaim number contours s _ = ⊥
 
 -- the claim of a line of a contour of the picture, after the lines of contours before it
-abbrev pub ContourClaim : Picture → List Line → Line → Type 0
-ContourClaim X lines l = (contours : List Contour) × AreContours X contours × OutlineClaim contours (standing lines) l
+abbrev pub ContourClaim : (number : ℕ) → Picture → List Line → Line → Type 0
+ContourClaim number X lines l = (contours : List Contour) × AreContours X contours × OutlineClaim number contours (standing lines) l
 
 -- each contour of the picture has its lines
 abbrev pub ContoursComplete : Picture → List Line → Type 0

@@ -17,11 +17,11 @@ use Rattle.report_terms.specs.Forms.{number, sign}
 
 -- a kind of line
 pub data Kind : Type 0 where
-  Shape Parts Near Contour At Seg Turn Cut Face Patch On Off Del Tip Kept End : Kind
+  Shape Parts Near Contour At Seg Least Turn Cut Face Patch On Off Del Tip Kept End : Kind
 
 -- all kinds
 abbrev pub kinds : List Kind
-kinds = Kind.Shape ∷ Kind.Parts ∷ Kind.Near ∷ Kind.Contour ∷ Kind.At ∷ Kind.Seg ∷ Kind.Turn ∷ Kind.Cut ∷ Kind.Face ∷ Kind.Patch ∷ Kind.On ∷ Kind.Off ∷ Kind.Del ∷ Kind.Tip ∷ Kind.Kept ∷ Kind.End ∷ []
+kinds = Kind.Shape ∷ Kind.Parts ∷ Kind.Near ∷ Kind.Contour ∷ Kind.At ∷ Kind.Seg ∷ Kind.Least ∷ Kind.Turn ∷ Kind.Cut ∷ Kind.Face ∷ Kind.Patch ∷ Kind.On ∷ Kind.Off ∷ Kind.Del ∷ Kind.Tip ∷ Kind.Kept ∷ Kind.End ∷ []
 
 -- the word that a line of this kind begins with
 abbrev pub first_word : Kind → List ℕ
@@ -31,6 +31,7 @@ first_word Kind.Near = codes "near"
 first_word Kind.Contour = codes "contour"
 first_word Kind.At = codes "at"
 first_word Kind.Seg = codes "seg"
+first_word Kind.Least = codes "least"
 first_word Kind.Turn = codes "turn"
 first_word Kind.Cut = codes "cut"
 first_word Kind.Face = codes "face"
@@ -50,6 +51,7 @@ Fields Kind.Near = Point × (Point × ℕ)
 Fields Kind.Contour = Point × (ℕ × (ℕ × ℕ))
 Fields Kind.At = Point
 Fields Kind.Seg = ℕ × (ℕ × (ℕ × (List ℤ × ℤ)))
+Fields Kind.Least = ℕ × (ℕ × (ℕ × ℕ))
 Fields Kind.Turn = ℕ × (ℕ × ℕ)
 Fields Kind.Cut = ℕ × Refutation
 Fields Kind.Face = ℕ × (Sense × ℕ)
@@ -69,6 +71,7 @@ form_of d Kind.Near = point d ⨾ point d ⨾ weight
 form_of d Kind.Contour = of_axes 2 d (point 2 ⨾ natural 4 ⨾ count ⨾ count)
 form_of d Kind.At = of_axes 2 d (point 2)
 form_of d Kind.Seg = of_axes 2 d (count ⨾ count ⨾ letter 2 ⨾ row 2 ⨾ signed w64 63)
+form_of d Kind.Least = of_axes 2 d (count ⨾ count ⨾ count ⨾ count)
 form_of d Kind.Turn = of_axes 2 d (letter 2 ⨾ count ⨾ count)
 form_of d Kind.Cut = of_axes 2 d (letter 2 ⨾ why 2)
 form_of d Kind.Face = of_axes 3 d (letter 3 ⨾ sign ⨾ count)

@@ -6,6 +6,7 @@ use Rattle.shape_terms.specs.Points.{Point}
 use Rattle.shape_terms.specs.Refutations.{Refutation}
 use Rattle.shape_terms.specs.Covers.{Evidence}
 use Rattle.patch_terms.specs.Patches.{Sense}
+use Rattle.least_terms.specs.Least.{Pairs}
 use Rattle.text_terms.specs.Spellings.{Spelled}
 use Rattle.report_terms.specs.Kinds.{Kind, Fields, Split, IsSplitOf, split_words}
 
@@ -23,6 +24,7 @@ pub data Line : Type 0 where
   Contour : (p : Point) → (side points segments : ℕ) → Line
   At : (p : Point) → Line
   Seg : (first last axis : ℕ) → (a : List ℤ) → (mu : ℤ) → Line
+  Least : (pairs : Pairs) → Line
   Gap : (axis : ℕ) → (evidence : Evidence) → Line
   Face : (axis : ℕ) → (sense : Sense) → (points : ℕ) → Line
   Patch : (points : ℕ) → (a : List ℤ) → (mu : ℤ) → Line
@@ -41,6 +43,7 @@ split (Near p q s) = record { kind = Kind.Near; fields = (p, (q, s)) }
 split (Contour p side n m) = record { kind = Kind.Contour; fields = (p, (side, (n, m))) }
 split (At p) = record { kind = Kind.At; fields = p }
 split (Seg b e t a mu) = record { kind = Kind.Seg; fields = (b, (e, (t, (a, mu)))) }
+split (Least p) = record { kind = Kind.Least; fields = (p.low1, (p.high1, (p.low2, p.high2))) }
 split (Gap t (Evidence.Turned i j)) = record { kind = Kind.Turn; fields = (t, (i, j)) }
 split (Gap t (Evidence.Cut why)) = record { kind = Kind.Cut; fields = (t, why) }
 split (Face t sense n) = record { kind = Kind.Face; fields = (t, (sense, n)) }
@@ -60,6 +63,7 @@ joined Kind.Near (p, (q, s)) = Near p q s
 joined Kind.Contour (p, (side, (n, m))) = Contour p side n m
 joined Kind.At p = At p
 joined Kind.Seg (b, (e, (t, (a, mu)))) = Seg b e t a mu
+joined Kind.Least (l1, (h1, (l2, h2))) = Least (record { low1 = l1; high1 = h1; low2 = l2; high2 = h2 })
 joined Kind.Turn (t, (i, j)) = Gap t (Evidence.Turned i j)
 joined Kind.Cut (t, why) = Gap t (Evidence.Cut why)
 joined Kind.Face (t, (sense, n)) = Face t sense n

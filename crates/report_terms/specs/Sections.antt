@@ -38,6 +38,7 @@ section_of (Line.Near _ _ _) = Section.Nearest
 section_of (Line.Contour _ _ _ _) = Section.Contours
 section_of (Line.At _) = Section.Contours
 section_of (Line.Seg _ _ _ _ _) = Section.Contours
+section_of (Line.Least _) = Section.Contours
 section_of (Line.Gap _ _) = Section.Contours
 section_of (Line.Face _ _ _) = Section.Faces
 section_of (Line.Patch _ _ _) = Section.Faces
@@ -73,9 +74,9 @@ NearClaim X before _ = ⊥
 abbrev pub NearsComplete : Picture → List Line → Type 0
 NearsComplete X lines = length lines ≡ length (object_points X)
 
--- a line of a contour is of a flat picture
-abbrev pub FlatClaim : Picture → List Line → Line → Type 0
-FlatClaim X before l = (length X.sides ≡ 2) × ContourClaim X before l
+-- a line of a contour is of a flat picture, in a report with this number
+abbrev pub FlatClaim : ℕ → Picture → List Line → Line → Type 0
+FlatClaim n X before l = (length X.sides ≡ 2) × ContourClaim n X before l
 
 -- a line of a face is of a volume
 abbrev pub SolidClaim : Picture → List Line → Line → Type 0
@@ -87,12 +88,17 @@ pub record NamesRule (shelf : List (Named Rule)) (first : List Line) (rule : Rul
   pub first_is : first ≡ Line.Shape heading ∷ []
   pub on_shelf : IsOnShelf shelf heading.rule rule
 
+-- the number that the heading gives
+abbrev pub number_of : (first : List Line) → ℕ
+number_of (Line.Shape h ∷ lines) = h.number
+number_of _ = 0
+
 -- the claim of a line after the heading and the lines of its section before it
 abbrev pub SectionClaim : Subject → (heading : List Line) → Section → (before : List Line) → Line → Type 0
 SectionClaim X heading Section.Heading before l = (before ≡ []) × HeadingClaim X l
 SectionClaim X heading Section.Counted before l = (before ≡ []) × CountsClaim X.picture l
 SectionClaim X heading Section.Nearest before l = NearClaim X.picture before l
-SectionClaim X heading Section.Contours before l = FlatClaim X.picture before l
+SectionClaim X heading Section.Contours before l = FlatClaim (number_of heading) X.picture before l
 SectionClaim X heading Section.Faces before l = SolidClaim X.picture before l
 SectionClaim X heading Section.Thinned before l = (rule : Rule) × NamesRule X.shelf heading rule × ThinningClaim rule X.picture before l
 SectionClaim X heading Section.End before l = before ≡ []

@@ -17,7 +17,7 @@ use Rattle.report_terms.specs.ContourLines.{contour_groups, point_of, segment_of
 use Rattle.report_terms.specs.FaceLines.{face_groups, patch_groups, on_point, off_point, plane_of}
 use Rattle.report_terms.specs.ThinningLines.{PartsFact, events_of, kept_facts}
 use Rattle.report_terms.specs.Subjects.{Subject}
-use Rattle.report_terms.specs.Sections.{Section, lines_of, NamesRule}
+use Rattle.report_terms.specs.Sections.{Section, lines_of, number_of, NamesRule}
 
 -- what a `parts` line says of the picture
 abbrev pub parts_fact : Line → Option PartsFact
@@ -51,8 +51,9 @@ abbrev pub face_fact : List Line → FaceFact
 face_fact (Line.Face t sense n ∷ lines) = record { axis = t; sense = sense; patches = map patch_fact (patch_groups lines) }
 face_fact _ = record { axis = 0; sense = Sense.Down; patches = [] }
 
--- the report's content: what its lines say, section by section
+-- the report's content: its number, and what its lines say, section by section
 pub record Content : Type 0 where
+  pub number : ℕ
   pub parts : List PartsFact
   pub nears : List NearFact
   pub contours : List ContourFact
@@ -62,6 +63,7 @@ pub record Content : Type 0 where
 
 abbrev pub content_of : List Line → Content
 content_of lines = record {
+  number = number_of (lines_of Section.Heading lines);
   parts = filter_map parts_fact lines;
   nears = filter_map near_fact lines;
   contours = map contour_fact (contour_groups (lines_of Section.Contours lines));
@@ -91,11 +93,11 @@ pub record ThinningShows (X : Picture) (rule : Rule) (events : List Event) (kept
   pub counts : Counts stage.left left.points left.object left.background
   pub same : length X.values ≡ box_count X.sides → (n o b : ℕ) → Counts X n o b → (left.object ≡ o) × (left.background ≡ b)
 
--- the counts of the picture; each object point once, in raster order, with a nearest background point of the whole space; the contours of a flat picture, each from its least crack and with its points and its cover; the six faces of a volume, each with its partition into patches; and the thinning by the rule
+-- the counts of the picture; each object point once, in raster order, with a nearest background point of the whole space; the contours of a flat picture, each from its least crack and with its points and its cover, of lines that are least where the number is 2; the six faces of a volume, each with its partition into patches; and the thinning by the rule
 pub record Shows (X : Picture) (rule : Rule) (content : Content) : Type 0 where
   pub parts : ShowsParts X content.parts
   pub nears : IsField X content.nears
-  pub contours : length X.sides ≡ 2 → ContoursShow X content.contours
+  pub contours : length X.sides ≡ 2 → ContoursShow content.number X content.contours
   pub faces : length X.sides ≡ 3 → FacesShow X content.faces
   pub thinning : ThinningShows X rule content.events content.kept
 

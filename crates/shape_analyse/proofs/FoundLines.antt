@@ -4,7 +4,9 @@ use Rattle.std.proofs.Common.{◌≡◌, ◌+◌, ◌<◌, ◌^◌, ℕ, zero, s
 use Rattle.std.specs.Prelude.{◌*◌, ◌≤◌, All, FitsSigned, Some, nat_abs, slice_get, slice_index_or}
 use Rattle.std.specs.Int.{w64}
 use Rattle.std.proofs.lemmas.List.{length-map, length-take-le}
-use Rattle.shape_terms.specs.Points.{Point}
+use Rattle.shape_terms.specs.Points.{Point, coordinate}
+use Rattle.least_terms.specs.Least.{Pairs, ShowsLeast}
+use Rattle.report_terms.specs.ContourFacts.{Segment}
 use Rattle.shape_terms.specs.Traces.{Contour}
 use Rattle.shape_terms.specs.Naive.{Naive}
 use Rattle.shape_terms.specs.Refutations.{Share, Step, StepShare, Refutation, IsStepOf, Refutes}
@@ -13,9 +15,9 @@ use Rattle.text_terms.specs.Forms.{counted}
 use Rattle.text_terms.specs.Weights.{IsStepIn, share, step_share, why}
 use Rattle.report_terms.specs.Lines.{Line, IsLineOf}
 use Rattle.shape_slope.specs.Pairs.{AreSmallWeights}
-use Rattle.shape_cover.specs.Found.{Found, stretches_of, found_at, IsCoverOf, IsShortLine, AreShortShares, IsShortEvidence}
+use Rattle.shape_cover.specs.Found.{Found, stretches_of, found_at, IsShownBy, IsCoverOf, IsShortLine, AreShortShares, IsShortEvidence}
 use Rattle.shape_analyse.specs.Growing.{Aim, IsOutlined, at_contour, covered}
-use Rattle.shape_analyse.proofs.ContourGrowth.{outlined_segment, outlined_gap}
+use Rattle.shape_analyse.proofs.ContourGrowth.{outlined_segment, outlined_least, outlined_gap}
 
 fits : (z : ℤ) → nat_abs z < 2 ^ 63 → FitsSigned w64 z
 fits (pos n) h = record { sfits = omega arith }
@@ -64,16 +66,30 @@ stretches_more found j l = more found j l ∙ ap (λ k. take k (stretches_of fou
 
 -- ---- lines that are added
 
+-- the segment that was found in the place j
+abbrev pub segment_at : List Found → ℕ → Segment
+segment_at found j = record { stretch = (found_at found j).stretch; axis = (found_at found j).axis; line = (found_at found j).line }
+
+abbrev pub segment_line : Segment → Line
+segment_line s = Line.Seg s.stretch.first s.stretch.last s.axis s.line.a s.line.mu
+
 -- the line of the next segment
 pub found_segment : (X : Aim) (contours : List Contour) (k : ℕ) (c : Contour) (found : List Found) (j : ℕ) (lines : List Line) → IsOutlined X contours (at_contour k (length c.points) (length found) (take j (stretches_of found)) 0) lines → slice_get contours k ≡ Some c → IsCoverOf c.points found → j < length found
-    → IsLineOf 2 (Line.Seg (found_at found j).stretch.first (found_at found j).stretch.last (found_at found j).axis (found_at found j).line.a (found_at found j).line.mu)
-    → IsOutlined X contours (at_contour k (length c.points) (length found) (take (j + 1) (stretches_of found)) 0) (lines ++ Line.Seg (found_at found j).stretch.first (found_at found j).stretch.last (found_at found j).axis (found_at found j).line.a (found_at found j).line.mu ∷ [])
+    → IsLineOf 2 (segment_line (segment_at found j))
+    → IsOutlined X contours (record (at_contour k (length c.points) (length found) (take (j + 1) (stretches_of found)) 0) { last = Some (segment_at found j) }) (lines ++ segment_line (segment_at found j) ∷ [])
 found_segment X contours k c found j lines o there cover l fields =
     let f = found_at found j in
     let before = take j (stretches_of found) in
     let more : length before < length found = omega (arith, length-take-le j (stretches_of found) (omega (arith, length-map found (λ (f : Found). f.stretch))), l) in
     let next = outlined_segment X contours k (length found) before lines c f.stretch.first f.stretch.last f.axis f.line o there more (cover.segment j l) fields in
-    subst (λ ss. IsOutlined X contours (at_contour k (length c.points) (length found) ss 0) (lines ++ Line.Seg f.stretch.first f.stretch.last f.axis f.line.a f.line.mu ∷ [])) (stretches_more found j l) next
+    subst (λ ss. IsOutlined X contours (record (at_contour k (length c.points) (length found) ss 0) { last = Some (segment_at found j) }) (lines ++ segment_line (segment_at found j) ∷ [])) (stretches_more found j l) next
+
+-- the `least` line behind it
+pub found_least : (X : Aim) (contours : List Contour) (k : ℕ) (c : Contour) (found : List Found) (j : ℕ) (pairs : Pairs) (lines : List Line) → IsOutlined X contours (record (at_contour k (length c.points) (length found) (take (j + 1) (stretches_of found)) 0) { last = Some (segment_at found j) }) lines → slice_get contours k ≡ Some c
+    → IsCoverOf c.points found → j < length found → IsShownBy (found_at found j) pairs → IsLineOf 2 (Line.Least pairs) → IsOutlined X contours (at_contour k (length c.points) (length found) (take (j + 1) (stretches_of found)) 0) (lines ++ Line.Least pairs ∷ [])
+found_least X contours k c found j pairs lines o there cover l shown fields =
+    let f = found_at found j in
+    outlined_least X contours k (length found) (take (j + 1) (stretches_of found)) (segment_at found j) lines c pairs o there (subst (λ run. ShowsLeast f.axis run (coordinate f.line.a f.axis) pairs) (cover.grown j l) shown) fields
 
 -- the two lines of the next gap
 pub found_gap : (X : Aim) (contours : List Contour) (k : ℕ) (c : Contour) (found : List Found) (j t : ℕ) (v : Evidence) (lines : List Line) → IsOutlined X contours (covered k c found (2 * j + t)) lines → slice_get contours k ≡ Some c → j < length found → t < 2

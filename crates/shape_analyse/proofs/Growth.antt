@@ -13,6 +13,7 @@ use Rattle.shape_terms.specs.Parts.{Counts}
 use Rattle.shape_terms.specs.Distances.{NearFact, IsField, IsFramed}
 use Rattle.text_terms.specs.Forms.{IsName}
 use Rattle.report_terms.specs.Kinds.{weight}
+use Rattle.report_terms.specs.Forms.{last_number}
 use Rattle.report_terms.specs.Lines.{Line, spelling, line_text, text_of, IsLineOf}
 use Rattle.report_terms.specs.Subjects.{IsOnShelf}
 use Rattle.report_terms.specs.Sections.{Section, lines_of, NamesRule, GoodAfter, analysis}
@@ -48,8 +49,12 @@ sides_fit g n h m = All-from_get_or (FitsSigned w32) n (pos 0) (λ k l. let c = 
     fits (pos n) l h = record { sfits = omega (arith, ints) }
     fits (negsuc n) l h = absurd (omega (arith, ints))
 
-pub heading_fits : (greatest : ℤ) (d : ℕ) (n : Point) (rule : List ℕ) → AreSides greatest n → greatest ≤ℤ pos 2048 → length n ≡ d → IsName rule → IsLineOf d (Line.Shape (record { number = 1; sides = n; rule = rule }))
-heading_fits g d n rule h m e k = ((omega arith, omega arith), (record { axes = e; fits = sides_fit g n h m }, k))
+pub heading_fits : (greatest : ℤ) (d : ℕ) (n : Point) (rule : List ℕ) → AreSides greatest n → greatest ≤ℤ pos 2048 → length n ≡ d → IsName rule → IsLineOf d (Line.Shape (record { number = last_number d; sides = n; rule = rule }))
+heading_fits g d n rule h m e k = ((some d, omega arith), (record { axes = e; fits = sides_fit g n h m }, k))
+  where
+    some : (d : ℕ) → 1 ≤ last_number d
+    some (suc (suc zero)) = omega arith
+    some _ = omega arith
 
 -- ---- one more line
 

@@ -1,6 +1,6 @@
 -- A report while it grows: good lines that have come to a section.
 -- The sections of the `near` lines, of the contours and of the thinning are those with many lines.
-use Rattle.std.specs.Prelude.{◌≡◌, ◌+◌, ◌≤◌, ℕ, List, [], ◌∷◌, length, take, All}
+use Rattle.std.specs.Prelude.{◌≡◌, ◌+◌, ◌≤◌, ℕ, List, [], ◌∷◌, length, take, None, All}
 use Rattle.shape_terms.specs.Points.{Point}
 use Rattle.shape_terms.specs.Pictures.{Picture, object_points}
 use Rattle.shape_terms.specs.Traces.{Contour, AreContours}
@@ -8,6 +8,7 @@ use Rattle.shape_terms.specs.Covers.{Stretch}
 use Rattle.thin_terms.specs.Thinning.{Rule, Event}
 use Rattle.thin_terms.specs.Shelves.{Named}
 use Rattle.report_terms.specs.Subjects.{Subject, IsOnShelf}
+use Rattle.report_terms.specs.Forms.{last_number}
 use Rattle.report_terms.specs.Lines.{Line, Heading, spelling, text_of, IsLineOf}
 use Rattle.report_terms.specs.ContourLines.{Standing, standing, IsFull}
 use Rattle.report_terms.specs.ThinningLines.{events_of, kept_facts, ThinningComplete}
@@ -23,9 +24,9 @@ pub record Aim : Type 0 where
 abbrev pub aim_of : Picture → List (Named Rule) → List ℕ → Rule → Aim
 aim_of X shelf name rule = record { subject = record { picture = X; shelf = shelf }; name = name; rule = rule }
 
--- the heading of a report with these sides
+-- the heading of the report with these sides, which has the greatest number of its dimension
 abbrev pub heading_of : Aim → Point → Heading
-heading_of X sides = record { number = 1; sides = sides; rule = X.name }
+heading_of X sides = record { number = last_number (length X.subject.picture.sides); sides = sides; rule = X.name }
 
 -- the lines have one heading, which names the rule
 pub record HasHeading (X : Aim) (lines : List Line) : Type 0 where
@@ -54,9 +55,9 @@ pub record IsOutlined (X : Aim) (contours : List Contour) (s : Standing) (lines 
   pub come : HasCome X.subject Section.Contours lines
   pub stands : standing (lines_of Section.Contours lines) ≡ s
 
--- where k contours have all their lines and one more was begun: how many points it was given, how many segments it is to have, and the stretches and how many gap lines it was given
+-- where k contours have all their lines and one more was begun: how many points it was given, how many segments it is to have, and the stretches, each with its `least` line, and how many gap lines it was given
 abbrev pub at_contour : (k points declared : ℕ) → List Stretch → (gaps : ℕ) → Standing
-at_contour k n m stretches g = record { begun = k + 1; points = n; declared = m; stretches = stretches; gaps = g }
+at_contour k n m stretches g = record { begun = k + 1; points = n; declared = m; stretches = stretches; last = None; gaps = g }
 
 -- the first k contours have all their lines
 pub record HasOutlined (X : Aim) (contours : List Contour) (k : ℕ) (lines : List Line) : Type 0 where

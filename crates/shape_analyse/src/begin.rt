@@ -6,6 +6,7 @@ ghost use Rattle.shape_terms.specs.Parts.{Counts};
 ghost use Rattle.shape_terms.specs.Distances.{IsField, IsFramed};
 ghost use Rattle.thin_terms.specs.Thinning.{Rule};
 ghost use Rattle.thin_terms.specs.Shelves.{Named};
+ghost use Rattle.report_terms.specs.Forms.{IsNumber, last_number};
 ghost use Rattle.report_terms.specs.Subjects.{IsOnShelf};
 ghost use Rattle.shape_rules.specs.Names.{word_of};
 ghost use Rattle.shape_analyse.specs.Growing.{aim_of, IsGrowing, IsTextOf, HasNears};
@@ -17,6 +18,14 @@ use shape_report::{Line, Report};
 use shape_rules::Name;
 use shape_space::{NoMemory, Point};
 use std::alloc::Global;
+
+// The greatest number that a report of pictures of this dimension has.
+fn last_number<P: Point>() -> u8
+    ensures value { result ≡ last_number P.DIM }
+    ensures number { IsNumber P.DIM result }
+{
+    if P::DIM == 2 { 2 } else { 1 }
+}
 
 // The report that has its `shape` line and its `parts` line alone.
 fn open<P: Pairing>(
@@ -33,7 +42,7 @@ fn open<P: Pairing>(
 {
     let sides = grid.sides().lengths;
     let head = Line::Shape {
-        number: 1,
+        number: last_number::<P>(),
         sides,
         rule,
     };

@@ -39,7 +39,7 @@ fn add_outline(contour: &Contour, segments: u32, report: &mut Report) -> Result<
     Ok(())
 }
 
-// Adds the segments of a contour.
+// Adds the segments of a contour, and behind each two pairs of places that show its line to be least.
 fn add_segments(cover: &Cover, report: &mut Report) -> Result<(), NoMemory>
     requires { IsSomeCover cover.now }
     ensures { (X : Aim) (contours : List Trace) (k : ℕ) (contour : Trace)
@@ -55,6 +55,8 @@ fn add_segments(cover: &Cover, report: &mut Report) -> Result<(), NoMemory>
             line: segment.line,
         };
         report.add(&line)?;
+        let bounds = cover.bounds(j);
+        report.add(&Line::<P2>::Least { bounds })?;
     }
     Ok(())
 }

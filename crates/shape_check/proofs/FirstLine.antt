@@ -10,7 +10,7 @@ use Rattle.thin_terms.specs.Thinning.{Rule}
 use Rattle.thin_terms.specs.Shelves.{Named, AreNames, names_of, rules_of}
 use Rattle.report_terms.specs.Subjects.{Subject, subject_of, IsOnShelf}
 use Rattle.report_terms.specs.Lines.{Line, Heading, spelled}
-use Rattle.report_terms.specs.Sections.{Section, rank, lines_of, GoodAfter, NamesRule, analysis}
+use Rattle.report_terms.specs.Sections.{Section, rank, lines_of, number_of, GoodAfter, NamesRule, analysis}
 use Rattle.report_terms.specs.Holds.{FirstBad}
 use Rattle.report_terms.specs.Progress.{StartsWithLine}
 use Rattle.report_terms.proofs.SectionLaws.{come_none, come_more, come_past, none_past, lines_skip}
@@ -30,19 +30,20 @@ use Rattle.shape_check.specs.Going.{BehindHeading}
 use Rattle.shape_rules.specs.Ruled.{rules_on}
 use Rattle.shape_rules.proofs.Ruled.{names_on, rule_there}
 use Rattle.shape_check.specs.Checks.{Checks, TakesFew}
+use Rattle.shape_check.specs.declared.heading.Given.{Given}
 use Rattle.shape_check.specs.Heading.{IsHeading, IsNoHeading, TakesHeading, LacksHeading, HeadingAnswer}
 
 -- ---- what looking for the heading answers
 
 module _ (d : ℕ) (sides : Point) (names : List (List ℕ)) (old new : Option (List ℕ)) (before now : ℕ) where
-  pub answer_claim : (l : Line) (r : Option ℕ) → IfTold old (λ bytes. TakesClaim d bytes new l) → MatchOption r (IsNoHeading sides names l) (IsHeading sides names l)
+  pub answer_claim : (l : Line) (r : Option Given) → IfTold old (λ bytes. TakesClaim d bytes new l) → MatchOption r (IsNoHeading sides names l) (IsHeading sides names l)
       → HeadingAnswer d sides names old new before now (Ok r)
   answer_claim l None t h = if_told old (λ bytes k m rest starts. subst (IsNoHeading sides names) (sym (one_line (spelled d) (are_spelled d) bytes m l rest k.rest starts k.starts).0) h) t
-  answer_claim l (Some i) t h = if_told old (λ bytes k. record { line = l; takes = k; heading = h }) t
+  answer_claim l (Some given) t h = if_told old (λ bytes k. record { line = l; takes = k; heading = h }) t
 
 -- a heading that names a rule on a shelf of distinct names names no other
-ruled_by : (X : Subject) → AreNames (names_of X.shelf) → (heading : List Line) (rule : Rule) → NamesRule X.shelf heading rule → IsRuledBy X heading rule
-ruled_by X apart heading rule names = record { names = names; alone = λ other o. one_named X.shelf apart heading other rule o names }
+ruled_by : (X : Subject) → AreNames (names_of X.shelf) → (heading : List Line) (rule : Rule) → NamesRule X.shelf heading rule → IsRuledBy X heading (number_of heading) rule
+ruled_by X apart heading rule names = record { numbered = refl; names = names; alone = λ other o. one_named X.shelf apart heading other rule o names }
 
 -- ---- behind the heading
 
@@ -51,7 +52,7 @@ module _ (X : Subject) (h : Heading) (rule : Rule) (given : h.sides ≡ map pos 
   good_first : GoodAfter X [] (Line.Shape h)
   good_first = record { come = come_none X; claim = (refl, (given, (rule, on))) }
 
-  pub behind_heading : AreNames (names_of X.shelf) → (s : Section) → rank s ≡ 1 → (text : List ℕ) (new : Option (List ℕ)) → TakesClaim (length X.picture.sides) text new (Line.Shape h) → GoingOn (analysis X) text new (BehindHeading X rule s) 2
+  pub behind_heading : AreNames (names_of X.shelf) → (s : Section) → rank s ≡ 1 → (text : List ℕ) (new : Option (List ℕ)) → TakesClaim (length X.picture.sides) text new (Line.Shape h) → GoingOn (analysis X) text new (BehindHeading X h.number rule s) 2
   behind_heading apart s one text new t = record {
     lines = Line.Shape h ∷ [];
     bytes = t.rest;
@@ -77,11 +78,12 @@ no_heading X sides text given lacks = first_bad (analysis X) (are_spelled (lengt
 
 module _ {R : Type 0} (means : R → Rule) (X : Picture) (shelf : List (Named R)) (d : ℕ) (axes : length X.sides ≡ d) (sides : Point) (given : sides ≡ map pos X.sides) where
   -- it was taken, and the rule of the entry that it names goes on
-  pub heading_taken : AreNames (names_of shelf) → (i : ℕ) (r : R) → slice_get (rules_of shelf) i ≡ Some r → (s : Section) → rank s ≡ 1 → (text new : Option (List ℕ))
-      → IfTold text (λ bytes. TakesHeading d sides (names_of shelf) bytes new i) → HasCome (analysis (subject_of X (rules_on means shelf))) (BehindHeading (subject_of X (rules_on means shelf)) (means r) s) text new 2
+  pub heading_taken : AreNames (names_of shelf) → (i : Given) (r : R) → slice_get (rules_of shelf) i.entry ≡ Some r → (s : Section) → rank s ≡ 1 → (text new : Option (List ℕ))
+      → IfTold text (λ bytes. TakesHeading d sides (names_of shelf) bytes new i) → HasCome (analysis (subject_of X (rules_on means shelf))) (BehindHeading (subject_of X (rules_on means shelf)) i.number (means r) s) text new 2
   heading_taken apart i r there s one text new h = if_told text (λ t k.
-      behind_heading (subject_of X (rules_on means shelf)) k.heading.heading (means r) (k.heading.given ∙ given) (rule_there means shelf i r k.heading.heading.rule there k.heading.there) (subst AreNames (sym (names_on means shelf)) apart) s one t new
-      (subst (λ l. TakesClaim (length X.sides) t new l) k.heading.is (subst (λ e. TakesClaim e t new k.line) (sym axes) k.takes))) h
+      subst (λ n. GoingOn (analysis (subject_of X (rules_on means shelf))) t new (BehindHeading (subject_of X (rules_on means shelf)) n (means r) s) 2) k.heading.number
+      (behind_heading (subject_of X (rules_on means shelf)) k.heading.heading (means r) (k.heading.sides_are ∙ given) (rule_there means shelf i.entry r k.heading.heading.rule there k.heading.there) (subst AreNames (sym (names_on means shelf)) apart) s one t new
+      (subst (λ l. TakesClaim (length X.sides) t new l) k.heading.is (subst (λ e. TakesClaim e t new k.line) (sym axes) k.takes)))) h
 
   -- there is none
   pub heading_missed : (text : Option (List ℕ)) → IfTold text (LacksHeading d sides (names_of shelf)) → IfTold text (λ t. FirstBad (subject_of X (rules_on means shelf)) t 1)
@@ -89,12 +91,12 @@ module _ {R : Type 0} (means : R → Rule) (X : Picture) (shelf : List (Named R)
 
 -- ---- behind the heading, where a line comes
 
-module _ (X : Subject) (rule : Rule) (s : Section) (one : rank s ≡ 1) (lines : List Line) (l : Line) (ruled : IsRuledBy X (lines_of Section.Heading lines) rule) where
+module _ (X : Subject) (n : ℕ) (rule : Rule) (s : Section) (one : rank s ≡ 1) (lines : List Line) (l : Line) (ruled : IsRuledBy X (lines_of Section.Heading lines) n rule) where
   pub may_come : MayCome X s lines l
   may_come good = omega (arith, one, past_heading X lines l _ ruled.names.first_is good)
 
-  pub still_ruled : GoodAfter X lines l → IsRuledBy X (lines_of Section.Heading (lines ++ l ∷ [])) rule
-  still_ruled good = subst (λ ls. IsRuledBy X ls rule) (sym (lines_skip Section.Heading lines l (past_heading X lines l _ ruled.names.first_is good))) ruled
+  pub still_ruled : GoodAfter X lines l → IsRuledBy X (lines_of Section.Heading (lines ++ l ∷ [])) n rule
+  still_ruled good = subst (λ ls. IsRuledBy X ls n rule) (sym (lines_skip Section.Heading lines l (past_heading X lines l _ ruled.names.first_is good))) ruled
 
 -- ---- bytes taken ahead, faults before
 

@@ -21,7 +21,7 @@ use Rattle.shape_check.specs.Followed.{Thins, HasFollowed}
 use Rattle.shape_check.proofs.OneLine.{same_counts}
 
 -- the claim of a line of the thinning is that by the rule of the heading
-claim_is : (X : Subject) (heading : List Line) {by : Rule} → IsRuledBy X heading by → (before : List Line) (l : Line) → ThinningClaim by X.picture before l ↔ SectionClaim X heading Section.Thinned before l
+claim_is : (X : Subject) (heading : List Line) {n : ℕ} {by : Rule} → IsRuledBy X heading n by → (before : List Line) (l : Line) → ThinningClaim by X.picture before l ↔ SectionClaim X heading Section.Thinned before l
 claim_is X heading {by} ruled before l = (
   λ c. (by, ruled.names, c),
   λ c. subst (λ r. ThinningClaim r X.picture before l) (ruled.alone c.0 c.1) c.2,
@@ -88,7 +88,7 @@ module _ {X : Picture} {by : Rule} {F : List Event → List ℕ → Type 0} {b k
 -- ---- answers
 
 -- an event line is good where it gives the next event
-pub event_answer : {E : Type 0} (X : Subject) (heading : List Line) {by : Rule} → IsRuledBy X heading by → (other : Rule) → other ≡ by → (lines : List Line) → kept_facts lines ≡ [] → (r : Result Bool E) (e : Event) (l : Line)
+pub event_answer : {E : Type 0} (X : Subject) (heading : List Line) {n : ℕ} {by : Rule} → IsRuledBy X heading n by → (other : Rule) → other ≡ by → (lines : List Line) → kept_facts lines ≡ [] → (r : Result Bool E) (e : Event) (l : Line)
     → (ThinningClaim by X.picture lines l ↔ IsEventLine by X.picture lines e) → IfOk r (λ z. IsTrue z ↔ IsNextEvent other X.picture (events_of lines) e) → IfOk r (λ z. IsTrue z ↔ SectionClaim X heading Section.Thinned lines l)
 event_answer X heading {by} ruled other same lines none r e l is h = IfOk-weaker r _ _ (λ z w. (
   λ yes. (claim_is X heading ruled lines l).0 (is.1 (record { early = none; next = subst (λ q. IsNextEvent q X.picture (events_of lines) e) same (w.0 yes) })),
@@ -96,7 +96,7 @@ event_answer X heading {by} ruled other same lines none r e l is h = IfOk-weaker
 )) h
 
 -- the `kept` line is good where it gives the counts of the points left
-pub kept_answer : (X : Subject) (heading : List Line) {by : Rule} → IsRuledBy X heading by → (lines : List Line) (z : Bool) (p q r : ℕ) → (IsTrue z ↔ IsKeptLine by X.picture lines p q r) → IsTrue z ↔ SectionClaim X heading Section.Thinned lines (Line.Kept p q r)
+pub kept_answer : (X : Subject) (heading : List Line) {n : ℕ} {by : Rule} → IsRuledBy X heading n by → (lines : List Line) (z : Bool) (p q r : ℕ) → (IsTrue z ↔ IsKeptLine by X.picture lines p q r) → IsTrue z ↔ SectionClaim X heading Section.Thinned lines (Line.Kept p q r)
 kept_answer X heading ruled lines z p q r h = (
   λ yes. (claim_is X heading ruled lines (Line.Kept p q r)).0 (h.0 yes),
   λ claim. h.1 ((claim_is X heading ruled lines (Line.Kept p q r)).1 claim),

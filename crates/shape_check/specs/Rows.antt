@@ -1,14 +1,15 @@
 -- Judges in a row, one for each section: which lines a row stands for.
 -- What a judge stands for is handed in; a further section is one more judge in the row.
-use Rattle.std.specs.Prelude.{◌≡◌, ◌≤◌, Bool, true, false, List, [], ◌∷◌, ◌++◌, length}
+use Rattle.std.specs.Prelude.{◌≡◌, ◌≤◌, ℕ, Bool, true, false, List, [], length}
 use Rattle.thin_terms.specs.Thinning.{Rule}
 use Rattle.text_terms.specs.Reports.{EndsWith}
 use Rattle.report_terms.specs.Lines.{Line}
 use Rattle.report_terms.specs.Subjects.{Subject}
-use Rattle.report_terms.specs.Sections.{Section, rank, section_of, lines_of, HasCome, GoodAfter, NamesRule}
+use Rattle.report_terms.specs.Sections.{Section, rank, section_of, lines_of, number_of, HasCome, GoodAfter, NamesRule}
 
--- the heading names this rule on the shelf, and no other
-pub record IsRuledBy (X : Subject) (heading : List Line) (rule : Rule) : Type 0 where
+-- the heading has this number, and names this rule on the shelf and no other
+pub record IsRuledBy (X : Subject) (heading : List Line) (number : ℕ) (rule : Rule) : Type 0 where
+  pub numbered : number_of heading ≡ number
   pub names : NamesRule X.shelf heading rule
   pub alone : (other : Rule) → NamesRule X.shelf heading other → other ≡ rule
 

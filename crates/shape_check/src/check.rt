@@ -11,7 +11,7 @@ ghost use Rattle.shape_rules.specs.Ruled.{rules_on};
 ghost use Rattle.shape_check.specs.Checks.{HasChecked};
 ghost use Rattle.shape_check.specs.Going.{BehindHeading};
 
-use crate::heading::find_rule;
+use crate::heading::find_heading;
 use crate::judges::{Judges, Row};
 use crate::whole::{Flat, Solid};
 use report_text::{CheckFault, Judgement};
@@ -31,9 +31,9 @@ fn check_lines<P: Point, R: Row<P>, D: Desk>(
 ) -> Result<Judgement, CheckFault>
     requires begun { (D.state desk.old).begun Report ≡ true }
     requires few { R.room row < 2 ^ 62 - 1 }
-    ensures checked { (X : Subject) (text : Option (List ℕ)) → length X.picture.sides ≡ P.DIM
-        → R.waits X.picture row
-        → HasCome (analysis X) (BehindHeading X (means rule.old) R.section) text
+    ensures checked { (X : Subject) (n : ℕ) (text : Option (List ℕ))
+        → length X.picture.sides ≡ P.DIM → R.waits X.picture n row
+        → HasCome (analysis X) (BehindHeading X n (means rule.old) R.section) text
         (ahead_of reader.old.ahead ((D.state desk.old).left Report)) 2
         → HasChecked X text (D.state desk.old) (D.state desk.new) result }
     ensures reads { OnlyReadsAt Report (D.state desk.old) (D.state desk.new) }
@@ -68,9 +68,9 @@ fn check_behind<P: Point, R: Row<P>, D: Desk>(
 ) -> Result<Judgement, CheckFault>
     requires begun { (D.state desk.old).begun Report ≡ true }
     requires few { R.room row < 2 ^ 62 - 1 }
-    ensures checked { (X : Subject) (text : Option (List ℕ)) → length X.picture.sides ≡ P.DIM
-        → R.waits X.picture row
-        → HasCome (analysis X) (BehindHeading X (means rule.old) R.section) text
+    ensures checked { (X : Subject) (n : ℕ) (text : Option (List ℕ))
+        → length X.picture.sides ≡ P.DIM → R.waits X.picture n row
+        → HasCome (analysis X) (BehindHeading X n (means rule.old) R.section) text
         (ahead_of reader.old.ahead ((D.state desk.old).left Report)) 2
         → HasChecked X text (D.state desk.old) (D.state desk.new) result }
     ensures reads { OnlyReadsAt Report (D.state desk.old) (D.state desk.new) }
@@ -95,11 +95,11 @@ fn check<P: Point, R: Row<P>, D: Desk>(
     grid.is_picture();
     shelf.has_names();
     let mut reader = LineReader::new(alloc)?;
-    let Some(i) = find_rule(grid.sides(), shelf, &mut reader, desk)? else {
+    let Some(given) = find_heading(grid.sides(), shelf, &mut reader, desk)? else {
         return Ok(Judgement::No { line: 1 });
     };
-    let row = R::begin(alloc, grid)?;
-    check_behind(row, shelf.rule(i), &mut reader, desk)
+    let row = R::begin(alloc, grid, given.number)?;
+    check_behind(row, shelf.rule(given.entry), &mut reader, desk)
 }
 
 /// Checks the report of a plane picture: whether the file that was begun at `Place::Report` holds

@@ -42,7 +42,7 @@ impl<P: Point> SectionJudge<P> for CountsJudge {
 
     ghost section = { Section.Counted };
 
-    ghost stands = { λ X by j now lines. Counts X j.counts.points j.counts.object j.counts.background
+    ghost stands = { λ X n by j now lines. Counts X j.counts.points j.counts.object j.counts.background
         × HasTaken j.taken lines };
 
     ghost room = { λ j. if j.taken then 0 else 1 };

@@ -22,9 +22,9 @@ impl<P: Point> Judges<P> for EndJudge {
 
     ghost section = { Section.End };
 
-    ghost waits = { λ X j. j.taken ≡ false };
+    ghost waits = { λ X n j. j.taken ≡ false };
 
-    ghost follows = { λ X by j now lines. EndFollows X j.taken lines };
+    ghost follows = { λ X n by j now lines. EndFollows X j.taken lines };
 
     ghost room = { λ j. if j.taken then 0 else 1 };
 
@@ -40,5 +40,5 @@ impl<P: Point> Judges<P> for EndJudge {
         self.taken
     }
 
-    ghost entered = { λ X by j now lines w h e. end_entered X j.taken lines w h e };
+    ghost entered = { λ X n by j now lines w h e. end_entered X j.taken lines w h e };
 }

@@ -1,4 +1,4 @@
-//! The first line of a report: it gives the sides of the picture and names a rule on the shelf.
+//! The first line of a report: it gives the number of the report and the sides of the picture, and names a rule on the shelf.
 //! What a rule does is no matter here.
 ghost use Rattle.std.specs.Prelude.{◌≡◌, ◌<◌, true, length, MatchOption, IfSome, IfOk};
 ghost use Rattle.shape_desk.specs.Desk.{OnlyReadsAt};
@@ -14,48 +14,60 @@ use shape_report::{Line, Next, next_claim};
 use shape_rules::Shelf;
 use shape_space::{Point, Sides};
 
-// The number of the entry of the shelf that the line names, where it gives these sides.
-fn entry_of<P: Point>(sides: Sides<P>, shelf: &Shelf, line: &Line<P>) -> Option<usize>
+/// What a heading gives: the number of the report, and that of the entry of the shelf that it names.
+#[derive(Clone, Copy)]
+pub struct Given {
+    /// The number of the report.
+    pub number: u8,
+    /// The number of the entry.
+    pub entry: usize,
+}
+
+// What the line gives, where it is the heading of a report of a picture with these sides.
+fn given_by<P: Point>(sides: Sides<P>, shelf: &Shelf, line: &Line<P>) -> Option<Given>
     ensures names { MatchOption result
         (IsNoHeading (P.coords sides.lengths) (names_of shelf.now) (line_of P.coords line.now))
         (IsHeading (P.coords sides.lengths) (names_of shelf.now) (line_of P.coords line.now)) }
-    ensures there { IfSome result (λ i. i < length shelf.now) }
+    ensures there { IfSome result (λ g. g.entry < length shelf.now) }
 {
     match line {
         Line::Shape {
+            number,
             sides: given,
             rule,
-            ..
         } => {
             if *given != sides.lengths {
                 return None;
             }
-            shelf.find(rule)
+            let entry = shelf.find(rule)?;
+            Some(Given {
+                number: *number,
+                entry,
+            })
         }
         _ => None,
     }
 }
 
-/// Takes the first line of the report, and answers the number of the entry of the shelf that it names; None where it is no
-/// heading of a picture with these sides.
-pub(crate) fn find_rule<P: Point, D: Desk>(
+/// Takes the first line of the report, and answers what it gives; None where it is no heading of a picture with these sides.
+pub(crate) fn find_heading<P: Point, D: Desk>(
     sides: Sides<P>,
     shelf: &Shelf,
     reader: &mut LineReader,
     desk: &mut D,
-) -> Result<Option<usize>, CheckFault>
+) -> Result<Option<Given>, CheckFault>
     requires { (D.state desk.old).begun Report ≡ true }
     ensures answer { HeadingAnswer P.DIM (P.coords sides.lengths) (names_of shelf.now)
         (ahead_of reader.old.ahead ((D.state desk.old).left Report))
         (ahead_of reader.new.ahead ((D.state desk.new).left Report))
         (D.state desk.old).read_faults (D.state desk.new).read_faults result }
-    ensures there { IfOk result (λ o. IfSome o (λ i. i < length shelf.now)) }
+    ensures there { IfOk result (λ o. IfSome o (λ g. g.entry < length shelf.now)) }
     ensures taken { TakenAhead (ahead_of reader.old.ahead ((D.state desk.old).left Report))
         ((D.state desk.new).left Report) }
     ensures reads { OnlyReadsAt Report (D.state desk.old) (D.state desk.new) }
 {
     match next_claim(reader, desk)? {
-        Next::Claim(line) => Ok(entry_of(sides, shelf, &line)),
+        Next::Claim(line) => Ok(given_by(sides, shelf, &line)),
         Next::Bad | Next::End => Ok(None),
     }
 }

@@ -16,14 +16,15 @@ use shape_rules::EndRule;
 use shape_space::{NoMemory, Point};
 use std::alloc::Global;
 
-/// A judge of the lines of one section behind the heading, as they come, by the rule that the heading names. After it has
+/// A judge of the lines of one section behind the heading, as they come, by the number and the rule that the heading gives. After it has
 /// answered false, or that memory was wanting, it is only dropped.
 pub trait SectionJudge<P: Point>: Drop {
     /// Its section.
     ghost section: { Section };
 
-    /// Whether the judge stands for these lines of the section, for a picture and a rule that is in this state.
-    ghost stands: { Picture → Rule → Self → List ℕ → List Terms.Line → Type 0 };
+    /// Whether the judge stands for these lines of the section, for a picture, a report with a number, and a rule that is
+    /// in this state.
+    ghost stands: { Picture → ℕ → Rule → Self → List ℕ → List Terms.Line → Type 0 };
 
     /// How many lines it may still take.
     ghost room: { Self → ℕ };
@@ -35,20 +36,21 @@ pub trait SectionJudge<P: Point>: Drop {
     /// Takes the next line: whether its claim is true after those that were taken.
     fn take(&mut self, line: &Line<P>, rule: &mut dyn EndRule) -> Result<bool, NoMemory>
         ensures answer { let by = means rule.old in
-            (X : Subject) (heading lines : List Terms.Line) → IsRuledBy X heading by
-            → stands X.picture by self.old (state rule.old) lines → IfOk result (λ b. IsTrue b
+            (X : Subject) (n : ℕ) (heading lines : List Terms.Line) → IsRuledBy X heading n by
+            → stands X.picture n by self.old (state rule.old) lines → IfOk result (λ b. IsTrue b
             ↔ SectionClaim X heading section lines (line_of P.coords line.now)) }
         ensures stands { let by = means rule.old in
-            (X : Picture) (lines : List Terms.Line) → stands X by self.old (state rule.old) lines
-            → IfOk result (λ b. OnTrue b (stands X by self.new (state rule.new)
+            (X : Picture) (n : ℕ) (lines : List Terms.Line)
+            → stands X n by self.old (state rule.old) lines
+            → IfOk result (λ b. OnTrue b (stands X n by self.new (state rule.new)
             (lines ++ line_of P.coords line.now ∷ []))) }
         ensures room { IfOk result (λ b. OnTrue b (room self.new < room self.old)) }
         ensures same_rule { means rule.new ≡ means rule.old };
 
     /// Whether the section is complete.
     fn is_done(&self) -> bool
-        ensures { (X : Subject) (by : Rule) (now : List ℕ) (lines : List Terms.Line)
-            → stands X.picture by self.now now lines
+        ensures { (X : Subject) (n : ℕ) (by : Rule) (now : List ℕ) (lines : List Terms.Line)
+            → stands X.picture n by self.now now lines
             → (IsTrue result ↔ SectionComplete X section lines) };
 }
 
@@ -58,11 +60,11 @@ pub trait Judges<P: Point>: Drop {
     /// The first section of the row.
     ghost section: { Section };
 
-    /// Whether the row has taken no line, for this picture.
-    ghost waits: { Picture → Self → Type 0 };
+    /// Whether the row has taken no line, for this picture and a report with this number.
+    ghost waits: { Picture → ℕ → Self → Type 0 };
 
-    /// Whether the row stands for these lines, all of the report so far, and a rule that is in this state.
-    ghost follows: { Subject → Rule → Self → List ℕ → List Terms.Line → Type 0 };
+    /// Whether the row stands for these lines, all of the report so far, its number, and a rule that is in this state.
+    ghost follows: { Subject → ℕ → Rule → Self → List ℕ → List Terms.Line → Type 0 };
 
     /// How many lines it may still take.
     ghost room: { Self → ℕ };
@@ -70,34 +72,36 @@ pub trait Judges<P: Point>: Drop {
     /// Takes the next line: whether it is good after those before it.
     fn take(&mut self, line: &Line<P>, rule: &mut dyn EndRule) -> Result<bool, NoMemory>
         ensures answer { let by = means rule.old in
-            (X : Subject) (lines : List Terms.Line) → IsRuledBy X (lines_of Section.Heading lines) by
-            → follows X by self.old (state rule.old) lines
+            (X : Subject) (n : ℕ) (lines : List Terms.Line)
+            → IsRuledBy X (lines_of Section.Heading lines) n by
+            → follows X n by self.old (state rule.old) lines
             → MayCome X section lines (line_of P.coords line.now)
             → IfOk result (λ b. IsTrue b ↔ GoodAfter X lines (line_of P.coords line.now)) }
         ensures follows { let by = means rule.old in
-            (X : Subject) (lines : List Terms.Line) → IsRuledBy X (lines_of Section.Heading lines) by
-            → follows X by self.old (state rule.old) lines
+            (X : Subject) (n : ℕ) (lines : List Terms.Line)
+            → IsRuledBy X (lines_of Section.Heading lines) n by
+            → follows X n by self.old (state rule.old) lines
             → MayCome X section lines (line_of P.coords line.now)
-            → IfOk result (λ b. OnTrue b (follows X by self.new (state rule.new)
+            → IfOk result (λ b. OnTrue b (follows X n by self.new (state rule.new)
             (lines ++ line_of P.coords line.now ∷ []))) }
         ensures room { IfOk result (λ b. OnTrue b (room self.new < room self.old)) }
         ensures same_rule { means rule.new ≡ means rule.old };
 
     /// Whether the line `end` was taken.
     fn has_ended(&self) -> bool
-        ensures { (X : Subject) (by : Rule) (now : List ℕ) (lines : List Terms.Line)
-            → follows X by self.now now lines → (IsTrue result ↔ HasEnded lines) };
+        ensures { (X : Subject) (n : ℕ) (by : Rule) (now : List ℕ) (lines : List Terms.Line)
+            → follows X n by self.now now lines → (IsTrue result ↔ HasEnded lines) };
 
-    ghost entered: { (X : Subject) (by : Rule) (r : Self) (now : List ℕ) (lines : List Terms.Line)
-        → waits X.picture r → HasCome X section lines → lines_of section lines ≡ []
-        → follows X by r now lines };
+    ghost entered: { (X : Subject) (n : ℕ) (by : Rule) (r : Self) (now : List ℕ) (lines : List Terms.Line)
+        → waits X.picture n r → HasCome X section lines → lines_of section lines ≡ []
+        → follows X n by r now lines };
 }
 
 /// The judges of all sections behind the heading, for the reports of one dimension.
 pub trait Row<P: Point>: Judges<P> {
-    /// Judges of a picture that have taken no line.
-    fn begin(alloc: Global, grid: &Grid<P>) -> Result<Self, NoMemory>
-        ensures waits { IfOk result (λ r. Self.waits grid.now r) }
+    /// Judges of a picture that have taken no line of a report with this number.
+    fn begin(alloc: Global, grid: &Grid<P>, number: u8) -> Result<Self, NoMemory>
+        ensures waits { IfOk result (λ r. Self.waits grid.now number r) }
         ensures room { IfOk result (λ r. Self.room r < 2 ^ 62 - 1) };
 
     ghost first: { rank Self.section ≡ 1 };

@@ -15,7 +15,7 @@ pub struct NoContours;
 impl SectionJudge<P3> for NoContours {
     ghost section = { Section.Contours };
 
-    ghost stands = { λ X by j now lines. (length X.sides ≡ 3) × (lines ≡ []) };
+    ghost stands = { λ X n by j now lines. (length X.sides ≡ 3) × (lines ≡ []) };
 
     ghost room = { λ j. 0 };
 
@@ -39,7 +39,7 @@ pub struct NoFaces;
 impl SectionJudge<P2> for NoFaces {
     ghost section = { Section.Faces };
 
-    ghost stands = { λ X by j now lines. (length X.sides ≡ 2) × (lines ≡ []) };
+    ghost stands = { λ X n by j now lines. (length X.sides ≡ 2) × (lines ≡ []) };
 
     ghost room = { λ j. 0 };
 

@@ -16,7 +16,7 @@ impl<P: Point> SectionJudge<P> for FieldJudge<P> {
 
     ghost section = { Section.Nearest };
 
-    ghost stands = { λ X by j now lines. (j.picture ≡ X) × StandsFor j lines };
+    ghost stands = { λ X n by j now lines. (j.picture ≡ X) × StandsFor j lines };
 
     ghost room = { room_of };
 
@@ -38,7 +38,7 @@ impl SectionJudge<P2> for CoverJudge {
 
     ghost section = { Section.Contours };
 
-    ghost stands = { λ X by j now. StandsFor X j };
+    ghost stands = { λ X n by j now lines. (j.number ≡ n) × StandsFor X j lines };
 
     ghost room = { room_of };
 
@@ -60,7 +60,7 @@ impl SectionJudge<P3> for PlaneJudge {
 
     ghost section = { Section.Faces };
 
-    ghost stands = { λ X by j now. StandsFor X j };
+    ghost stands = { λ X n by j now. StandsFor X j };
 
     ghost room = { room_of };
 

@@ -46,12 +46,12 @@ impl<P: Point, J: SectionJudge<P>, R: Judges<P>> Judges<P> for Then<P, J, R> {
 
     ghost section = { J.section };
 
-    ghost waits = { λ X t. (t.is_past ≡ false)
-        × ((by : Rule) (now : List ℕ) → J.stands X by t.first now []) × R.waits X t.rest };
+    ghost waits = { λ X n t. (t.is_past ≡ false)
+        × ((by : Rule) (now : List ℕ) → J.stands X n by t.first now []) × R.waits X n t.rest };
 
-    ghost follows = { λ X by t now lines. RowFollows X J.section R.section t.is_past
-        (J.stands X.picture by t.first now) (R.waits X.picture t.rest) (R.follows X by t.rest now)
-        lines };
+    ghost follows = { λ X n by t now lines. RowFollows X J.section R.section t.is_past
+        (J.stands X.picture n by t.first now) (R.waits X.picture n t.rest)
+        (R.follows X n by t.rest now) lines };
 
     ghost room = { λ t. J.room t.first + R.room t.rest };
 
@@ -73,7 +73,7 @@ impl<P: Point, J: SectionJudge<P>, R: Judges<P>> Judges<P> for Then<P, J, R> {
         self.is_past && self.rest.has_ended()
     }
 
-    ghost entered = { λ X by t now lines w h e. row_entered X J.section R.section t.is_past
-        (J.stands X.picture by t.first now) (R.waits X.picture t.rest) (R.follows X by t.rest now)
-        lines w.0 (w.1 by now) w.2 h e };
+    ghost entered = { λ X n by t now lines w h e. row_entered X J.section R.section t.is_past
+        (J.stands X.picture n by t.first now) (R.waits X.picture n t.rest)
+        (R.follows X n by t.rest now) lines w.0 (w.1 by now) w.2 h e };
 }

@@ -105,7 +105,7 @@ impl<P: SimpleMask> SectionJudge<P> for ThinnedJudge<P> {
 
     ghost section = { Section.Thinned };
 
-    ghost stands = { λ X by j now lines. Thins X by (λ events now. StandsFor by X events now j.events)
+    ghost stands = { λ X n by j now lines. Thins X by (λ events now. StandsFor by X events now j.events)
         j.begun j.kept j.object j.background now lines };
 
     ghost room = { λ j. room_of j.events + (if j.kept then 0 else 1) };

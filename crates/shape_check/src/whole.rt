@@ -82,9 +82,9 @@ pub type Flat = Then<
 >;
 
 impl Row<P2> for Flat {
-    fn begin(alloc: Global, grid: &Grid<P2>) -> Result<Flat, NoMemory> {
+    fn begin(alloc: Global, grid: &Grid<P2>, number: u8) -> Result<Flat, NoMemory> {
         let common = wait_for(alloc, grid)?;
-        let cover = CoverJudge::new(alloc, grid)?;
+        let cover = CoverJudge::new(alloc, grid, number)?;
         grid.is_picture();
         let row = Then::new(common.thinned, EndJudge { taken: false });
         let row = Then::new(NoFaces, row);
@@ -108,7 +108,7 @@ pub type Solid = Then<
 >;
 
 impl Row<P3> for Solid {
-    fn begin(alloc: Global, grid: &Grid<P3>) -> Result<Solid, NoMemory> {
+    fn begin(alloc: Global, grid: &Grid<P3>, _number: u8) -> Result<Solid, NoMemory> {
         let common = wait_for(alloc, grid)?;
         let plane = PlaneJudge::new(alloc, grid)?;
         grid.is_picture();

@@ -107,7 +107,7 @@ segment_least s = by_lt_z (along s.axis s.sense (flat_point s.first)) (along s.a
     same x y h k = omega (arith, ints, h, k)
 
     by : (p : Pairs) → ShowsLeast s.axis (points_of s) (seg_of s).b p → IsLeastLine s.axis (points_of s) (naive_of 2 s.line)
-    by p k = shows_least s.axis (points_of s) s.grown.axis (run_of_segment s).flat p k.first_low k.first_high k.second_low k.second_high (naive_of 2 s.line) (naive_holds s) k
+    by p k = shows_least s.axis (points_of s) (naive_of 2 s.line) p (naive_holds s) k
 
 -- pairs that show it show each least line of the run
 pub same_least : (t : ℕ) (run : List Point) (n m : Naive) (p : Pairs) → IsLeastLine t run n → IsLeastLine t run m → ShowsLeast t run (coordinate n.a t) p → ShowsLeast t run (coordinate m.a t) p

@@ -5,4 +5,5 @@ pub mod Steps
 pub mod Ranges
 pub mod Walk
 pub mod PointPairs
+pub mod SmallPoints
 pub mod HeldRuns

@@ -19,6 +19,7 @@ pub(crate) fn number<P: Point>(words: &mut Words) -> Option<u8>
 {
     match words.next_word()? {
         b"1" => Some(1),
+        b"2" => { if P::DIM == 2 { Some(2) } else { None } }
         _ => None,
     }
 }

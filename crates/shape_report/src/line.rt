@@ -6,7 +6,7 @@ ghost use Rattle.report_terms.specs.Sections.{rank, section_of};
 use crate::read::read_claim;
 use crate::spell::spell;
 use report_text::{ReportLine, Text};
-use shape_refute::{Naive, Refusal, Refutation, Sense};
+use shape_refute::{Bounds, Naive, Refusal, Refutation, Sense};
 use shape_rules::Name;
 use shape_space::Point;
 use std::marker::Model;
@@ -14,7 +14,7 @@ use std::marker::Model;
 /// A line of a report of a picture whose points are of type `P`.
 #[derive(Clone, Copy)]
 pub enum Line<P> {
-    /// The heading: the number of the report, which is 1, the sides of the picture, and the rule of the thinning.
+    /// The heading: the number of the report, which is 1, or 2 for a flat picture, the sides of the picture, and the rule of the thinning.
     Shape {
         number: u8,
         sides: P,
@@ -51,6 +51,11 @@ pub enum Line<P> {
         first: u32,
         last: u32,
         line: Naive,
+    },
+    /// Two pairs of places, counted from 0 at the first point of the segment right before, that show its line to be least: no
+    /// proper line of its axis with a smaller main coefficient meets both. It is a line of reports with the number 2.
+    Least {
+        bounds: Bounds,
     },
     /// Why the run of the next gap between segments of the contour of a flat picture is not straight for an axis (0 for x,
     /// 1 for y): a turn of it, or weights that refute it.
@@ -113,6 +118,7 @@ impl<P: Point> Line<P> {
             Line::Contour { .. } => 3,
             Line::At { .. } => 3,
             Line::Seg { .. } => 3,
+            Line::Least { .. } => 3,
             Line::Gap { .. } => 3,
             Line::Face { .. } => 4,
             Line::Patch { .. } => 4,

@@ -14,7 +14,7 @@ use report_text::field::{
     weight,
 };
 use report_text::{Words, kind, read_why};
-use shape_refute::{Naive, Refusal, Turn};
+use shape_refute::{Bounds, Naive, Refusal, Turn};
 use shape_space::Point;
 
 // Reads the fields of a `shape` line.
@@ -103,6 +103,26 @@ fn seg<P: Point>(words: &mut Words) -> Option<Line<P>>
         last,
         line: Naive { a, mu, axis },
     })
+}
+
+// Reads the fields of a `least` line. It is a line of flat pictures alone.
+fn least<P: Point>(words: &mut Words) -> Option<Line<P>>
+    ensures { ReadsKind P.DIM P.coords Kind.Least words.old words.new result }
+{
+    if P::DIM != 2 {
+        return None;
+    }
+    let low1 = count(words)?;
+    let high1 = count(words)?;
+    let low2 = count(words)?;
+    let high2 = count(words)?;
+    let bounds = Bounds {
+        low1,
+        high1,
+        low2,
+        high2,
+    };
+    Some(Line::Least { bounds })
 }
 
 // Reads the fields of a `turn` line. It is a line of flat pictures alone.
@@ -237,6 +257,9 @@ fn fields<P: Point>(word: &[u8], words: &mut Words) -> Option<Line<P>>
     if word == b"seg".as_slice() {
         return seg(words);
     }
+    if word == b"least".as_slice() {
+        return least(words);
+    }
     if word == b"turn".as_slice() {
         return turn(words);
     }
@@ -283,8 +306,8 @@ fn line<P: Point>(words: &mut Words) -> Option<Line<P>>
 /// Reads a line of a report from its bytes without the LF, for pictures whose points are of type `P`.
 ///
 /// `None` exactly where no line has this spelling: an unknown first word, a word too few or too many, a blank too
-/// many, a number that is not spelled in the one lawful way or is out of its range, another report number than 1,
-/// another kind of picture, or no lawful name of a rule. A line of the plane that is read has 0 for its third coefficient.
+/// many, a number that is not spelled in the one lawful way or is out of its range, another report number than 1, or
+/// than 2 for a flat picture, another kind of picture, or no lawful name of a rule. A line of the plane that is read has 0 for its third coefficient.
 /// It takes no memory.
 pub fn read_claim<P: Point>(bytes: &[u8]) -> Option<Line<P>>
     ensures { MatchOption result ((l : Terms.Line) → IsLineOf P.DIM l → spelling l ≢ bytes.now)

@@ -17,7 +17,7 @@ use crate::field::{put_number, put_sense};
 use crate::line::Line;
 use report_text::{Text, kind, put_why};
 use shape_desk::put_word;
-use shape_refute::{Naive, Refusal, Refutation, Sense};
+use shape_refute::{Bounds, Naive, Refusal, Refutation, Sense};
 use shape_rules::Name;
 use shape_space::Point;
 
@@ -93,6 +93,19 @@ fn put_seg(first: u32, last: u32, line: &Naive, text: &mut Text)
     text.axis(line.axis);
     text.flat_coefficients(&line.a);
     text.signed(line.mu)
+}
+
+// Puts the words of a `least` line.
+fn put_least(bounds: &Bounds, text: &mut Text)
+    requires { text.old ≡ [] }
+    ensures { text.new ≡ kind_text 2 Kind.Least
+        (bounds.now.low1, (bounds.now.high1, (bounds.now.low2, bounds.now.high2))) }
+{
+    text.put(b"least");
+    text.count(bounds.low1);
+    text.count(bounds.high1);
+    text.count(bounds.low2);
+    text.count(bounds.high2)
 }
 
 // Puts the words of a `turn` line.
@@ -232,6 +245,7 @@ fn put_line<P: Point>(line: &Line<P>, text: &mut Text)
             last,
             line: naive,
         } => put_seg(*first, *last, naive, text),
+        Line::Least { bounds } => put_least(bounds, text),
         Line::Gap { axis, refusal } => put_gap(*axis, refusal, text),
         Line::Face {
             axis,

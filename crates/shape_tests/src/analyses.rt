@@ -15,8 +15,8 @@ fn a_full_picture(rt: HostRuntime) -> Result<(), Fail> {
         return Err(Fail::from(AllocError));
     };
     let bytes = analysis.report.text();
-    assert_eq!(rt; bytes.iter().filter(|&&c| c == b'\n').count(), 42);
-    assert!(rt; bytes.starts_with(b"shape 1 pbm 3 3 none\nparts 9 1 1\nnear 0 0 ".as_slice()));
+    assert_eq!(rt; bytes.iter().filter(|&&c| c == b'\n').count(), 46);
+    assert!(rt; bytes.starts_with(b"shape 2 pbm 3 3 none\nparts 9 1 1\nnear 0 0 ".as_slice()));
     let end =
         b"\ndel 0 0\ndel 1 0\ndel 2 0\ndel 0 1\ndel 2 1\ndel 0 2\ndel 1 2\ndel 2 2\nkept 1 1 1\nend\n";
     assert!(rt; bytes.ends_with(end.as_slice()));
@@ -58,7 +58,7 @@ fn a_picture_with_ends(rt: HostRuntime) -> Result<(), Fail> {
         return Err(Fail::from(AllocError));
     };
     let bytes = analysis.report.text();
-    assert!(rt; bytes.starts_with(b"shape 1 pbm 3 3 curve\nparts 9 1 1\n".as_slice()));
+    assert!(rt; bytes.starts_with(b"shape 2 pbm 3 3 curve\nparts 9 1 1\n".as_slice()));
     let end =
         b"\ndel 0 0\ndel 1 0\ndel 2 0\ndel 0 1\ndel 2 1\ndel 0 2\ndel 1 2\ntip 2 2\ntip 1 1\nkept 2 1 1\nend\n";
     assert!(rt; bytes.ends_with(end.as_slice()));

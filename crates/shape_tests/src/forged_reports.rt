@@ -9,7 +9,7 @@ use std::test::Fail;
 const PICTURE: &[u8] = b"P1 2 2 1 1 1 1";
 
 /// Its report, as it is analysed. Each number in it has one digit, below 9.
-const REPORT: &[u8] = b"shape 1 pbm 2 2 none
+const REPORT: &[u8] = b"shape 2 pbm 2 2 none
 parts 4 1 1
 near 0 0 -1 0 1
 near 1 0 2 0 1
@@ -21,9 +21,13 @@ at 1 0
 at 1 1
 at 0 1
 seg 0 1 y 0 1 0
+least 0 1 1 0
 seg 1 2 x 1 0 1
+least 0 1 1 0
 seg 2 3 y 0 1 1
+least 0 1 1 0
 seg 3 4 x 1 0 0
+least 0 1 1 0
 turn x 1 0
 turn y 1 1
 turn x 1 1
@@ -39,34 +43,19 @@ kept 1 1 1
 end
 ";
 
-/// The first bad line where line 1, 2, .. is left out: the next line comes too early, and so is bad in its place. Of the four segments,
-/// on lines 12 to 15, three may begin anywhere and follow one another, and then the fourth is missing.
-const LEFT_OUT: [u64; 28] = [
-    1, 2, 3, 4, 5, 6, 7, 8, 9, 10, 11, 15, 15, 15, 15, 16, 17, 18, 19, 20, 21, 22, 23, 24, 25, 26,
-    27, 28,
-];
-
-/// The first bad line where line 1, 2, .. is doubled: always the second of the two. Nothing may be said twice, and nothing follows `end`.
-const DOUBLED: [u64; 28] = [
-    2, 3, 4, 5, 6, 7, 8, 9, 10, 11, 12, 13, 14, 15, 16, 17, 18, 19, 20, 21, 22, 23, 24, 25, 26, 27,
-    28, 29,
-];
-
-/// The first bad line where line 1, 2, .. is exchanged with the next: the next line comes too early. A later segment may come first, so that
-/// the earlier one behind it is the bad line.
-const EXCHANGED: [u64; 27] = [
-    1, 2, 3, 4, 5, 6, 7, 8, 9, 10, 11, 13, 14, 15, 15, 16, 17, 18, 19, 20, 21, 22, 23, 24, 25, 26,
-    27,
-];
+/// The number of its lines. Where line k is left out, or exchanged with the next, the next one comes too early, and line k is the first bad
+/// one; where it is doubled, the second of the two is: nothing may be said twice, and nothing follows `end`.
+const LINES: usize = 32;
 
 /// A report that still holds.
 const YES: u64 = 0;
 
 /// The first bad line where the first, second, .. number of line 1, 2, .. is raised by one: that line, but for numbers of segments.
 ///
-/// A segment that begins one place later still holds its point, and the next one does not begin behind it; the last of the four
-/// begins behind the contour's last place. With its own coefficient 2 in the place of 1, a line holds the same points and more.
-const RAISED: [&[u64]; 28] = [
+/// A segment that begins one place later still holds its point, which is too few for the places of its `least` line. With its own
+/// coefficient 2 in the place of 1, a line holds the same points and more, and is not least. No pair of places of the run is needed to
+/// show a main coefficient of 1 to be least.
+const RAISED: [&[u64]; LINES] = [
     &[1, 1, 1],
     &[2, 2, 2],
     &[3, 3, 3, 3, 3],
@@ -78,14 +67,14 @@ const RAISED: [&[u64]; 28] = [
     &[9, 9],
     &[10, 10],
     &[11, 11],
-    &[13, 12, 12, YES, 12],
-    &[14, 13, YES, 13, 13],
-    &[15, 14, 14, YES, 14],
-    &[15, 15, YES, 15, 15],
-    &[16, 16],
-    &[17, 17],
-    &[18, 18],
-    &[19, 19],
+    &[13, 12, 12, 13, 12],
+    &[YES, 13, 13, YES],
+    &[15, 14, 15, 14, 14],
+    &[YES, 15, 15, YES],
+    &[17, 16, 16, 17, 16],
+    &[YES, 17, 17, YES],
+    &[18, 18, 19, 18, 18],
+    &[YES, 19, 19, YES],
     &[20, 20],
     &[21, 21],
     &[22, 22],
@@ -93,7 +82,11 @@ const RAISED: [&[u64]; 28] = [
     &[24, 24],
     &[25, 25],
     &[26, 26],
-    &[27, 27, 27],
+    &[27, 27],
+    &[28, 28],
+    &[29, 29],
+    &[30, 30],
+    &[31, 31, 31],
     &[],
 ];
 
@@ -209,27 +202,29 @@ fn lines_left_out_doubled_or_exchanged(rt: HostRuntime) -> Result<(), Fail> {
     let alloc = rt.alloc();
     let lines = lines(alloc)?;
     let last = lines.len();
-    assert_eq!(rt; last, 28);
-    for (at, want) in LEFT_OUT.iter().enumerate() {
+    assert_eq!(rt; last, LINES);
+    for at in 0..last {
+        let next = at.saturating_add(1);
         let mut text = Vec::new(alloc);
         put(&mut text, &lines, 0, at)?;
-        put(&mut text, &lines, at.saturating_add(1), last)?;
-        assert_eq!(rt; judged(alloc, &text)?, verdict(*want));
-    }
-    for (at, want) in DOUBLED.iter().enumerate() {
+        put(&mut text, &lines, next, last)?;
+        assert_eq!(rt; judged(alloc, &text)?, verdict(next as u64));
         let mut text = Vec::new(alloc);
-        put(&mut text, &lines, 0, at.saturating_add(1))?;
+        put(&mut text, &lines, 0, next)?;
         put(&mut text, &lines, at, last)?;
-        assert_eq!(rt; judged(alloc, &text)?, verdict(*want));
+        assert_eq!(rt;
+            judged(alloc, &text)?,
+            verdict((next as u64).saturating_add(1))
+        );
     }
-    for (at, want) in EXCHANGED.iter().enumerate() {
+    for at in 0..last.saturating_sub(1) {
         let next = at.saturating_add(1);
         let mut text = Vec::new(alloc);
         put(&mut text, &lines, 0, at)?;
         put(&mut text, &lines, next, next.saturating_add(1))?;
         put(&mut text, &lines, at, next)?;
         put(&mut text, &lines, next.saturating_add(1), last)?;
-        assert_eq!(rt; judged(alloc, &text)?, verdict(*want));
+        assert_eq!(rt; judged(alloc, &text)?, verdict(next as u64));
     }
     Ok(())
 }

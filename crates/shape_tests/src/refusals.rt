@@ -13,7 +13,7 @@ fn a_failed_write(rt: HostRuntime) -> Result<(), Fail> {
         ran(alloc, "analyse pbm a.pbm none", &mut desk)?,
         Outcome::WriteFault
     );
-    assert_eq!(rt; desk.output(), b"shape 1 ".as_slice());
+    assert_eq!(rt; desk.output(), b"shape 2 ".as_slice());
     assert_eq!(rt;
         ran(alloc, "analyse pbm a.pbm none", &mut desk)?,
         Outcome::Done

@@ -17,13 +17,15 @@ fn one_pixel(rt: HostRuntime) -> Result<(), Fail> {
     let outcome = ran(alloc, "analyse pbm a.pbm none", &mut desk)?;
     assert_eq!(rt; outcome, Outcome::Done);
     let text = desk.output();
-    assert!(rt; text.starts_with(b"shape 1 pbm 1 1 none\nparts 1 1 1\nnear 0 0 ".as_slice()));
-    assert!(rt; text.ends_with(b" 0\nturn x 0 0\nturn y 0 0\nkept 1 1 1\nend\n".as_slice()));
+    assert!(rt; text.starts_with(b"shape 2 pbm 1 1 none\nparts 1 1 1\nnear 0 0 ".as_slice()));
+    assert!(rt;
+        text.ends_with(b" 0\nleast 0 0 0 0\nturn x 0 0\nturn y 0 0\nkept 1 1 1\nend\n".as_slice())
+    );
     Ok(())
 }
 
 // Reports of one pixel, and what the checker says of each.
-const OF_ONE_PIXEL: [(&[u8], Outcome); 12] = [
+const OF_ONE_PIXEL: [(&[u8], Outcome); 21] = [
     (
         b"shape 1 pbm 1 1 none\nparts 1 1 1\nnear 0 0 0 -1 1\ncontour 0 0 0 1 1\nat 0 0\nseg 0 0 y 0 1 0\nturn x 0 0\nturn y 0 0\nkept 1 1 1\nend\n",
         Outcome::Yes,
@@ -68,6 +70,42 @@ const OF_ONE_PIXEL: [(&[u8], Outcome); 12] = [
         b"shape 1 pbm 1 1 none\r\nparts 1 1 1\r\nnear 0 0 0 -1 1\r\nend\r\n",
         Outcome::No { line: 1 },
     ),
+    (
+        b"shape 2 pbm 1 1 none\nparts 1 1 1\nnear 0 0 0 -1 1\ncontour 0 0 0 1 1\nat 0 0\nseg 0 0 y 0 1 0\nleast 0 0 0 0\nturn x 0 0\nturn y 0 0\nkept 1 1 1\nend\n",
+        Outcome::Yes,
+    ),
+    (
+        b"shape 2 pbm 1 1 none\nparts 1 1 1\nnear 0 0 0 -1 1\ncontour 0 0 0 1 1\nat 0 0\nseg 0 0 y 0 1 0\nturn x 0 0\nturn y 0 0\nkept 1 1 1\nend\n",
+        Outcome::No { line: 7 },
+    ),
+    (
+        b"shape 2 pbm 1 1 none\nparts 1 1 1\nnear 0 0 0 -1 1\ncontour 0 0 0 1 1\nat 0 0\nseg 0 0 y 0 1 0\nleast 0 0 0 0\nleast 0 0 0 0\nturn x 0 0\nturn y 0 0\nkept 1 1 1\nend\n",
+        Outcome::No { line: 8 },
+    ),
+    (
+        b"shape 2 pbm 1 1 none\nparts 1 1 1\nnear 0 0 0 -1 1\ncontour 0 0 0 1 1\nat 0 0\nleast 0 0 0 0\nseg 0 0 y 0 1 0\nturn x 0 0\nturn y 0 0\nkept 1 1 1\nend\n",
+        Outcome::No { line: 6 },
+    ),
+    (
+        b"shape 2 pbm 1 1 none\nparts 1 1 1\nnear 0 0 0 -1 1\ncontour 0 0 0 1 1\nat 0 0\nseg 0 0 y 0 1 0\nturn x 0 0\nleast 0 0 0 0\nturn y 0 0\nkept 1 1 1\nend\n",
+        Outcome::No { line: 7 },
+    ),
+    (
+        b"shape 2 pbm 1 1 none\nparts 1 1 1\nnear 0 0 0 -1 1\ncontour 0 0 0 1 1\nat 0 0\nseg 0 0 y 0 1 0\nleast 0 0 0 1\nturn x 0 0\nturn y 0 0\nkept 1 1 1\nend\n",
+        Outcome::No { line: 7 },
+    ),
+    (
+        b"shape 2 pbm 1 1 none\nparts 1 1 1\nnear 0 0 0 -1 1\ncontour 0 0 0 1 1\nat 0 0\nseg 0 0 y 0 2 0\nleast 0 0 0 0\nturn x 0 0\nturn y 0 0\nkept 1 1 1\nend\n",
+        Outcome::No { line: 7 },
+    ),
+    (
+        b"shape 1 pbm 1 1 none\nparts 1 1 1\nnear 0 0 0 -1 1\ncontour 0 0 0 1 1\nat 0 0\nseg 0 0 y 0 1 0\nleast 0 0 0 0\nturn x 0 0\nturn y 0 0\nkept 1 1 1\nend\n",
+        Outcome::No { line: 7 },
+    ),
+    (
+        b"shape 3 pbm 1 1 none\nparts 1 1 1\nnear 0 0 0 -1 1\ncontour 0 0 0 1 1\nat 0 0\nseg 0 0 y 0 1 0\nleast 0 0 0 0\nturn x 0 0\nturn y 0 0\nkept 1 1 1\nend\n",
+        Outcome::No { line: 1 },
+    ),
     (b"", Outcome::No { line: 1 }),
 ];
 
@@ -86,15 +124,15 @@ fn counts_of_parts(rt: HostRuntime) -> Result<(), Fail> {
     let table = [
         (
             b"P1 2 2 0000".as_slice(),
-            b"shape 1 pbm 2 2 none\nparts 0 0 1\nkept 0 0 1\nend\n".as_slice(),
+            b"shape 2 pbm 2 2 none\nparts 0 0 1\nkept 0 0 1\nend\n".as_slice(),
         ),
         (
             b"P1 2 2 1001".as_slice(),
-            b"shape 1 pbm 2 2 none\nparts 2 1 1\nnear ".as_slice(),
+            b"shape 2 pbm 2 2 none\nparts 2 1 1\nnear ".as_slice(),
         ),
         (
             b"P1 3 3 111 101 111".as_slice(),
-            b"shape 1 pbm 3 3 none\nparts 8 1 2\nnear ".as_slice(),
+            b"shape 2 pbm 3 3 none\nparts 8 1 2\nnear ".as_slice(),
         ),
     ];
     for (picture, lines) in table {
@@ -139,7 +177,7 @@ fn a_drawing(rt: HostRuntime) -> Result<(), Fail> {
         Outcome::Done
     );
     let text = desk.output();
-    assert!(rt; text.starts_with(b"shape 1 pbm 64 48 none\nparts 1408 1 1\nnear 10 8 ".as_slice()));
+    assert!(rt; text.starts_with(b"shape 2 pbm 64 48 none\nparts 1408 1 1\nnear 10 8 ".as_slice()));
     assert!(rt; text.ends_with(b"\nkept 1 1 1\nend\n".as_slice()));
     let mut nears = Vec::new(alloc);
     let mut events = Vec::new(alloc);
@@ -290,7 +328,7 @@ fn a_segment_left_out(rt: HostRuntime) -> Result<(), Fail> {
             report.push(b'\n')?;
         }
     }
-    let want = Outcome::No { line: 15 };
+    let want = Outcome::No { line: 14 };
     assert_eq!(rt; checked(alloc, picture, &report)?, want);
     Ok(())
 }

@@ -107,7 +107,9 @@ fn each_line_of_a_volume(rt: HostRuntime) -> Result<(), Fail> {
 }
 
 // The report, where the line at a place is another text, and its first bad line.
-const OTHERS: [(usize, &[u8], u64); 6] = [
+const OTHERS: [(usize, &[u8], u64); 7] = [
+    // a report of a volume has the number 1
+    (0, b"shape 2 raw 3 1 2 none\n", 1),
     // a refused point left out, one twice, and a point that does not touch the patch
     (9, b"", 10),
     (

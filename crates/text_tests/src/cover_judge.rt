@@ -1,9 +1,9 @@
 //! The judge of contours on a ring of eight pixels: which lines it takes, and when it is done.
 //! A further line that is not good is one more row of the table.
-use crate::grids::full;
+use crate::grids::{full, grid_of};
 use judge_cover::CoverJudge;
 use shape_grid::Grid;
-use shape_refute::{Naive, Refusal, Refutation, Share, Shares, StepShares, Turn};
+use shape_refute::{Bounds, Naive, Refusal, Refutation, Share, Shares, StepShares, Turn};
 use shape_report::Line;
 use shape_space::P2;
 use std::alloc::Global;
@@ -40,6 +40,16 @@ fn seg(first: u32, last: u32, axis: u8, a: [i64; 2], mu: i64) -> Line<P2> {
         last,
         line: Naive { a, mu, axis },
     }
+}
+
+fn least(low1: u32, high1: u32, low2: u32, high2: u32) -> Line<P2> {
+    let bounds = Bounds {
+        low1,
+        high1,
+        low2,
+        high2,
+    };
+    Line::Least { bounds }
 }
 
 fn turn(axis: u8, i: u32, j: u32) -> Line<P2> {
@@ -124,20 +134,93 @@ fn lines() -> [Line<P2>; 38] {
 #[test]
 fn a_ring(rt: HostRuntime) -> Result<(), Fail> {
     let grid = ring(rt.alloc())?;
-    let mut judge = CoverJudge::new(rt.alloc(), &grid)?;
-    for line in lines() {
-        assert!(rt; !judge.is_done());
-        assert!(rt; judge.take(&line));
+    for number in 1..3 {
+        let mut judge = CoverJudge::new(rt.alloc(), &grid, number)?;
+        for line in lines() {
+            assert!(rt; !judge.is_done());
+            assert!(rt; judge.take(&line));
+            if number == 2 && matches!(line, Line::Seg { .. }) {
+                assert!(rt; judge.take(&least(0, 1, 1, 0)));
+            }
+        }
+        assert!(rt; judge.is_done());
+        assert!(rt; !judge.take(&at(1, 0)));
     }
-    assert!(rt; judge.is_done());
-    assert!(rt; !judge.take(&at(1, 0)));
+    Ok(())
+}
+
+// The places of the run of a staircase: two steps of one to the right and one down, with two to the right between them.
+const STAIRS: [(i32, i32); 5] = [(0, 0), (1, 1), (2, 1), (3, 1), (4, 2)];
+
+// The picture of the staircase, whose one contour goes along it and back.
+fn stairs(alloc: Global) -> Result<Grid<P2>, Fail> {
+    let mut points = Vec::new(alloc);
+    for (x, y) in STAIRS {
+        points.push(P2 { x, y })?;
+    }
+    grid_of(alloc, P2 { x: 5, y: 3 }, points.as_slice())
+}
+
+// Whether a `least` line is taken right behind the segment of the staircase with this line; none where the segment is not.
+fn is_shown(
+    alloc: Global,
+    number: u8,
+    line: &Line<P2>,
+    shown: &Line<P2>,
+) -> Result<Option<bool>, Fail> {
+    let grid = stairs(alloc)?;
+    let mut judge = CoverJudge::new(alloc, &grid, number)?;
+    if !judge.take(&begun(0, 0, 8, 2)) {
+        return Ok(None);
+    }
+    for i in [0usize, 1, 2, 3, 4, 3, 2, 1] {
+        let Some((x, y)) = STAIRS.get(i) else {
+            return Ok(None);
+        };
+        if !judge.take(&at(*x, *y)) {
+            return Ok(None);
+        }
+    }
+    if !judge.take(line) {
+        return Ok(None);
+    }
+    Ok(Some(judge.take(shown)))
+}
+
+#[test]
+fn least_lines(rt: HostRuntime) -> Result<(), Fail> {
+    let alloc = rt.alloc();
+    let good = seg(0, 4, 1, [-1, 3], 0);
+    for (number, shown, want) in [
+        (2, least(0, 4, 3, 1), true),
+        (2, least(3, 1, 0, 4), true),
+        (2, least(4, 0, 3, 1), false),
+        (2, least(0, 4, 0, 4), false),
+        (2, least(0, 5, 3, 1), false),
+        (2, seg(1, 5, 1, [-1, 3], 0), false),
+        (2, turn(0, 0, 0), false),
+        (1, least(0, 4, 3, 1), false),
+    ] {
+        assert_eq!(rt; is_shown(alloc, number, &good, &shown)?, Some(want));
+    }
+    Ok(())
+}
+
+#[test]
+fn no_places_show_another_line(rt: HostRuntime) -> Result<(), Fail> {
+    let alloc = rt.alloc();
+    let other = seg(0, 4, 1, [-2, 5], -1);
+    for i in 0..625u32 {
+        let shown = least(i % 5, i / 5 % 5, i / 25 % 5, i / 125);
+        assert_eq!(rt; is_shown(alloc, 2, &other, &shown)?, Some(false));
+    }
     Ok(())
 }
 
 // Whether a line is taken after the first ones of the ring.
 fn takes_after(alloc: Global, count: usize, line: &Line<P2>) -> Result<bool, Fail> {
     let grid = ring(alloc)?;
-    let mut judge = CoverJudge::new(alloc, &grid)?;
+    let mut judge = CoverJudge::new(alloc, &grid, 1)?;
     for (i, good) in lines().iter().enumerate() {
         if i == count {
             return Ok(judge.take(line));

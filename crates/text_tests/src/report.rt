@@ -12,12 +12,12 @@ use std::test::Fail;
 fn a_small_report(rt: HostRuntime) -> Result<(), Fail> {
     let alloc = rt.alloc();
     let text =
-        b"shape 1 pbm 2 1 few\nparts 1 1 1\nnear 0 0 -1 0 1\ncontour 0 0 3 4 0\nat 12 7\nend\n".as_slice();
+        b"shape 2 pbm 2 1 few\nparts 1 1 1\nnear 0 0 -1 0 1\ncontour 0 0 3 4 0\nat 12 7\nend\n".as_slice();
     let Some(rule) = Name::new(b"few") else {
         return Err(Fail::from(AllocError));
     };
     let head = Line::Shape {
-        number: 1,
+        number: 2,
         sides: P2 { x: 2, y: 1 },
         rule,
     };
@@ -64,7 +64,7 @@ fn a_small_report(rt: HostRuntime) -> Result<(), Fail> {
 fn lines_of_every_kind_are_read_and_written(rt: HostRuntime) {
     let alloc = rt.alloc();
     let text = b"shape 1 pbm 2 1 few\nparts 4 1 2\nnear 0 0 -1 0 1\ncontour 0 0 3 4 0\nat 12 7\n\
-seg 1 4 y -1 3 0\nturn x 2 7\ncut y 2 1 0 1 4 1 2 2 0\ncut x 0 1 7 1 3 5 up 6 up+y 7 up-y\ndel 0 0\ntip -1 7\nkept 3 1 2\nend\n"
+seg 1 4 y -1 3 0\nleast 0 4 3 1\nturn x 2 7\ncut y 2 1 0 1 4 1 2 2 0\ncut x 0 1 7 1 3 5 up 6 up+y 7 up-y\ndel 0 0\ntip -1 7\nkept 3 1 2\nend\n"
         .as_slice();
     let mut report = Report::new(alloc);
     for text in [
@@ -74,6 +74,7 @@ seg 1 4 y -1 3 0\nturn x 2 7\ncut y 2 1 0 1 4 1 2 2 0\ncut x 0 1 7 1 3 5 up 6 up
         "contour 0 0 3 4 0",
         "at 12 7",
         "seg 1 4 y -1 3 0",
+        "least 0 4 3 1",
         "turn x 2 7",
         "cut y 2 1 0 1 4 1 2 2 0",
         "cut x 0 1 7 1 3 5 up 6 up+y 7 up-y",
@@ -143,6 +144,8 @@ fn lines_of_faces_are_of_volumes(rt: HostRuntime) {
         assert!(rt; read_claim::<P2>(text.as_bytes()).is_none(), "{text}");
     }
     for text in [
+        "shape 2 raw 3 1 2 none",
+        "least 0 0 0 0",
         "face w - 3",
         "face x = 3",
         "face x -3",

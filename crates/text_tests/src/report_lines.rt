@@ -26,11 +26,11 @@ fn lines_are_read(rt: HostRuntime) {
             sides,
             rule,
         },
-    ) = read_claim::<P2>(b"shape 1 pbm 3 1024 none")
+    ) = read_claim::<P2>(b"shape 2 pbm 3 1024 none")
     else {
         panic!(rt; "a `shape` line")
     };
-    assert_eq!(rt; number, 1);
+    assert_eq!(rt; number, 2);
     assert_eq!(rt; sides, P2 { x: 3, y: 1024 });
     assert_eq!(rt; rule.word(), b"none".as_slice());
 }
@@ -157,7 +157,12 @@ fn other_texts_are_no_lines(rt: HostRuntime) {
         "cut x 0 0 2 1 up",
         "cut x 0 0 0 0",
         "shape 1 raw 1 1 none",
-        "shape 2 pbm 1 1 none",
+        "shape 0 pbm 1 1 none",
+        "shape 3 pbm 1 1 none",
+        "shape 02 pbm 1 1 none",
+        "shape 12 pbm 1 1 none",
+        "least 0 0 0",
+        "least 0 0 0 -1",
         "shape 1 pbm 1 1 None",
         "shape 1 pbm 1 1 abcdefghijklmnopq",
     ] {

@@ -2,7 +2,7 @@ use Rattle.std.proofs.Common.{map, arith}
 use Rattle.std.proofs.lemmas.List.{length-map}
 use Rattle.shape_refute.specs.Terms.{flat_point}
 use Rattle.finder_tests.proofs.GivenRuns.{given}
-use Rattle.shape_line.proofs.RunVerdicts.{all_small}
+use Rattle.shape_refute.proofs.SmallPoints.{all_small}
 use Rattle.finder_tests.proofs.line.decide.Goals as goal
 
 pub decide_run-requires : goal.decide_run-requires

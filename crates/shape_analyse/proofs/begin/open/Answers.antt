@@ -1,5 +1,6 @@
-use Rattle.std.proofs.Common.{◌≡◌, ◌≤◌, [], ◌∷◌, length, inl, inr, arith, rules, sym, ◌∙◌}
-use Rattle.report_terms.specs.Lines.{Line, IsLineOf}
+use Rattle.std.proofs.Common.{◌≡◌, ◌≤◌, [], ◌∷◌, ◌++◌, ap, length, inl, inr, arith, rules, sym, ◌∙◌}
+use Rattle.report_terms.specs.Forms.{last_number}
+use Rattle.report_terms.specs.Lines.{Line, line_text, IsLineOf}
 use Rattle.shape_terms.specs.Parts.{Counts}
 use Rattle.shape_rules.specs.Names.{word_of}
 use Rattle.shape_analyse.specs.Growing.{aim_of, heading_of}
@@ -22,5 +23,7 @@ returns-clause-open g c =
     let counts : Counts X n parts.object parts.background = rw c.count.ensures c.requires in
     λ shelf by on.
     let head = Line.Shape (heading_of (aim_of X shelf (word_of rule) by) sides) in
-    let one = text_push _ _ [] head c.new-report.ensures c.in_ok-add.ensures.ok in
+    let same : c.last_number.result ≡ last_number (length X.sides) = c.last_number.ensures.value ∙ ap last_number (sym w.axes) in
+    let added = c.in_ok-add.ensures.ok ∙ ap (λ n. c.new-report.result ++ line_text (Line.Shape (record { number = n; sides = sides; rule = word_of rule }))) same in
+    let one = text_push _ _ [] head c.new-report.ensures added in
     text_more _ _ _ (head ∷ []) _ one c.in_ok-add-2.ensures.ok (growing_none g.P.Point.MAX_SIDE (aim_of X shelf (word_of rule) by) sides n parts.object parts.background s.in_range c.sides-sides.ensures.value three first on second counts)

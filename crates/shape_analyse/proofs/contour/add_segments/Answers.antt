@@ -1,11 +1,12 @@
-use Rattle.std.proofs.Common.{◌≡◌, ◌<◌, ◌^◌, ◌++◌, length, take, rules, arith, ap, subst, sym, ◌∙◌}
+use Rattle.std.proofs.Common.{◌≡◌, ◌<◌, ◌^◌, ◌++◌, ◌∷◌, [], length, take, rules, arith, ap, subst, sym, ◌∙◌}
 use Rattle.std.proofs.lemmas.List.{length-map, take_all}
 use Rattle.report_terms.specs.Lines.{Line, line_text, IsLineOf}
 use Rattle.shape_refute.specs.Terms.{naive_of}
+use Rattle.shape_refute.specs.PairTerms.{pairs_of}
 use Rattle.shape_cover.specs.Found.{Found, stretches_of, found_at, IsShortLine}
 use Rattle.shape_analyse.specs.Growing.{Stands, at_contour}
-use Rattle.shape_analyse.proofs.Growth.{text_more}
-use Rattle.shape_analyse.proofs.FoundLines.{segment_fits, found_segment}
+use Rattle.shape_analyse.proofs.Growth.{text_push, text_more}
+use Rattle.shape_analyse.proofs.FoundLines.{segment_fits, segment_at, segment_line, found_segment, found_least}
 use Rattle.shape_analyse.proofs.contour.add_segments.Goals as goal
 
 pub add-requires : goal.add-requires
@@ -29,12 +30,18 @@ loop-j-preserved c =
     let b : s.first < 2 ^ 32 = search rules in
     let e : s.last < 2 ^ 32 = search rules in
     let some = c.requires.1 in
-    let same : Line.Seg s.first s.last s.line.axis (naive_of 2 s.line).a (naive_of 2 s.line).mu ≡ Line.Seg f.stretch.first f.stretch.last f.axis f.line.a f.line.mu = λ i. Line.Seg (is.places i).first (is.places i).last (is.axis i) (is.line i).a (is.line i).mu in
-    let fields : IsLineOf 2 (Line.Seg f.stretch.first f.stretch.last f.axis f.line.a f.line.mu) = subst (IsLineOf 2) same (segment_fits s.first s.last s.line.axis (naive_of 2 s.line) b e (omega (arith, some.axis j l, is.axis)) (subst IsShortLine (sym is.line) (some.line j l))) in
+    let same : Line.Seg s.first s.last s.line.axis (naive_of 2 s.line).a (naive_of 2 s.line).mu ≡ segment_line (segment_at found j) = λ i. Line.Seg (is.places i).first (is.places i).last (is.axis i) (is.line i).a (is.line i).mu in
+    let fields : IsLineOf 2 (segment_line (segment_at found j)) = subst (IsLineOf 2) same (segment_fits s.first s.last s.line.axis (naive_of 2 s.line) b e (omega (arith, some.axis j l, is.axis)) (subst IsShortLine (sym is.line) (some.line j l))) in
+    let bounds = c.bounds-bounds.result in
+    let pairs = pairs_of bounds in
+    let few : IsLineOf 2 (Line.Least pairs) = search rules in
     let new = c.in_ok-add.ensures.ok ∙ ap (λ m. c.loop-j.report ++ line_text m) same in
     λ X contours k contour there cover o.
     let h = c.loop-j.invariant X contours k contour there cover o in
-    text_more _ _ _ h.lines _ h.is new (found_segment X contours k contour found j h.lines h.so there cover l fields)
+    let lines = h.lines ++ segment_line (segment_at found j) ∷ [] in
+    let one = text_push _ _ h.lines (segment_line (segment_at found j)) h.is new in
+    let first = found_segment X contours k contour found j h.lines h.so there cover l fields in
+    text_more _ _ _ lines _ one c.in_ok-add-2.ensures.ok (found_least X contours k contour found j pairs lines first there cover l c.bounds-bounds.ensures few)
 
 pub returns : goal.returns
 returns c =

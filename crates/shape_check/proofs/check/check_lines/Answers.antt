@@ -16,33 +16,33 @@ use Rattle.shape_check.proofs.FirstLine.{may_come, still_ruled}
 use Rattle.shape_check.proofs.check.check_lines.Goals as goal
 
 pub returns-in_err-claim-clause-checked : goal.returns-in_err-claim-clause-checked
-returns-in_err-claim-clause-checked g c = λ X text axes w start.
+returns-in_err-claim-clause-checked g c = λ X n text axes w start.
     let inv = c.lines.invariant in
     let p = err_from_is_err_and c.from_residual.result c.from_residual.ensures.1 in
     rw (p.1, p.2) (record {
       answer = omega (arith, inv.reads.only.later, c.in_err-claim.ensures.answer);
-      taken = told_few (analysis X) (are_spelled (length X.picture.sides)) _ _ _ _ _ (inv.text X text axes w start) c.next_claim.ensures.taken;
+      taken = told_few (analysis X) (are_spelled (length X.picture.sides)) _ _ _ _ _ (inv.text X n text axes w start) c.next_claim.ensures.taken;
     })
 
 pub returns-in_err-take-in-Claim-clause-checked : goal.returns-in_err-take-in-Claim-clause-checked
-returns-in_err-take-in-Claim-clause-checked g c = λ X text axes w start.
+returns-in_err-take-in-Claim-clause-checked g c = λ X n text axes w start.
     let p = err_from_is_err_and c.from_residual-in_err-take-in-Claim.result c.from_residual-in_err-take-in-Claim.ensures.1 in
-    rw (p.1, p.2) (record { answer = tt; taken = told_few (analysis X) (are_spelled (length X.picture.sides)) _ _ _ _ _ (c.lines.invariant.text X text axes w start) c.next_claim.ensures.taken })
+    rw (p.1, p.2) (record { answer = tt; taken = told_few (analysis X) (are_spelled (length X.picture.sides)) _ _ _ _ _ (c.lines.invariant.text X n text axes w start) c.next_claim.ensures.taken })
 
 pub returns-then-not-branch-clause-checked : goal.returns-then-not-branch-clause-checked
-returns-then-not-branch-clause-checked g c = λ X text axes w start.
+returns-then-not-branch-clause-checked g c = λ X n text axes w start.
     let inv = c.lines.invariant in
     let left = ahead_of c.lines.reader.ahead ((g.D.Desk.state c.lines.desk).left Report) in
     let new = ahead_of c.next_claim.new.reader.ahead ((g.D.Desk.state c.next_claim.new.desk).left Report) in
     let l = line_of g.P.Point.coords c.in-Claim.claim in
     let taken : IfTold left (λ bytes. TakesClaim (spelled (length X.picture.sides)) bytes new l) = subst (λ d. IfTold left (λ bytes. TakesClaim (spelled d) bytes new l)) (sym axes) (rw c.in-Claim.is at c.in_ok-claim.ensures.answer) in
-    let told = inv.text X text axes w start in
+    let told = inv.text X n text axes w start in
     record {
       answer = (
         record { some = inv.some; few = omega (arith, inv.few) },
         if_told text (λ t h. not_good (analysis X) (are_spelled (length X.picture.sides)) _ c.lines.line t left new l h taken (λ good.
             let f = h.follows in
-            let t = (c.in_ok-take-in-Claim.ensures.answer X h.lines (subst (IsRuledBy X (lines_of Section.Heading h.lines)) (sym inv.same_rule) f.ruled) (subst (λ r. g.R.Judges.follows X r c.lines.row ((g.dyn-1.0.entry c.lines.rule.now.0).1.state c.lines.rule.now.1) h.lines) (sym inv.same_rule) f.follows) (may_come X _ g.R.Judges.section g.met.R.Row.first h.lines l f.ruled)).1 good in
+            let t = (c.in_ok-take-in-Claim.ensures.answer X n h.lines (subst (IsRuledBy X (lines_of Section.Heading h.lines) n) (sym inv.same_rule) f.ruled) (subst (λ r. g.R.Judges.follows X n r c.lines.row ((g.dyn-1.0.entry c.lines.rule.now.0).1.state c.lines.rule.now.1) h.lines) (sym inv.same_rule) f.follows) (may_come X n _ g.R.Judges.section g.met.R.Row.first h.lines l f.ruled)).1 good in
             let z = c.if-not-branch.true in
             cc)) told,
       );
@@ -62,16 +62,16 @@ lines-preserved g c =
     let taken : IfTold left (λ bytes. TakesClaim (spelled g.P.Point.DIM) bytes new l) = rw c.in-Claim.is at c.in_ok-claim.ensures.answer in
     record {
       begun = next.reads.still_begun;
-      text = λ X text axes w start. if_told text (λ t h.
+      text = λ X n text axes w start. if_told text (λ t h.
           let f = h.follows in
-          let ruled = subst (IsRuledBy X (lines_of Section.Heading h.lines)) (sym same) f.ruled in
-          let follows = subst (λ r. g.R.Judges.follows X r c.lines.row (state c.lines.rule.now.1) h.lines) (sym same) f.follows in
-          let may = may_come X _ g.R.Judges.section g.met.R.Row.first h.lines l f.ruled in
-          let good = (took.answer X h.lines ruled follows may).0 c.if-not-branch.false in
+          let ruled = subst (IsRuledBy X (lines_of Section.Heading h.lines) n) (sym same) f.ruled in
+          let follows = subst (λ r. g.R.Judges.follows X n r c.lines.row (state c.lines.rule.now.1) h.lines) (sym same) f.follows in
+          let may = may_come X n _ g.R.Judges.section g.met.R.Row.first h.lines l f.ruled in
+          let good = (took.answer X n h.lines ruled follows may).0 c.if-not-branch.false in
           one_more (analysis X) (are_spelled (length X.picture.sides)) _ c.lines.line t left new l _ h (subst (λ d. IfTold left (λ bytes. TakesClaim (spelled d) bytes new l)) (sym axes) taken) good (record {
-            ruled = still_ruled X _ g.R.Judges.section g.met.R.Row.first h.lines l f.ruled good;
-            follows = subst (λ r. g.R.Judges.follows X r c.take.new.self (state c.take.new.rule) (h.lines ++ l ∷ [])) same (OnTrue_at c.if-not-branch.false (took.follows X h.lines ruled follows may));
-          })) (inv.text X text axes w start);
+            ruled = still_ruled X n _ g.R.Judges.section g.met.R.Row.first h.lines l f.ruled good;
+            follows = subst (λ r. g.R.Judges.follows X n r c.take.new.self (state c.take.new.rule) (h.lines ++ l ∷ [])) same (OnTrue_at c.if-not-branch.false (took.follows X n h.lines ruled follows may));
+          })) (inv.text X n text axes w start);
       same_rule = took.same_rule ∙ same;
       some = omega arith;
       few = omega (arith, inv.few, OnTrue_at c.if-not-branch.false took.room);
@@ -79,37 +79,37 @@ lines-preserved g c =
     }
 
 pub returns-in-Bad-clause-checked : goal.returns-in-Bad-clause-checked
-returns-in-Bad-clause-checked g c = λ X text axes w start.
+returns-in-Bad-clause-checked g c = λ X n text axes w start.
     let inv = c.lines.invariant in
     let left = ahead_of c.lines.reader.ahead ((g.D.Desk.state c.lines.desk).left Report) in
     let bad : IfTold left (IsBad (spelled (length X.picture.sides))) = subst (λ d. IfTold left (IsBad (spelled d))) (sym axes) (rw c.in-Bad.is at c.in_ok-claim.ensures.answer) in
-    let told = inv.text X text axes w start in
+    let told = inv.text X n text axes w start in
     record {
       answer = (record { some = inv.some; few = omega (arith, inv.few) }, if_told text (λ t h. bad_line (analysis X) (are_spelled (length X.picture.sides)) _ c.lines.line t left h bad) told);
       taken = told_few (analysis X) (are_spelled (length X.picture.sides)) _ _ _ _ _ told c.next_claim.ensures.taken;
     }
 
 pub returns-in-End-clause-checked : goal.returns-in-End-clause-checked
-returns-in-End-clause-checked g c = λ X text axes w start.
+returns-in-End-clause-checked g c = λ X n text axes w start.
     let inv = c.lines.invariant in
     let left = ahead_of c.lines.reader.ahead ((g.D.Desk.state c.lines.desk).left Report) in
     let end : IfTold left (λ bytes. bytes ≡ []) = rw c.in-End.is at c.in_ok-claim.ensures.answer in
-    let told = inv.text X text axes w start in
+    let told = inv.text X n text axes w start in
     record {
       answer = (
         record { some = inv.some; few = omega (arith, inv.few) },
-        if_told text (λ t h. bad_at_end (analysis X) (are_spelled (length X.picture.sides)) _ c.lines.line t left h (λ e. let t : IsTrue false = (c.if-has_ended.ensures X _ _ h.lines h.follows.follows).1 e in cc) end) told,
+        if_told text (λ t h. bad_at_end (analysis X) (are_spelled (length X.picture.sides)) _ c.lines.line t left h (λ e. let t : IsTrue false = (c.if-has_ended.ensures X n _ _ h.lines h.follows.follows).1 e in cc) end) told,
       );
       taken = told_few (analysis X) (are_spelled (length X.picture.sides)) _ _ _ _ _ told c.next_claim.ensures.taken;
     }
 
 pub returns-then-has_ended-clause-checked : goal.returns-then-has_ended-clause-checked
-returns-then-has_ended-clause-checked g c = λ X text axes w start.
+returns-then-has_ended-clause-checked g c = λ X n text axes w start.
     let inv = c.lines.invariant in
     let left = ahead_of c.lines.reader.ahead ((g.D.Desk.state c.lines.desk).left Report) in
     let end : IfTold left (λ bytes. bytes ≡ []) = rw c.in-End.is at c.in_ok-claim.ensures.answer in
-    let told = inv.text X text axes w start in
+    let told = inv.text X n text axes w start in
     record {
-      answer = if_told text (λ t h. holds_at_end (analysis X) (are_spelled (length X.picture.sides)) _ c.lines.line t left h ((c.if-has_ended.ensures X _ _ h.lines h.follows.follows).0 refl) end) told;
+      answer = if_told text (λ t h. holds_at_end (analysis X) (are_spelled (length X.picture.sides)) _ c.lines.line t left h ((c.if-has_ended.ensures X n _ _ h.lines h.follows.follows).0 refl) end) told;
       taken = told_few (analysis X) (are_spelled (length X.picture.sides)) _ _ _ _ _ told c.next_claim.ensures.taken;
     }

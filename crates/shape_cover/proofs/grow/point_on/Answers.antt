@@ -1,7 +1,7 @@
 use Rattle.std.proofs.Common.{◌≡◌, ◌%◌, length, subst, sym, ℕ}
 use Rattle.std.specs.Prelude.{slice_get, Some}
 use Rattle.shape_refute.specs.Terms.{flat_point}
-use Rattle.shape_line.proofs.RunVerdicts.{small_at}
+use Rattle.shape_refute.proofs.SmallPoints.{small_at}
 use Rattle.shape_cover.proofs.Growing.{point_is, within}
 use Rattle.shape_cover.proofs.grow.point_on.Goals as goal
 

@@ -43,6 +43,9 @@ returns-in-At g c = rw c.in-At.is c.put_at.ensures
 pub returns-in-Seg : goal.returns-in-Seg
 returns-in-Seg g c = rw c.in-Seg.is c.put_seg.ensures
 
+pub returns-in-Least : goal.returns-in-Least
+returns-in-Least g c = rw c.in-Least.is c.put_least.ensures
+
 pub returns-in-Gap : goal.returns-in-Gap
 returns-in-Gap g c = rw c.in-Gap.is (c.put_gap.ensures ∙ gap_text g.P.Point.DIM c.in-Gap.axis c.in-Gap.refusal)
 

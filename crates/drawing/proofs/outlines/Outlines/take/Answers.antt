@@ -4,7 +4,7 @@ use Rattle.shape_refute.specs.declared.naive.Naive.{Naive}
 use Rattle.shape_terms.specs.Points.{sides_of}
 use Rattle.report_terms.specs.Lines as Terms
 use Rattle.shape_report.specs.declared.line.Line.{Line}
-use Rattle.shape_report.specs.declared.line.Line.TheVariants.{Shape, Parts, Near, Contour, At, Seg, Gap, Face, Patch, On, Off, Del, Tip, Kept, End}
+use Rattle.shape_report.specs.declared.line.Line.TheVariants.{Shape, Parts, Near, Contour, At, Seg, Least, Gap, Face, Patch, On, Off, Del, Tip, Kept, End}
 use Rattle.drawing.specs.Seen.{flat, flats, flat_line, all_strokes, all_stretches}
 use Rattle.drawing.specs.Outlines as Outlines
 use Rattle.drawing.specs.Standing.{HasOutlines}
@@ -20,6 +20,7 @@ other_line box lines (Near p q s) kept _ _ _ h = adds_nothing box lines (flat_li
 other_line box lines (Contour p side n m) kept c a s h = absurd (c p side n m refl)
 other_line box lines (At p) kept c a s h = absurd (a p refl)
 other_line box lines (Seg b e line) kept c a s h = absurd (s b e line refl)
+other_line box lines (Least bounds) kept _ _ _ h = adds_nothing box lines (flat_line (Least bounds)) kept refl refl refl h
 other_line box lines (Gap t refusal) kept _ _ _ h = adds_nothing box lines (flat_line (Gap t refusal)) kept refl refl refl h
 other_line box lines (Face t sense n) kept _ _ _ h = adds_nothing box lines (flat_line (Face t sense n)) kept refl refl refl h
 other_line box lines (Patch k a mu) kept _ _ _ h = adds_nothing box lines (flat_line (Patch k a mu)) kept refl refl refl h

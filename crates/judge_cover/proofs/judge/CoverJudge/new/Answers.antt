@@ -4,4 +4,4 @@ use Rattle.judge_cover.proofs.judge.CoverJudge.new.Goals as goal
 pub returns-clause-room : goal.returns-clause-room
 returns-clause-room c =
     let X = c.args.grid.now in
-    rw c.in_ok-segments.ensures.items (few_lines X c.in_ok-contours.contours c.in_ok-contours.ensures c.is_picture.ensures.few)
+    rw c.in_ok-segments.ensures.items (few_lines c.args.number X c.in_ok-contours.contours c.in_ok-contours.ensures c.is_picture.ensures.few)

@@ -1,8 +1,8 @@
 use Rattle.std.proofs.Common.{◌≡◌, ◌+◌, ◌≤◌, ◌<◌, ◌^◌, length, map, ap, ◌∙◌, arith}
 use Rattle.std.proofs.lemmas.List.{length-map}
 use Rattle.shape_terms.specs.Covers.{Stretch, next_first}
-use Rattle.report_terms.specs.ContourLines.{Standing, open_contour}
-use Rattle.judge_cover.specs.CoverState.{CoverState}
+use Rattle.report_terms.specs.ContourLines.{open_contour}
+use Rattle.judge_cover.specs.CoverState.{CoverState, standing_of}
 use Rattle.judge_cover.specs.Places.{stretch_of}
 use Rattle.judge_cover.proofs.Steps.{same_open, around_at, stretch_at, next_some, next_none}
 use Rattle.judge_cover.proofs.judge.CoverJudge.next_first.Goals as goal
@@ -13,9 +13,9 @@ zero_stretch = record { first = 0; last = 0 }
 pub overflow_add-result : goal.overflow_add-result
 overflow_add-result c =
     let i = c.self.inside in
-    let s : Standing = record { begun = i.begun; points = i.points; declared = i.declared; stretches = map stretch_of i.segments.items; gaps = i.gaps } in
+    let s = standing_of i.begun i.points i.declared i.segments.items i.last i.gaps in
     let now = c.args.self.now in
-    let same = same_open i.contours s now c.self.view_is in
+    let same = same_open i.number i.contours s now c.self.view_is in
     let few : length (open_contour now.contours now.standing).points ≤ 2 ^ 24 = rw c.open.ensures at c.len.ensures.path.few in
     let n : c.len.result ≡ length (open_contour now.contours now.standing).points = rw c.open.ensures at c.len.ensures.value in
     let listed : 0 < length i.segments.items = omega (arith, c.requires.place, ap (λ (t : CoverState). length t.standing.stretches) c.self.view_is, length-map i.segments.items stretch_of) in

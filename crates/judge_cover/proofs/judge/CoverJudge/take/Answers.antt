@@ -2,8 +2,9 @@ use Rattle.std.specs.Prelude.{take}
 use Rattle.report_terms.specs.Lines as Terms
 use Rattle.shape_refute.specs.Terms.{naive_of}
 use Rattle.shape_refute.specs.Evidences.{evidence_of}
+use Rattle.shape_refute.specs.PairTerms.{pairs_of}
 use Rattle.shape_crack.specs.Terms.{point_of, crack_of}
-use Rattle.judge_cover.proofs.Standings.{claim_test, begun_stands, point_stands, segment_stands, gap_stands, begun_room, point_room, segment_room, gap_room}
+use Rattle.judge_cover.proofs.Standings.{claim_test, begun_stands, point_stands, segment_stands, least_stands, gap_stands, begun_room, point_room, segment_room, least_room, gap_room}
 use Rattle.judge_cover.proofs.judge.CoverJudge.take.Goals as goal
 
 pub returns-in-Contour-clause-answer : goal.returns-in-Contour-clause-answer
@@ -44,6 +45,21 @@ pub returns-in-Seg-clause-room : goal.returns-in-Seg-clause-room
 returns-in-Seg-clause-room c =
     let l = c.in-Seg in
     segment_room c.args.self.now c.take_segment.new.self l.first l.last l.line.axis (naive_of 2 l.line) c.take_segment.result c.take_segment.ensures.contours c.take_segment.ensures.answer c.take_segment.ensures.next
+
+pub returns-in-Least-clause-answer : goal.returns-in-Least-clause-answer
+returns-in-Least-clause-answer c =
+    let l = c.in-Least in
+    rw l.is (λ X lines s. claim_test X c.args.self.now lines (Terms.Line.Least (pairs_of l.bounds)) c.take_least.result s c.take_least.ensures.answer)
+
+pub returns-in-Least-clause-stands : goal.returns-in-Least-clause-stands
+returns-in-Least-clause-stands c =
+    let l = c.in-Least in
+    rw l.is (λ X lines s. least_stands X c.args.self.now c.take_least.new.self lines (pairs_of l.bounds) c.take_least.result s c.take_least.ensures.taken c.take_least.ensures.contours c.take_least.ensures.answer c.take_least.ensures.next)
+
+pub returns-in-Least-clause-room : goal.returns-in-Least-clause-room
+returns-in-Least-clause-room c =
+    let l = c.in-Least in
+    least_room c.args.self.now c.take_least.new.self (pairs_of l.bounds) c.take_least.result c.take_least.ensures.contours c.take_least.ensures.answer c.take_least.ensures.next
 
 pub returns-in-Gap-clause-answer : goal.returns-in-Gap-clause-answer
 returns-in-Gap-clause-answer c =

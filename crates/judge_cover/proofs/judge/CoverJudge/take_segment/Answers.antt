@@ -22,6 +22,6 @@ returns-clause-answer c =
     let more : length (map stretch_of c.as_slice.result.now) < i.declared = omega (arith, c.if-len-self.false, c.len.ensures, length-map c.as_slice.result.now stretch_of, c.as_slice.ensures.len) in
     let places = c.come_next.ensures.0 c.if-not-come_next.false in
     let held = c.holds_segment.ensures.held.0 c.if-not-holds_segment.false in (
-      λ t. next_segment now.contours now.standing c.len-n.result i.declared next.first next.last line.axis (naive_of 2 line) (map stretch_of c.as_slice.result.now) (map point_of c.arc.result.now) n declared listed given more early places c.arc.ensures.value held,
+      λ t. next_segment now.number now.contours now.standing c.len-n.result i.declared next.first next.last line.axis (naive_of 2 line) (map stretch_of c.as_slice.result.now) (map point_of c.arc.result.now) n declared listed given more (c.wants_none.ensures.0 c.if-not-wants_none.false) early places c.arc.ensures.value held,
       λ h. refl,
     )

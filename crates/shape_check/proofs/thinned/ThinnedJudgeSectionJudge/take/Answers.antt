@@ -10,7 +10,7 @@ use Rattle.shape_check.proofs.ThinningJudged.{restarted, early, event_stands, ke
 use Rattle.shape_check.proofs.thinned.ThinnedJudgeSectionJudge.take.Goals as goal
 
 pub returns-in-Del-clause-answer : goal.returns-in-Del-clause-answer
-returns-in-Del-clause-answer g c = rw c.in-Del.is (λ X heading lines ruled t.
+returns-in-Del-clause-answer g c = rw c.in-Del.is (λ X n heading lines ruled t.
     let same = c.start.ensures.same_rule in
     let state = (g.dyn-1.0.entry c.args.rule.now.0).1.state in
     let stood = c.start.ensures.stands X.picture (events_of lines) t.followed in
@@ -18,7 +18,7 @@ returns-in-Del-clause-answer g c = rw c.in-Del.is (λ X heading lines ruled t.
     (c.event.ensures.answer X.picture (events_of lines) (subst (λ r. StandsFor r X.picture (events_of lines) (state c.start.new.rule) c.start.new.self.events) (sym same) stood)))
 
 pub returns-in-Del-clause-stands : goal.returns-in-Del-clause-stands
-returns-in-Del-clause-stands g c = rw c.in-Del.is (λ X lines t.
+returns-in-Del-clause-stands g c = rw c.in-Del.is (λ X n lines t.
     let s = c.start.ensures in
     let me = c.start.new.self in
     let by = (g.dyn-1.0.entry c.args.rule.now.0).1.means c.args.rule.now.1 in
@@ -30,7 +30,7 @@ returns-in-Del-clause-stands g c = rw c.in-Del.is (λ X lines t.
     (c.event.ensures.stands X (events_of lines) (subst (λ r. StandsFor r X (events_of lines) (state c.start.new.rule) me.events) (sym s.same_rule) stood))))
 
 pub returns-in-Tip-clause-answer : goal.returns-in-Tip-clause-answer
-returns-in-Tip-clause-answer g c = rw c.in-Tip.is (λ X heading lines ruled t.
+returns-in-Tip-clause-answer g c = rw c.in-Tip.is (λ X n heading lines ruled t.
     let same = c.start.ensures.same_rule in
     let state = (g.dyn-1.0.entry c.args.rule.now.0).1.state in
     let stood = c.start.ensures.stands X.picture (events_of lines) t.followed in
@@ -38,7 +38,7 @@ returns-in-Tip-clause-answer g c = rw c.in-Tip.is (λ X heading lines ruled t.
     (c.event-in-Tip.ensures.answer X.picture (events_of lines) (subst (λ r. StandsFor r X.picture (events_of lines) (state c.start.new.rule) c.start.new.self.events) (sym same) stood)))
 
 pub returns-in-Tip-clause-stands : goal.returns-in-Tip-clause-stands
-returns-in-Tip-clause-stands g c = rw c.in-Tip.is (λ X lines t.
+returns-in-Tip-clause-stands g c = rw c.in-Tip.is (λ X n lines t.
     let s = c.start.ensures in
     let me = c.start.new.self in
     let by = (g.dyn-1.0.entry c.args.rule.now.0).1.means c.args.rule.now.1 in
@@ -50,7 +50,7 @@ returns-in-Tip-clause-stands g c = rw c.in-Tip.is (λ X lines t.
     (c.event-in-Tip.ensures.stands X (events_of lines) (subst (λ r. StandsFor r X (events_of lines) (state c.start.new.rule) me.events) (sym s.same_rule) stood))))
 
 pub returns-in-Kept-clause-answer : goal.returns-in-Kept-clause-answer
-returns-in-Kept-clause-answer g c = rw c.in-Kept.is (λ X heading lines ruled t.
+returns-in-Kept-clause-answer g c = rw c.in-Kept.is (λ X n heading lines ruled t.
     let s = c.start.ensures in
     let me = c.start.new.self in
     let by = (g.dyn-1.0.entry c.args.rule.now.0).1.means c.args.rule.now.1 in
@@ -61,7 +61,7 @@ returns-in-Kept-clause-answer g c = rw c.in-Kept.is (λ X heading lines ruled t.
     (restarted t (λ events now. StandsFor by X.picture events now me.events) me.begun me.kept me.object me.background (state c.start.new.rule) s.begun s.kept s.object s.background stood)))
 
 pub returns-in-Kept-clause-stands : goal.returns-in-Kept-clause-stands
-returns-in-Kept-clause-stands g c = rw c.in-Kept.is (λ X lines t.
+returns-in-Kept-clause-stands g c = rw c.in-Kept.is (λ X n lines t.
     let s = c.start.ensures in
     let me = c.start.new.self in
     let by = (g.dyn-1.0.entry c.args.rule.now.0).1.means c.args.rule.now.1 in

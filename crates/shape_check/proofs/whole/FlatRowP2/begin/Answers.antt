@@ -11,4 +11,4 @@ returns-clause-waits c =
     let e = c.new-row-2.ensures in
     let f = c.new-row.ensures in
     rw (a.is_past, a.first, a.rest, b.is_past, b.first, b.rest, d.is_past, d.first, d.rest, e.is_past, e.rest, f.is_past, f.first, f.rest, k.counts_wait)
-    (refl, (λ by now. (k.counts, refl)), (refl, (λ by now. (k.picture, k.field)), (refl, (λ by now. cover.stands), (refl, (λ by now. (c.is_picture.ensures.picture.axes, refl)), (refl, k.thinned, refl)))))
+    (refl, (λ by now. (k.counts, refl)), (refl, (λ by now. (k.picture, k.field)), (refl, (λ by now. (cover.number, cover.stands)), (refl, (λ by now. (c.is_picture.ensures.picture.axes, refl)), (refl, k.thinned, refl)))))
