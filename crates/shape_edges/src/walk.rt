@@ -1,6 +1,6 @@
 //! The walk round a corner path from maximal run to maximal run, which is its cover.
 //! That the runs are all follows from the evidence for the gaps between them.
-ghost use Rattle.std.specs.Prelude.{◌≡◌, ◌<◌, ◌≤◌, ◌^◌, IfOk, length, map};
+ghost use Rattle.std.specs.Prelude.{◌<◌, ◌^◌, IfOk, length, map};
 ghost use Rattle.shape_terms.specs.Contours.{IsCrack};
 ghost use Rattle.edge_terms.specs.Corners.{HasSmallSides};
 ghost use Rattle.edge_terms.specs.EdgeCovers.{IsEdgeCover, IsEdgeCoverFrom};
