@@ -7,7 +7,6 @@ ghost use Rattle.shape_line.specs.Runs.{AreNear};
 ghost use Rattle.shape_line.specs.Verdict.{IsVerdict};
 ghost use Rattle.finder_tests.specs.GivenRuns.{is_run};
 
-
 use shape_line::{RunVerdict, bounds_of, decide_run};
 use shape_refute::{Bounds, Naive, holds, is_least, is_proper, refutes, turns};
 use shape_space::P2;

@@ -97,8 +97,7 @@ fn first_bad_lines(rt: HostRuntime) -> Result<(), Fail> {
     let table = [
         (
             0,
-            b"pieces 1 2 2\nchain 0 0 0 4 2\npiece 0 1 y 0 1 0\nturn x 0 0\nturn y 1 1\npiece 2 3 y 0 1 1\nend\n"
-                .as_slice(),
+            b"pieces 1 2 2\nchain 0 0 0 4 2\npiece 0 1 y 0 1 0\nturn x 0 0\nturn y 1 1\npiece 2 3 y 0 1 1\nend\n".as_slice(),
         ),
         (1, b"".as_slice()),
         (1, b"pieces 1 2 3\n".as_slice()),
@@ -112,25 +111,21 @@ fn first_bad_lines(rt: HostRuntime) -> Result<(), Fail> {
         // one gap line, and then a piece
         (
             5,
-            b"pieces 1 2 2\nchain 0 0 0 4 2\npiece 0 1 y 0 1 0\nturn x 0 0\npiece 2 3 y 0 1 1\nend\n"
-                .as_slice(),
+            b"pieces 1 2 2\nchain 0 0 0 4 2\npiece 0 1 y 0 1 0\nturn x 0 0\npiece 2 3 y 0 1 1\nend\n".as_slice(),
         ),
         // a piece that does not begin where the one before it ended
         (
             6,
-            b"pieces 1 2 2\nchain 0 0 0 4 2\npiece 0 1 y 0 1 0\nturn x 0 0\nturn y 1 1\npiece 1 3 y 0 1 1\n"
-                .as_slice(),
+            b"pieces 1 2 2\nchain 0 0 0 4 2\npiece 0 1 y 0 1 0\nturn x 0 0\nturn y 1 1\npiece 1 3 y 0 1 1\n".as_slice(),
         ),
         // gap lines after the last piece
         (
             7,
-            b"pieces 1 2 2\nchain 0 0 0 4 2\npiece 0 1 y 0 1 0\nturn x 0 0\nturn y 1 1\npiece 2 3 y 0 1 1\nturn x 0 0\n"
-                .as_slice(),
+            b"pieces 1 2 2\nchain 0 0 0 4 2\npiece 0 1 y 0 1 0\nturn x 0 0\nturn y 1 1\npiece 2 3 y 0 1 1\nturn x 0 0\n".as_slice(),
         ),
         (
             8,
-            b"pieces 1 2 2\nchain 0 0 0 4 2\npiece 0 1 y 0 1 0\nturn x 0 0\nturn y 1 1\npiece 2 3 y 0 1 1\nend\nend\n"
-                .as_slice(),
+            b"pieces 1 2 2\nchain 0 0 0 4 2\npiece 0 1 y 0 1 0\nturn x 0 0\nturn y 1 1\npiece 2 3 y 0 1 1\nend\nend\n".as_slice(),
         ),
     ];
     for (line, text) in table {
