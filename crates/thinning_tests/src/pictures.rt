@@ -5,22 +5,33 @@ use shape_space::{P2, Sides};
 use std::alloc::{AllocError, Global};
 use std::test::Fail;
 
-// The picture of these sides with object at the places of the ones, in raster order.
-pub(crate) fn picture(alloc: Global, x: i32, y: i32, values: &[u8]) -> Result<Grid<P2>, Fail> {
+// The picture that is drawn by its rows from the top, with slashes between them and `#` for each object point.
+pub(crate) fn drawn(alloc: Global, rows: &str) -> Result<Grid<P2>, Fail> {
+    let x = i32::try_from(rows.find('/').unwrap_or(rows.len()))?;
+    let y = i32::try_from(rows.split('/').count())?;
     let Some(sides) = Sides::try_new(P2 { x, y }) else {
         return Err(Fail::from(AllocError));
     };
     let mut grid = Grid::new(alloc, sides)?;
-    for i in 0..sides.count() {
-        let p = sides.unraster(i);
-        if values.get(i as usize) == Some(&1) && grid.sides().inside(p) {
+    let mut p = P2 { x: 0, y: 0 };
+    for mark in rows.bytes() {
+        if mark == b'#' && grid.sides().inside(p) {
             grid.set(p);
         }
+        p = if mark == b'/' {
+            P2 {
+                x: 0,
+                y: p.y.saturating_add(1),
+            }
+        } else {
+            P2 {
+                x: p.x.saturating_add(1),
+                y: p.y,
+            }
+        };
     }
     Ok(grid)
 }
 
 // The full picture of 3 by 3 points.
-pub(crate) fn square(alloc: Global) -> Result<Grid<P2>, Fail> {
-    picture(alloc, 3, 3, &[1; 9])
-}
+pub(crate) const SQUARE: &str = "###/###/###";

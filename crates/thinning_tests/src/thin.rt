@@ -3,13 +3,13 @@
 ghost use Rattle.std.specs.Prelude.{◌≡◌, ◌==◌, [], ◌∷◌, if◌then◌else◌, slice_index};
 ghost use Rattle.thin_terms.specs.Thinning.{rule_by};
 
-use crate::pictures::{picture, square};
+use crate::pictures::{SQUARE, drawn};
 use shape_dist::nearest;
 use shape_grid::Grid;
 use shape_rules::{CurveEnds, EndRule, Facts, NoEnds};
-use shape_space::{P2, Steps};
+use shape_space::{P2, Sides, Steps};
 use shape_thin::{Event, Thinning, thin};
-use std::alloc::Global;
+use std::alloc::{AllocError, Global};
 use std::marker::Brand;
 use std::sync::ledger::{Blank, Ledger};
 use std::test::Fail;
@@ -30,26 +30,17 @@ fn counted<L: Ledger>(
     Ok(thin(alloc, grid, &field, rule, &mut steps)?)
 }
 
-// The events of a picture's thinning, and the number of points left.
-fn thinned(
-    alloc: Global,
-    grid: &Grid<P2>,
-    rule: &mut Box<dyn EndRule>,
-) -> Result<(Vec<Event<P2>>, u32), Fail> {
+// The number of events of a picture's thinning, the number of points left, and each event.
+fn told(alloc: Global, grid: &Grid<P2>, rule: &mut Box<dyn EndRule>) -> Result<String, Fail> {
     let thinning = counted::<Brand>(alloc, Blank::new(1), grid, rule)?;
-    let mut all = Vec::new(alloc);
+    let mut text = format!(in alloc; "{} {}:", thinning.len(), thinning.left().count())?;
     for i in 0..thinning.len() {
-        all.push(thinning.event(i))?;
+        match thinning.event(i) {
+            Event::Del(p) => write!(text, " del {} {}", p.x, p.y)?,
+            Event::Tip(p) => write!(text, " tip {} {}", p.x, p.y)?,
+        }
     }
-    Ok((all, thinning.left().count()))
-}
-
-fn del(x: i32, y: i32) -> Event<P2> {
-    Event::Del(P2 { x, y })
-}
-
-fn tip(x: i32, y: i32) -> Event<P2> {
-    Event::Tip(P2 { x, y })
+    Ok(text)
 }
 
 // Marks each second point.
@@ -79,96 +70,67 @@ impl EndRule for Alternate {
     }
 }
 
+const WITHOUT_ENDS: [(&str, &str); 4] = [
+    (
+        SQUARE,
+        "8 1: del 0 0 del 1 0 del 2 0 del 0 1 del 2 1 del 0 2 del 1 2 del 2 2",
+    ),
+    ("../..", "0 0:"),
+    ("#./.#", "1 1: del 0 0"),
+    ("###/#.#/###", "4 4: del 0 0 del 2 0 del 0 2 del 2 2"),
+];
+
 #[test]
-fn a_square_without_ends(rt: HostRuntime) -> Result<(), Fail> {
-    let grid = square(rt.alloc())?;
+fn small_pictures_without_ends(rt: HostRuntime) -> Result<(), Fail> {
     let mut rule: Box<dyn EndRule> = Box::new(rt.alloc(), NoEnds)?;
-    let (events, left) = thinned(rt.alloc(), &grid, &mut rule)?;
-    let edge = [
-        (0, 0),
-        (1, 0),
-        (2, 0),
-        (0, 1),
-        (2, 1),
-        (0, 2),
-        (1, 2),
-        (2, 2),
-    ];
-    assert_eq!(rt; (events.len(), left), (8, 1));
-    for i in 0..8usize {
-        let (x, y) = edge[i];
-        assert_eq!(rt; events.get(i), Some(&del(x, y)));
+    for (rows, want) in &WITHOUT_ENDS {
+        let grid = drawn(rt.alloc(), rows)?;
+        assert!(rt;
+            told(rt.alloc(), &grid, &mut rule)?.as_str() == *want,
+            "{rows}"
+        );
     }
     Ok(())
 }
 
 #[test]
 fn a_square_with_ends_of_curves(rt: HostRuntime) -> Result<(), Fail> {
-    let grid = square(rt.alloc())?;
+    let grid = drawn(rt.alloc(), SQUARE)?;
     let mut rule: Box<dyn EndRule> = Box::new(rt.alloc(), CurveEnds)?;
-    let (events, left) = thinned(rt.alloc(), &grid, &mut rule)?;
-    assert_eq!(rt; (events.len(), left), (9, 2));
-    assert_eq!(rt; events.get(6), Some(&del(1, 2)));
-    assert_eq!(rt; events.get(7), Some(&tip(2, 2)));
-    assert_eq!(rt; events.get(8), Some(&tip(1, 1)));
+    let want = "9 2: del 0 0 del 1 0 del 2 0 del 0 1 del 2 1 del 0 2 del 1 2 tip 2 2 tip 1 1";
+    assert!(rt; told(rt.alloc(), &grid, &mut rule)?.as_str() == want);
     Ok(())
 }
 
 #[test]
 fn a_rule_with_a_state(rt: HostRuntime) -> Result<(), Fail> {
-    let grid = square(rt.alloc())?;
+    let grid = drawn(rt.alloc(), SQUARE)?;
     let mut rule: Box<dyn EndRule> = Box::new(rt.alloc(), Alternate { turn: 1 })?;
-    let (events, left) = thinned(rt.alloc(), &grid, &mut rule)?;
-    assert_eq!(rt; left, 5);
-    assert_eq!(rt;
-        events.as_slice(),
-        [
-            del(0, 0),
-            tip(1, 0),
-            del(2, 0),
-            tip(0, 1),
-            del(2, 1),
-            tip(0, 2),
-            del(1, 2),
-            tip(2, 2)
-        ]
-        .as_slice()
-    );
+    let want = "8 5: del 0 0 tip 1 0 del 2 0 tip 0 1 del 2 1 tip 0 2 del 1 2 tip 2 2";
+    assert!(rt; told(rt.alloc(), &grid, &mut rule)?.as_str() == want);
     Ok(())
 }
 
-#[test]
-fn small_pictures(rt: HostRuntime) -> Result<(), Fail> {
-    let mut rule: Box<dyn EndRule> = Box::new(rt.alloc(), NoEnds)?;
-    let blank = picture(rt.alloc(), 2, 2, &[])?;
-    let (none, left) = thinned(rt.alloc(), &blank, &mut rule)?;
-    assert_eq!(rt; (none.len(), left), (0, 0));
-    let corners = picture(rt.alloc(), 2, 2, &[1, 0, 0, 1])?;
-    let (one, left) = thinned(rt.alloc(), &corners, &mut rule)?;
-    assert_eq!(rt; (one.as_slice(), left), ([del(0, 0)].as_slice(), 1));
-    let ring = picture(rt.alloc(), 3, 3, &[1, 1, 1, 1, 0, 1, 1, 1, 1])?;
-    let (four, left) = thinned(rt.alloc(), &ring, &mut rule)?;
-    assert_eq!(rt; left, 4);
-    assert_eq!(rt;
-        four.as_slice(),
-        [del(0, 0), del(2, 0), del(0, 2), del(2, 2)].as_slice()
-    );
-    Ok(())
+// A full box of 44 by 32 points in a picture of 64 by 48.
+fn a_box(alloc: Global) -> Result<Grid<P2>, Fail> {
+    let Some(sides) = Sides::try_new(P2 { x: 64, y: 48 }) else {
+        return Err(Fail::from(AllocError));
+    };
+    let mut grid = Grid::new(alloc, sides)?;
+    for i in 0..sides.count() {
+        let p = sides.unraster(i);
+        let is_in_box = 10 <= p.x && p.x < 54 && 8 <= p.y && p.y < 40;
+        if is_in_box && grid.sides().inside(p) {
+            grid.set(p);
+        }
+    }
+    Ok(grid)
 }
 
 #[test]
 fn a_box_in_a_drawing(rt: HostRuntime) -> Result<(), Fail> {
-    let mut grid = picture(rt.alloc(), 64, 48, &[])?;
-    for y in 8..40i32 {
-        for x in 10..54i32 {
-            let p = P2 { x, y };
-            if grid.sides().inside(p) {
-                grid.set(p);
-            }
-        }
-    }
+    let grid = a_box(rt.alloc())?;
     let mut rule: Box<dyn EndRule> = Box::new(rt.alloc(), NoEnds)?;
-    let (events, left) = thinned(rt.alloc(), &grid, &mut rule)?;
-    assert_eq!(rt; (events.len(), left), (1407, 1));
+    assert!(rt; told(rt.alloc(), &grid, &mut rule)?.starts_with("1407 1:"));
     Ok(())
 }

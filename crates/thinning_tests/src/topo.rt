@@ -2,7 +2,7 @@
 //! A further row is a mask, or a picture, and its numbers.
 ghost use Rattle.std.specs.Prelude.{◌≡◌};
 
-use crate::pictures::square;
+use crate::pictures::{SQUARE, drawn};
 use shape_grid::Grid;
 use shape_space::{P2, P3, Steps};
 use shape_topo::{MaskedGrid, SimpleMask, background_number, is_simple, mask_of, object_number};
@@ -10,36 +10,37 @@ use std::marker::Brand;
 use std::sync::ledger::{Blank, Ledger};
 use std::test::Fail;
 
+// A mask, and its numbers of components of the object and of the background: no near neighbour, all, one corner, two corners,
+// two sides in a row, two sides round a corner.
+const NUMBERS: [(u32, u8, u8); 6] = [
+    (0, 0, 1),
+    (255, 1, 0),
+    (1, 1, 1),
+    (129, 2, 2),
+    (24, 2, 2),
+    (10, 1, 1),
+];
+
 #[test]
 fn numbers_of_masks(rt: HostRuntime) {
-    // no near neighbour, all, one corner, two corners, two sides in a row, two sides round a corner
-    let masks = [0u32, 255, 1, 129, 24, 10];
-    let object = [0u8, 1, 1, 2, 2, 1];
-    let background = [1u8, 0, 1, 2, 2, 1];
-    for i in 0..6usize {
-        let mask = masks[i] % 256;
-        assert_eq!(rt; object_number::<P2>(mask), object[i]);
-        assert_eq!(rt; background_number::<P2>(mask), background[i]);
+    for (mask, object, background) in &NUMBERS {
+        let mask = *mask % 256;
+        assert!(rt; object_number::<P2>(mask) == *object, "{mask}");
+        assert!(rt; background_number::<P2>(mask) == *background, "{mask}");
     }
 }
 
+// Masks of space, by their numbers of components of the background. All near neighbours are object but +x, +x+y, +z, +y+z and
+// +x+y+z; in the second row also +x+z, which is beside +x and +z, so that the two components of the background are one.
+const TUNNELS: [(u32, u8); 2] = [(0xdedfff, 2), (0x9edfff, 1)];
+
 #[test]
 fn a_tunnel_in_space(rt: HostRuntime) {
-    // all near neighbours are object but +x, +x+y, +z, +y+z and +x+y+z, by their numbers
-    let mask = 0x3ffffffu32 & !(1u32 << 13 | 1u32 << 16 | 1u32 << 21 | 1u32 << 24 | 1u32 << 25);
-    let mask = mask % 0x4000000;
-    assert_eq!(rt;
-        (object_number::<P3>(mask), background_number::<P3>(mask)),
-        (1, 2)
-    );
-    assert!(rt; !P3::simple_mask(mask));
-    // with +x+z, which is beside +x and +z, the two components of the background are one
-    let joined = (mask & !(1u32 << 22)) % 0x4000000;
-    assert_eq!(rt;
-        (object_number::<P3>(joined), background_number::<P3>(joined)),
-        (1, 1)
-    );
-    assert!(rt; P3::simple_mask(joined));
+    for (mask, background) in &TUNNELS {
+        let mask = *mask % 0x4000000;
+        assert!(rt; object_number::<P3>(mask) == 1 && background_number::<P3>(mask) == *background);
+        assert!(rt; P3::simple_mask(mask) == (*background == 1));
+    }
 }
 
 #[test]
@@ -109,40 +110,37 @@ fn first_masked<L: Ledger>(blank: Blank, grid: &MaskedGrid<P2>) -> [bool; 3]
 
 #[test]
 fn masks_of_a_square(rt: HostRuntime) -> Result<(), Fail> {
-    let grid = square(rt.alloc())?;
-    assert_eq!(rt; mask_of(&grid, P2 { x: 0, y: 0 }), 208);
-    assert_eq!(rt; mask_of(&grid, P2 { x: 1, y: 1 }), 255);
-    assert_eq!(rt; mask_of(&grid, P2 { x: 3, y: -1 }), 32);
-    assert_eq!(rt;
-        first_row::<Brand>(Blank::new(1), &grid),
-        [true, true, true]
+    let grid = drawn(rt.alloc(), SQUARE)?;
+    assert!(rt;
+        mask_of(&grid, P2 { x: 0, y: 0 }) == 208 && mask_of(&grid, P2 { x: 1, y: 1 }) == 255
     );
+    assert!(rt; mask_of(&grid, P2 { x: 3, y: -1 }) == 32);
+    assert!(rt; first_row::<Brand>(Blank::new(1), &grid) == [true, true, true]);
     Ok(())
+}
+
+// The mask of the middle of a square and its number of near neighbours, where it is object.
+fn middle(masked: &MaskedGrid<P2>) -> Option<(u32, u8)> {
+    let p = P2 { x: 1, y: 1 };
+    if masked.has(p) {
+        Some((masked.mask(p), masked.near_count(p)))
+    } else {
+        None
+    }
 }
 
 #[test]
 fn masks_after_a_deletion(rt: HostRuntime) -> Result<(), Fail> {
-    let grid = square(rt.alloc())?;
-    let mut masked = MaskedGrid::new(rt.alloc(), grid)?;
-    let centre = P2 { x: 1, y: 1 };
-    if masked.has(centre) {
-        assert_eq!(rt; masked.near_count(centre), 8);
-    }
+    let mut masked = MaskedGrid::new(rt.alloc(), drawn(rt.alloc(), SQUARE)?)?;
+    assert!(rt; middle(&masked) == Some((255, 8)));
     let top = P2 { x: 1, y: 0 };
     if masked.sides().inside(top) {
         masked.clear(top);
     }
-    if masked.has(centre) {
-        assert_eq!(rt; masked.mask(centre), 253);
-        assert_eq!(rt; masked.near_count(centre), 7);
-    }
-    assert!(rt; !masked.has(top));
-    assert_eq!(rt; masked.grid().count(), 8);
+    assert!(rt; middle(&masked) == Some((253, 7)) && !masked.has(top));
     // the corners of the first row are ends now, and the square has a notch
-    assert_eq!(rt;
-        first_masked::<Brand>(Blank::new(1), &masked),
-        [true, false, true]
-    );
-    assert_eq!(rt; masked.into_grid().count(), 8);
+    assert!(rt; first_masked::<Brand>(Blank::new(1), &masked) == [true, false, true]);
+    assert!(rt; masked.grid().count() == 8);
+    assert!(rt; masked.into_grid().count() == 8);
     Ok(())
 }

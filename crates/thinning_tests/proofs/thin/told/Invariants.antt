@@ -1,4 +1,4 @@
-use Rattle.thinning_tests.proofs.thin.thinned.Given as goal
+use Rattle.thinning_tests.proofs.thin.told.Given as goal
 
 abbrev pub ghosts-counted : goal.ghosts-counted
 ghosts-counted g a = record { name = a.blank.name; parts = a.blank.parts }
