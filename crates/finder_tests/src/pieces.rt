@@ -1,6 +1,6 @@
 //! Splits of the contours of small pictures into the fewest straight pieces, found by hand, and their evidence, judged again.
 //! A further contour is one more row of the table.
-use crate::pictures::{at, of_values};
+use crate::pictures::drawn;
 use shape_crack::{Contour, contours};
 use shape_grid::Grid;
 use shape_pieces::split;
@@ -52,8 +52,8 @@ fn places(
 #[test]
 fn fewest_pieces(rt: HostRuntime) -> Result<(), Fail> {
     let alloc = rt.alloc();
-    let square = of_values(alloc, at(2, 2), &[1, 1, 1, 1])?;
-    let ring = of_values(alloc, at(3, 3), &[1, 1, 1, 1, 0, 1, 1, 1, 1])?;
+    let square = drawn(alloc, "##/##")?;
+    let ring = drawn(alloc, "###/#.#/###")?;
     let table = [
         (&square, 0, [(0, 1), (2, 3)].as_slice()),
         (&ring, 0, [(0, 2), (3, 4), (5, 6), (7, 7)].as_slice()),
