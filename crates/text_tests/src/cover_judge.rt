@@ -3,10 +3,10 @@
 use crate::grids::full;
 use judge_cover::CoverJudge;
 use shape_grid::Grid;
-use shape_refute::{Naive, Refutation, Share, Shares, StepShares};
-use shape_report::Line;
+use shape_refute::Naive;
+use shape_report::{Line, read_claim};
 use shape_space::P2;
-use std::alloc::Global;
+use std::alloc::{AllocError, Global};
 use std::test::Fail;
 
 // The picture of a ring round one background pixel, in a box of sides 3 and 3.
@@ -19,163 +19,123 @@ fn ring(alloc: Global) -> Result<Grid<P2>, Fail> {
     Ok(grid)
 }
 
-// A `contour` line from a crack of the upper row.
-fn begun(x: i32, side: u8, points: u32, segments: u32) -> Line<P2> {
-    Line::Contour {
-        p: P2 { x, y: 0 },
-        side,
-        points,
-        segments,
-    }
-}
-
-fn at(x: i32, y: i32) -> Line<P2> {
-    Line::At { p: P2 { x, y } }
-}
-
-fn seg(first: u32, last: u32, axis: u8, a: [i64; 2], mu: i64) -> Line<P2> {
-    let a = [a[0], a[1], 0];
-    Line::Seg {
-        first,
-        last,
-        line: Naive { a, mu, axis },
-    }
-}
-
-fn turn(axis: u8, i: u32, j: u32) -> Line<P2> {
-    Line::Turn { axis, i, j }
-}
-
-// The middle place of three, twice.
-fn middle() -> Shares {
-    let mut shares = Shares::new();
-    shares.push(Share {
-        weight: 2,
-        place: 1,
-    });
-    shares
-}
-
-// The outer places of three, each once.
-fn ends() -> Shares {
-    let mut shares = Shares::new();
-    shares.push(Share {
-        weight: 1,
-        place: 0,
-    });
-    shares.push(Share {
-        weight: 1,
-        place: 2,
-    });
-    shares
-}
-
-fn cut(axis: u8, low: Shares, high: Shares) -> Line<P2> {
-    let steps = StepShares::new();
-    Line::Cut {
-        axis,
-        why: Refutation { low, high, steps },
-    }
-}
-
 // The lines of the ring's two contours: four sides of two steps each, and four diagonal steps.
-fn lines() -> [Line<P2>; 38] {
-    [
-        begun(0, 0, 8, 4),
-        at(0, 0),
-        at(1, 0),
-        at(2, 0),
-        at(2, 1),
-        at(2, 2),
-        at(1, 2),
-        at(0, 2),
-        at(0, 1),
-        seg(0, 2, 1, [0, 1], 0),
-        seg(2, 4, 0, [1, 0], 2),
-        seg(4, 6, 1, [0, 1], 2),
-        seg(6, 8, 0, [1, 0], 0),
-        turn(0, 0, 0),
-        turn(1, 1, 1),
-        turn(0, 1, 1),
-        turn(1, 0, 0),
-        turn(0, 0, 0),
-        turn(1, 1, 1),
-        turn(0, 1, 1),
-        turn(1, 0, 0),
-        begun(1, 2, 4, 4),
-        at(1, 0),
-        at(0, 1),
-        at(1, 2),
-        at(2, 1),
-        seg(0, 1, 1, [1, 1], 1),
-        seg(1, 2, 1, [-1, 1], 1),
-        seg(2, 3, 1, [1, 1], 3),
-        seg(3, 4, 1, [-1, 1], -1),
-        cut(0, middle(), ends()),
-        turn(1, 0, 1),
-        turn(0, 0, 1),
-        cut(1, ends(), middle()),
-        cut(0, ends(), middle()),
-        turn(1, 0, 1),
-        turn(0, 0, 1),
-        cut(1, middle(), ends()),
-    ]
+const LINES: &str = "contour 0 0 0 8 4\n\
+at 0 0\n\
+at 1 0\n\
+at 2 0\n\
+at 2 1\n\
+at 2 2\n\
+at 1 2\n\
+at 0 2\n\
+at 0 1\n\
+seg 0 2 y 0 1 0\n\
+seg 2 4 x 1 0 2\n\
+seg 4 6 y 0 1 2\n\
+seg 6 8 x 1 0 0\n\
+turn x 0 0\n\
+turn y 1 1\n\
+turn x 1 1\n\
+turn y 0 0\n\
+turn x 0 0\n\
+turn y 1 1\n\
+turn x 1 1\n\
+turn y 0 0\n\
+contour 1 0 2 4 4\n\
+at 1 0\n\
+at 0 1\n\
+at 1 2\n\
+at 2 1\n\
+seg 0 1 y 1 1 1\n\
+seg 1 2 y -1 1 1\n\
+seg 2 3 y 1 1 3\n\
+seg 3 4 y -1 1 -1\n\
+cut x 1 2 1 2 1 0 1 2 0\n\
+turn y 0 1\n\
+turn x 0 1\n\
+cut y 2 1 0 1 2 1 2 1 0\n\
+cut x 2 1 0 1 2 1 2 1 0\n\
+turn y 0 1\n\
+turn x 0 1\n\
+cut y 1 2 1 2 1 0 1 2 0";
+
+// The judge of the ring, which took the first lines, as many as are said.
+fn judge_after(alloc: Global, count: usize) -> Result<CoverJudge, Fail> {
+    let mut judge = CoverJudge::new(alloc, &ring(alloc)?)?;
+    for text in LINES.lines().take(count) {
+        let is_good = match read_claim::<P2>(text.as_bytes()) {
+            Some(line) => !judge.is_done() && judge.take(&line),
+            None => false,
+        };
+        if !is_good {
+            return Err(Fail::from(AllocError));
+        }
+    }
+    Ok(judge)
 }
 
 #[test]
 fn a_ring(rt: HostRuntime) -> Result<(), Fail> {
-    let grid = ring(rt.alloc())?;
-    let mut judge = CoverJudge::new(rt.alloc(), &grid)?;
-    for line in lines() {
-        assert!(rt; !judge.is_done());
-        assert!(rt; judge.take(&line));
-    }
+    let mut judge = judge_after(rt.alloc(), 38)?;
     assert!(rt; judge.is_done());
-    assert!(rt; !judge.take(&at(1, 0)));
+    assert!(rt;
+        !judge.take(&Line::At {
+            p: P2 { x: 1, y: 0 }
+        })
+    );
     Ok(())
 }
 
-// Whether a line is taken after the first ones of the ring.
-fn takes_after(alloc: Global, count: usize, line: &Line<P2>) -> Result<bool, Fail> {
-    let grid = ring(alloc)?;
-    let mut judge = CoverJudge::new(alloc, &grid)?;
-    for (i, good) in lines().iter().enumerate() {
-        if i == count {
-            return Ok(judge.take(line));
-        }
-        if !judge.take(good) {
-            return Ok(false);
-        }
-    }
-    Ok(judge.take(line))
-}
+// How many lines come before, and a line that is not good there.
+const BAD: [(usize, &str); 18] = [
+    (0, "contour 0 0 3 8 4"),
+    (0, "contour 0 0 0 7 4"),
+    (0, "contour 0 0 0 8 0"),
+    (0, "contour 1 0 2 4 4"),
+    (0, "end"),
+    (1, "at 1 0"),
+    (8, "seg 0 2 y 0 1 0"),
+    (9, "seg 0 3 y 0 1 0"),
+    (9, "seg 0 0 y 2 1 0"),
+    (
+        9,
+        "seg 0 2 y -9223372036854775808 9223372036854775807 9223372036854775807",
+    ),
+    (9, "turn x 0 0"),
+    (10, "seg 1 2 y 0 1 0"),
+    (13, "turn y 2 2"),
+    (13, "turn x 3 3"),
+    (13, "turn x 4294967295 0"),
+    (30, "cut x 2 1 0 1 2 1 2 1 0"),
+    (30, "cut x 0 0 0"),
+    (31, "cut y 2 1 0 1 2 1 2 1 0"),
+];
 
 #[test]
 fn bad_lines(rt: HostRuntime) -> Result<(), Fail> {
-    let alloc = rt.alloc();
-    let table = [
-        (0, begun(0, 3, 8, 4)),
-        (0, begun(0, 0, 7, 4)),
-        (0, begun(0, 0, 8, 0)),
-        (0, begun(1, 2, 4, 4)),
-        (0, Line::End),
-        (1, at(1, 0)),
-        (8, seg(0, 2, 1, [0, 1], 0)),
-        (9, seg(0, 3, 1, [0, 1], 0)),
-        (9, seg(0, 0, 1, [2, 1], 0)),
-        (9, seg(0, 2, 2, [0, 1], 0)),
-        (9, seg(0, 2, 1, [i64::MIN, i64::MAX], i64::MAX)),
-        (9, turn(0, 0, 0)),
-        (10, seg(1, 2, 1, [0, 1], 0)),
-        (13, turn(1, 2, 2)),
-        (13, turn(0, 3, 3)),
-        (13, turn(0, u32::MAX, 0)),
-        (30, cut(0, ends(), middle())),
-        (30, cut(0, Shares::new(), Shares::new())),
-        (31, cut(1, ends(), middle())),
-    ];
-    for (count, line) in &table {
-        assert!(rt; !takes_after(alloc, *count, line)?);
+    for (count, text) in &BAD {
+        let mut judge = judge_after(rt.alloc(), *count)?;
+        match read_claim::<P2>(text.as_bytes()) {
+            Some(line) => assert!(rt; !judge.take(&line), "{text}"),
+            None => assert!(rt; false, "no line: {text}"),
+        }
     }
+    Ok(())
+}
+
+// The third axis, which no line of a flat picture can name.
+#[test]
+fn a_segment_of_another_axis(rt: HostRuntime) -> Result<(), Fail> {
+    let line = Naive {
+        a: [0, 1, 0],
+        mu: 0,
+        axis: 2,
+    };
+    let segment = Line::Seg {
+        first: 0,
+        last: 2,
+        line,
+    };
+    assert!(rt; !judge_after(rt.alloc(), 9)?.take(&segment));
     Ok(())
 }
