@@ -177,9 +177,8 @@ fn the_report(rt: HostRuntime) -> Result<(), Fail> {
         report: b"",
     };
     let (outcome, text) = answer(alloc, case)?;
-    assert_eq!(rt; outcome, Outcome::Done);
-    assert_eq!(rt; text.as_slice(), REPORT);
-    assert_eq!(rt; judged(alloc, REPORT)?, Outcome::Yes);
+    assert!(rt; outcome == Outcome::Done && text.as_slice() == REPORT);
+    assert!(rt; judged(alloc, REPORT)? == Outcome::Yes);
     Ok(())
 }
 
@@ -190,7 +189,7 @@ fn cut_or_longer(rt: HostRuntime) -> Result<(), Fail> {
     let mut line: u64 = 1;
     for byte in REPORT {
         // A front is bad at the line that it has no LF of.
-        assert_eq!(rt; judged(alloc, &text)?, verdict(line));
+        assert!(rt; judged(alloc, &text)? == verdict(line), "line {line}");
         text.push(*byte)?;
         line = if *byte == b'\n' {
             line.saturating_add(1)
@@ -198,38 +197,48 @@ fn cut_or_longer(rt: HostRuntime) -> Result<(), Fail> {
             line
         };
     }
-    assert_eq!(rt; judged(alloc, &text)?, Outcome::Yes);
+    assert!(rt; judged(alloc, &text)? == Outcome::Yes);
     text.push(b'\n')?;
-    assert_eq!(rt; judged(alloc, &text)?, verdict(line));
+    assert!(rt; judged(alloc, &text)? == verdict(line), "line {line}");
     Ok(())
 }
 
 #[test]
-fn lines_left_out_doubled_or_exchanged(rt: HostRuntime) -> Result<(), Fail> {
-    let alloc = rt.alloc();
-    let lines = lines(alloc)?;
-    let last = lines.len();
-    assert_eq!(rt; last, 28);
+fn lines_left_out(rt: HostRuntime) -> Result<(), Fail> {
+    let lines = lines(rt.alloc())?;
     for (at, want) in LEFT_OUT.iter().enumerate() {
-        let mut text = Vec::new(alloc);
+        let mut text = Vec::new(rt.alloc());
         put(&mut text, &lines, 0, at)?;
-        put(&mut text, &lines, at.saturating_add(1), last)?;
-        assert_eq!(rt; judged(alloc, &text)?, verdict(*want));
+        put(&mut text, &lines, at.saturating_add(1), lines.len())?;
+        assert!(rt; judged(rt.alloc(), &text)? == verdict(*want), "line {want}");
     }
+    Ok(())
+}
+
+#[test]
+fn lines_doubled(rt: HostRuntime) -> Result<(), Fail> {
+    let lines = lines(rt.alloc())?;
     for (at, want) in DOUBLED.iter().enumerate() {
-        let mut text = Vec::new(alloc);
+        let mut text = Vec::new(rt.alloc());
         put(&mut text, &lines, 0, at.saturating_add(1))?;
-        put(&mut text, &lines, at, last)?;
-        assert_eq!(rt; judged(alloc, &text)?, verdict(*want));
+        put(&mut text, &lines, at, lines.len())?;
+        assert!(rt; judged(rt.alloc(), &text)? == verdict(*want), "line {want}");
     }
+    Ok(())
+}
+
+#[test]
+fn lines_exchanged(rt: HostRuntime) -> Result<(), Fail> {
+    let lines = lines(rt.alloc())?;
+    assert!(rt; lines.len() == 28);
     for (at, want) in EXCHANGED.iter().enumerate() {
         let next = at.saturating_add(1);
-        let mut text = Vec::new(alloc);
+        let mut text = Vec::new(rt.alloc());
         put(&mut text, &lines, 0, at)?;
         put(&mut text, &lines, next, next.saturating_add(1))?;
         put(&mut text, &lines, at, next)?;
-        put(&mut text, &lines, next.saturating_add(1), last)?;
-        assert_eq!(rt; judged(alloc, &text)?, verdict(*want));
+        put(&mut text, &lines, next.saturating_add(1), lines.len())?;
+        assert!(rt; judged(rt.alloc(), &text)? == verdict(*want), "line {want}");
     }
     Ok(())
 }
@@ -241,12 +250,8 @@ fn numbers_raised(rt: HostRuntime) -> Result<(), Fail> {
     for (at, wants) in RAISED.iter().enumerate() {
         for (place, want) in wants.iter().enumerate() {
             let (text, count) = raised(alloc, &lines, at, place)?;
-            assert_eq!(rt; count, wants.len());
-            assert_eq!(rt;
-                judged(alloc, &text)?,
-                verdict(*want),
-                "line {at}, number {place}"
-            );
+            let is_as_wanted = count == wants.len() && judged(alloc, &text)? == verdict(*want);
+            assert!(rt; is_as_wanted, "line {at}, number {place}");
         }
     }
     Ok(())
