@@ -24,12 +24,13 @@ from_line lengths bytes l None f e h = λ (m, g, d, i). h (subst IsHeading (spel
 from_line lengths bytes l (Some s) f e h = (l, f, e, h)
 
 -- the sides of a heading
-pub sides_given : {S P : Type 0} (inner : S → P) (coords : P → Point) (q : P) (rule : List ℕ) (o : Option S) → IfSome o (λ s. inner s ≡ q) → IsSome o ↔ AreSides (pos 2048) (coords q)
-    → MatchOption o (IsHeading (Line.Shape (coords q) rule) → ⊥) (λ s. GivesSides (Line.Shape (coords q) rule) (coords (inner s)))
-sides_given inner coords q rule None given exactly = λ h. (let z = exactly.1 h in cc)
-sides_given inner coords q rule (Some s) given exactly = record {
-  rule = rule;
-  is = ap (λ p. Line.Shape (coords p) rule) (sym given);
+pub sides_given : {S P : Type 0} (inner : S → P) (coords : P → Point) (q : P) (number : ℕ) (rule : List ℕ) (o : Option S) → IfSome o (λ s. inner s ≡ q) → IsSome o ↔ AreSides (pos 2048) (coords q)
+    → MatchOption o (IsHeading (Line.Shape (record { number = number; sides = coords q; rule = rule })) → ⊥) (λ s. GivesSides (Line.Shape (record { number = number; sides = coords q; rule = rule })) (coords (inner s)))
+sides_given inner coords q number rule None given exactly = λ h. (let z = exactly.1 h in cc)
+sides_given inner coords q number rule (Some s) given exactly = record {
+  heading = record { number = number; sides = coords q; rule = rule };
+  is = refl;
+  given = ap coords (sym given);
   box = subst (λ p. AreSides (pos 2048) (coords p)) (sym given) (exactly.0 refl);
 }
 
@@ -73,7 +74,7 @@ heading_taken lengths (Some bytes) (Some rest) line n before now (Err (NotReport
       h.0,
       record {
         flat = λ l after s i. h.1 (l, s.fields, spelled_so 2 bytes line rest l after e t.no_lf s, i);
-        solid = λ (sides, rule, after, s). h.2 (Line.Shape sides rule, s.fields, spelled_so 3 bytes line rest (Line.Shape sides rule) after e t.no_lf s, (sides, rule, refl));
+        solid = λ (k, after, s). h.2 (Line.Shape k, s.fields, spelled_so 3 bytes line rest (Line.Shape k) after e t.no_lf s, (k, refl));
       },
     )
 heading_taken lengths (Some bytes) (Some rest) line n before now (Err Volume) t h =
@@ -81,9 +82,8 @@ heading_taken lengths (Some bytes) (Some rest) line n before now (Err Volume) t 
     let e : bytes ≡ (line ++ 10 ∷ []) ++ rest = cc in
     let v = h.3 in (
       v.0,
-      v.1,
       rest,
-      subst (λ l. StartsWithLine 3 bytes l rest) v.2 (starts_so 3 bytes line rest n h.0 e t.len t.short h.1 h.2),
+      subst (λ l. StartsWithLine 3 bytes l rest) v.1 (starts_so 3 bytes line rest n h.0 e t.len t.short h.1 h.2),
     )
 
 -- ---- no line
@@ -91,7 +91,7 @@ heading_taken lengths (Some bytes) (Some rest) line n before now (Err Volume) t 
 no_heading : (bytes : List ℕ) → ((d : ℕ) → StartsWithNoLine d bytes) → LacksHeading bytes
 no_heading bytes none = record {
   flat = λ l rest s i. none 2 l rest s;
-  solid = λ (sides, rule, rest, s). none 3 (Line.Shape sides rule) rest s;
+  solid = λ (h, rest, s). none 3 (Line.Shape h) rest s;
 }
 
 pub first_too_long : (old : Option (List ℕ)) → IfTold old IsTooLong → IfTold old LacksHeading

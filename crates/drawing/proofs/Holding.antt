@@ -23,22 +23,8 @@ none_before X come later = let e = come.complete Section.Heading later in omega 
 
 -- a line that is good behind no line is the heading
 first_heading : (X : Subject) (l : Line) → AreSides (pos 2048) (map pos X.picture.sides) → GoodAfter X [] l → IsHeading l
-first_heading X (Line.Shape sides rule) box g = subst (AreSides (pos 2048)) (sym g.claim.1.0) box
-first_heading X (Line.Parts n o b) box g = absurd (none_before X g.come (omega arith))
-first_heading X (Line.Near p q s) box g = absurd (none_before X g.come (omega arith))
-first_heading X (Line.Contour p side n m) box g = absurd (none_before X g.come (omega arith))
-first_heading X (Line.At p) box g = absurd (none_before X g.come (omega arith))
-first_heading X (Line.Seg b e t a mu) box g = absurd (none_before X g.come (omega arith))
-first_heading X (Line.Turn t i j) box g = absurd (none_before X g.come (omega arith))
-first_heading X (Line.Cut t why) box g = absurd (none_before X g.come (omega arith))
-first_heading X (Line.Face t sense n) box g = absurd (none_before X g.come (omega arith))
-first_heading X (Line.Patch k a mu) box g = absurd (none_before X g.come (omega arith))
-first_heading X (Line.On p) box g = absurd (none_before X g.come (omega arith))
-first_heading X (Line.Off p why) box g = absurd (none_before X g.come (omega arith))
-first_heading X (Line.Del p) box g = absurd (none_before X g.come (omega arith))
-first_heading X (Line.Tip p) box g = absurd (none_before X g.come (omega arith))
-first_heading X (Line.Kept n o b) box g = absurd (none_before X g.come (omega arith))
-first_heading X Line.End box g = absurd (none_before X g.come (omega arith))
+first_heading X (Line.Shape h) box g = subst (AreSides (pos 2048)) (sym g.claim.1.0) box
+first_heading X _ box g = absurd (none_before X g.come (omega arith))
 
 -- no line that another one follows is `end`
 none_is_end : (X : Subject) (lines : List Line) → Analysis.GoodSoFar X lines → (i : ℕ) → suc i < length lines → slice_get lines i ≡ Some Line.End → ⊥

@@ -4,7 +4,8 @@ use Rattle.std.proofs.Common.{◌≡◌, ℕ, ◌<◌, ◌≤◌, refl, sym, ap,
 use Rattle.std.proofs.lemmas.List.{length-append}
 use Rattle.std.proofs.lemmas.List.Elements.{All-cons, All-nil}
 use Rattle.shape_desk.specs.Line.{IfTold}
-use Rattle.shape_terms.specs.Points.{sides_of}
+use Rattle.std.specs.Prelude.{pos}
+use Rattle.shape_terms.specs.Points.{AreSides, sides_of}
 use Rattle.text_terms.specs.Going.{IsTextOf}
 use Rattle.text_terms.proofs.Checking.{begins_none, begins_next, first_bad}
 use Rattle.report_text.specs.Checks.{HasCome}
@@ -30,13 +31,12 @@ pub begun : (text new : Option (List ℕ)) (s : Sketch) → IfTold text (λ byte
 begun None new s h k z = tt
 begun (Some text) new s h k z =
     let e = h.gives.is in
-    let p = flat s.sides.lengths in
-    let l = Line.Shape p h.gives.rule in
+    let l = Line.Shape h.gives.heading in
     record {
       lines = l ∷ [];
       bytes = h.takes.rest;
       told = h.takes.left;
-      front = begins_next in_order text [] text l h.takes.rest (begins_none in_order text) (subst (λ x. StartsWithLine 2 text x h.takes.rest) e h.takes.starts) (comes_first l h.gives.box);
+      front = begins_next in_order text [] text l h.takes.rest (begins_none in_order text) (subst (λ x. StartsWithLine 2 text x h.takes.rest) e h.takes.starts) (comes_first l (subst (AreSides (pos 2048)) (sym h.gives.given) h.gives.box));
       follows = record {
         come = record {
           all = All-cons (λ m. line_rank m ≤ s.rank) l [] (omega arith) (All-nil (λ m. line_rank m ≤ s.rank));
@@ -58,7 +58,7 @@ begun (Some text) new s h k z =
           };
           deleted = record { picture = k.deleted.picture; box = k.deleted.box; value = k.deleted.value };
         };
-        given = refl;
+        given = ap sides_of h.gives.given;
       };
       number = refl;
     }
@@ -96,14 +96,13 @@ stands_more s t lines l h order risen sketch same = record {
 
     given_more : (lines : List Line) (l : Line) → 0 < length lines → given_sides (lines ++ l ∷ []) ≡ given_sides lines
     given_more [] l h = absurd (omega arith)
-    given_more (Line.Shape sides rule ∷ lines) l h = refl
+    given_more (Line.Shape a ∷ lines) l h = refl
     given_more (Line.Parts a b c ∷ lines) l h = refl
     given_more (Line.Near a b c ∷ lines) l h = refl
     given_more (Line.Contour a b c d ∷ lines) l h = refl
     given_more (Line.At a ∷ lines) l h = refl
     given_more (Line.Seg a b c d e ∷ lines) l h = refl
-    given_more (Line.Turn a b c ∷ lines) l h = refl
-    given_more (Line.Cut a b ∷ lines) l h = refl
+    given_more (Line.Gap a b ∷ lines) l h = refl
     given_more (Line.Face a b c ∷ lines) l h = refl
     given_more (Line.Patch a b c ∷ lines) l h = refl
     given_more (Line.On a ∷ lines) l h = refl

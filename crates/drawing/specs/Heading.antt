@@ -4,7 +4,7 @@ use Rattle.std.specs.Prelude.{◌≡◌, ℕ, ⊤, Bool, true, false, List, Opti
 use Rattle.shape_desk.specs.Desk.{Rose}
 use Rattle.shape_desk.specs.Line.{IfTold}
 use Rattle.shape_terms.specs.Points.{Point, AreSides}
-use Rattle.report_terms.specs.Lines.{Line, IsLineOf, spelling}
+use Rattle.report_terms.specs.Lines.{Line, Heading, IsLineOf, spelling}
 use Rattle.report_terms.specs.Progress.{StartsWithLine}
 use Rattle.shape_report.specs.Next.{TakesClaim}
 use Rattle.drawing.specs.Reports.{IsHeading, IsOfVolume}
@@ -13,13 +13,14 @@ use Rattle.drawing.specs.declared.fault.DrawFault.TheVariants.{NotReport, Volume
 
 -- the line gives these sides, which are those of a box
 pub record GivesSides (l : Line) (sides : Point) : Type 0 where
-  pub rule : List ℕ
-  pub is : l ≡ Line.Shape sides rule
+  pub heading : Heading
+  pub is : l ≡ Line.Shape heading
+  pub given : heading.sides ≡ sides
   pub box : AreSides (pos 2048) sides
 
 -- the line is the heading of a volume
 abbrev pub IsVolumeHeading : Line → Type 0
-IsVolumeHeading l = (sides : Point) × (rule : List ℕ) × (l ≡ Line.Shape sides rule)
+IsVolumeHeading l = (h : Heading) × (l ≡ Line.Shape h)
 
 -- the bytes of a line spell some line of d axes of which this holds
 abbrev pub Spells : ℕ → List ℕ → (Line → Type 0) → Type 0

@@ -4,7 +4,7 @@ use Rattle.std.specs.Prelude.{◌≡◌, ◌<◌, ◌≤◌, ℕ, List, [], All,
 use Rattle.shape_terms.specs.Points.{AreSides}
 use Rattle.text_terms.specs.Reports as Texts
 use Rattle.text_terms.specs.Reports.{Report, report_of, BeginsWith, EndsWith}
-use Rattle.report_terms.specs.Lines.{Line, spelled}
+use Rattle.report_terms.specs.Lines.{Line, Heading, spelled}
 use Rattle.report_terms.specs.Sections.{Section, rank, section_of}
 use Rattle.report_terms.specs.Progress.{StartsWithLine}
 
@@ -14,7 +14,7 @@ line_rank l = rank (section_of l)
 
 -- the line is the heading of a flat picture that stands in a box
 abbrev pub IsHeading : Line → Type 0
-IsHeading (Line.Shape sides rule) = AreSides (pos 2048) sides
+IsHeading (Line.Shape h) = AreSides (pos 2048) h.sides
 IsHeading _ = ⊥
 
 -- the line comes in order: the first is a heading, and no line before it is of a later section, nor `end`
@@ -38,4 +38,4 @@ FirstBad text k = Texts.FirstBad in_order text k
 
 -- the text begins with the heading of a volume
 abbrev pub IsOfVolume : List ℕ → Type 0
-IsOfVolume text = (sides : List _) × (rule : List ℕ) × (rest : List ℕ) × StartsWithLine 3 text (Line.Shape sides rule) rest
+IsOfVolume text = (h : Heading) × (rest : List ℕ) × StartsWithLine 3 text (Line.Shape h) rest

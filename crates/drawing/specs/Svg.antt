@@ -98,7 +98,7 @@ drawn sides lines = layers sides (pixels sides lines) (strokes sides lines) (lef
 
 -- the sides that the heading gives
 abbrev pub given_sides : List Line → List ℕ
-given_sides (Line.Shape sides rule ∷ lines) = sides_of sides
+given_sides (Line.Shape h ∷ lines) = sides_of h.sides
 given_sides _ = []
 
 -- the drawing of a report with these lines

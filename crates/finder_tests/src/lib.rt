@@ -23,6 +23,8 @@ mod patches;
 #[cfg(test)]
 mod pictures;
 #[cfg(test)]
+mod pieces;
+#[cfg(test)]
 mod plane;
 #[cfg(test)]
 mod segment;

@@ -2,14 +2,14 @@
 //! Lines and refutations are judged by `shape_refute`, which knows nothing of how they are found.
 ghost use Rattle.std.specs.Prelude.{◌<◌, ◌≤◌, All, IsTrue, length, map};
 ghost use Rattle.shape_refute.specs.Terms.{flat_point};
-ghost use Rattle.shape_least.specs.Terms.{IsSmall};
+ghost use Rattle.shape_refute.specs.PairTerms.{IsSmall};
 ghost use Rattle.shape_line.specs.Runs.{AreNear};
 ghost use Rattle.shape_line.specs.Verdict.{IsVerdict};
 ghost use Rattle.finder_tests.specs.GivenRuns.{is_run};
 
-use shape_least::{Bounds, is_least};
+
 use shape_line::{RunVerdict, bounds_of, decide_run};
-use shape_refute::{Naive, holds, is_proper, refutes, turns};
+use shape_refute::{Bounds, Naive, holds, is_least, is_proper, refutes, turns};
 use shape_space::P2;
 
 // The verdict on a run that is written out, where its requirements are computed.

@@ -3,7 +3,7 @@
 ghost use Rattle.std.specs.Prelude.{IsTrue, ◌≤◌, ◌-ℤ◌, nat_abs};
 ghost use Rattle.shape_terms.specs.Steps.{AreClose};
 ghost use Rattle.shape_refute.specs.Terms.{flat_point};
-ghost use Rattle.shape_least.specs.Terms.{IsSmall};
+ghost use Rattle.shape_refute.specs.PairTerms.{IsSmall};
 
 use crate::pictures::at;
 use shape_line::Segment;

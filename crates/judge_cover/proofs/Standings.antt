@@ -11,15 +11,14 @@ use Rattle.shape_terms.specs.Points.{Point}
 use Rattle.shape_terms.specs.Pictures.{Picture}
 use Rattle.shape_terms.specs.Contours.{Crack}
 use Rattle.shape_terms.specs.Naive.{Naive}
-use Rattle.shape_terms.specs.Refutations.{Refutation}
 use Rattle.shape_terms.specs.Covers.{Evidence}
 use Rattle.std.proofs.lemmas.List.{length-append}
 use Rattle.shape_terms.specs.Traces.{Contour, AreContours}
 use Rattle.report_terms.specs.Lines.{Line}
 use Rattle.report_terms.specs.ContourLines.{Standing, standing, no_contour, open_contour, IsFull, IsContourHead, IsNextPoint, IsNextSegment, IsNextGap, OutlineClaim}
 use Rattle.report_terms.specs.Sections.{FlatClaim, AllContours}
-use Rattle.report_terms.proofs.ContourGroups.{declared_begun, standing_begun, standing_point, standing_segment, standing_turn, standing_cut}
-use Rattle.report_terms.proofs.ContoursShown.{contours_same}
+use Rattle.report_terms.proofs.ContourGroups.{declared_begun, standing_begun, standing_point, standing_segment, standing_gap}
+use Rattle.shape_terms.proofs.ContourLists.{contours_same}
 use Rattle.judge_cover.specs.CoverState.{CoverState, StandsFor, points_in, room_of}
 
 -- a line is good where its claim is true of the judge's contours
@@ -82,26 +81,18 @@ segment_stands X s s2 lines first last t row mu true f e r k =
       stands = standing_segment lines first last t row mu (declared_begun lines declared) ∙ ap (λ (w : Standing). record w { stretches = w.stretches ++ record { first = first; last = last } ∷ [] }) f.stands ∙ sym k;
     }
 
--- one gap line more: a turn, or weights
+-- one gap line more
 gap_begun : (X : Picture) (s : CoverState) (lines : List Line) (t : ℕ) (v : Evidence) → StandsFor X s lines → IsNextGap s.contours s.standing t v → 0 < (standing lines).begun
 gap_begun X s lines t v f g =
     let more = g.more in
     declared_begun lines (subst (λ (w : Standing). 0 < w.declared) (sym f.stands) (omega (arith, more)))
 
-pub turn_stands : (X : Picture) (s s2 : CoverState) (lines : List Line) (t i j : ℕ) (b : Bool) → StandsFor X s lines → s2.contours ≡ s.contours → (IsTrue b ↔ IsNextGap s.contours s.standing t (Evidence.Turned i j)) → OnTrue b (s2.standing ≡ record s.standing { gaps = s.standing.gaps + 1 }) → OnTrue b (StandsFor X s2 (lines ++ Line.Turn t i j ∷ []))
-turn_stands X s s2 lines t i j false f e r k = tt
-turn_stands X s s2 lines t i j true f e r k = record {
+pub gap_stands : (X : Picture) (s s2 : CoverState) (lines : List Line) (t : ℕ) (v : Evidence) (b : Bool) → StandsFor X s lines → s2.contours ≡ s.contours → (IsTrue b ↔ IsNextGap s.contours s.standing t v) → OnTrue b (s2.standing ≡ record s.standing { gaps = s.standing.gaps + 1 }) → OnTrue b (StandsFor X s2 (lines ++ Line.Gap t v ∷ []))
+gap_stands X s s2 lines t v false f e r k = tt
+gap_stands X s s2 lines t v true f e r k = record {
   flat = f.flat;
   are = subst (AreContours X) (sym e) f.are;
-  stands = standing_turn lines t i j (gap_begun X s lines t (Evidence.Turned i j) f (r.0 refl)) ∙ ap (λ (w : Standing). record w { gaps = w.gaps + 1 }) f.stands ∙ sym k;
-}
-
-pub cut_stands : (X : Picture) (s s2 : CoverState) (lines : List Line) (t : ℕ) (why : Refutation) (b : Bool) → StandsFor X s lines → s2.contours ≡ s.contours → (IsTrue b ↔ IsNextGap s.contours s.standing t (Evidence.Cut why)) → OnTrue b (s2.standing ≡ record s.standing { gaps = s.standing.gaps + 1 }) → OnTrue b (StandsFor X s2 (lines ++ Line.Cut t why ∷ []))
-cut_stands X s s2 lines t why false f e r k = tt
-cut_stands X s s2 lines t why true f e r k = record {
-  flat = f.flat;
-  are = subst (AreContours X) (sym e) f.are;
-  stands = standing_cut lines t why (gap_begun X s lines t (Evidence.Cut why) f (r.0 refl)) ∙ ap (λ (w : Standing). record w { gaps = w.gaps + 1 }) f.stands ∙ sym k;
+  stands = standing_gap lines t v (gap_begun X s lines t v f (r.0 refl)) ∙ ap (λ (w : Standing). record w { gaps = w.gaps + 1 }) f.stands ∙ sym k;
 }
 
 -- all contours were begun, and b says whether the last has all its lines

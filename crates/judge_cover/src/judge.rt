@@ -1,5 +1,5 @@
 //! The judge: it goes through the contours of the picture, and through the lines of each.
-//! What a line says of its segment or its gap is tested in `line` and `places`.
+//! Which places a segment goes from and to is tested in `places`.
 ghost use Rattle.std.specs.Prelude.{◌≡◌, ◌+◌, ◌-◌, ◌*◌, ◌/◌, ◌%◌, ◌<◌, ◌≤◌, ◌^◌, ◌↔◌, [], ◌∷◌, ◌++◌, List, length, map, slice_index_or, IsTrue, IfOk};
 ghost use Rattle.std.specs.Bool.{OnTrue};
 ghost use Rattle.shape_terms.specs.Pictures.{Picture};
@@ -14,12 +14,11 @@ ghost use Rattle.judge_cover.specs.CoverState.{StandsFor, room_of, open_points, 
 ghost use Rattle.judge_cover.specs.Places.{stretch_of};
 ghost use Rattle.shape_refute.specs.Evidences.{evidence_of};
 
-use crate::line::holds_segment;
 use crate::places::{Places, come_next};
 use crate::round::{greatest, load, part};
 use shape_crack::{Contour, Contours, Crack, contours};
 use shape_grid::Grid;
-use shape_refute::{Naive, Refusal, Turn, refuses};
+use shape_refute::{Naive, Refusal, holds_segment, refuses};
 use shape_report::Line;
 use shape_space::{NoMemory, P2};
 use std::alloc::Global;
@@ -247,8 +246,8 @@ impl CoverJudge {
     ///
     /// A `contour` line gives the first crack, the number of points and that of segments of the next
     /// contour, once the one before has all its lines; an `at` line gives the next point, a `seg` line
-    /// the next segment with a line that holds it, and a `turn` or a `cut` line why the run of the next
-    /// gap is not straight for the next axis. A line of another kind is not good here.
+    /// the next segment with a line that holds it, and the line of a gap why the run of the next gap is not
+    /// straight for the next axis. A line of another kind is not good here.
     pub fn take(&mut self, line: &Line<P2>) -> bool
         ensures answer { (X : Picture) (lines : List Terms.Line) → StandsFor X self.old lines
             → (IsTrue result ↔ FlatClaim X lines (line_of point_of line.now)) }
@@ -265,8 +264,7 @@ impl CoverJudge {
             } => self.begin(Crack { p, side }, points, segments),
             Line::At { p } => self.go_on(p),
             Line::Seg { first, last, line } => self.take_segment(Places { first, last }, &line),
-            Line::Turn { axis, i, j } => self.take_gap(axis, &Refusal::Turned(Turn { i, j })),
-            Line::Cut { axis, why } => self.take_gap(axis, &Refusal::Cut(why)),
+            Line::Gap { axis, refusal } => self.take_gap(axis, &refusal),
             _ => false,
         }
     }

@@ -3,7 +3,6 @@
 #![tactic(auto)]
 
 mod judge;
-mod line;
 mod places;
 mod round;
 

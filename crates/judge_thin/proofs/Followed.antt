@@ -2,7 +2,6 @@
 -- Laws over pictures, stages and keys alone.
 use Rattle.std.proofs.Common.{◌≡◌, ℕ, ◌↔◌, Bool, true, false, List, refl, sym, subst, not}
 use mathlib.Core.Bool.{beq}
-use Rattle.std.specs.Prelude.{MatchOption, Some}
 use Rattle.std.specs.Ordering.{is_gt}
 use Rattle.shape_terms.specs.Points.{Point, raster_point}
 use Rattle.shape_terms.specs.Pictures.{Picture}
@@ -14,15 +13,6 @@ use Rattle.shape_queue.specs.Keys.{key_cmp}
 use Rattle.shape_queue.specs.Events.{event_by}
 use Rattle.shape_queue.specs.Going.{stage_of, IsGoing}
 use Rattle.shape_queue.proofs.GoingSteps.{going_end, one_event}
-use Rattle.thin_steps.specs.declared.thinner.Thinner.{Thinner}
-use Rattle.thin_steps.specs.Standing as Steps
-use Rattle.judge_thin.specs.declared.judge.ThinJudge.{ThinJudge}
-use Rattle.judge_thin.specs.Standing.{StandsFor}
-
--- what the thinning of a judge stands for
-pub held : {P : Type 0} {pairs : _} {point : _} {eq : _} {order : _} {partial : _} (rule : Rule) (X : Picture) (events : List Event) (state : List ℕ)
-    (j : ThinJudge P pairs point eq order partial) (t : Thinner P pairs point eq order partial) → Some t ≡ j.thinner → StandsFor rule X events state j → Steps.StandsFor rule X events state t
-held rule X events state j t e h = subst (λ o. MatchOption o ⊥ (Steps.StandsFor rule X events state)) (sym e) h
 
 same_event : (m t : Bool) (q p : Point) → event_by m q ≡ event_by t p → (m ≡ t) × (q ≡ p)
 same_event true true q p e = (refl, let f : Event.Tip q ≡ Event.Tip p = e in cc)

@@ -1,23 +1,16 @@
 -- What a judge stands for: the events that it has taken.
 -- How a thinning holds them is told by `thin_steps`.
-use Rattle.std.specs.Prelude.{ℕ, List, MatchOption}
-use Rattle.std.specs.declared.option.Option.{Option}
-use Rattle.std.specs.declared.option.Option.TheVariants.{None, Some}
+use Rattle.std.specs.Prelude.{ℕ, List}
 use Rattle.shape_terms.specs.Pictures.{Picture}
 use Rattle.thin_terms.specs.Thinning.{Rule, Event}
-use Rattle.thin_steps.specs.declared.thinner.Thinner.{Thinner}
 use Rattle.thin_steps.specs.Standing as Steps
 use Rattle.judge_thin.specs.declared.judge.ThinJudge.{ThinJudge}
 
 module _ {P : Type 0} {pairs : _} {point : _} {eq : _} {order : _} {partial : _} where
   -- the judge has taken these events of the thinning of X by the rule, which is in this state now
   abbrev pub StandsFor : Rule → Picture → List Event → List ℕ → ThinJudge P pairs point eq order partial → Type 0
-  StandsFor rule X events state j = MatchOption j.thinner ⊥ (Steps.StandsFor rule X events state)
-
-  abbrev pub room_in : Option (Thinner P pairs point eq order partial) → ℕ
-  room_in None = 0
-  room_in (Some t) = Steps.room_of t
+  StandsFor rule X events state j = Steps.StandsFor rule X events state j.thinner
 
   -- how many events a judge may still take
   abbrev pub room_of : ThinJudge P pairs point eq order partial → ℕ
-  room_of j = room_in j.thinner
+  room_of j = Steps.room_of j.thinner

@@ -24,8 +24,7 @@ use thin_steps::Thinner;
 /// false it says nothing more, and is only dropped.
 #[derive(Drop)]
 pub struct ThinJudge<P: SimpleMask> {
-    // None after an event that is not the next.
-    thinner: Option<Thinner<P>>,
+    thinner: Thinner<P>,
 }
 
 impl<P: SimpleMask> ThinJudge<P> {
@@ -39,9 +38,7 @@ impl<P: SimpleMask> ThinJudge<P> {
         ensures room { IfOk result (λ j. room_of j ≡ length (object_points grid.now)) }
     {
         let thinner = begun::<P, Brand>(alloc, grid, distances, Blank::new(1))?;
-        Ok(ThinJudge {
-            thinner: Some(thinner),
-        })
+        Ok(ThinJudge { thinner })
     }
 
     /// Takes the next event: whether the rule gives it after those that were taken.
@@ -60,10 +57,7 @@ impl<P: SimpleMask> ThinJudge<P> {
         ensures room { IfOk result (λ b. OnTrue b (room_of self.new < room_of self.old)) }
         ensures same_rule { means rule.new ≡ means rule.old }
     {
-        let Some(thinner) = self.thinner.take() else {
-            return Ok(false);
-        };
-        let Some(next) = thinner.next() else {
+        let Some(next) = self.thinner.next() else {
             return Ok(false);
         };
         if p != next.point {
@@ -73,8 +67,7 @@ impl<P: SimpleMask> ThinJudge<P> {
         if marked != tips {
             return Ok(false);
         }
-        let thinner = settled::<P, Brand>(thinner, &next, tips, Blank::new(1))?;
-        self.thinner = Some(thinner);
+        settled::<P, Brand>(&mut self.thinner, &next, tips, Blank::new(1));
         Ok(true)
     }
 
@@ -83,10 +76,7 @@ impl<P: SimpleMask> ThinJudge<P> {
         ensures { (by : Rule) (X : Picture) (events : List Event) (now : List ℕ)
             → StandsFor by X events now self.now → (IsTrue result ↔ AreAllEvents by X events) }
     {
-        match &self.thinner {
-            Some(thinner) => thinner.next().is_none(),
-            None => false,
-        }
+        self.thinner.next().is_none()
     }
 
     /// The number of points left.
@@ -95,9 +85,6 @@ impl<P: SimpleMask> ThinJudge<P> {
             → StandsFor by X events now self.now
             → (s : Stage) → ThinsTo by X events s → result ≡ length (object_points s.left) }
     {
-        match &self.thinner {
-            Some(thinner) => thinner.left().count(),
-            None => 0,
-        }
+        self.thinner.left().count()
     }
 }

@@ -31,20 +31,20 @@ pub(crate) fn begun<P: SimpleMask, L: Ledger>(
     Thinner::begin(alloc, grid, distances, &mut steps)
 }
 
-// A thinning after its next point was marked, or deleted.
+// Goes on with a thinning after its next point was marked, or is deleted.
 pub(crate) fn settled<P: SimpleMask, L: Ledger>(
-    thinner: Thinner<P>,
+    thinner: &mut Thinner<P>,
     next: &Next<P>,
     tips: bool,
     blank: Blank,
-) -> Result<Thinner<P>, NoMemory>
+)
     requires name { blank.name ≡ L.name }
     requires parts { blank.parts ≡ L.parts }
     requires whole { blank.parts ≡ 1 }
-    requires next { IsNextOf thinner next.now (P.coords next.now.point) }
-    ensures stands { IfOk result (GoesOn thinner next.now (P.coords next.now.point) tips) }
-    ensures room { IfOk result (λ t. room_of t + 1 ≡ room_of thinner) }
+    requires next { IsNextOf thinner.old next.now (P.coords next.now.point) }
+    ensures stands { GoesOn thinner.old next.now (P.coords next.now.point) tips thinner.new }
+    ensures room { room_of thinner.new + 1 ≡ room_of thinner.old }
 {
     let mut steps = Steps::<L>::new(blank);
-    thinner.settle(next, tips, &mut steps)
+    thinner.settle(next, tips, &mut steps);
 }

@@ -8,8 +8,8 @@ use Rattle.std.proofs.lemmas.List.Sums.{take_while-cons}
 use Rattle.std.proofs.Math.Seq.{get_or-append_seam}
 use Rattle.shape_terms.specs.Points.{Point}
 use Rattle.report_terms.specs.Lines.{Line}
-use Rattle.shape_terms.specs.Refutations.{Refutation}
-use Rattle.report_terms.specs.ContourFacts.{Segment, stretches_of, GapKind, GapFact}
+use Rattle.shape_terms.specs.Covers.{Evidence}
+use Rattle.report_terms.specs.ContourFacts.{Segment, stretches_of, GapFact, kind_of}
 use Rattle.report_terms.specs.ContourLines.{groups, is_contour, contour_groups, open_group, point_of, segment_of, gap_of, declared_of, standing, standing_with}
 use Rattle.text_terms.proofs.ListPushes.{filter_map-same, filter_map-push}
 
@@ -171,19 +171,14 @@ standing_segment lines b e t row mu h =
     let f = filter_map-same gap_of g l refl in
     grown lines l refl h ∙ (λ i. record { begun = (standing lines).begun; points = length (a i); declared = d i; stretches = c i; gaps = length (f i) })
 
--- a line that gives a refusal is one more gap line
-more_gaps : (lines : List Line) (l : Line) (f : GapFact) → is_contour l ≡ false → declared_of (l ∷ []) ≡ 0 → filter_map point_of (l ∷ []) ≡ [] → filter_map segment_of (l ∷ []) ≡ [] → filter_map gap_of (l ∷ []) ≡ f ∷ []
-    → 0 < (standing lines).begun → standing (lines ++ l ∷ []) ≡ record (standing lines) { gaps = (standing lines).gaps + 1 }
-more_gaps lines l f t k p s o h =
+-- a gap line gives one more refusal
+pub standing_gap : (lines : List Line) (t : ℕ) (evidence : Evidence) → 0 < (standing lines).begun → standing (lines ++ Line.Gap t evidence ∷ []) ≡ record (standing lines) { gaps = (standing lines).gaps + 1 }
+standing_gap lines t evidence h =
+    let l = Line.Gap t evidence in
+    let f : GapFact = record { axis = t; kind = kind_of evidence } in
     let g = open_group lines in
-    let a = filter_map-same point_of g l p in
-    let d = declared_stays g l k in
-    let b = filter_map-same segment_of g l s in
-    let c : length (filter_map gap_of (g ++ l ∷ [])) ≡ length (filter_map gap_of g) + 1 = ap length (filter_map-push gap_of g l f o) ∙ length-append (filter_map gap_of g) (f ∷ []) in
-    grown lines l t h ∙ (λ i. record { begun = (standing lines).begun; points = length (a i); declared = d i; stretches = stretches_of (b i); gaps = c i })
-
-pub standing_turn : (lines : List Line) (t i j : ℕ) → 0 < (standing lines).begun → standing (lines ++ Line.Turn t i j ∷ []) ≡ record (standing lines) { gaps = (standing lines).gaps + 1 }
-standing_turn lines t i j h = more_gaps lines (Line.Turn t i j) (record { axis = t; kind = GapKind.ByTurn }) refl refl refl refl refl h
-
-pub standing_cut : (lines : List Line) (t : ℕ) (why : Refutation) → 0 < (standing lines).begun → standing (lines ++ Line.Cut t why ∷ []) ≡ record (standing lines) { gaps = (standing lines).gaps + 1 }
-standing_cut lines t why h = more_gaps lines (Line.Cut t why) (record { axis = t; kind = GapKind.ByCut }) refl refl refl refl refl h
+    let a = filter_map-same point_of g l refl in
+    let d = declared_stays g l refl in
+    let b = filter_map-same segment_of g l refl in
+    let c : length (filter_map gap_of (g ++ l ∷ [])) ≡ length (filter_map gap_of g) + 1 = ap length (filter_map-push gap_of g l f refl) ∙ length-append (filter_map gap_of g) (f ∷ []) in
+    grown lines l refl h ∙ (λ i. record { begun = (standing lines).begun; points = length (a i); declared = d i; stretches = stretches_of (b i); gaps = c i })

@@ -6,21 +6,17 @@ use Rattle.std.proofs.lemmas.List.{length-append, map-append, take_all}
 use Rattle.std.proofs.lemmas.List.Elements.{All-nil, All-push, All-map}
 use Rattle.std.proofs.lemmas.Option.{get_or_from_slice_get}
 use Rattle.shape_terms.specs.Pictures.{Picture}
-use Rattle.shape_terms.specs.Traces.{Contour, AreContours, contour_of}
+use Rattle.shape_terms.specs.Traces.{Contour, AreContours}
 use Rattle.shape_terms.specs.Covers.{IsSegment, Evidence, IsEvidence, gap_run}
-use Rattle.report_terms.specs.ContourFacts.{ContourFact, stretches_of, GapFact, GapKind, ContourShows, ContoursShow}
+use Rattle.report_terms.specs.ContourFacts.{ContourFact, stretches_of, GapFact, kind_of, ContourShows, ContoursShow}
 use Rattle.report_terms.specs.Lines.{Line, IsLineOf}
 use Rattle.report_terms.specs.ContourLines.{is_contour, contour_groups, open_group, point_of, segment_of, gap_of, declared_of, standing, no_contour, open_contour, IsFull, IsNextGap, OutlineClaim, ContourClaim, ContoursComplete}
 use Rattle.report_terms.specs.Shows.{outline_of, contour_fact}
-use Rattle.shape_terms.proofs.SameCycles.{cycles_same}
+use Rattle.shape_terms.proofs.ContourLists.{contours_same}
 use Rattle.text_terms.proofs.ListPushes.{take_next}
-use Rattle.report_terms.proofs.CoverTaken.{refused_by_turn, refused_by_cut}
+use Rattle.report_terms.proofs.CoverTaken.{refused_by}
 use Rattle.report_terms.proofs.ContourGroups.{group_begun, group_more, open_is, declared_begun}
 use Rattle.report_terms.proofs.ContourSaid.{SaysContour, said_head, said_point, said_segment, said_refusal, said_whole}
-
--- a picture has one list of contours
-pub contours_same : (X : Picture) (a b : List Contour) → AreContours X a → AreContours X b → a ≡ b
-contours_same X a b h k = h.contours_are ∙ ap (map (contour_of X)) (cycles_same X h.cycles k.cycles h.are k.are) ∙ sym k.contours_are
 
 take_more : {A : Type 0} (xs : List A) (n : ℕ) (x : A) → slice_get xs n ≡ Some x → take n xs ++ x ∷ [] ≡ take (n + 1) xs
 take_more xs n x e = take_next xs n x e ∙ ap (λ k. take k xs) (let q : suc n ≡ n + 1 = omega arith in q)
@@ -127,16 +123,11 @@ says_more d contours lines (Line.Seg b e t row mu) (SaysSome front g w) a c =
     empty : (xs : List GapFact) → length xs ≡ 0 → xs ≡ []
     empty [] h = refl
     empty (x ∷ xs) h = absurd (omega arith)
-says_more d contours lines (Line.Turn t i j) (SaysNone e) a c = absurd (none_begun lines e (declared_begun lines (let m = c.more in omega arith)))
-says_more d contours lines (Line.Turn t i j) (SaysSome front g w) a c =
-    let h = gap_claim contours lines front g w t (Evidence.Turned i j) c in
-    same_contour contours lines (Line.Turn t i j) front g w refl (said_refusal w.contour g (Line.Turn t i j) (record { axis = t; kind = GapKind.ByTurn }) w.said refl refl refl refl
-    (refused_by_turn w.contour.points (stretches_of (filter_map segment_of g)) (length (filter_map gap_of g)) t i j h.0 h.1))
-says_more d contours lines (Line.Cut t why) (SaysNone e) a c = absurd (none_begun lines e (declared_begun lines (let m = c.more in omega arith)))
-says_more d contours lines (Line.Cut t why) (SaysSome front g w) a c =
-    let h = gap_claim contours lines front g w t (Evidence.Cut why) c in
-    same_contour contours lines (Line.Cut t why) front g w refl (said_refusal w.contour g (Line.Cut t why) (record { axis = t; kind = GapKind.ByCut }) w.said refl refl refl refl
-    (refused_by_cut w.contour.points (stretches_of (filter_map segment_of g)) (length (filter_map gap_of g)) t why h.0 h.1))
+says_more d contours lines (Line.Gap t evidence) (SaysNone e) a c = absurd (none_begun lines e (declared_begun lines (let m = c.more in omega arith)))
+says_more d contours lines (Line.Gap t evidence) (SaysSome front g w) a c =
+    let h = gap_claim contours lines front g w t evidence c in
+    same_contour contours lines (Line.Gap t evidence) front g w refl (said_refusal w.contour g (Line.Gap t evidence) (record { axis = t; kind = kind_of evidence }) w.said refl refl refl refl
+    (refused_by w.contour.points (stretches_of (filter_map segment_of g)) (length (filter_map gap_of g)) t evidence h.0 h.1))
 says_more d contours lines l s a c = absurd c
 
 -- good lines of contours, each good after those before it

@@ -7,22 +7,17 @@ use Rattle.std.proofs.lemmas.List.Elements.{All-from_get_or}
 use Rattle.std.proofs.lemmas.Option.{slice_get-map, slice_get-get_or, get_or_from_slice_get}
 use Rattle.shape_terms.specs.Points.{Point}
 use Rattle.shape_terms.specs.Naive.{Naive}
-use Rattle.shape_terms.specs.Turns.{IsTurn}
-use Rattle.shape_terms.specs.Straight.{KeepsSense, IsStraightFor, IsStraight}
+use Rattle.shape_terms.specs.Straight.{IsStraightFor, IsStraight}
 use Rattle.shape_terms.specs.Contours.{Crack}
 use Rattle.shape_terms.specs.Covers.{Stretch, IsSegment, Evidence, IsEvidence, arc, gap_run}
 use Rattle.shape_terms.specs.GapCover.{stretch_at, AreGapped}
 use Rattle.report_terms.specs.ContourFacts.{Segment, stretches_of, GapKind, GapFact, in_pairs, SegmentShows, RefusalShows, ContourShows}
 use Rattle.shape_terms.proofs.ArcRuns.{length-arc}
 use Rattle.shape_terms.proofs.CoverOf.{covers}
+use Rattle.shape_terms.proofs.Senses.{sense_no_turn}
 use Rattle.report_terms.proofs.CoverTaken.{CoverSoFar, IsListed}
 
 -- ---- straight segments
-
--- a run that keeps its sense has no turn
-pub sense_no_turn : (t : ℕ) (run : List Point) → KeepsSense t run → (i j : ℕ) → IsTurn t run i j → ⊥
-sense_no_turn t run (inl h) i j u = u.not_forward (h i u.first, h j u.second)
-sense_no_turn t run (inr h) i j u = u.not_backward (h i u.first, h j u.second)
 
 straight_for : (points : List Point) (m : ℕ) (before : List Stretch) (b e t : ℕ) (line : Naive) → IsSegment points m before b e t line → IsStraightFor t (arc points b e)
 straight_for points m before b e t line s = record {

@@ -3,9 +3,9 @@
 use Rattle.std.proofs.Common.{◌≡◌, inl, inr, ℕ, ◌<◌, sym, subst, List, [], ◌∷◌, ◌++◌, length, take, Some}
 use Rattle.std.specs.Prelude.{◌/◌, ◌%◌, slice_get}
 use Rattle.shape_terms.specs.Points.{Point}
-use Rattle.shape_terms.specs.Refutations.{Refutation}
+use Rattle.shape_terms.specs.Naive.{Naive, IsNaiveFor}
 use Rattle.shape_terms.specs.Covers.{Stretch, IsSegment, Evidence, IsEvidence, gap_run}
-use Rattle.report_terms.specs.ContourFacts.{Segment, stretches_of, GapKind, GapFact, RefusalShows}
+use Rattle.report_terms.specs.ContourFacts.{Segment, stretches_of, GapKind, GapFact, kind_of, RefusalShows}
 use Rattle.shape_terms.proofs.Exclusion.{excludes}
 use Rattle.shape_terms.proofs.CoverOf.{evidence_shows}
 use Rattle.text_terms.proofs.ListPushes.{get_push}
@@ -52,21 +52,15 @@ cover_refusal points m segments gaps f c h = record {
 
 -- ---- what evidence shows
 
-pub refused_by_turn : (points : List Point) (stretches : List Stretch) (k t i j : ℕ) → t ≡ k % 2 → IsEvidence t (gap_run points stretches (k / 2)) (Evidence.Turned i j) → IsRefused points stretches k (record { axis = t; kind = GapKind.ByTurn })
-refused_by_turn points stretches k t i j e h = record {
-  axis = e;
-  evidence = Evidence.Turned i j;
-  good = h;
-  shows = record { not_straight = evidence_shows t (gap_run points stretches (k / 2)) (Evidence.Turned i j) h; no_line = λ d. cc };
-}
+-- where weights refuse a run, no line holds it
+no_line : (t : ℕ) (run : List Point) (evidence : Evidence) → IsEvidence t run evidence → kind_of evidence ≡ GapKind.ByCut → (n : Naive) → IsNaiveFor t run n → ⊥
+no_line t run (Evidence.Turned i j) h e n is = cc
+no_line t run (Evidence.Cut why) h e n is = excludes 2 t run why h.1 n is
 
-pub refused_by_cut : (points : List Point) (stretches : List Stretch) (k t : ℕ) (why : Refutation) → t ≡ k % 2 → IsEvidence t (gap_run points stretches (k / 2)) (Evidence.Cut why) → IsRefused points stretches k (record { axis = t; kind = GapKind.ByCut })
-refused_by_cut points stretches k t why e h = record {
+pub refused_by : (points : List Point) (stretches : List Stretch) (k t : ℕ) (evidence : Evidence) → t ≡ k % 2 → IsEvidence t (gap_run points stretches (k / 2)) evidence → IsRefused points stretches k (record { axis = t; kind = kind_of evidence })
+refused_by points stretches k t evidence e h = record {
   axis = e;
-  evidence = Evidence.Cut why;
+  evidence = evidence;
   good = h;
-  shows = record {
-    not_straight = evidence_shows t (gap_run points stretches (k / 2)) (Evidence.Cut why) h;
-    no_line = λ d n is. excludes 2 t (gap_run points stretches (k / 2)) why h.1 n is;
-  };
+  shows = record { not_straight = evidence_shows t (gap_run points stretches (k / 2)) evidence h; no_line = no_line t (gap_run points stretches (k / 2)) evidence h };
 }

@@ -3,9 +3,8 @@
 use Rattle.std.proofs.Common.{◌≡◌, inl, inr, ℕ, ◌<◌, refl, sym, ap, ◌∙◌, arith, List, [], ◌∷◌, length}
 use Rattle.std.specs.Prelude.{◌==◌}
 use Rattle.std.proofs.lemmas.Bool.{cond-true, eq-eqb, cases_lt}
-use Rattle.shape_terms.specs.Points.{Point}
 use Rattle.report_terms.specs.Subjects.{Subject}
-use Rattle.report_terms.specs.Lines.{Line, text_of}
+use Rattle.report_terms.specs.Lines.{Line, Heading, text_of}
 use Rattle.report_terms.specs.Sections.{Section, rank, section_of, lines_of, GoodAfter, GoodSoFar}
 use Rattle.report_terms.specs.Holds.{GivesRule}
 use Rattle.report_terms.proofs.SectionLaws.{rank_same, claim_at}
@@ -35,7 +34,7 @@ past_heading X lines l h e good = elim (cases_lt 0 (rank (section_of l))) [
 ]
 
 -- the text of good lines names the rule of their heading
-pub gives_rule : (X : Subject) (lines : List Line) (text : List ℕ) (sides : Point) (name : List ℕ) → GoodSoFar X lines → lines_of Section.Heading lines ≡ Line.Shape sides name ∷ [] → text ≡ text_of lines → GivesRule text name
-gives_rule X lines text sides name good e is =
-    let r = heading_first X lines (Line.Shape sides name) good e in
-    record { sides = sides; rest = text_of r.0; is = is ∙ ap text_of r.1 }
+pub gives_rule : (X : Subject) (lines : List Line) (text : List ℕ) (h : Heading) (name : List ℕ) → GoodSoFar X lines → lines_of Section.Heading lines ≡ Line.Shape h ∷ [] → h.rule ≡ name → text ≡ text_of lines → GivesRule text name
+gives_rule X lines text h name good e named is =
+    let r = heading_first X lines (Line.Shape h) good e in
+    record { heading = h; rest = text_of r.0; is = is ∙ ap text_of r.1; named = named }

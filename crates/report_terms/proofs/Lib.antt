@@ -6,7 +6,6 @@ pub mod ThinningShown
 pub mod NamedRules
 pub mod HeadingFirst
 pub mod HoldsShows
-pub mod FramedFields
 pub mod LineLaws
 pub mod Spelled
 pub mod SectionLines

@@ -1,47 +1,21 @@
 -- The fields of each kind of line are a form, so the kinds are a table, and the laws of tables hold of all lines.
 -- A further kind of line is one clause of `is_form`.
-use Rattle.std.proofs.Common.{◌≡◌, ◌+◌, ◌≤◌, ℕ, zero, suc, true, Some, length, refl, arith, lit≤}
-use Rattle.std.specs.Prelude.{codes}
-use Rattle.text_terms.specs.Forms.{IsWord, IsForm, name, behind, ◌⨾◌, counted}
+use Rattle.std.proofs.Common.{◌≡◌, ◌+◌, ◌≤◌, ℕ, true, Some, length, refl, arith, lit≤}
+use Rattle.text_terms.specs.Forms.{IsForm, name, ◌⨾◌}
 use Rattle.text_terms.specs.Tables.{kind_among, is_word, IsTable, IsRoomy}
-use Rattle.text_terms.proofs.FieldLaws.{count_form, weight_form, point_form, row_form, few_form}
-use Rattle.text_terms.proofs.FormLaws.{nothing_form, behind_form, both_form, shaped_form, axes_form}
-use Rattle.text_terms.proofs.TableLaws.{literal}
+use Rattle.text_terms.proofs.FieldLaws.{count_form, weight_form, point_form, row_form}
+use Rattle.text_terms.proofs.FormLaws.{nothing_form, behind_form, both_form, axes_form}
+use Rattle.text_terms.specs.PictureKinds.{kind_word}
+use Rattle.text_terms.proofs.PictureKindLaws.{word_kind, kind_short}
+use Rattle.text_terms.proofs.WeightLaws.{why_form}
 use Rattle.text_terms.proofs.Words.{natural_form, letter_form, long_form, name_form}
-use Rattle.report_terms.specs.Forms.{step}
-use Rattle.report_terms.specs.Kinds.{count, weight, point, share, step_share, why, Kind, kinds, first_word, kind_word, form_of, table}
-use Rattle.report_terms.proofs.Words.{sign_form, step_form}
-
--- ---- fields
-
-pub share_form : IsForm share
-share_form = shaped_form _ _ (weight ⨾ count) (λ a. refl) (λ b. refl) (both_form _ _ weight_form count_form)
-
-pub step_share_form : (d : ℕ) → IsForm (step_share d)
-step_share_form d = shaped_form _ _ (weight ⨾ step d) (λ a. refl) (λ b. refl) (both_form _ _ weight_form (step_form d))
-
-pub why_form : (d : ℕ) → IsForm (why d)
-why_form d = shaped_form _ _ (counted 4 share ⨾ counted 4 share ⨾ counted 4 (step_share d)) (λ a. refl) (λ b. refl)
-    (both_form _ _ (few_form share share_form) (both_form _ _ (few_form share share_form) (few_form (step_share d) (step_share_form d))))
-
--- ---- words
-
-word_kind : (n : ℕ) → IsWord (kind_word n)
-word_kind zero = literal (codes "raw") refl
-word_kind (suc zero) = literal (codes "raw") refl
-word_kind (suc (suc zero)) = literal (codes "pbm") refl
-word_kind (suc (suc (suc n))) = literal (codes "raw") refl
-
-kind_short : (n : ℕ) → length (kind_word n) ≡ 3
-kind_short zero = refl
-kind_short (suc zero) = refl
-kind_short (suc (suc zero)) = refl
-kind_short (suc (suc (suc n))) = refl
+use Rattle.report_terms.specs.Kinds.{point, Kind, kinds, first_word, form_of, table}
+use Rattle.report_terms.proofs.Words.{number_form, sign_form}
 
 -- ---- kinds, one clause for each
 
 pub is_form : (d : ℕ) (k : Kind) → IsForm (form_of d k)
-is_form d Kind.Shape = behind_form (codes "1") (behind (kind_word d) (point d ⨾ name)) (literal (codes "1") refl) (behind_form (kind_word d) (point d ⨾ name) (word_kind d) (both_form _ _ (point_form d) name_form))
+is_form d Kind.Shape = both_form _ _ (number_form d) (behind_form (kind_word d) (point d ⨾ name) (word_kind d) (both_form _ _ (point_form d) name_form))
 is_form d Kind.Parts = both_form _ _ count_form (both_form _ _ count_form count_form)
 is_form d Kind.Near = both_form _ _ (point_form d) (both_form _ _ (point_form d) weight_form)
 is_form d Kind.Contour = axes_form 2 d _ (both_form _ _ (point_form 2) (both_form _ _ (natural_form 4 (lit≤ tt)) (both_form _ _ count_form count_form)))

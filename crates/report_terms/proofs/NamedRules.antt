@@ -4,11 +4,10 @@ use Rattle.std.proofs.Common.{◌≡◌, inl, inr, ℕ, ◌<◌, List, [], ◌�
 use Rattle.std.proofs.lemmas.Bool.{cases_lt}
 use Rattle.std.proofs.lemmas.List.{get_or-map, get_or_default, length-map}
 use Rattle.std.specs.Prelude.{slice_index_or}
-use Rattle.shape_terms.specs.Points.{Point}
 use Rattle.thin_terms.specs.Thinning.{Rule}
 use Rattle.thin_terms.specs.Shelves.{Named, AreNames, names_of}
 use Rattle.report_terms.specs.Subjects.{IsOnShelf}
-use Rattle.report_terms.specs.Lines.{Line}
+use Rattle.report_terms.specs.Lines.{Line, Heading}
 use Rattle.report_terms.specs.Sections.{NamesRule}
 
 -- the name of the entry at a place
@@ -35,10 +34,10 @@ one_on_shelf shelf a name r s (j, l, e) (k, m, f) = elim (cases_lt j k) [
 ]
 
 -- a heading names one rule
-pub one_named : (shelf : List (Named Rule)) → AreNames (names_of shelf) → (heading : List Line) (r s : Rule) → NamesRule shelf heading r → NamesRule shelf heading s → r ≡ s
-one_named shelf a heading r s n m =
-    let same : n.name ≡ m.name = name_of (sym n.first ∙ m.first) in
-    one_on_shelf shelf a m.name r s (subst (λ w. IsOnShelf shelf w r) same n.on_shelf) m.on_shelf
+pub one_named : (shelf : List (Named Rule)) → AreNames (names_of shelf) → (first : List Line) (r s : Rule) → NamesRule shelf first r → NamesRule shelf first s → r ≡ s
+one_named shelf a first r s n m =
+    let same : n.heading ≡ m.heading = heading_of (sym n.first_is ∙ m.first_is) in
+    one_on_shelf shelf a m.heading.rule r s (subst (λ (h : Heading). IsOnShelf shelf h.rule r) same n.on_shelf) m.on_shelf
   where
-    name_of : {p q : Point} {v w : List ℕ} → Line.Shape p v ∷ [] ≡ Line.Shape q w ∷ [] → v ≡ w
-    name_of e = cc
+    heading_of : {h k : Heading} → Line.Shape h ∷ [] ≡ Line.Shape k ∷ [] → h ≡ k
+    heading_of e = cc

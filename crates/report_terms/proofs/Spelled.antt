@@ -2,6 +2,7 @@
 -- Each follows from the laws of tables, and none has a clause for a kind.
 use Rattle.std.proofs.Common.{◌≡◌, ◌≤◌, ◌<◌, ℕ, length, refl, ap, sym, subst, ◌∙◌}
 use Rattle.std.specs.List.{AllByRecursion, join_with_byte}
+use Rattle.shape_terms.specs.Covers.{Evidence}
 use Rattle.report_terms.specs.Kinds.{Split, split_words, table}
 use Rattle.report_terms.specs.Lines.{Line, split, joined, IsLineOf, line_words, spelling, spelled}
 use Rattle.text_terms.specs.Forms.{IsWord}
@@ -12,12 +13,16 @@ use Rattle.report_terms.proofs.LineLaws.{is_table, is_roomy}
 
 -- a line is known from its kind and its fields
 joined_split : (l : Line) → joined (split l).kind (split l).fields ≡ l
-joined_split (Line.Shape sides rule) = refl
+joined_split (Line.Shape h) = refl
+joined_split (Line.Gap t (Evidence.Turned i j)) = refl
+joined_split (Line.Gap t (Evidence.Cut why)) = refl
 joined_split _ = refl
 
 -- the words of a line are those of its fields, for as many axes as the picture has
 pub same_words : (d : ℕ) (l : Line) → IsLineOf d l → split_words d (split l) ≡ line_words l
-same_words d (Line.Shape sides rule) a = ap (λ n. split_words n (split (Line.Shape sides rule))) (sym a.0.axes)
+same_words d (Line.Shape h) a = let e = sym a.1.0.axes in rw e refl
+same_words d (Line.Gap t (Evidence.Turned i j)) a = refl
+same_words d (Line.Gap t (Evidence.Cut why)) a = refl
 same_words d _ a = refl
 
 -- no word of a line has a blank

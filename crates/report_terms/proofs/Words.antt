@@ -1,43 +1,28 @@
--- The forms of one word that the reports of pictures have beside those of all texts are forms: steps and senses.
+-- The forms of one word that the reports of pictures have beside those of all texts are forms: numbers of reports and senses.
 -- A further form of one word brings its five facts here.
-use Rattle.std.proofs.Common.{◌≡◌, ◌≤◌, ℕ, true, length, refl, ap, arith, lit<}
-use Rattle.std.proofs.lemmas.Bool.{ltb-true, lt-ltb}
-use Rattle.shape_terms.specs.Refutations.{Step}
+use Rattle.std.proofs.Common.{◌≡◌, ◌-◌, ◌≤◌, ℕ, true, [], ◌∷◌, length, get_or, refl, arith, lit<}
+use Rattle.std.specs.Prelude.{nat_le}
+use Rattle.std.proofs.lemmas.Bool.{and_parts, and_from}
+use Rattle.std.proofs.lemmas.Bool.Decides.{nat_tests}
 use Rattle.patch_terms.specs.Patches.{Sense}
-use Rattle.report_terms.specs.Forms.{sense_word, sense_value, sign, step_word, IsStepIn, step, step_value, is_step_in}
+use Rattle.report_terms.specs.Forms.{IsNumber, is_number, digit, last_number, number, sense_word, sense_value, sign}
 use Rattle.text_terms.specs.Forms.{IsWord, IsForm}
 use Rattle.text_terms.proofs.FormLaws.{one_form}
 
--- ---- steps
+-- ---- numbers of reports
 
-word_step : (s : Step) → IsWord (step_word s)
+word_digit : (n : ℕ) → IsWord (digit n ∷ [])
 unfolding IsWord
-word_step Step.Up = (lit< tt, (lit< tt, (lit< tt, tt)))
-word_step (Step.Plus u) = (omega arith, (omega arith, (omega arith, (omega arith, (omega arith, tt)))))
-word_step (Step.Minus u) = (omega arith, (omega arith, (omega arith, (omega arith, (omega arith, tt)))))
+word_digit n = (omega arith, (omega arith, tt))
 
-pub step_form : (d : ℕ) → IsForm (step d)
-step_form d = one_form (IsStepIn d) (is_step_in d) step_word step_value 4 (record { passes = passes; ranges = ranges; guesses = λ s a. guesses s; word = λ s a. word_step s; few = λ s a. few s })
-  where
-    passes : (s : Step) → IsStepIn d s → is_step_in d s ≡ true
-    passes Step.Up a = refl
-    passes (Step.Plus u) a = lt-ltb u d a
-    passes (Step.Minus u) a = lt-ltb u d a
-
-    ranges : (s : Step) → is_step_in d s ≡ true → IsStepIn d s
-    ranges Step.Up e = tt
-    ranges (Step.Plus u) e = ltb-true u d e
-    ranges (Step.Minus u) e = ltb-true u d e
-
-    guesses : (s : Step) → step_value (step_word s) ≡ s
-    guesses Step.Up = refl
-    guesses (Step.Plus u) = ap Step.Plus (omega arith)
-    guesses (Step.Minus u) = ap Step.Minus (omega arith)
-
-    few : (s : Step) → length (step_word s) ≤ 4
-    few Step.Up = omega arith
-    few (Step.Plus u) = omega arith
-    few (Step.Minus u) = omega arith
+pub number_form : (d : ℕ) → IsForm (number d)
+number_form d = one_form (IsNumber d) (is_number d) (λ n. digit n ∷ []) (λ w. get_or w 0 0 - 48) 1 (record {
+  passes = λ n a. and_from (nat_le 1 n) (nat_le n (last_number d)) (grind (arith, nat_tests, a.0)) (grind (arith, nat_tests, a.1));
+  ranges = λ n e. (let p = and_parts (nat_le 1 n) (nat_le n (last_number d)) e in (grind (arith, nat_tests, p.0), grind (arith, nat_tests, p.1)));
+  guesses = λ n a. omega arith;
+  word = λ n a. word_digit n;
+  few = λ n a. omega arith;
+})
 
 -- ---- senses
 

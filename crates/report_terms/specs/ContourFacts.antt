@@ -6,7 +6,7 @@ use Rattle.shape_terms.specs.Pictures.{Picture}
 use Rattle.shape_terms.specs.Naive.{Naive, IsNaiveFor}
 use Rattle.shape_terms.specs.Straight.{KeepsSense, IsStraightFor}
 use Rattle.shape_terms.specs.Traces.{Contour, AreContours}
-use Rattle.shape_terms.specs.Covers.{Stretch, IsCover, arc, gap_run}
+use Rattle.shape_terms.specs.Covers.{Stretch, IsCover, Evidence, arc, gap_run}
 
 -- a segment: its stretch of the contour, and a naive line with its main axis
 pub record Segment : Type 0 where
@@ -20,6 +20,10 @@ stretches_of segments = map (λ (s : Segment). s.stretch) segments
 -- how the run of a gap is refused: by a turn or by weights
 pub data GapKind : Type 0 where
   ByTurn ByCut : GapKind
+
+abbrev pub kind_of : Evidence → GapKind
+kind_of (Evidence.Turned i j) = GapKind.ByTurn
+kind_of (Evidence.Cut why) = GapKind.ByCut
 
 -- the axis for which the run of a gap is refused, and how
 pub record GapFact : Type 0 where

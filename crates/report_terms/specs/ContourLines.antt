@@ -7,7 +7,7 @@ use Rattle.shape_terms.specs.Naive.{Naive}
 use Rattle.shape_terms.specs.Contours.{Crack}
 use Rattle.shape_terms.specs.Traces.{Contour, AreContours}
 use Rattle.shape_terms.specs.Covers.{Stretch, IsSegment, Evidence, IsEvidence, gap_run}
-use Rattle.report_terms.specs.ContourFacts.{Segment, stretches_of, GapKind, GapFact}
+use Rattle.report_terms.specs.ContourFacts.{Segment, stretches_of, GapFact, kind_of}
 use Rattle.report_terms.specs.Lines.{Line}
 
 -- ---- groups of lines
@@ -41,10 +41,9 @@ abbrev pub segment_of : Line → Option Segment
 segment_of (Line.Seg b e t a mu) = Some (record { stretch = record { first = b; last = e }; axis = t; line = record { a = a; mu = mu } })
 segment_of _ = None
 
--- the refusal that a gap line, a `turn` or a `cut`, gives
+-- the refusal that a gap line gives
 abbrev pub gap_of : Line → Option GapFact
-gap_of (Line.Turn t _ _) = Some (record { axis = t; kind = GapKind.ByTurn })
-gap_of (Line.Cut t _) = Some (record { axis = t; kind = GapKind.ByCut })
+gap_of (Line.Gap t evidence) = Some (record { axis = t; kind = kind_of evidence })
 gap_of _ = None
 
 -- the number of segments that the `contour` line gives
@@ -129,8 +128,7 @@ abbrev pub OutlineClaim : List Contour → Standing → Line → Type 0
 OutlineClaim contours s (Line.Contour p side n m) = IsContourHead contours s (record { pixel = p; side = side }) n m
 OutlineClaim contours s (Line.At p) = IsNextPoint contours s p
 OutlineClaim contours s (Line.Seg b e t a mu) = IsNextSegment contours s b e t (record { a = a; mu = mu })
-OutlineClaim contours s (Line.Turn t i j) = IsNextGap contours s t (Evidence.Turned i j)
-OutlineClaim contours s (Line.Cut t why) = IsNextGap contours s t (Evidence.Cut why)
+OutlineClaim contours s (Line.Gap t evidence) = IsNextGap contours s t evidence
 OutlineClaim contours s _ = ⊥
 
 -- the claim of a line of a contour of the picture, after the lines of contours before it

@@ -1,33 +1,25 @@
--- Forms of one word that the reports of pictures have beside those of all texts: steps and senses.
+-- Forms of one word that the reports of pictures have beside those of all texts: numbers of reports and senses.
 -- The other forms stand in `text_terms`; which fields a kind of line has stands in `Kinds`.
-use Rattle.std.specs.Prelude.{◌==◌, ◌<◌, ◌-◌, ℕ, Bool, true, nat_lt, if◌then◌else◌, List, [], ◌∷◌, ◌++◌, get_or, codes}
-use Rattle.shape_terms.specs.Refutations.{Step}
-use Rattle.shape_terms.specs.Refutations.Step.{Up, Plus, Minus}
+use Rattle.std.specs.Prelude.{◌==◌, ◌≤◌, ◌+◌, ◌-◌, ◌&&◌, ℕ, Bool, true, nat_le, if◌then◌else◌, List, [], ◌∷◌, get_or, codes}
 use Rattle.patch_terms.specs.Patches.{Sense}
-use Rattle.text_terms.specs.Forms.{Form, one_word, axis_letter}
+use Rattle.text_terms.specs.Forms.{Form, one_word}
 
--- the word of a step, and the step that is guessed of a word
-abbrev pub step_word : Step → List ℕ
-step_word Up = codes "up"
-step_word (Plus u) = codes "up+" ++ axis_letter u ∷ []
-step_word (Minus u) = codes "up-" ++ axis_letter u ∷ []
+-- the greatest number that a report of pictures with d axes has
+abbrev pub last_number : ℕ → ℕ
+last_number d = 1
 
-abbrev pub step_value : List ℕ → Step
-step_value w = if get_or w 2 0 == 43 then Plus (get_or w 3 0 - 120) else (if get_or w 2 0 == 45 then Minus (get_or w 3 0 - 120) else Up)
+-- the numbers of reports of pictures with d axes, each of one digit
+abbrev pub IsNumber : ℕ → ℕ → Type 0
+IsNumber d n = (1 ≤ n) × (n ≤ last_number d)
 
--- the step names one of d axes, if any
-abbrev pub IsStepIn : ℕ → Step → Type 0
-IsStepIn d Up = Unit {0}
-IsStepIn d (Plus u) = u < d
-IsStepIn d (Minus u) = u < d
+abbrev pub is_number : ℕ → ℕ → Bool
+is_number d n = nat_le 1 n && nat_le n (last_number d)
 
-abbrev pub is_step_in : ℕ → Step → Bool
-is_step_in d Up = true
-is_step_in d (Plus u) = nat_lt u d
-is_step_in d (Minus u) = nat_lt u d
+abbrev pub digit : ℕ → ℕ
+digit n = 48 + n
 
-abbrev pub step : ℕ → Form Step
-step d = one_word (IsStepIn d) (is_step_in d) step_word step_value 4
+abbrev pub number : ℕ → Form ℕ
+number d = one_word (IsNumber d) (is_number d) (λ n. digit n ∷ []) (λ w. get_or w 0 0 - 48) 1
 
 -- the sign of a sense, and the sense that is guessed of a word
 abbrev pub sense_word : Sense → List ℕ

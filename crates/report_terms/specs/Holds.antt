@@ -1,10 +1,9 @@
 -- When a text is a report that holds of a picture, and which of its lines is the first bad one.
 -- Both are said for every kind of report in `text_terms`; here stands the analysis as one of them.
 use Rattle.std.specs.Prelude.{◌≡◌, ℕ, List, ◌++◌}
-use Rattle.shape_terms.specs.Points.{Point}
 use Rattle.text_terms.specs.Reports as Texts
 use Rattle.report_terms.specs.Subjects.{Subject}
-use Rattle.report_terms.specs.Lines.{Line, line_text}
+use Rattle.report_terms.specs.Lines.{Line, Heading, line_text}
 use Rattle.report_terms.specs.Sections.{analysis}
 
 -- the text begins with these lines, each spelled in at most 1024 bytes and good after those before it, and `rest` is what follows them
@@ -21,9 +20,10 @@ Holds X text = Texts.Holds (analysis X) text
 
 -- the first line of the text names this rule
 pub record GivesRule (text name : List ℕ) : Type 0 where
-  pub sides : Point
+  pub heading : Heading
   pub rest : List ℕ
-  pub is : text ≡ line_text (Line.Shape sides name) ++ rest
+  pub is : text ≡ line_text (Line.Shape heading) ++ rest
+  pub named : heading.rule ≡ name
 
 -- the text is a report of the picture, by the rule with this name
 pub record HoldsBy (X : Subject) (name text : List ℕ) : Type 0 where

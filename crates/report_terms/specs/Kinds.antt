@@ -1,29 +1,17 @@
 -- The kinds of report lines, and the fields of each: a form for each kind, read as the format says it aloud.
 -- A further kind is a constructor, its first word, its fields and its form; what a line claims stands elsewhere.
-use Rattle.std.specs.Prelude.{ℕ, zero, suc, ℤ, List, [], ◌∷◌, codes}
+use Rattle.std.specs.Prelude.{ℕ, ℤ, List, [], ◌∷◌, codes}
 use Rattle.std.specs.Int.{w64}
 use Rattle.shape_terms.specs.Points.{Point}
-use Rattle.shape_terms.specs.Refutations.{Share, StepShare, Refutation}
+use Rattle.shape_terms.specs.Refutations.{Refutation}
 use Rattle.patch_terms.specs.Patches.{Sense}
-use Rattle.text_terms.specs.Forms.{Form, natural, signed, letter, name, nothing, behind, ◌⨾◌, counted, shaped, of_axes}
+use Rattle.text_terms.specs.Forms.{Form, natural, signed, letter, name, nothing, behind, ◌⨾◌, of_axes}
 pub use Rattle.text_terms.specs.Fields.{count, weight, point, row}
+use Rattle.text_terms.specs.Weights.{why}
+use Rattle.text_terms.specs.PictureKinds.{kind_word}
 use Rattle.text_terms.specs.Tables as Tables
 use Rattle.text_terms.specs.Tables.{Table}
-use Rattle.report_terms.specs.Forms.{sign, step}
-
--- ---- fields
-
--- a place with its weight before it
-abbrev pub share : Form Share
-share = shaped (λ p. record { weight = p.0; place = p.1 }) (λ s. (s.weight, s.place)) (weight ⨾ count)
-
--- a step along one of d axes with its weight before it
-abbrev pub step_share : ℕ → Form StepShare
-step_share d = shaped (λ p. record { weight = p.0; step = p.1 }) (λ s. (s.weight, s.step)) (weight ⨾ step d)
-
--- weights of at most four places on each side and of four steps
-abbrev pub why : ℕ → Form Refutation
-why d = shaped (λ p. record { low = p.0; high = p.1.0; steps = p.1.1 }) (λ r. (r.low, (r.high, r.steps))) (counted 4 share ⨾ counted 4 share ⨾ counted 4 (step_share d))
+use Rattle.report_terms.specs.Forms.{number, sign}
 
 -- ---- kinds
 
@@ -56,7 +44,7 @@ first_word Kind.End = codes "end"
 
 -- what the fields of a line of this kind are
 abbrev pub Fields : Kind → Type 0
-Fields Kind.Shape = Point × List ℕ
+Fields Kind.Shape = ℕ × (Point × List ℕ)
 Fields Kind.Parts = ℕ × (ℕ × ℕ)
 Fields Kind.Near = Point × (Point × ℕ)
 Fields Kind.Contour = Point × (ℕ × (ℕ × ℕ))
@@ -73,14 +61,9 @@ Fields Kind.Tip = Point
 Fields Kind.Kept = ℕ × (ℕ × ℕ)
 Fields Kind.End = Unit {0}
 
--- the word for pictures with so many axes
-abbrev pub kind_word : ℕ → List ℕ
-kind_word (suc (suc zero)) = codes "pbm"
-kind_word _ = codes "raw"
-
 -- the fields of a kind of line in reports of pictures with d axes
 abbrev pub form_of : ℕ → (k : Kind) → Form (Fields k)
-form_of d Kind.Shape = behind (codes "1") (behind (kind_word d) (point d ⨾ name))
+form_of d Kind.Shape = number d ⨾ behind (kind_word d) (point d ⨾ name)
 form_of d Kind.Parts = count ⨾ count ⨾ count
 form_of d Kind.Near = point d ⨾ point d ⨾ weight
 form_of d Kind.Contour = of_axes 2 d (point 2 ⨾ natural 4 ⨾ count ⨾ count)

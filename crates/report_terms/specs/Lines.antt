@@ -4,20 +4,26 @@ use Rattle.std.specs.Prelude.{ℕ, ℤ, List, [], ◌∷◌, ◌++◌, length, f
 use Rattle.std.specs.List.{join_with_byte}
 use Rattle.shape_terms.specs.Points.{Point}
 use Rattle.shape_terms.specs.Refutations.{Refutation}
+use Rattle.shape_terms.specs.Covers.{Evidence}
 use Rattle.patch_terms.specs.Patches.{Sense}
 use Rattle.text_terms.specs.Spellings.{Spelled}
 use Rattle.report_terms.specs.Kinds.{Kind, Fields, Split, IsSplitOf, split_words}
 
--- a line of a report. The sides stand as a point; a picture of two sides is a `pbm`, one of three a `raw`
+-- the heading of a report: its number, the sides of the picture, and the name of the rule that thins it
+pub record Heading : Type 0 where
+  pub number : ℕ
+  pub sides : Point
+  pub rule : List ℕ
+
+-- a line of a report. The sides stand as a point; a picture of two sides is a `pbm`, one of three a `raw`. The line of a gap is a `turn` or a `cut`, as its evidence is
 pub data Line : Type 0 where
-  Shape : (sides : Point) → (rule : List ℕ) → Line
+  Shape : (heading : Heading) → Line
   Parts : (points object background : ℕ) → Line
   Near : (p q : Point) → (s : ℕ) → Line
   Contour : (p : Point) → (side points segments : ℕ) → Line
   At : (p : Point) → Line
   Seg : (first last axis : ℕ) → (a : List ℤ) → (mu : ℤ) → Line
-  Turn : (axis i j : ℕ) → Line
-  Cut : (axis : ℕ) → (why : Refutation) → Line
+  Gap : (axis : ℕ) → (evidence : Evidence) → Line
   Face : (axis : ℕ) → (sense : Sense) → (points : ℕ) → Line
   Patch : (points : ℕ) → (a : List ℤ) → (mu : ℤ) → Line
   On : (p : Point) → Line
@@ -29,14 +35,14 @@ pub data Line : Type 0 where
 
 -- the kind of a line, and its fields
 abbrev pub split : Line → Split
-split (Shape sides rule) = record { kind = Kind.Shape; fields = (sides, rule) }
+split (Shape h) = record { kind = Kind.Shape; fields = (h.number, (h.sides, h.rule)) }
 split (Parts n o b) = record { kind = Kind.Parts; fields = (n, (o, b)) }
 split (Near p q s) = record { kind = Kind.Near; fields = (p, (q, s)) }
 split (Contour p side n m) = record { kind = Kind.Contour; fields = (p, (side, (n, m))) }
 split (At p) = record { kind = Kind.At; fields = p }
 split (Seg b e t a mu) = record { kind = Kind.Seg; fields = (b, (e, (t, (a, mu)))) }
-split (Turn t i j) = record { kind = Kind.Turn; fields = (t, (i, j)) }
-split (Cut t why) = record { kind = Kind.Cut; fields = (t, why) }
+split (Gap t (Evidence.Turned i j)) = record { kind = Kind.Turn; fields = (t, (i, j)) }
+split (Gap t (Evidence.Cut why)) = record { kind = Kind.Cut; fields = (t, why) }
 split (Face t sense n) = record { kind = Kind.Face; fields = (t, (sense, n)) }
 split (Patch k a mu) = record { kind = Kind.Patch; fields = (k, (a, mu)) }
 split (On p) = record { kind = Kind.On; fields = p }
@@ -48,14 +54,14 @@ split End = record { kind = Kind.End; fields = tt }
 
 -- and the line of a kind with these fields
 abbrev pub joined : (k : Kind) → Fields k → Line
-joined Kind.Shape (sides, rule) = Shape sides rule
+joined Kind.Shape (n, (sides, rule)) = Shape (record { number = n; sides = sides; rule = rule })
 joined Kind.Parts (n, (o, b)) = Parts n o b
 joined Kind.Near (p, (q, s)) = Near p q s
 joined Kind.Contour (p, (side, (n, m))) = Contour p side n m
 joined Kind.At p = At p
 joined Kind.Seg (b, (e, (t, (a, mu)))) = Seg b e t a mu
-joined Kind.Turn (t, (i, j)) = Turn t i j
-joined Kind.Cut (t, why) = Cut t why
+joined Kind.Turn (t, (i, j)) = Gap t (Evidence.Turned i j)
+joined Kind.Cut (t, why) = Gap t (Evidence.Cut why)
 joined Kind.Face (t, (sense, n)) = Face t sense n
 joined Kind.Patch (k, (a, mu)) = Patch k a mu
 joined Kind.On p = On p
@@ -71,7 +77,7 @@ IsLineOf d l = IsSplitOf d (split l)
 
 -- how many axes the picture of a line has: a `shape` line gives them all, and no word of any other line hangs on it
 abbrev pub axes_of : Line → ℕ
-axes_of (Shape sides rule) = length sides
+axes_of (Shape h) = length h.sides
 axes_of _ = 2
 
 abbrev pub line_words : Line → List (List ℕ)

@@ -1,7 +1,6 @@
 -- The sections of a report, in their order, and when a line is good after the lines before it.
 -- Each claim speaks of the heading and of the lines of its own section alone; what contours, faces and the thinning claim stands in `ContourLines`, `FaceLines` and `ThinningLines`.
 use Rattle.std.specs.Prelude.{◌≡◌, ◌≢◌, ℕ, ◌<◌, ◌≤◌, ◌==◌, List, [], ◌∷◌, length, map, filter, slice_get, Some, pos, All}
-use Rattle.shape_terms.specs.Points.{Point}
 use Rattle.shape_terms.specs.Pictures.{Picture, object_points, Least}
 use Rattle.shape_terms.specs.Parts.{Counts}
 use Rattle.thin_terms.specs.Thinning.{Rule}
@@ -9,7 +8,7 @@ use Rattle.thin_terms.specs.Shelves.{Named}
 use Rattle.text_terms.specs.Reports as Texts
 use Rattle.text_terms.specs.Reports.{Report}
 use Rattle.report_terms.specs.Subjects.{Subject, IsOnShelf}
-use Rattle.report_terms.specs.Lines.{Line, spelled}
+use Rattle.report_terms.specs.Lines.{Line, Heading as Head, spelled}
 use Rattle.report_terms.specs.ContourLines.{ContourClaim, ContoursComplete}
 use Rattle.report_terms.specs.FaceLines.{FaceClaim, FacesComplete}
 use Rattle.report_terms.specs.ThinningLines.{ThinningClaim, ThinningComplete}
@@ -33,14 +32,13 @@ rank Section.Thinned = 5
 rank Section.End = 6
 
 abbrev pub section_of : Line → Section
-section_of (Line.Shape _ _) = Section.Heading
+section_of (Line.Shape _) = Section.Heading
 section_of (Line.Parts _ _ _) = Section.Counted
 section_of (Line.Near _ _ _) = Section.Nearest
 section_of (Line.Contour _ _ _ _) = Section.Contours
 section_of (Line.At _) = Section.Contours
 section_of (Line.Seg _ _ _ _ _) = Section.Contours
-section_of (Line.Turn _ _ _) = Section.Contours
-section_of (Line.Cut _ _) = Section.Contours
+section_of (Line.Gap _ _) = Section.Contours
 section_of (Line.Face _ _ _) = Section.Faces
 section_of (Line.Patch _ _ _) = Section.Faces
 section_of (Line.On _) = Section.Faces
@@ -58,7 +56,7 @@ lines_of s lines = filter (λ l. rank (section_of l) == rank s) lines
 
 -- the sides of the picture, and the name of a rule on the shelf
 abbrev pub HeadingClaim : Subject → Line → Type 0
-HeadingClaim X (Line.Shape sides name) = (sides ≡ map pos X.picture.sides) × ((rule : Rule) × IsOnShelf X.shelf name rule)
+HeadingClaim X (Line.Shape h) = (h.sides ≡ map pos X.picture.sides) × ((rule : Rule) × IsOnShelf X.shelf h.rule rule)
 HeadingClaim X _ = ⊥
 
 -- the counts of the picture
@@ -83,12 +81,11 @@ FlatClaim X before l = (length X.sides ≡ 2) × ContourClaim X before l
 abbrev pub SolidClaim : Picture → List Line → Line → Type 0
 SolidClaim X before l = (length X.sides ≡ 3) × FaceClaim X before l
 
--- the heading of a report names the rule on the shelf
-pub record NamesRule (shelf : List (Named Rule)) (heading : List Line) (rule : Rule) : Type 0 where
-  pub sides : Point
-  pub name : List ℕ
-  pub first : heading ≡ Line.Shape sides name ∷ []
-  pub on_shelf : IsOnShelf shelf name rule
+-- the first line of a report is a heading, which names the rule on the shelf
+pub record NamesRule (shelf : List (Named Rule)) (first : List Line) (rule : Rule) : Type 0 where
+  pub heading : Head
+  pub first_is : first ≡ Line.Shape heading ∷ []
+  pub on_shelf : IsOnShelf shelf heading.rule rule
 
 -- the claim of a line after the heading and the lines of its section before it
 abbrev pub SectionClaim : Subject → (heading : List Line) → Section → (before : List Line) → Line → Type 0

@@ -14,8 +14,8 @@ use Rattle.report_terms.specs.Lines.{Line, IsLineOf}
 use Rattle.report_terms.specs.ContourLines.{Standing, standing, no_contour, open_contour, IsFull, OutlineClaim}
 use Rattle.report_terms.specs.Sections.{Section, section_of, lines_of}
 use Rattle.report_terms.proofs.SectionLaws.{none_past, come_more, come_past, good_at, lines_push}
-use Rattle.report_terms.proofs.ContourGroups.{standing_begun, standing_point, standing_segment, standing_turn, standing_cut}
-use Rattle.shape_analyse.specs.Growing.{IsGrowing, IsOutlined, IsSurveyed, Aim, HasOutlined, gap_line, at_contour}
+use Rattle.report_terms.proofs.ContourGroups.{standing_begun, standing_point, standing_segment, standing_gap}
+use Rattle.shape_analyse.specs.Growing.{IsGrowing, IsOutlined, IsSurveyed, Aim, HasOutlined, at_contour}
 use Rattle.shape_analyse.proofs.Growth.{good_more}
 
 -- no contour was begun yet
@@ -97,30 +97,19 @@ outlined_segment X contours k m before lines c b e t line o there more segment f
 
 -- and its next gap line
 pub outlined_gap : (X : Aim) (contours : List Contour) (k : ℕ) (stretches : List Stretch) (g j t : ℕ) (lines : List Line) (c : Contour) (v : Evidence) → IsOutlined X contours (at_contour k (length c.points) (length stretches) stretches g) lines → slice_get contours k ≡ Some c
-    → g ≡ 2 * j + t → j < length stretches → t < 2 → IsEvidence t (gap_run c.points stretches j) v → IsLineOf 2 (gap_line t v)
-    → IsOutlined X contours (at_contour k (length c.points) (length stretches) stretches (g + 1)) (lines ++ gap_line t v ∷ [])
-outlined_gap X contours k stretches g j t lines c (Evidence.Turned x y) o there count place two good fields =
+    → g ≡ 2 * j + t → j < length stretches → t < 2 → IsEvidence t (gap_run c.points stretches j) v → IsLineOf 2 (Line.Gap t v)
+    → IsOutlined X contours (at_contour k (length c.points) (length stretches) stretches (g + 1)) (lines ++ Line.Gap t v ∷ [])
+outlined_gap X contours k stretches g j t lines c v o there count place two good fields =
     let s : Standing = at_contour k (length c.points) (length stretches) stretches g in
     let last = last_begun contours s k c refl there in
     let half : j ≡ g / 2 = omega (arith, count, two) in
-    outlined_more X contours s _ lines (Line.Turn t x y) o refl (record {
+    outlined_more X contours s _ lines (Line.Gap t v) o refl (record {
       points = ap (λ (d : Contour). length d.points) (sym last);
       segments = refl;
       more = omega (arith, count, two, place);
       axis = omega (arith, count, two);
-      good = subst (λ (d : Contour). IsEvidence t (gap_run d.points stretches (g / 2)) (Evidence.Turned x y)) (sym last) (subst (λ q. IsEvidence t (gap_run c.points stretches q) (Evidence.Turned x y)) half good);
-    }) fields (standing_turn (lines_of Section.Contours lines) t x y (some_begun X contours s lines k o refl) ∙ ap (λ (w : Standing). record w { gaps = w.gaps + 1 }) o.stands)
-outlined_gap X contours k stretches g j t lines c (Evidence.Cut why) o there count place two good fields =
-    let s : Standing = at_contour k (length c.points) (length stretches) stretches g in
-    let last = last_begun contours s k c refl there in
-    let half : j ≡ g / 2 = omega (arith, count, two) in
-    outlined_more X contours s _ lines (Line.Cut t why) o refl (record {
-      points = ap (λ (d : Contour). length d.points) (sym last);
-      segments = refl;
-      more = omega (arith, count, two, place);
-      axis = omega (arith, count, two);
-      good = subst (λ (d : Contour). IsEvidence t (gap_run d.points stretches (g / 2)) (Evidence.Cut why)) (sym last) (subst (λ q. IsEvidence t (gap_run c.points stretches q) (Evidence.Cut why)) half good);
-    }) fields (standing_cut (lines_of Section.Contours lines) t why (some_begun X contours s lines k o refl) ∙ ap (λ (w : Standing). record w { gaps = w.gaps + 1 }) o.stands)
+      good = subst (λ (d : Contour). IsEvidence t (gap_run d.points stretches (g / 2)) v) (sym last) (subst (λ q. IsEvidence t (gap_run c.points stretches q) v) half good);
+    }) fields (standing_gap (lines_of Section.Contours lines) t v (some_begun X contours s lines k o refl) ∙ ap (λ (w : Standing). record w { gaps = w.gaps + 1 }) o.stands)
 
 -- it has all its lines
 pub outlined_full : (X : Aim) (contours : List Contour) (k m : ℕ) (stretches : List Stretch) (lines : List Line) (c : Contour) → slice_get contours k ≡ Some c → length stretches ≡ m → IsOutlined X contours (at_contour k (length c.points) m stretches (2 * m)) lines → HasOutlined X contours (k + 1) lines

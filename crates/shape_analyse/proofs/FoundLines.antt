@@ -10,12 +10,11 @@ use Rattle.shape_terms.specs.Naive.{Naive}
 use Rattle.shape_terms.specs.Refutations.{Share, Step, StepShare, Refutation, IsStepOf, Refutes}
 use Rattle.shape_terms.specs.Covers.{Evidence, IsEvidence, gap_run}
 use Rattle.text_terms.specs.Forms.{counted}
-use Rattle.report_terms.specs.Forms.{IsStepIn}
-use Rattle.report_terms.specs.Kinds.{share, step_share, why}
+use Rattle.text_terms.specs.Weights.{IsStepIn, share, step_share, why}
 use Rattle.report_terms.specs.Lines.{Line, IsLineOf}
 use Rattle.shape_slope.specs.Pairs.{AreSmallWeights}
 use Rattle.shape_cover.specs.Found.{Found, stretches_of, found_at, IsCoverOf, IsShortLine, AreShortShares, IsShortEvidence}
-use Rattle.shape_analyse.specs.Growing.{Aim, IsOutlined, gap_line, at_contour, covered}
+use Rattle.shape_analyse.specs.Growing.{Aim, IsOutlined, at_contour, covered}
 use Rattle.shape_analyse.proofs.ContourGrowth.{outlined_segment, outlined_gap}
 
 fits : (z : ℤ) → nat_abs z < 2 ^ 63 → FitsSigned w64 z
@@ -38,7 +37,7 @@ shares_fit : (shares : List Share) → AreShortShares shares → (counted 4 shar
 shares_fit shares h = (h.few, λ i d l. (h.weights i d l, h.places i d l))
 
 -- a gap line of an axis of the plane
-pub gap_fits : (t : ℕ) (run : List Point) (v : Evidence) → t < 2 → IsEvidence t run v → IsShortEvidence v → IsLineOf 2 (gap_line t v)
+pub gap_fits : (t : ℕ) (run : List Point) (v : Evidence) → t < 2 → IsEvidence t run v → IsShortEvidence v → IsLineOf 2 (Line.Gap t v)
 gap_fits t run (Evidence.Turned i j) ht h s = (refl, (ht, (s.0, s.1)))
 gap_fits t run (Evidence.Cut why) ht h s =
     let steps : (counted 4 (step_share 2)).InRange why.steps = (s.few_steps, λ i d l. (s.steps i d l, step_in 2 t (slice_index_or why.steps i d) (h.1.steps_of_axis i d l))) in
@@ -78,9 +77,9 @@ found_segment X contours k c found j lines o there cover l fields =
 
 -- the two lines of the next gap
 pub found_gap : (X : Aim) (contours : List Contour) (k : ℕ) (c : Contour) (found : List Found) (j t : ℕ) (v : Evidence) (lines : List Line) → IsOutlined X contours (covered k c found (2 * j + t)) lines → slice_get contours k ≡ Some c → j < length found → t < 2
-    → IsEvidence t (gap_run c.points (stretches_of found) j) v → IsLineOf 2 (gap_line t v) → IsOutlined X contours (covered k c found (2 * j + t + 1)) (lines ++ gap_line t v ∷ [])
+    → IsEvidence t (gap_run c.points (stretches_of found) j) v → IsLineOf 2 (Line.Gap t v) → IsOutlined X contours (covered k c found (2 * j + t + 1)) (lines ++ Line.Gap t v ∷ [])
 found_gap X contours k c found j t v lines o there l two good fields =
     let n : length found ≡ length (stretches_of found) = sym (length-map found (λ (f : Found). f.stretch)) in
     let here = subst (λ m. IsOutlined X contours (at_contour k (length c.points) m (stretches_of found) (2 * j + t)) lines) n o in
     let next = outlined_gap X contours k (stretches_of found) (2 * j + t) j t lines c v here there refl (omega (arith, l, n)) two good fields in
-    subst (λ m. IsOutlined X contours (at_contour k (length c.points) m (stretches_of found) (2 * j + t + 1)) (lines ++ gap_line t v ∷ [])) (sym n) next
+    subst (λ m. IsOutlined X contours (at_contour k (length c.points) m (stretches_of found) (2 * j + t + 1)) (lines ++ Line.Gap t v ∷ [])) (sym n) next

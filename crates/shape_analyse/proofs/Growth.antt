@@ -19,10 +19,10 @@ use Rattle.report_terms.specs.Sections.{Section, lines_of, NamesRule, GoodAfter,
 use Rattle.text_terms.proofs.Checking.{good_push}
 use Rattle.report_terms.proofs.HeadingFirst.{past_heading}
 use Rattle.report_terms.proofs.SectionLaws.{come_none, come_more, come_past, good_at, lines_push, lines_skip}
-use Rattle.report_terms.proofs.FramedFields.{within_short, distance_fits}
+use Rattle.text_terms.proofs.FramedFields.{within_short, distance_fits}
 use Rattle.report_terms.proofs.Spelled.{short_line}
 use Rattle.shape_grid.proofs.SideLists.{sides_back}
-use Rattle.shape_analyse.specs.Growing.{Aim, HasHeading, AreGood, IsGrowing, IsTextOf}
+use Rattle.shape_analyse.specs.Growing.{Aim, heading_of, HasHeading, AreGood, IsGrowing, IsTextOf}
 
 -- ---- texts
 
@@ -48,15 +48,15 @@ sides_fit g n h m = All-from_get_or (FitsSigned w32) n (pos 0) (λ k l. let c = 
     fits (pos n) l h = record { sfits = omega (arith, ints) }
     fits (negsuc n) l h = absurd (omega (arith, ints))
 
-pub heading_fits : (greatest : ℤ) (d : ℕ) (n : Point) (rule : List ℕ) → AreSides greatest n → greatest ≤ℤ pos 2048 → length n ≡ d → IsName rule → IsLineOf d (Line.Shape n rule)
-heading_fits g d n rule h m e k = (record { axes = e; fits = sides_fit g n h m }, k)
+pub heading_fits : (greatest : ℤ) (d : ℕ) (n : Point) (rule : List ℕ) → AreSides greatest n → greatest ≤ℤ pos 2048 → length n ≡ d → IsName rule → IsLineOf d (Line.Shape (record { number = 1; sides = n; rule = rule }))
+heading_fits g d n rule h m e k = ((omega arith, omega arith), (record { axes = e; fits = sides_fit g n h m }, k))
 
 -- ---- one more line
 
 -- the heading stands there first
-good_first : (X : Aim) (sides : Point) → length X.subject.picture.sides ≤ 3 → IsLineOf (length X.subject.picture.sides) (Line.Shape sides X.name) → IsOnShelf X.subject.shelf X.name X.rule → GoodAfter X.subject [] (Line.Shape sides X.name) → AreGood X (Line.Shape sides X.name ∷ [])
+good_first : (X : Aim) (sides : Point) → length X.subject.picture.sides ≤ 3 → IsLineOf (length X.subject.picture.sides) (Line.Shape (heading_of X sides)) → IsOnShelf X.subject.shelf X.name X.rule → GoodAfter X.subject [] (Line.Shape (heading_of X sides)) → AreGood X (Line.Shape (heading_of X sides) ∷ [])
 good_first X sides three fields on good =
-    let l = Line.Shape sides X.name in
+    let l = Line.Shape (heading_of X sides) in
     record {
       fields = All-push (IsLineOf (length X.subject.picture.sides)) [] l (All-nil (IsLineOf (length X.subject.picture.sides))) fields;
       short = All-push (λ m. length (spelling m) ≤ 1024) [] l (All-nil (λ m. length (spelling m) ≤ 1024)) (short_line (length X.subject.picture.sides) l three fields);
@@ -68,7 +68,7 @@ good_first X sides three fields on good =
 heading_kept : (X : Aim) (lines : List Line) (l : Line) → HasHeading X lines → GoodAfter X.subject lines l → HasHeading X (lines ++ l ∷ [])
 heading_kept X lines l named good = record {
   sides = named.sides;
-  first = lines_skip Section.Heading lines l (past_heading X.subject lines l (Line.Shape named.sides X.name) named.first good) ∙ named.first;
+  first = lines_skip Section.Heading lines l (past_heading X.subject lines l (Line.Shape (heading_of X named.sides)) named.first good) ∙ named.first;
   on_shelf = named.on_shelf;
 }
 
@@ -82,12 +82,12 @@ good_more X lines l a three fields good = record {
 
 -- so it names the rule
 pub names_rule : (X : Aim) (lines : List Line) → HasHeading X lines → NamesRule X.subject.shelf (lines_of Section.Heading lines) X.rule
-names_rule X lines h = record { sides = h.sides; name = X.name; first = h.first; on_shelf = h.on_shelf }
+names_rule X lines h = record { heading = heading_of X h.sides; first_is = h.first; on_shelf = h.on_shelf }
 
 pub growing_none : (greatest : ℤ) (X : Aim) (sides : Point) (n o b : ℕ) → AreSides greatest sides → sides_of sides ≡ X.subject.picture.sides → length X.subject.picture.sides ≤ 3
-    → IsLineOf (length X.subject.picture.sides) (Line.Shape sides X.name) → IsOnShelf X.subject.shelf X.name X.rule → IsLineOf (length X.subject.picture.sides) (Line.Parts n o b) → Counts X.subject.picture n o b → IsGrowing X 0 (Line.Shape sides X.name ∷ Line.Parts n o b ∷ [])
+    → IsLineOf (length X.subject.picture.sides) (Line.Shape (heading_of X sides)) → IsOnShelf X.subject.shelf X.name X.rule → IsLineOf (length X.subject.picture.sides) (Line.Parts n o b) → Counts X.subject.picture n o b → IsGrowing X 0 (Line.Shape (heading_of X sides) ∷ Line.Parts n o b ∷ [])
 growing_none g X sides n o b h e three first on second counts =
-    let l = Line.Shape sides X.name in
+    let l = Line.Shape (heading_of X sides) in
     let m = Line.Parts n o b in
     let S = X.subject in
     let claim : sides ≡ map pos S.picture.sides = sym (sides_back g sides h) ∙ ap (map pos) e in

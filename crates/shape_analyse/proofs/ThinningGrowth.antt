@@ -16,9 +16,9 @@ use Rattle.text_terms.proofs.ListPushes.{take_next, filter_map-same, filter_map-
 use Rattle.report_terms.proofs.SectionLaws.{none_past, come_more, come_past, good_at, lines_push}
 use Rattle.report_terms.proofs.HeadingFirst.{gives_rule}
 use Rattle.report_terms.proofs.ThinningShown.{step_at}
-use Rattle.report_terms.proofs.FramedFields.{within_short}
+use Rattle.text_terms.proofs.FramedFields.{within_short}
 use Rattle.shape_thin.specs.Runs.{event_point}
-use Rattle.shape_analyse.specs.Growing.{Aim, IsSurveyed, HasEvents, HasKept, event_line}
+use Rattle.shape_analyse.specs.Growing.{Aim, heading_of, IsSurveyed, HasEvents, HasKept, event_line}
 use Rattle.shape_analyse.proofs.Growth.{names_rule, text_push, good_more}
 
 -- no event came yet
@@ -91,7 +91,7 @@ kept_done X lines old new e f h =
     let is = text_push old new lines Line.End e f in
     record {
       holds = (lines, record { split = is ∙ sym (append-nil (text_of (lines ++ Line.End ∷ []))); fields = all.fields; short = all.short; good = all.good });
-      named = gives_rule X.subject (lines ++ Line.End ∷ []) new all.named.sides X.name all.good all.named.first is;
+      named = gives_rule X.subject (lines ++ Line.End ∷ []) new (heading_of X all.named.sides) X.name all.good all.named.first refl is;
     }
 
 -- the line of an event in the framed box

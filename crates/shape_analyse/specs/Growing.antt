@@ -4,11 +4,11 @@ use Rattle.std.specs.Prelude.{◌≡◌, ◌+◌, ◌≤◌, ℕ, List, [], ◌�
 use Rattle.shape_terms.specs.Points.{Point}
 use Rattle.shape_terms.specs.Pictures.{Picture, object_points}
 use Rattle.shape_terms.specs.Traces.{Contour, AreContours}
-use Rattle.shape_terms.specs.Covers.{Evidence, Stretch}
+use Rattle.shape_terms.specs.Covers.{Stretch}
 use Rattle.thin_terms.specs.Thinning.{Rule, Event}
 use Rattle.thin_terms.specs.Shelves.{Named}
 use Rattle.report_terms.specs.Subjects.{Subject, IsOnShelf}
-use Rattle.report_terms.specs.Lines.{Line, spelling, text_of, IsLineOf}
+use Rattle.report_terms.specs.Lines.{Line, Heading, spelling, text_of, IsLineOf}
 use Rattle.report_terms.specs.ContourLines.{Standing, standing, IsFull}
 use Rattle.report_terms.specs.ThinningLines.{events_of, kept_facts, ThinningComplete}
 use Rattle.report_terms.specs.Sections.{Section, lines_of, HasCome, GoodSoFar}
@@ -23,10 +23,14 @@ pub record Aim : Type 0 where
 abbrev pub aim_of : Picture → List (Named Rule) → List ℕ → Rule → Aim
 aim_of X shelf name rule = record { subject = record { picture = X; shelf = shelf }; name = name; rule = rule }
 
+-- the heading of a report with these sides
+abbrev pub heading_of : Aim → Point → Heading
+heading_of X sides = record { number = 1; sides = sides; rule = X.name }
+
 -- the lines have one heading, which names the rule
 pub record HasHeading (X : Aim) (lines : List Line) : Type 0 where
   pub sides : Point
-  pub first : lines_of Section.Heading lines ≡ Line.Shape sides X.name ∷ []
+  pub first : lines_of Section.Heading lines ≡ Line.Shape (heading_of X sides) ∷ []
   pub on_shelf : IsOnShelf X.subject.shelf X.name X.rule
 
 -- short lines of the reports of pictures like X, each good after those before it, of which the first names the rule
@@ -119,8 +123,3 @@ event_line (Event.Tip p) = Line.Tip p
 -- what was found is the cover of some contour
 abbrev pub IsSomeCover : List Found → Type 0
 IsSomeCover found = (points : List Point) × IsCoverOf points found
-
--- the gap line of an axis that gives this evidence
-abbrev pub gap_line : ℕ → Evidence → Line
-gap_line t (Evidence.Turned i j) = Line.Turn t i j
-gap_line t (Evidence.Cut why) = Line.Cut t why

@@ -32,7 +32,11 @@ fn open<P: Pairing>(
     ensures few { P.DIM ≤ 3 }
 {
     let sides = grid.sides().lengths;
-    let head = Line::Shape { sides, rule };
+    let head = Line::Shape {
+        number: 1,
+        sides,
+        rule,
+    };
     let counts: Line<P> = Line::Parts {
         points: grid.count(),
         object: counted.object,

@@ -2,17 +2,13 @@
 //! What is found of a contour comes from `shape_crack` and `shape_cover`.
 ghost use Rattle.std.specs.Prelude.{◌≡◌, ◌≤◌, ◌<◌, ◌+◌, ◌*◌, ◌^◌, ℕ, List, [], ◌∷◌, ◌++◌, Some, slice_get, IfOk, OnOk, length, All};
 ghost use Rattle.shape_terms.specs.Traces.{Contour as Trace};
-ghost use Rattle.report_terms.specs.Lines.{line_text, IsLineOf};
-ghost use Rattle.shape_report.specs.LineOf.{line_of};
 ghost use Rattle.shape_crack.specs.Terms.{point_of};
-ghost use Rattle.shape_refute.specs.Evidences.{evidence_of};
 ghost use Rattle.shape_cover.specs.Found.{IsCoverOf};
-ghost use Rattle.shape_analyse.specs.Growing.{Aim, HasOutlined, IsTextOf, Stands, IsSomeCover, gap_line, outlined, covered};
+ghost use Rattle.shape_analyse.specs.Growing.{Aim, HasOutlined, IsTextOf, Stands, IsSomeCover, outlined, covered};
 ghost use Rattle.shape_analyse.specs.Tallies.{HasSegments, HaveCovers};
 
 use shape_cover::{Cover, cover};
 use shape_crack::{Contour, Contours};
-use shape_refute::Refusal;
 use shape_report::{Line, Report};
 use shape_space::{NoMemory, P2};
 use std::alloc::Global;
@@ -63,23 +59,6 @@ fn add_segments(cover: &Cover, report: &mut Report) -> Result<(), NoMemory>
     Ok(())
 }
 
-// Adds the line of a gap for one axis.
-fn add_gap(axis: u8, refusal: Refusal, report: &mut Report) -> Result<(), NoMemory>
-    requires { IsLineOf 2 (gap_line axis (evidence_of refusal)) }
-    ensures { OnOk result (report.new
-        ≡ report.old ++ line_text (gap_line axis (evidence_of refusal))) }
-{
-    let line: Line<P2> = match refusal {
-        Refusal::Turned(turn) => Line::Turn {
-            axis,
-            i: turn.i,
-            j: turn.j,
-        },
-        Refusal::Cut(why) => Line::Cut { axis, why },
-    };
-    report.add(&line)
-}
-
 // Adds the lines of the gaps of a contour, for each the one of the axis x and then the one of the axis y.
 fn add_gaps(cover: &Cover, report: &mut Report) -> Result<(), NoMemory>
     requires { IsSomeCover cover.now }
@@ -91,8 +70,14 @@ fn add_gaps(cover: &Cover, report: &mut Report) -> Result<(), NoMemory>
 {
     for j in 0..cover.len() {
         let gap = cover.gap(j);
-        add_gap(0, gap.x, report)?;
-        add_gap(1, gap.y, report)?;
+        report.add(&Line::<P2>::Gap {
+            axis: 0,
+            refusal: gap.x,
+        })?;
+        report.add(&Line::<P2>::Gap {
+            axis: 1,
+            refusal: gap.y,
+        })?;
     }
     Ok(())
 }

@@ -9,7 +9,7 @@ use Rattle.shape_terms.specs.Pictures.{Picture}
 use Rattle.thin_terms.specs.Thinning.{Rule}
 use Rattle.thin_terms.specs.Shelves.{Named, AreNames, names_of, rules_of}
 use Rattle.report_terms.specs.Subjects.{Subject, subject_of, IsOnShelf}
-use Rattle.report_terms.specs.Lines.{Line, spelled}
+use Rattle.report_terms.specs.Lines.{Line, Heading, spelled}
 use Rattle.report_terms.specs.Sections.{Section, rank, lines_of, GoodAfter, NamesRule, analysis}
 use Rattle.report_terms.specs.Holds.{FirstBad}
 use Rattle.report_terms.specs.Progress.{StartsWithLine}
@@ -46,21 +46,21 @@ ruled_by X apart heading rule names = record { names = names; alone = λ other o
 
 -- ---- behind the heading
 
-module _ (X : Subject) (sides : Point) (name : List ℕ) (rule : Rule) (given : sides ≡ map pos X.picture.sides) (on : IsOnShelf X.shelf name rule) where
+module _ (X : Subject) (h : Heading) (rule : Rule) (given : h.sides ≡ map pos X.picture.sides) (on : IsOnShelf X.shelf h.rule rule) where
   -- the heading is good where no line stands before it
-  good_first : GoodAfter X [] (Line.Shape sides name)
+  good_first : GoodAfter X [] (Line.Shape h)
   good_first = record { come = come_none X; claim = (refl, (given, (rule, on))) }
 
-  pub behind_heading : AreNames (names_of X.shelf) → (s : Section) → rank s ≡ 1 → (text : List ℕ) (new : Option (List ℕ)) → TakesClaim (length X.picture.sides) text new (Line.Shape sides name) → GoingOn (analysis X) text new (BehindHeading X rule s) 2
+  pub behind_heading : AreNames (names_of X.shelf) → (s : Section) → rank s ≡ 1 → (text : List ℕ) (new : Option (List ℕ)) → TakesClaim (length X.picture.sides) text new (Line.Shape h) → GoingOn (analysis X) text new (BehindHeading X rule s) 2
   behind_heading apart s one text new t = record {
-    lines = Line.Shape sides name ∷ [];
+    lines = Line.Shape h ∷ [];
     bytes = t.rest;
     told = t.left;
-    front = begins_next (analysis X) text [] text (Line.Shape sides name) t.rest (begins_none (analysis X) text) t.starts good_first;
+    front = begins_next (analysis X) text [] text (Line.Shape h) t.rest (begins_none (analysis X) text) t.starts good_first;
     follows = record {
-      ruled = ruled_by X apart _ rule (record { sides = sides; name = name; first = refl; on_shelf = on });
-      come = come_past X Section.Heading s (Line.Shape sides name ∷ []) one (come_more X Section.Heading [] (Line.Shape sides name) (come_none X) refl) refl;
-      none = none_past Section.Heading s (Line.Shape sides name ∷ []) (omega (arith, one)) (come_more X Section.Heading [] (Line.Shape sides name) (come_none X) refl).order;
+      ruled = ruled_by X apart _ rule (record { heading = h; first_is = refl; on_shelf = on });
+      come = come_past X Section.Heading s (Line.Shape h ∷ []) one (come_more X Section.Heading [] (Line.Shape h) (come_none X) refl) refl;
+      none = none_past Section.Heading s (Line.Shape h ∷ []) (omega (arith, one)) (come_more X Section.Heading [] (Line.Shape h) (come_none X) refl).order;
     };
     number = omega arith;
   }
@@ -70,9 +70,7 @@ pub no_heading : (X : Subject) (sides : Point) (text : List ℕ) → sides ≡ m
 no_heading X sides text given lacks = first_bad (analysis X) (are_spelled (length X.picture.sides)) text [] text (begins_none (analysis X) text) (λ l rest starts good. bad l rest starts good) (λ front e z. let m = ap length e in omega (arith, m, length-append front (Line.End ∷ [])))
   where
     bad : (l : Line) (rest : List ℕ) → StartsWithLine (length X.picture.sides) text l rest → GoodAfter X [] l → ⊥
-    bad (Line.Shape s n) rest starts good =
-        let same = ap (λ t. Line.Shape t n) (good.claim.1.0 ∙ sym given) in
-        lacks (Line.Shape s n) rest starts n same (Contains-map (λ e. e.name) X.shelf _ good.claim.1.1.1)
+    bad (Line.Shape h) rest starts good = lacks (Line.Shape h) rest starts h refl (good.claim.1.0 ∙ sym given) (Contains-map (λ e. e.name) X.shelf _ good.claim.1.1.1)
     bad l rest starts good = absurd (let c = good.come.complete Section.Heading (omega arith) in omega (arith, c))
 
 -- ---- the heading, where the rules stand on a shelf
@@ -82,7 +80,7 @@ module _ {R : Type 0} (means : R → Rule) (X : Picture) (shelf : List (Named R)
   pub heading_taken : AreNames (names_of shelf) → (i : ℕ) (r : R) → slice_get (rules_of shelf) i ≡ Some r → (s : Section) → rank s ≡ 1 → (text new : Option (List ℕ))
       → IfTold text (λ bytes. TakesHeading d sides (names_of shelf) bytes new i) → HasCome (analysis (subject_of X (rules_on means shelf))) (BehindHeading (subject_of X (rules_on means shelf)) (means r) s) text new 2
   heading_taken apart i r there s one text new h = if_told text (λ t k.
-      behind_heading (subject_of X (rules_on means shelf)) sides k.heading.name (means r) given (rule_there means shelf i r k.heading.name there k.heading.there) (subst AreNames (sym (names_on means shelf)) apart) s one t new
+      behind_heading (subject_of X (rules_on means shelf)) k.heading.heading (means r) (k.heading.given ∙ given) (rule_there means shelf i r k.heading.heading.rule there k.heading.there) (subst AreNames (sym (names_on means shelf)) apart) s one t new
       (subst (λ l. TakesClaim (length X.sides) t new l) k.heading.is (subst (λ e. TakesClaim e t new k.line) (sym axes) k.takes))) h
 
   -- there is none
@@ -93,10 +91,10 @@ module _ {R : Type 0} (means : R → Rule) (X : Picture) (shelf : List (Named R)
 
 module _ (X : Subject) (rule : Rule) (s : Section) (one : rank s ≡ 1) (lines : List Line) (l : Line) (ruled : IsRuledBy X (lines_of Section.Heading lines) rule) where
   pub may_come : MayCome X s lines l
-  may_come good = omega (arith, one, past_heading X lines l _ ruled.names.first good)
+  may_come good = omega (arith, one, past_heading X lines l _ ruled.names.first_is good)
 
   pub still_ruled : GoodAfter X lines l → IsRuledBy X (lines_of Section.Heading (lines ++ l ∷ [])) rule
-  still_ruled good = subst (λ ls. IsRuledBy X ls rule) (sym (lines_skip Section.Heading lines l (past_heading X lines l _ ruled.names.first good))) ruled
+  still_ruled good = subst (λ ls. IsRuledBy X ls rule) (sym (lines_skip Section.Heading lines l (past_heading X lines l _ ruled.names.first_is good))) ruled
 
 -- ---- bytes taken ahead, faults before
 

@@ -3,7 +3,7 @@
 use Rattle.std.specs.Prelude.{◌≡◌, ℕ, List, Option, Some, None, Contains, slice_get, Result, Ok, Err}
 use Rattle.shape_terms.specs.Points.{Point}
 use Rattle.shape_desk.specs.Line.{IfTold}
-use Rattle.report_terms.specs.Lines.{Line}
+use Rattle.report_terms.specs.Lines.{Line, Heading}
 use Rattle.report_terms.specs.Progress.{StartsWithLine}
 use Rattle.shape_report.specs.Next.{TakesClaim}
 use Rattle.report_text.specs.Checks.{HasCause}
@@ -11,13 +11,14 @@ use Rattle.report_text.specs.declared.answer.CheckFault.{CheckFault}
 
 -- the line gives these sides, and the name that stands at place i among the names
 pub record IsHeading (sides : Point) (names : List (List ℕ)) (l : Line) (i : ℕ) : Type 0 where
-  pub name : List ℕ
-  pub is : l ≡ Line.Shape sides name
-  pub there : slice_get names i ≡ Some name
+  pub heading : Heading
+  pub is : l ≡ Line.Shape heading
+  pub given : heading.sides ≡ sides
+  pub there : slice_get names i ≡ Some heading.rule
 
 -- the line does not give these sides and one of the names
 abbrev pub IsNoHeading : Point → List (List ℕ) → Line → Type 0
-IsNoHeading sides names l = (name : List ℕ) → l ≡ Line.Shape sides name → Contains names name → ⊥
+IsNoHeading sides names l = (h : Heading) → l ≡ Line.Shape h → h.sides ≡ sides → Contains names h.rule → ⊥
 
 -- the heading was taken from the front of the bytes, and the rest is left now
 pub record TakesHeading (d : ℕ) (sides : Point) (names : List (List ℕ)) (bytes : List ℕ) (new : Option (List ℕ)) (i : ℕ) : Type 0 where

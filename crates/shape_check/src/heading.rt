@@ -22,7 +22,11 @@ fn entry_of<P: Point>(sides: Sides<P>, shelf: &Shelf, line: &Line<P>) -> Option<
     ensures there { IfSome result (λ i. i < length shelf.now) }
 {
     match line {
-        Line::Shape { sides: given, rule } => {
+        Line::Shape {
+            sides: given,
+            rule,
+            ..
+        } => {
             if *given != sides.lengths {
                 return None;
             }

@@ -1,9 +1,13 @@
 pub mod Files
+pub mod Formats
+pub mod LargeSides
 pub mod Endings
 pub mod Sources
 pub mod WordLists
 pub mod SideWords
+pub mod SourceWords
 pub mod OneCommand
+pub mod Reading
 pub mod Complete
 pub mod NumberWords
 pub mod TriedReports

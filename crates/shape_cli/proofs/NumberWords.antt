@@ -8,7 +8,7 @@ use Rattle.std.proofs.lemmas.Fmt.{decimal_injective, decimal_is_IsNumeral}
 use Rattle.std.proofs.lemmas.Int.{ints}
 use Rattle.shape_desk.proofs.Numbers.{no_minus}
 use Rattle.report_text.specs.Reading.{ReadsNumberWord}
-use Rattle.shape_cli.specs.Commands.{IsNoNumber}
+use Rattle.shape_cli.specs.Numbers.{IsNoNumber}
 
 fits : (n : ℕ) → n < 2 ^ 32 → FitsSigned w64 (pos n)
 fits n l = record { sfits = omega (arith, ints, l) }

@@ -1,5 +1,5 @@
 -- The words of sides: they spell one triple of sides at most, and the program reads the one that they spell.
--- Over plain numbers and words; commands stand in `OneCommand`.
+-- Over plain numbers and words; sources stand in `SourceWords`.
 use Rattle.std.proofs.Common.{◌≡◌, ℕ, ◌<◌, ◌^◌, List, [], ◌∷◌, length, Option, None, Some, Result, rules, refl, ap, sym, ◌∙◌, arith}
 use Rattle.std.specs.Prelude.{ℤ, pos, negsuc, nat_abs, ◌≤ℤ◌, ◌↔◌, FitsSigned, IsSome, IfSome, MatchOption, OkIff}
 use Rattle.std.specs.Result.{result_ok}
@@ -9,11 +9,12 @@ use Rattle.std.specs.Fmt.{decimal, signed_decimal}
 use Rattle.std.proofs.lemmas.Fmt.{decimal_injective, signed_decimal_injective}
 use Rattle.std.proofs.lemmas.Int.{ints}
 use Rattle.shape_terms.specs.Points.{AreSides}
-use Rattle.shape_cli.specs.Commands.{Source, HasSides, IsNoSides, ReadsCoordinate, most_volume_side, side_words, source_words, read_source}
+use Rattle.shape_cli.specs.Numbers.{ReadsCoordinate}
+use Rattle.shape_cli.specs.Sources.{Source, HasSides, IsNoSides, most_volume_side, side_words, source_words, read_source}
 use Rattle.report_text.specs.Reading.{ReadsField}
 use Rattle.report_text.proofs.Numbers.{read_short}
-use Rattle.shape_cli.specs.declared.words.Source.{Source as ProgramSource}
-use Rattle.shape_cli.specs.declared.words.Source.TheVariants as source
+use Rattle.shape_cli.specs.declared.source.Source.{Source as ProgramSource}
+use Rattle.shape_cli.specs.declared.source.Source.TheVariants as source
 
 -- each of three sides is from 1 to the greatest
 record ThreeSides (x y z : ℤ) : Type 0 where

@@ -1,67 +1,68 @@
 -- The commands of the program and their words: what is asked for, times where the picture is read.
--- A further source or command is a constructor and its words.
-use Rattle.std.specs.Prelude.{◌≡◌, ◌++◌, ◌<◌, ◌≤◌, ◌^◌, ℕ, List, [], ◌∷◌, codes, map, slice_get, Option, None, Some, Contains, ⊤, ℤ, pos, nat_abs, ◌≢◌, FitsSigned}
-use Rattle.std.specs.Int.{w32}
-use Rattle.std.specs.Fmt.{decimal, signed_decimal}
+-- A further kind of report is one more line of the tables of `Kinds`; there are three commands for ever.
+use Rattle.std.specs.Prelude.{◌≡◌, ◌++◌, ◌<◌, ◌≤◌, ◌^◌, ℕ, List, [], ◌∷◌, codes, map, Option, ⊤}
+use Rattle.std.specs.Fmt.{decimal}
 use Rattle.std.specs.declared.vec.Vec.{Vec}
-use Rattle.shape_terms.specs.Points.{AreSides}
-use Rattle.shape_picture.specs.Answers.{most_side}
-use Rattle.shape_cli.specs.declared.words.Kind.{Kind as ProgramKind}
-use Rattle.shape_cli.specs.declared.words.Kind.TheVariants as kind
-use Rattle.shape_cli.specs.declared.words.Source.{Source as ProgramSource}
-use Rattle.shape_cli.specs.declared.words.Source.TheVariants as source
-use Rattle.shape_cli.specs.declared.words.Command.{Command}
-use Rattle.shape_cli.specs.declared.words.Command.TheVariants as command
+use Rattle.text_terms.specs.Tables.{kind_among}
+use Rattle.shape_cli.specs.Sources.{Kind, Source, kind_at, kind_word, HasSides, source_words, most_side_of, read_kind, read_source}
+use Rattle.shape_cli.specs.Kinds.{ReportKind, Wanted, kind_of, report_kinds, make_word, check_word, last_words, IsNamed, Takes, read_report_kind, read_wanted, IsFound}
+use Rattle.shape_cli.specs.declared.command.First.{First as ProgramFirst}
+use Rattle.shape_cli.specs.declared.command.First.TheVariants as first
+use Rattle.shape_cli.specs.declared.command.Command.{Command}
+use Rattle.shape_cli.specs.declared.command.Command.TheVariants as command
 
--- where a picture is read: a PBM in a file, or a raw volume of these sides in one
-pub data Source : Type 0 where
-  Pbm : (file : List ℕ) → Source
-  Raw : (x y z : ℕ) → (file : List ℕ) → Source
-
--- a kind of picture: flat, or a volume
-pub data Kind : Type 0 where
-  Flat Solid : Kind
-
--- a command: the analysis of a picture with a rule, the check of a report of it, or the trial of a picture that is made from a seed
+-- a command: the making of a report of a picture, the check of a report of it, or the trial of a picture that is made from a seed
 pub data Asked : Type 0 where
-  Analyse : (source : Source) → (rule : List ℕ) → Asked
-  Check : (source : Source) → (report : List ℕ) → Asked
+  Make : (source : Source) → (wanted : Wanted) → Asked
+  Check : (source : Source) → (kind : ReportKind) → (report : List ℕ) → Asked
   Trial : (kind : Kind) → (seed side : ℕ) → Asked
 
--- the file of a source
-abbrev pub file_of : Source → List ℕ
-file_of (Source.Pbm file) = file
-file_of (Source.Raw x y z file) = file
-
--- the command reads its picture from a source that is so
-abbrev pub OfSource : Asked → (Source → Type 0) → Type 0
-OfSource (Asked.Analyse source rule) P = P source
-OfSource (Asked.Check source report) P = P source
+-- the command reads a picture at a source, for a report of a kind, that are so
+abbrev pub OfSource : Asked → (ReportKind → Source → Type 0) → Type 0
+OfSource (Asked.Make source wanted) P = P (kind_of wanted) source
+OfSource (Asked.Check source kind report) P = P kind source
 OfSource (Asked.Trial kind seed side) P = ⊥
 
--- the source of the command is so, where it reads its picture from one
-abbrev pub IfSource : Asked → (Source → Type 0) → Type 0
-IfSource (Asked.Analyse source rule) P = P source
-IfSource (Asked.Check source report) P = P source
+-- the source of the command and its kind of report are so, where it reads its picture
+abbrev pub IfSource : Asked → (ReportKind → Source → Type 0) → Type 0
+IfSource (Asked.Make source wanted) P = P (kind_of wanted) source
+IfSource (Asked.Check source kind report) P = P kind source
 IfSource (Asked.Trial kind seed side) P = ⊤
 
--- the greatest side of a volume
-abbrev pub most_volume_side : ℕ
-most_volume_side = 192
+-- ---- words
 
--- the sides that the words of a source give are those of a volume
-abbrev pub HasSides : Source → Type 0
-HasSides (Source.Pbm file) = ⊤
-HasSides (Source.Raw x y z file) = AreSides (pos most_volume_side) (pos x ∷ pos y ∷ pos z ∷ [])
+-- how the words begin: a report of a kind is asked for, or its check, or a trial
+pub data First : Type 0 where
+  Make Check : (kind : ReportKind) → First
+  Trial : First
 
--- the words of the sides of a volume
-abbrev pub side_words : (x y z : ℕ) → List (List ℕ)
-side_words x y z = decimal x ∷ decimal y ∷ decimal z ∷ []
+-- how the words of a command begin
+abbrev pub first_of : Asked → First
+first_of (Asked.Make source wanted) = First.Make (kind_of wanted)
+first_of (Asked.Check source kind report) = First.Check kind
+first_of (Asked.Trial kind seed side) = First.Trial
 
--- the greatest side of a picture that a trial makes
-abbrev pub most_side_of : Kind → ℕ
-most_side_of Kind.Flat = most_side
-most_side_of Kind.Solid = most_volume_side
+-- the first word
+abbrev pub first_word : First → List ℕ
+first_word (First.Make kind) = make_word kind
+first_word (First.Check kind) = check_word kind
+first_word First.Trial = codes "trial"
+
+-- the words of a trial behind its first
+abbrev pub trial_words : Kind → (seed side : ℕ) → List (List ℕ)
+trial_words kind seed side = kind_word kind ∷ decimal seed ∷ decimal side ∷ []
+
+-- the words behind the first
+abbrev pub rest_of : Asked → List (List ℕ)
+rest_of (Asked.Make source wanted) = source_words source ++ last_words wanted
+rest_of (Asked.Check source kind report) = source_words source ++ report ∷ []
+rest_of (Asked.Trial kind seed side) = trial_words kind seed side
+
+-- the one spelling of a command
+abbrev pub words_of : Asked → List (List ℕ)
+words_of c = first_word (first_of c) ∷ rest_of c
+
+-- ---- ranges
 
 -- the numbers of a trial: a seed of 32 bits, and a side of the kind
 pub record AreTrial (kind : Kind) (seed side : ℕ) : Type 0 where
@@ -69,44 +70,16 @@ pub record AreTrial (kind : Kind) (seed side : ℕ) : Type 0 where
   pub some : 1 ≤ side
   pub most : side ≤ most_side_of kind
 
--- the words are those of no sides of a volume
-abbrev pub IsNoSides : List (List ℕ) → Type 0
-IsNoSides words = (x y z : ℕ) → AreSides (pos most_volume_side) (pos x ∷ pos y ∷ pos z ∷ []) → words ≡ side_words x y z → ⊥
-
--- the words of a source
-abbrev pub source_words : Source → List (List ℕ)
-source_words (Source.Pbm file) = codes "pbm" ∷ file ∷ []
-source_words (Source.Raw x y z file) = codes "raw" ∷ (side_words x y z ++ file ∷ [])
-
--- the words of a source between a first and a last word
-abbrev pub with_words : List ℕ → Source → List ℕ → List (List ℕ)
-with_words first source last = first ∷ (source_words source ++ last ∷ [])
-
--- the word of a kind
-abbrev pub kind_word : Kind → List ℕ
-kind_word Kind.Flat = codes "pbm"
-kind_word Kind.Solid = codes "raw"
-
--- the words of a trial behind its first
-abbrev pub trial_words : Kind → (seed side : ℕ) → List (List ℕ)
-trial_words kind seed side = kind_word kind ∷ decimal seed ∷ decimal side ∷ []
-
--- the one spelling of a command
-abbrev pub words_of : Asked → List (List ℕ)
-words_of (Asked.Analyse source rule) = with_words (codes "analyse") source rule
-words_of (Asked.Check source report) = with_words (codes "check") source report
-words_of (Asked.Trial kind seed side) = codes "trial" ∷ trial_words kind seed side
-
 -- the numbers of a command are in range
 abbrev pub HasNumbers : Asked → Type 0
-HasNumbers (Asked.Analyse source rule) = HasSides source
-HasNumbers (Asked.Check source report) = HasSides source
+HasNumbers (Asked.Make source wanted) = HasSides source
+HasNumbers (Asked.Check source kind report) = HasSides source
 HasNumbers (Asked.Trial kind seed side) = AreTrial kind seed side
 
--- the numbers of a command are in range, and its rule is one of these names
+-- its numbers are in range, there are reports of its kind about such pictures, and its rule is one of these names
 abbrev pub IsInRange : List (List ℕ) → Asked → Type 0
-IsInRange names (Asked.Analyse source rule) = HasSides source × Contains names rule
-IsInRange names (Asked.Check source report) = HasSides source
+IsInRange names (Asked.Make source wanted) = HasSides source × Takes (kind_of wanted) (kind_at source) × IsNamed names wanted
+IsInRange names (Asked.Check source kind report) = HasSides source × Takes kind (kind_at source)
 IsInRange names (Asked.Trial kind seed side) = AreTrial kind seed side
 
 -- the words spell no command
@@ -126,43 +99,42 @@ pub record Asks (names words : List (List ℕ)) (P : Asked → Type 0) : Type 0 
 abbrev pub texts : {Z : Type 0} → List (Vec ℕ Z) → List (List ℕ)
 texts words = map (λ w. w.items) words
 
--- the number of 32 bits that a whole word spells: None exactly where there is none
-abbrev pub ReadsCoordinate : List ℕ → Option ℤ → Type 0
-ReadsCoordinate word None = (z : ℤ) → FitsSigned w32 z → word ≢ signed_decimal z
-ReadsCoordinate word (Some z) = FitsSigned w32 z × (word ≡ signed_decimal z)
+-- how words may begin
+abbrev pub firsts : List First
+firsts = map First.Make report_kinds ++ (map First.Check report_kinds ++ First.Trial ∷ [])
 
--- the words are those of no trial behind its first
-abbrev pub IsNoTrial : List (List ℕ) → Type 0
-IsNoTrial words = (kind : Kind) (seed side : ℕ) → AreTrial kind seed side → words ≡ trial_words kind seed side → ⊥
+-- how words with this first word begin
+abbrev pub begin_with : List ℕ → Option First
+begin_with word = kind_among first_word firsts word
 
--- the word is no number in a range
-abbrev pub IsNoNumber : (least most : ℕ) → List ℕ → Type 0
-IsNoNumber least most word = (n : ℕ) → least ≤ n → n ≤ most → word ≡ decimal n → ⊥
+-- the beginning that the program reads
+abbrev pub read_first : ProgramFirst → First
+read_first (first.Make kind) = First.Make (read_report_kind kind)
+read_first (first.Check kind) = First.Check (read_report_kind kind)
+read_first first.Trial = First.Trial
 
--- the word spells the number, which is in the range
-pub record SpellsNumber (least most : ℕ) (word : List ℕ) (n : ℕ) : Type 0 where
-  pub from : least ≤ n
-  pub up_to : n ≤ most
-  pub spelled : word ≡ decimal n
-
--- the kind that the program reads
-abbrev pub read_kind : ProgramKind → Kind
-read_kind kind.Flat = Kind.Flat
-read_kind kind.Solid = Kind.Solid
-
--- the source that the program reads
-abbrev pub read_source : ProgramSource → Source
-read_source (source.Pbm file) = Source.Pbm file.now
-read_source (source.Raw sides file) = Source.Raw (nat_abs sides.lengths.x) (nat_abs sides.lengths.y) (nat_abs sides.lengths.z) file.now
-
--- the place of its rule among the names is the one that the program found, and the numbers of a trial are in range
-abbrev pub IsFound : List (List ℕ) → Command → Type 0
-IsFound names (command.Analyse source rule which) = slice_get names which ≡ Some rule.now
-IsFound names (command.Check source report) = ⊤
-IsFound names (command.Trial kind seed side) = AreTrial (read_kind kind) seed side
+-- the words are those of no source of a picture for a report of the kind
+abbrev pub IsNoSourceFor : ReportKind → List (List ℕ) → Type 0
+IsNoSourceFor kind words = (s : Source) → HasSides s → Takes kind (kind_at s) → words ≡ source_words s → ⊥
 
 -- the command that the program does
 abbrev pub read_command : Command → Asked
-read_command (command.Analyse source rule which) = Asked.Analyse (read_source source) rule.now
-read_command (command.Check source report) = Asked.Check (read_source source) report.now
+read_command (command.Make source wanted) = Asked.Make (read_source source) (read_wanted wanted)
+read_command (command.Check source kind report) = Asked.Check (read_source source) (read_report_kind kind) report.now
 read_command (command.Trial kind seed side) = Asked.Trial (read_kind kind) seed side
+
+-- the program found what the command names, and its numbers are in range
+abbrev pub IsAtHand : List (List ℕ) → Command → Type 0
+IsAtHand names (command.Make source wanted) = Takes (kind_of (read_wanted wanted)) (kind_at (read_source source)) × IsFound names wanted
+IsAtHand names (command.Check source kind report) = Takes (read_report_kind kind) (kind_at (read_source source))
+IsAtHand names (command.Trial kind seed side) = AreTrial (read_kind kind) seed side
+
+-- the words behind such a first one are those of no command
+abbrev pub IsNoRest : List (List ℕ) → First → List (List ℕ) → Type 0
+IsNoRest names first rest = (c : Asked) → IsInRange names c → first_of c ≡ first → rest ≡ rest_of c → ⊥
+
+-- the words behind such a first one are those of the command
+pub record IsRead (names : List (List ℕ)) (first : First) (rest : List (List ℕ)) (c : Command) : Type 0 where
+  pub begins : first_of (read_command c) ≡ first
+  pub spelled : rest ≡ rest_of (read_command c)
+  pub at_hand : IsAtHand names c

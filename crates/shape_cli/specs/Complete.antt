@@ -6,7 +6,9 @@ use Rattle.thin_terms.specs.Thinning.{Rule}
 use Rattle.thin_terms.specs.Shelves.{Named, names_of}
 use Rattle.shape_desk.specs.Desk.{Files, DeskState, Rose}
 use Rattle.shape_picture.specs.declared.fault.PictureFault.{PictureFault}
-use Rattle.shape_cli.specs.Commands.{Source, Asked, file_of, IsNoForm, Asks}
+use Rattle.shape_cli.specs.Sources.{Source, file_of}
+use Rattle.shape_cli.specs.Kinds.{ReportKind}
+use Rattle.shape_cli.specs.Commands.{Asked, IsNoForm, Asks}
 use Rattle.shape_cli.specs.Runs.{Spells, HasFault, Ran, KeepsFiles}
 use Rattle.shape_cli.specs.declared.outcome.Outcome.{Outcome}
 use Rattle.shape_cli.specs.declared.outcome.Outcome.TheVariants as outcome
@@ -16,22 +18,22 @@ abbrev pub FileIs : Option Files → List ℕ → (List ℕ → Type 0) → Type
 FileIs None name P = ⊥
 FileIs (Some files) name P = MatchOption (files name) ⊥ P
 
--- the source is there, and it is the picture
-abbrev pub FindsPicture : Option Files → Source → Picture → Type 0
-FindsPicture files source X = FileIs files (file_of source) (Spells source X)
+-- the source is there, and it is the picture, for a report of the kind
+abbrev pub FindsPicture : Option Files → ReportKind → Source → Picture → Type 0
+FindsPicture files kind source X = FileIs files (file_of source) (Spells kind source X)
 
 -- the source is there, and it is some picture
-abbrev pub FindsSome : Option Files → Source → Type 0
-FindsSome files source = FileIs files (file_of source) (λ bytes. (X : Picture) × Spells source X bytes)
+abbrev pub FindsSome : Option Files → ReportKind → Source → Type 0
+FindsSome files kind source = FileIs files (file_of source) (λ bytes. (X : Picture) × Spells kind source X bytes)
 
 -- the source is there, and has this fault
-abbrev pub FindsFault : Option Files → Source → PictureFault → Type 0
-FindsFault files source f = FileIs files (file_of source) (HasFault source f)
+abbrev pub FindsFault : Option Files → ReportKind → Source → PictureFault → Type 0
+FindsFault files kind source f = FileIs files (file_of source) (HasFault kind source f)
 
 -- the files beside the source's that the command reads are there
 abbrev pub FindsRest : Asked → Option Files → Type 0
-FindsRest (Asked.Analyse source rule) files = ⊤
-FindsRest (Asked.Check source report) files = FileIs files report (λ _. ⊤)
+FindsRest (Asked.Make source wanted) files = ⊤
+FindsRest (Asked.Check source kind report) files = FileIs files report (λ _. ⊤)
 FindsRest (Asked.Trial kind seed side) files = ⊤
 
 -- no count rose
@@ -41,9 +43,9 @@ pub record HasNoFault (old new : DeskState) : Type 0 where
 
 -- the outcome is one of the command's answers
 abbrev pub IsAnswer : Asked → Outcome → Type 0
-IsAnswer (Asked.Analyse source rule) outcome.Done = ⊤
-IsAnswer (Asked.Check source report) outcome.Yes = ⊤
-IsAnswer (Asked.Check source report) (outcome.No k) = ⊤
+IsAnswer (Asked.Make source wanted) outcome.Done = ⊤
+IsAnswer (Asked.Check source kind report) outcome.Yes = ⊤
+IsAnswer (Asked.Check source kind report) (outcome.No k) = ⊤
 IsAnswer (Asked.Trial kind seed side) outcome.Done = ⊤
 IsAnswer _ _ = ⊥
 

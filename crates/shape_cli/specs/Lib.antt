@@ -1,4 +1,8 @@
 pub mod Outcomes
+pub mod Numbers
+pub mod Sources
+pub mod Formats
+pub mod Kinds
 pub mod Commands
 pub mod Trials
 pub mod Runs

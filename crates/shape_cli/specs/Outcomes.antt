@@ -36,7 +36,7 @@ abbrev pub message_of : Outcome → List ℕ
 message_of outcome.Done = []
 message_of outcome.Yes = []
 message_of (outcome.No k) = []
-message_of outcome.Usage = codes "usage: analyse pbm FILE RULE, analyse raw X Y Z FILE RULE, check pbm FILE REPORT, check raw X Y Z FILE REPORT, trial pbm SEED SIDE, trial raw SEED SIDE"
+message_of outcome.Usage = codes "usage: analyse pbm FILE RULE, analyse raw X Y Z FILE RULE, check pbm FILE REPORT, check raw X Y Z FILE REPORT, trial pbm SEED SIDE, trial raw SEED SIDE, edges pbm FILE, checkedges pbm FILE REPORT, pieces pbm FILE, checkpieces pbm FILE REPORT, balls pbm FILE, balls raw X Y Z FILE, checkballs pbm FILE REPORT, checkballs raw X Y Z FILE REPORT"
 message_of (outcome.Picture f) = fault_message f
 message_of outcome.ReadFault = codes "read failed"
 message_of outcome.WriteFault = codes "write failed"

@@ -2,22 +2,29 @@
 -- These words are the program's own; its callers need `Runs` alone.
 use Rattle.std.specs.Prelude.{◌⊎◌, ℕ, List, ⊤, Result, Ok, Err}
 use Rattle.shape_terms.specs.Pictures.{Picture}
-use Rattle.report_terms.specs.Subjects.{Subject}
-use Rattle.report_terms.specs.Holds.{FirstBad}
+use Rattle.thin_terms.specs.Thinning.{Rule}
+use Rattle.thin_terms.specs.Shelves.{Named}
+use Rattle.text_terms.specs.Reports.{FirstBad}
+use Rattle.text_terms.specs.Going.{TakesFew}
 use Rattle.shape_desk.specs.Desk.{DeskState, Rose, IsMissing}
 use Rattle.shape_desk.specs.declared.desk.Place.TheVariants.{Report}
+use Rattle.edge_terms.specs.Corners.{HasSmallSides}
+use Rattle.shape_picture.specs.Answers.{Format}
+use Rattle.shape_picture.specs.declared.fault.PictureFault.{PictureFault}
 use Rattle.shape_picture.specs.declared.fault.PictureError.{PictureError}
 use Rattle.shape_picture.specs.declared.fault.PictureError.TheVariants as error
 use Rattle.report_text.specs.Checks.{IsLineNumber}
-use Rattle.shape_check.specs.Checks.{TakesFew}
 use Rattle.report_text.specs.declared.answer.Judgement.{Judgement}
 use Rattle.report_text.specs.declared.answer.Judgement.TheVariants as judgement
 use Rattle.report_text.specs.declared.answer.CheckFault.{CheckFault}
 use Rattle.report_text.specs.declared.answer.CheckFault.TheVariants as check
 use Rattle.shape_cli.specs.declared.picture.Image.{Image}
 use Rattle.shape_cli.specs.declared.picture.Image.TheVariants as image
-use Rattle.shape_cli.specs.Commands.{Source, file_of}
-use Rattle.shape_cli.specs.Runs.{OfFile, IsPictureOf, IsFaultOf, IsReport, yes_text, no_text}
+use Rattle.shape_cli.specs.declared.making.Made.{Made}
+use Rattle.shape_cli.specs.declared.making.Made.TheVariants as made
+use Rattle.shape_cli.specs.Sources.{Kind, IsFlat}
+use Rattle.shape_cli.specs.Kinds.{ReportKind, report_of}
+use Rattle.shape_cli.specs.Runs.{OfFile, IsRightReport, yes_text, no_text}
 
 -- the picture that was read, flat or solid
 abbrev pub picture_of : Image → Picture
@@ -29,30 +36,61 @@ abbrev pub seen : Result Image PictureError → Result Picture PictureError
 seen (Ok v) = Ok (picture_of v)
 seen (Err e) = Err e
 
--- what the reading of a source gives: its picture, its fault, or the cause of the failure
-abbrev pub Opened : Source → DeskState → DeskState → Result Picture PictureError → Type 0
-Opened source old new (Ok X) = IsPictureOf old.files source X
-Opened source old new (Err (error.Bad f)) = IsFaultOf old.files source f
-Opened source old new (Err error.ReadFault) = Rose old.read_faults new.read_faults ⊎ IsMissing old.files (file_of source)
-Opened source old new (Err error.NoMemory) = ⊤
+-- the kind of the picture that was read
+abbrev pub image_kind : Image → Kind
+image_kind (image.Flat X) = Kind.Flat
+image_kind (image.Solid X) = Kind.Solid
+
+-- what is asked of a picture of which a report of the kind is made or checked
+abbrev pub Suits : ReportKind → Image → Type 0
+Suits ReportKind.Analysis image = ⊤
+Suits ReportKind.Edges image = IsFlat (image_kind image) × HasSmallSides (picture_of image)
+Suits ReportKind.Pieces image = IsFlat (image_kind image)
+Suits ReportKind.Balls image = ⊤
+
+-- what the reading of a file in a format gives: its picture, its fault, or the cause of the failure
+abbrev pub Opened : Format → List ℕ → DeskState → DeskState → Result Picture PictureError → Type 0
+Opened F file old new (Ok X) = OfFile old.files file (F.spells X)
+Opened F file old new (Err (error.Bad f)) = OfFile old.files file (F.has_fault f)
+Opened F file old new (Err error.ReadFault) = Rose old.read_faults new.read_faults ⊎ IsMissing old.files file
+Opened F file old new (Err error.NoMemory) = ⊤
+
+-- what a format says of bytes: the picture that they spell, or a fault
+abbrev pub TellsOf : Format → List ℕ → Result Image PictureFault → Type 0
+TellsOf F bytes (Ok v) = F.spells (picture_of v) bytes
+TellsOf F bytes (Err f) = F.has_fault f bytes
+
+-- the bytes of a report that was made
+abbrev pub made_text : Made → List ℕ
+made_text (made.Analysis text) = text
+made_text (made.Edges text) = text
+made_text (made.Pieces text) = text
+made_text (made.FlatBalls listed) = listed.text
+made_text (made.SolidBalls listed) = listed.text
 
 -- the verdict line
 abbrev pub verdict_text : Judgement → List ℕ
 verdict_text judgement.Yes = yes_text
 verdict_text (judgement.No k) = no_text k
 
--- yes: the bytes are a report of the picture; no: the line is the first bad one
-abbrev pub IsRight : Subject → Judgement → List ℕ → Type 0
-IsRight X judgement.Yes bytes = IsReport X bytes
-IsRight X (judgement.No k) bytes = FirstBad X bytes k
+-- yes: the bytes are a report of the kind, of the picture; no: the line is the first bad one
+abbrev pub IsRight : List (Named Rule) → ReportKind → Picture → Judgement → List ℕ → Type 0
+IsRight shelf kind X judgement.Yes bytes = IsRightReport shelf kind X bytes
+IsRight shelf kind X (judgement.No k) bytes = FirstBad (report_of shelf kind X) bytes k
 
 -- the number of a line is one that the program can count to
 abbrev pub IsCounted : Judgement → Type 0
 IsCounted judgement.Yes = ⊤
 IsCounted (judgement.No k) = IsLineNumber k
 
+-- the verdict on the report in a file
+pub record HasVerdict (shelf : List (Named Rule)) (kind : ReportKind) (X : Picture) (report : List ℕ) (old new : DeskState) (v : Judgement) : Type 0 where
+  pub counted : IsCounted v
+  pub right : OfFile old.files report (IsRight shelf kind X v)
+  pub taken : OfFile old.files report (λ bytes. TakesFew (report_of shelf kind X) bytes (new.left Report))
+
 -- what the judging of a report's file gives
-abbrev pub Judged : Subject → List ℕ → DeskState → DeskState → Result Judgement CheckFault → Type 0
-Judged X report old new (Ok v) = IsCounted v × OfFile old.files report (IsRight X v) × OfFile old.files report (λ bytes. TakesFew X bytes (new.left Report))
-Judged X report old new (Err check.ReadFault) = Rose old.read_faults new.read_faults ⊎ IsMissing old.files report
-Judged X report old new (Err check.NoMemory) = ⊤
+abbrev pub Judged : List (Named Rule) → ReportKind → Picture → List ℕ → DeskState → DeskState → Result Judgement CheckFault → Type 0
+Judged shelf kind X report old new (Ok v) = HasVerdict shelf kind X report old new v
+Judged shelf kind X report old new (Err check.ReadFault) = Rose old.read_faults new.read_faults ⊎ IsMissing old.files report
+Judged shelf kind X report old new (Err check.NoMemory) = ⊤

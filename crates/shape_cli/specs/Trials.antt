@@ -10,7 +10,7 @@ use Rattle.shape_analyse.specs.Tallies.{IsTallyOf}
 use Rattle.shape_analyse.specs.declared.tally.Tally.{Tally}
 use Rattle.shape_analyse.specs.declared.tally.Extent.{Extent}
 use Rattle.shape_analyse.specs.declared.tally.Extent.TheVariants as extent
-use Rattle.shape_cli.specs.Commands.{Kind}
+use Rattle.shape_cli.specs.Sources.{Kind}
 
 -- the picture that a seed gives: of two axes, or of three
 abbrev pub trial_picture : Kind → (seed side : ℕ) → Picture

@@ -4,11 +4,12 @@ ghost use Rattle.std.specs.Prelude.{◌≡◌, ◌⊎◌, ℕ, List};
 ghost use Rattle.shape_terms.specs.Pictures.{Picture};
 ghost use Rattle.thin_terms.specs.Thinning.{Rule};
 ghost use Rattle.thin_terms.specs.Shelves.{Named, names_of};
-ghost use Rattle.report_terms.specs.Holds.{Holds};
+ghost use Rattle.text_terms.specs.Reports.{Holds};
 ghost use Rattle.shape_desk.specs.Desk.{DeskState, Rose};
 ghost use Rattle.shape_picture.specs.declared.fault.PictureFault.{PictureFault};
-ghost use Rattle.report_terms.specs.Subjects.{subject_of};
-ghost use Rattle.shape_cli.specs.Commands.{Source, Asked, HasNumbers, IsInRange, OfSource, IfSource, words_of};
+ghost use Rattle.shape_cli.specs.Sources.{Source};
+ghost use Rattle.shape_cli.specs.Kinds.{ReportKind, report_of};
+ghost use Rattle.shape_cli.specs.Commands.{Asked, HasNumbers, IsInRange, OfSource, IfSource, words_of};
 ghost use Rattle.shape_cli.specs.Runs.{Lacks, Ran};
 ghost use Rattle.shape_cli.specs.Complete.{FileIs, FindsPicture, FindsSome, FindsFault, FindsRest, HasNoFault, IsAnswer, HasRun};
 ghost use Rattle.shape_cli.specs.declared.outcome.Outcome.{Outcome};
@@ -33,7 +34,7 @@ pub fn runs_are_complete()
         → HasNoFault old new → IsAnswer c o ⊎ (o ≡ Outcome.NoMemory) }
     ensures refuses { (shelf : List (Named Rule)) (c : Asked) (old new : DeskState)
         (o : Outcome) (f : PictureFault)
-        → Ran shelf c old new o → OfSource c (λ source. FindsFault old.files source f)
+        → Ran shelf c old new o → OfSource c (λ kind source. FindsFault old.files kind source f)
         → (Rose old.read_faults new.read_faults → ⊥)
         → (o ≡ Outcome.Picture f) ⊎ (o ≡ Outcome.NoMemory) }
     ensures lacks { (shelf : List (Named Rule)) (c : Asked) (old new : DeskState) (o : Outcome)
@@ -43,15 +44,17 @@ pub fn runs_are_complete()
 
 /// A report that holds of the picture gets `yes`, and every other text `no`, where no count rose, but for want of memory.
 pub fn verdicts_are_right()
-    ensures yes { (shelf : List (Named Rule)) (source : Source) (report : List ℕ) (X : Picture)
-        (old new : DeskState) (o : Outcome)
-        → Ran shelf (Asked.Check source report) old new o → FindsPicture old.files source X
-        → FileIs old.files report (Holds (subject_of X shelf)) → HasNoFault old new
+    ensures yes { (shelf : List (Named Rule)) (source : Source) (kind : ReportKind)
+        (report : List ℕ) (X : Picture) (old new : DeskState) (o : Outcome)
+        → Ran shelf (Asked.Check source kind report) old new o
+        → FindsPicture old.files kind source X
+        → FileIs old.files report (Holds (report_of shelf kind X)) → HasNoFault old new
         → (o ≡ Outcome.Yes) ⊎ (o ≡ Outcome.NoMemory) }
-    ensures no { (shelf : List (Named Rule)) (source : Source) (report : List ℕ) (X : Picture)
-        (old new : DeskState) (o : Outcome)
-        → Ran shelf (Asked.Check source report) old new o → FindsPicture old.files source X
-        → FileIs old.files report (λ bytes. Holds (subject_of X shelf) bytes → ⊥)
+    ensures no { (shelf : List (Named Rule)) (source : Source) (kind : ReportKind)
+        (report : List ℕ) (X : Picture) (old new : DeskState) (o : Outcome)
+        → Ran shelf (Asked.Check source kind report) old new o
+        → FindsPicture old.files kind source X
+        → FileIs old.files report (λ bytes. Holds (report_of shelf kind X) bytes → ⊥)
         → HasNoFault old new
         → ((k : ℕ) × (o ≡ Outcome.No k)) ⊎ (o ≡ Outcome.NoMemory) }
 {}

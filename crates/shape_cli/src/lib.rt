@@ -2,15 +2,18 @@
 //! Everything that a user sees is an `Outcome`, or what was written to the desk.
 #![tactic(auto)]
 
-mod analysis;
+mod command;
+mod kind;
 mod laws;
+mod making;
+mod numbers;
 mod outcome;
 mod picture;
 mod rules;
+mod source;
 mod top;
 mod trial;
 mod verdict;
-mod words;
 
 pub use laws::{runs_are_complete, verdicts_are_right, words_are_of_one_command};
 pub use outcome::Outcome;

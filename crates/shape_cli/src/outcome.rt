@@ -52,7 +52,7 @@ impl Outcome {
             Outcome::Yes => "",
             Outcome::No { line: _ } => "",
             Outcome::Usage => {
-                "usage: analyse pbm FILE RULE, analyse raw X Y Z FILE RULE, check pbm FILE REPORT, check raw X Y Z FILE REPORT, trial pbm SEED SIDE, trial raw SEED SIDE"
+                "usage: analyse pbm FILE RULE, analyse raw X Y Z FILE RULE, check pbm FILE REPORT, check raw X Y Z FILE REPORT, trial pbm SEED SIDE, trial raw SEED SIDE, edges pbm FILE, checkedges pbm FILE REPORT, pieces pbm FILE, checkpieces pbm FILE REPORT, balls pbm FILE, balls raw X Y Z FILE, checkballs pbm FILE REPORT, checkballs raw X Y Z FILE REPORT"
             }
             Outcome::Picture(fault) => fault_text(*fault),
             Outcome::ReadFault => "read failed",

@@ -1,4 +1,4 @@
-//! The top call: what the words ask for is done by `analysis`, `verdict` or `trial`.
+//! The top call: what the words ask for is done by `making`, `verdict` or `trial`.
 //! What each outcome means for the desk stands in `specs/Runs.antt`.
 ghost use Rattle.std.specs.Prelude.{◌≡◌, ◌↔◌, ◌⊎◌};
 ghost use Rattle.thin_terms.specs.Shelves.{names_of};
@@ -6,11 +6,11 @@ ghost use Rattle.shape_rules.specs.Ruled.{rules_on};
 ghost use Rattle.shape_cli.specs.Commands.{texts, IsNoForm, Asks};
 ghost use Rattle.shape_cli.specs.Runs.{Ran, KeepsFiles};
 
-use crate::analysis::analyse_file;
+use crate::command::{Command, read_words};
+use crate::making::make_file;
 use crate::outcome::Outcome;
 use crate::trial::try_seed;
 use crate::verdict::check_file;
-use crate::words::{Command, read_words};
 use shape_desk::Desk;
 use shape_rules::Shelf;
 use std::alloc::Global;
@@ -20,7 +20,7 @@ use std::alloc::Global;
 /// The words are judged first, without memory and without the desk; then the picture is read, or made of a seed; then, for a
 /// check, the report is read; then the output is written. Want of memory may be answered at any time after the words.
 /// Of a report that got its verdict, the bytes of its good lines were taken, and at most 2048 more.
-/// The rule of an analysis is one on the shelf, that of a trial the last; a check goes by the rule that the report names.
+/// The rule of an analysis is one on the shelf, that of a trial the last; its check goes by the rule that the report names.
 pub fn run<D: Desk>(alloc: Global, words: &[Vec<u8>], desk: &mut D, mut shelf: Shelf) -> Outcome
     ensures usage { (result ≡ Outcome.Usage)
         ↔ IsNoForm (names_of (rules_on means shelf)) (texts words.now) }
@@ -31,12 +31,16 @@ pub fn run<D: Desk>(alloc: Global, words: &[Vec<u8>], desk: &mut D, mut shelf: S
     ensures kept { KeepsFiles (D.state desk.old) (D.state desk.new) }
 {
     match read_words(words, &shelf) {
-        Some(Command::Analyse { source, which, .. }) => {
-            analyse_file(alloc, source, &mut shelf, which, desk)
+        Some(Command::Make { source, wanted }) => {
+            make_file(alloc, source, wanted, &mut shelf, desk)
         }
-        Some(Command::Check { source, report }) => {
-            check_file(alloc, source, report, &mut shelf, desk)
-        }
+        Some(
+            Command::Check {
+                source,
+                kind,
+                report,
+            },
+        ) => check_file(alloc, source, kind, report, &mut shelf, desk),
         Some(Command::Trial { kind, seed, side }) => {
             try_seed(alloc, kind, seed, side, &mut shelf, desk)
         }

@@ -5,16 +5,17 @@ ghost use Rattle.std.specs.String.{string_bytes};
 ghost use Rattle.report_terms.specs.Holds.{Holds};
 ghost use Rattle.report_terms.specs.Subjects.{subject_of};
 ghost use Rattle.shape_rules.specs.Ruled.{rules_on};
-ghost use Rattle.shape_cli.specs.Commands.{Asked, AreTrial, read_kind};
+ghost use Rattle.shape_cli.specs.Sources.{read_kind};
+ghost use Rattle.shape_cli.specs.Commands.{Asked, AreTrial};
 ghost use Rattle.shape_cli.specs.Parts.{picture_of};
 ghost use Rattle.shape_cli.specs.Runs.{Ran, KeepsFiles};
 ghost use Rattle.shape_cli.specs.Trials.{IsTriedBy, trial_picture, counted_text, thinned_text, trial_text};
 
-use crate::analysis::analysis_of;
+use crate::making::analysis_of;
 use crate::outcome::Outcome;
 use crate::picture::Image;
-use crate::verdict::check_image;
-use crate::words::Kind;
+use crate::source::Kind;
+use crate::verdict::check_analysis;
 use shape_analyse::{Extent, Tally};
 use shape_check::{CheckFault, Judgement};
 use shape_desk::{Desk, SteadyDesk, put_all};
@@ -41,7 +42,7 @@ fn confirm(alloc: Global, image: &Image, report: Report, shelf: &mut Shelf) -> R
         (subject_of (picture_of image.now) (rules_on means shelf.old)) report }
 {
     let mut desk = SteadyDesk::new(Vec::new(alloc), report.into_text());
-    match check_image(alloc, image, &mut desk, shelf) {
+    match check_analysis(alloc, image, shelf, &mut desk) {
         Ok(Judgement::Yes) => Ok(()),
         // A report that holds gets no other verdict, and this desk does not fail.
         Ok(Judgement::No { .. }) => unreachable!(),

@@ -1,33 +1,42 @@
-//! The command `check`: the picture, then the report, then the verdict line.
-//! The report is judged line by line; nothing of it is kept.
+//! The commands that check a report: the picture, then the report, then the verdict line.
+//! The report is judged line by line; nothing of it is kept. A further kind is an arm of `check_image`.
 ghost use Rattle.std.specs.Prelude.{◌≡◌, ◌≤◌, length, take, true};
 ghost use Rattle.shape_rules.specs.Ruled.{rules_on};
 ghost use Rattle.shape_desk.specs.Desk.{OnlyReads, OnlyReadsAt, WritesText};
 ghost use Rattle.shape_desk.specs.declared.desk.Place.TheVariants.{Report};
-ghost use Rattle.shape_check.specs.Checks.{HasChecked};
+ghost use Rattle.report_text.specs.Checks.{HasChecked};
 ghost use Rattle.report_terms.specs.Subjects.{subject_of};
-ghost use Rattle.shape_cli.specs.Commands.{Asked, read_source};
+ghost use Rattle.report_terms.specs.Sections.{analysis};
+ghost use Rattle.ball_terms.specs.Reports.{ball_report};
+ghost use Rattle.shape_cli.specs.Sources.{kind_at, read_source};
+ghost use Rattle.shape_cli.specs.Kinds.{Takes, report_of, read_report_kind};
+ghost use Rattle.shape_cli.specs.Commands.{Asked};
 ghost use Rattle.shape_cli.specs.Outcomes.{outcome_of};
-ghost use Rattle.shape_cli.specs.Parts.{Judged, IsCounted, picture_of, verdict_text};
+ghost use Rattle.shape_cli.specs.Parts.{Suits, Judged, IsCounted, picture_of, verdict_text};
 ghost use Rattle.shape_cli.specs.Runs.{Ran, KeepsFiles};
 
+use crate::kind::ReportKind;
 use crate::outcome::{Outcome, refused};
 use crate::picture::{Image, open_picture};
-use crate::words::Source;
+use crate::source::Source;
+use judge_balls::check_balls;
+use judge_edges::check_edges;
+use judge_pieces::check_pieces;
 use shape_check::{CheckFault, Judgement, check_flat, check_solid};
 use shape_desk::{Desk, Failed, Place, put_all, put_number, put_word};
 use shape_rules::Shelf;
 use std::alloc::Global;
 
-// Checks the report that is begun against a picture.
-pub(crate) fn check_image<D: Desk>(
+// Checks the analysis that is begun against a picture.
+pub(crate) fn check_analysis<D: Desk>(
     alloc: Global,
     image: &Image,
-    desk: &mut D,
     shelf: &mut Shelf,
+    desk: &mut D,
 ) -> Result<Judgement, CheckFault>
     requires { (D.state desk.old).begun Report ≡ true }
-    ensures checked { HasChecked (subject_of (picture_of image.now) (rules_on means shelf.old))
+    ensures checked { HasChecked
+        (analysis (subject_of (picture_of image.now) (rules_on means shelf.old)))
         ((D.state desk.old).left Report) (D.state desk.old) (D.state desk.new) result }
     ensures reads { OnlyReadsAt Report (D.state desk.old) (D.state desk.new) }
 {
@@ -37,21 +46,62 @@ pub(crate) fn check_image<D: Desk>(
     }
 }
 
-// Judges the report in a file.
+// Checks the ball report that is begun against a picture.
+fn check_ball_report<D: Desk>(
+    alloc: Global,
+    image: &Image,
+    desk: &mut D,
+) -> Result<Judgement, CheckFault>
+    requires { (D.state desk.old).begun Report ≡ true }
+    ensures checked { HasChecked (ball_report (picture_of image.now))
+        ((D.state desk.old).left Report) (D.state desk.old) (D.state desk.new) result }
+    ensures reads { OnlyReadsAt Report (D.state desk.old) (D.state desk.new) }
+{
+    match image {
+        Image::Flat(grid) => check_balls(alloc, grid, desk),
+        Image::Solid(grid) => check_balls(alloc, grid, desk),
+    }
+}
+
+// Checks the report of a kind that is begun against a picture.
+fn check_image<D: Desk>(
+    alloc: Global,
+    image: &Image,
+    kind: ReportKind,
+    shelf: &mut Shelf,
+    desk: &mut D,
+) -> Result<Judgement, CheckFault>
+    requires begun { (D.state desk.old).begun Report ≡ true }
+    requires suits { Suits (read_report_kind kind) image.now }
+    ensures checked { HasChecked
+        (report_of (rules_on means shelf.old) (read_report_kind kind) (picture_of image.now))
+        ((D.state desk.old).left Report) (D.state desk.old) (D.state desk.new) result }
+    ensures reads { OnlyReadsAt Report (D.state desk.old) (D.state desk.new) }
+{
+    match kind {
+        ReportKind::Analysis => check_analysis(alloc, image, shelf, desk),
+        ReportKind::Edges => check_edges(alloc, image.flat(), desk),
+        ReportKind::Pieces => check_pieces(alloc, image.flat(), desk),
+        ReportKind::Balls => check_ball_report(alloc, image, desk),
+    }
+}
+
+// Judges the report of a kind in a file.
 fn judge<D: Desk>(
     alloc: Global,
     image: &Image,
+    kind: ReportKind,
     report: &[u8],
     shelf: &mut Shelf,
     desk: &mut D,
 ) -> Result<Judgement, CheckFault>
-    ensures judged { Judged
-        (subject_of (picture_of image.now) (rules_on means shelf.old)) report.now
-        (D.state desk.old) (D.state desk.new) result }
+    requires suits { Suits (read_report_kind kind) image.now }
+    ensures judged { Judged (rules_on means shelf.old) (read_report_kind kind)
+        (picture_of image.now) report.now (D.state desk.old) (D.state desk.new) result }
     ensures only { OnlyReads (D.state desk.old) (D.state desk.new) }
 {
     desk.begin(Place::Report, report)?;
-    check_image(alloc, image, desk, shelf)
+    check_image(alloc, image, kind, shelf, desk)
 }
 
 // Puts the verdict line into a buffer.
@@ -91,24 +141,26 @@ fn given(verdict: Judgement) -> Outcome
     }
 }
 
-// Checks the report in a file against the picture at a source.
+// Checks the report of a kind in a file against the picture at a source.
 pub(crate) fn check_file<D: Desk>(
     alloc: Global,
     source: Source<'_>,
+    kind: ReportKind,
     report: &[u8],
     shelf: &mut Shelf,
     desk: &mut D,
 ) -> Outcome
+    requires takes { Takes (read_report_kind kind) (kind_at (read_source source)) }
     ensures ran { Ran (rules_on means shelf.old)
-        (Asked.Check (read_source source.entry) report.now)
+        (Asked.Check (read_source source.entry) (read_report_kind kind) report.now)
         (D.state desk.old) (D.state desk.new) result }
     ensures kept { KeepsFiles (D.state desk.old) (D.state desk.new) }
 {
-    let image = match open_picture(alloc, source, desk) {
+    let image = match open_picture(alloc, kind, source, desk) {
         Ok(image) => image,
         Err(error) => return refused(error),
     };
-    let verdict = match judge(alloc, &image, report, shelf, desk) {
+    let verdict = match judge(alloc, &image, kind, report, shelf, desk) {
         Ok(verdict) => verdict,
         Err(CheckFault::ReadFault) => return Outcome::ReadFault,
         Err(CheckFault::NoMemory) => return Outcome::NoMemory,

@@ -66,6 +66,13 @@ impl Contour {
     {
         self.points[i as usize]
     }
+
+    /// The points, in order.
+    pub fn as_slice(&self) -> &[P2]
+        ensures { map point_of result.now ≡ self.now.points }
+    {
+        self.points.as_slice()
+    }
 }
 
 // The crack after `c`. Where it has another pixel, the pixel of `c` is put last.

@@ -17,7 +17,7 @@ use Rattle.shape_line.specs.Slopes.{span_refutation}
 use Rattle.shape_line.proofs.OneWay.{no_turn}
 use Rattle.shape_terms.proofs.Products.{rings}
 use Rattle.shape_line.specs.Frames.{IsSense, along, IsRunOf, line_points, end_point}
-use Rattle.shape_least.specs.Terms.{IsSmall}
+use Rattle.shape_refute.specs.PairTerms.{IsSmall}
 use Rattle.shape_line.specs.Grown.{IsGrown, segment_of}
 use Rattle.shape_line.specs.declared.segment.Segment.{Segment}
 use Rattle.shape_line.specs.declared.clash.Clash.{Clash}

@@ -18,7 +18,7 @@ nat_same a b l = grind (arith, nat_tests)
 nat_more : (a b : ℕ) → b < a → nat_cmp a b ≡ Greater
 nat_more a b l = grind (arith, nat_tests)
 
-same_key : (a b : Key) → a.distance ≡ b.distance → a.place ≡ b.place → a ≡ b
+pub same_key : (a b : Key) → a.distance ≡ b.distance → a.place ≡ b.place → a ≡ b
 same_key a b e f = λ i. record { distance = e i; place = f i }
 
 pub at_itself : (a : Key) → is_at (key_cmp a) a ≡ true
@@ -63,3 +63,21 @@ by_key a b = of_test (is_at (key_cmp a) b)
     of_test : (t : Bool) → (t ≡ true) ⊎ (t ≡ false)
     of_test true = inl refl
     of_test false = inr refl
+
+-- a key that no other is to come before is not greater
+pub not_greater : (a b : Key) → ((b.distance < a.distance) ⊎ ((b.distance ≡ a.distance) × (b.place < a.place)) → ⊥) → is_gt (key_cmp a b) ≡ false
+not_greater a b n = elim (cases_lt a.distance b.distance) [
+  | inl l ↦ rw (nat_less a.distance b.distance l) refl
+  | inr m ↦ elim (cases_lt b.distance a.distance) [
+    | inl l ↦ absurd (n (inl l))
+    | inr o ↦ (
+        let e : a.distance ≡ b.distance = omega arith in
+        elim (cases_lt b.place a.place) [
+          | inl l ↦ absurd (n (inr (sym e, l)))
+          | inr p ↦ elim (cases_lt a.place b.place) [
+            | inl l ↦ rw (nat_same a.distance b.distance e, nat_less a.place b.place l) refl
+            | inr q ↦ rw (nat_same a.distance b.distance e, nat_same a.place b.place (omega arith)) refl
+          ]
+        ])
+  ]
+]

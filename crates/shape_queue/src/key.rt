@@ -1,43 +1,11 @@
-//! Keys of points, ordered by squared distance and then by raster number, and the set of those that wait.
-//! Which points wait is a matter of `specs/Waiting`; another kind of set changes nothing outside this file and `specs/Keys`.
-ghost use Rattle.std.specs.Prelude.{◌≡◌, OnOk, OnErr, MatchOption, IfSome, false, true};
-ghost use Rattle.shape_queue.specs.Keys.{has, IsLeastKey};
-ghost use Rattle.shape_queue.specs.Waiting.{Put};
-
-use shape_space::NoMemory;
-use std::alloc::Global;
-use std::collections::BTreeSet;
+//! Keys of points: a squared distance and a raster number.
+//! How keys are ordered stands in `specs/Keys`.
 
 /// A point in a queue: its squared distance and its raster number. The least key is taken first.
-#[derive(Clone, Copy, Debug, PartialEq, Eq, PartialOrd, Ord)]
+#[derive(Clone, Copy, Debug)]
 pub struct Key {
     /// The squared distance to the background of the opening picture.
     pub distance: u64,
     /// The raster number.
     pub place: u32,
-}
-
-/// Puts the key into the queue, or takes it out.
-pub fn settle(keys: &mut BTreeSet<Key, Global>, key: Key, waits: bool) -> Result<(), NoMemory>
-    ensures put { OnOk result (Put (has keys.old) (has keys.new) key waits) }
-    ensures kept { OnErr result ((k : Key) → has keys.new k ≡ has keys.old k) }
-{
-    if waits {
-        keys.insert(key)?;
-    } else {
-        keys.remove(&key);
-    }
-    Ok(())
-}
-
-/// The least key of the queue.
-pub fn least(keys: &BTreeSet<Key, Global>) -> Option<Key>
-    ensures there { MatchOption result ((k : Key) → has keys.now k ≡ false)
-        (λ key. has keys.now key ≡ true) }
-    ensures least { IfSome result (λ key. IsLeastKey (has keys.now) key) }
-{
-    match keys.first() {
-        Some(key) => Some(*key),
-        None => None,
-    }
 }

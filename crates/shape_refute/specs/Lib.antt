@@ -5,3 +5,4 @@ pub mod Senses
 pub mod Sums
 pub mod Terms
 pub mod Weights
+pub mod PairTerms

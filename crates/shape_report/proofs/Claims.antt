@@ -1,6 +1,6 @@
 -- From the words of a line to its bytes, and back.
 -- Laws for all lines at once; what the words of a kind are, its form says.
-use Rattle.std.proofs.Common.{◌≡◌, ◌≢◌, ℕ, ℤ, Option, Some, None, List, sym, ap, ◌∙◌}
+use Rattle.std.proofs.Common.{◌≡◌, ◌≢◌, ℕ, ℤ, Option, Some, None, List, refl, sym, ap, ◌∙◌}
 use Rattle.std.specs.Prelude.{MatchOption}
 use Rattle.std.specs.List.{join_with_byte}
 use Rattle.text_terms.proofs.TableLaws.{read_only, read_none}
@@ -12,6 +12,9 @@ use Rattle.report_terms.proofs.Spelled.{same_words, words_of_line}
 use Rattle.report_text.specs.Reading.{split_words}
 use Rattle.report_text.proofs.Claims as Texts
 use Rattle.report_text.proofs.SplitWords.{join-split_words, split_words-join}
+use Rattle.shape_refute.specs.Evidences.{evidence_of}
+use Rattle.shape_refute.specs.declared.refusal.Refusal.{Refusal}
+use Rattle.shape_refute.specs.declared.refusal.Refusal.TheVariants.{Turned, Cut}
 use Rattle.shape_report.specs.declared.line.Line.{Line}
 use Rattle.shape_report.specs.LineOf.{line_of}
 use Rattle.shape_report.specs.Reading.{HasNoThird, ReadsLine}
@@ -20,6 +23,15 @@ use Rattle.shape_report.specs.Spelling.{split_text}
 -- the text of a line's words is its spelling
 pub spelled : (d : ℕ) (l : Terms.Line) → IsLineOf d l → split_text d (split l) ≡ spelling l
 spelled d l a = Texts.spelled (table d) (split l) ∙ ap (join_with_byte 32) (same_words d l a)
+
+-- the line of a gap is one of flat pictures alone, and its words hang on no number of axes
+pub gap_range : (d t : ℕ) (r : Refusal) → IsLineOf d (Terms.Line.Gap t (evidence_of r)) → IsLineOf 2 (Terms.Line.Gap t (evidence_of r))
+gap_range d t (Turned turn) a = (refl, a.1)
+gap_range d t (Cut why) a = (refl, a.1)
+
+pub gap_text : (d t : ℕ) (r : Refusal) → split_text 2 (split (Terms.Line.Gap t (evidence_of r))) ≡ split_text d (split (Terms.Line.Gap t (evidence_of r)))
+gap_text d t (Turned turn) = refl
+gap_text d t (Cut why) = refl
 
 split_spelling : (d : ℕ) (l : Terms.Line) → IsLineOf d l → split_words (spelling l) ≡ line_words l
 split_spelling d l a = split_words-join (first_word (split l).kind) ((form_of (axes_of l) (split l).kind).words (split l).fields) (words_of_line d l a)

@@ -1,8 +1,8 @@
-//! The fields that reports of pictures have beside those of all texts: names of rules and senses.
+//! The fields that reports of pictures have beside those of all texts: numbers of reports, names of rules and senses.
 //! A further such field is a function that reads it and one that puts it; which fields a line has is told in `read` and `spell`.
 ghost use Rattle.std.specs.Prelude.{◌≡◌, ◌≤◌, ◌+◌, ◌++◌, length};
 ghost use Rattle.text_terms.specs.Forms.{name};
-ghost use Rattle.report_terms.specs.Forms.{sign};
+ghost use Rattle.report_terms.specs.Forms.{IsNumber, number, sign};
 ghost use Rattle.shape_rules.specs.Names.{word_of};
 ghost use Rattle.shape_refute.specs.Senses.{sense_of};
 ghost use Rattle.report_text.specs.Reading.{ReadsForm};
@@ -11,6 +11,17 @@ ghost use Rattle.report_text.specs.Spelling.{behind_blanks};
 use report_text::{Text, Words};
 use shape_refute::Sense;
 use shape_rules::Name;
+use shape_space::Point;
+
+// Reads the number of a report of pictures whose points are of type `P`.
+pub(crate) fn number<P: Point>(words: &mut Words) -> Option<u8>
+    ensures { ReadsForm (λ n. n) (number P.DIM) words.old words.new result }
+{
+    match words.next_word()? {
+        b"1" => Some(1),
+        _ => None,
+    }
+}
 
 // Reads a name.
 pub(crate) fn name(words: &mut Words) -> Option<Name>
@@ -28,6 +39,16 @@ pub(crate) fn sense(words: &mut Words) -> Option<Sense>
         b"+" => Some(Sense::Plus),
         _ => None,
     }
+}
+
+// Puts the number of a report behind a blank.
+pub(crate) fn put_number<P: Point>(n: u8, text: &mut Text)
+    requires room { length text.old + 2 ≤ 1024 }
+    requires number { IsNumber P.DIM n }
+    ensures text { text.new ≡ text.old ++ behind_blanks ((number P.DIM).words n) }
+    ensures room { length text.new ≤ length text.old + 2 }
+{
+    text.put(&[b' ', b'0' + n])
 }
 
 // Puts the sign of a sense behind a blank.

@@ -3,13 +3,10 @@
 #![tactic(auto)]
 
 mod field;
-mod kind;
 mod law;
 mod line;
-mod put_why;
 mod read;
 mod spell;
-mod why;
 
 pub use law::one_spelling;
 pub use line::{Line, SeenLine};

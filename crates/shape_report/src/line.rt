@@ -6,7 +6,7 @@ ghost use Rattle.report_terms.specs.Sections.{rank, section_of};
 use crate::read::read_claim;
 use crate::spell::spell;
 use report_text::{ReportLine, Text};
-use shape_refute::{Naive, Refutation, Sense};
+use shape_refute::{Naive, Refusal, Refutation, Sense};
 use shape_rules::Name;
 use shape_space::Point;
 use std::marker::Model;
@@ -14,8 +14,9 @@ use std::marker::Model;
 /// A line of a report of a picture whose points are of type `P`.
 #[derive(Clone, Copy)]
 pub enum Line<P> {
-    /// The sides of the picture and the rule of the thinning.
+    /// The heading: the number of the report, which is 1, the sides of the picture, and the rule of the thinning.
     Shape {
+        number: u8,
         sides: P,
         rule: Name,
     },
@@ -51,18 +52,11 @@ pub enum Line<P> {
         last: u32,
         line: Naive,
     },
-    /// Two places of the next gap between segments of the contour of a flat picture, which are a turn of its run for an axis
-    /// (0 for x, 1 for y).
-    Turn {
+    /// Why the run of the next gap between segments of the contour of a flat picture is not straight for an axis (0 for x,
+    /// 1 for y): a turn of it, or weights that refute it.
+    Gap {
         axis: u8,
-        i: u32,
-        j: u32,
-    },
-    /// Weights that refute the run of the next gap between segments of the contour of a flat picture, for an axis (0 for x,
-    /// 1 for y).
-    Cut {
-        axis: u8,
-        why: Refutation,
+        refusal: Refusal,
     },
     /// The next face of a volume: its axis (0 for x, 1 for y, 2 for z), its sense, and the number of its exposed points.
     Face {
@@ -119,8 +113,7 @@ impl<P: Point> Line<P> {
             Line::Contour { .. } => 3,
             Line::At { .. } => 3,
             Line::Seg { .. } => 3,
-            Line::Turn { .. } => 3,
-            Line::Cut { .. } => 3,
+            Line::Gap { .. } => 3,
             Line::Face { .. } => 4,
             Line::Patch { .. } => 4,
             Line::On { .. } => 4,

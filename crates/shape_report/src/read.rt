@@ -7,27 +7,29 @@ ghost use Rattle.report_terms.specs.Lines.{IsLineOf, spelling};
 ghost use Rattle.shape_report.specs.LineOf.{line_of};
 ghost use Rattle.shape_report.specs.Reading.{HasNoThird, ReadsKind, ReadsFields, ReadsLine};
 
-use crate::field::{name, sense};
-use crate::kind::kind;
+use crate::field::{name, number, sense};
 use crate::line::Line;
-use crate::why::read_why;
-use report_text::Words;
 use report_text::field::{
     count, flat_axis, flat_coefficients, point, side, signed, solid_axis, solid_coefficients,
     weight,
 };
-use shape_refute::Naive;
+use report_text::{Words, kind, read_why};
+use shape_refute::{Naive, Refusal, Turn};
 use shape_space::Point;
 
-// Reads the fields of a `shape` line. Reports of this kind have the number 1.
+// Reads the fields of a `shape` line.
 fn shape<P: Point>(words: &mut Words) -> Option<Line<P>>
     ensures { ReadsKind P.DIM P.coords Kind.Shape words.old words.new result }
 {
-    words.skip(b"1")?;
+    let number = number::<P>(words)?;
     words.skip(kind::<P>())?;
     let sides = point(words)?;
     let rule = name(words)?;
-    Some(Line::Shape { sides, rule })
+    Some(Line::Shape {
+        number,
+        sides,
+        rule,
+    })
 }
 
 // Reads the fields of a `parts` line.
@@ -113,7 +115,8 @@ fn turn<P: Point>(words: &mut Words) -> Option<Line<P>>
     let axis = flat_axis(words)?;
     let i = count(words)?;
     let j = count(words)?;
-    Some(Line::Turn { axis, i, j })
+    let refusal = Refusal::Turned(Turn { i, j });
+    Some(Line::Gap { axis, refusal })
 }
 
 // Reads the fields of a `cut` line. It is a line of flat pictures alone.
@@ -125,7 +128,8 @@ fn cut<P: Point>(words: &mut Words) -> Option<Line<P>>
     }
     let axis = flat_axis(words)?;
     let why = read_why(words, 2)?;
-    Some(Line::Cut { axis, why })
+    let refusal = Refusal::Cut(why);
+    Some(Line::Gap { axis, refusal })
 }
 
 // Reads the fields of a `face` line. It is a line of volumes alone.

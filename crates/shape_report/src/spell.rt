@@ -1,30 +1,35 @@
 //! The spelling of a line: its words, each behind a blank, put one after another.
 //! A further kind of line is one more case of `put_line` and a function that puts its words.
 ghost use Rattle.std.specs.Prelude.{◌≡◌, ◌≤◌, ◌<◌, [], length, take};
-ghost use Rattle.report_terms.specs.Kinds.{Kind, weight, why as why_form, form_of};
+ghost use Rattle.text_terms.specs.Weights.{why as why_form};
+ghost use Rattle.report_terms.specs.Kinds.{Kind, weight, form_of};
+ghost use Rattle.report_terms.specs.Forms.{IsNumber};
+ghost use Rattle.report_terms.specs.Lines as Terms;
 ghost use Rattle.report_terms.specs.Lines.{split, IsLineOf, spelling};
 ghost use Rattle.shape_rules.specs.Names.{word_of};
 ghost use Rattle.shape_refute.specs.Senses.{sense_of};
 ghost use Rattle.shape_refute.specs.Weights.{refutation_of};
+ghost use Rattle.shape_refute.specs.Evidences.{evidence_of};
 ghost use Rattle.shape_report.specs.LineOf.{line_of};
 ghost use Rattle.shape_report.specs.Spelling.{kind_text, split_text};
 
-use crate::field::put_sense;
-use crate::kind::kind;
+use crate::field::{put_number, put_sense};
 use crate::line::Line;
-use crate::put_why::put_why;
-use report_text::Text;
+use report_text::{Text, kind, put_why};
 use shape_desk::put_word;
-use shape_refute::{Naive, Refutation, Sense};
+use shape_refute::{Naive, Refusal, Refutation, Sense};
 use shape_rules::Name;
 use shape_space::Point;
 
 // Puts the words of a `shape` line.
-fn put_shape<P: Point>(sides: P, rule: Name, text: &mut Text)
-    requires { text.old ≡ [] }
-    ensures { text.new ≡ kind_text P.DIM Kind.Shape (P.coords sides, word_of rule) }
+fn put_shape<P: Point>(number: u8, sides: P, rule: Name, text: &mut Text)
+    requires empty { text.old ≡ [] }
+    requires number { IsNumber P.DIM number }
+    ensures { text.new ≡ kind_text P.DIM Kind.Shape (number, (P.coords sides, word_of rule)) }
 {
-    text.put(b"shape 1 ");
+    text.put(b"shape");
+    put_number::<P>(number, text);
+    text.put(b" ");
     text.put(kind::<P>());
     text.point(sides);
     text.put(b" ");
@@ -113,6 +118,18 @@ fn put_cut(axis: u8, why: &Refutation, text: &mut Text)
     put_why(why, text)
 }
 
+// Puts the words of the line of a gap.
+fn put_gap(axis: u8, refusal: &Refusal, text: &mut Text)
+    requires empty { text.old ≡ [] }
+    requires range { IsLineOf 2 (Terms.Line.Gap axis (evidence_of refusal.now)) }
+    ensures { text.new ≡ split_text 2 (split (Terms.Line.Gap axis (evidence_of refusal.now))) }
+{
+    match refusal {
+        Refusal::Turned(turn) => put_turn(axis, turn.i, turn.j, text),
+        Refusal::Cut(why) => put_cut(axis, why, text),
+    }
+}
+
 // Puts the words of a `face` line.
 fn put_face(axis: u8, sense: Sense, points: u32, text: &mut Text)
     requires empty { text.old ≡ [] }
@@ -192,7 +209,11 @@ fn put_line<P: Point>(line: &Line<P>, text: &mut Text)
     ensures { text.new ≡ split_text P.DIM (split (line_of P.coords line.now)) }
 {
     match line {
-        Line::Shape { sides, rule } => put_shape(*sides, *rule, text),
+        Line::Shape {
+            number,
+            sides,
+            rule,
+        } => put_shape(*number, *sides, *rule, text),
         Line::Parts {
             points,
             object,
@@ -211,8 +232,7 @@ fn put_line<P: Point>(line: &Line<P>, text: &mut Text)
             last,
             line: naive,
         } => put_seg(*first, *last, naive, text),
-        Line::Turn { axis, i, j } => put_turn(*axis, *i, *j, text),
-        Line::Cut { axis, why } => put_cut(*axis, why, text),
+        Line::Gap { axis, refusal } => put_gap(*axis, refusal, text),
         Line::Face {
             axis,
             sense,

@@ -48,3 +48,5 @@ pub mod FramedLines
 pub mod AxisPlaces
 pub mod AxisCounts
 pub mod FramedEnds
+pub mod ContourLists
+pub mod Senses

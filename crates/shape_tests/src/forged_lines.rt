@@ -6,7 +6,7 @@ use std::alloc::Global;
 use std::test::Fail;
 
 // The report with its first line that begins so replaced, and the number of that line.
-fn replaced(
+pub(crate) fn replaced(
     alloc: Global,
     report: &[u8],
     begin: &[u8],

@@ -15,6 +15,8 @@ mod forged_lines;
 #[cfg(test)]
 mod forged_reports;
 #[cfg(test)]
+mod kinds;
+#[cfg(test)]
 mod pictures;
 #[cfg(test)]
 mod refusals;

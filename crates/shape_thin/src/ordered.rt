@@ -43,7 +43,7 @@ pub fn thin<P: SimpleMask, L: Ledger>(
         let tips = ask(rule, &next.facts);
         let place = next.place;
         put_event(&mut events, Done { place, tips })?;
-        thinner = thinner.settle(&next, tips, steps)?;
+        thinner.settle(&next, tips, steps);
     }
     Ok(Thinning::of(thinner.into_left(), events))
 }

@@ -72,6 +72,10 @@ bits_match d m small = record {
 pub object_counted : (d m n : ℕ) → m < 2 ^ near_total d → CountsParts (near_links d) m m n → HasMaskObjectNumber d m n
 object_counted d m n small c = parts_across (bits_match d m small) (same_parts (λ k h. ends_in h.2) (λ k i. (k, i, Connected.here i)) c)
 
+-- and the other way round
+pub object_of_mask : (d m n : ℕ) → m < 2 ^ near_total d → HasMaskObjectNumber d m n → CountsParts (near_links d) m m n
+object_of_mask d m n small c = same_parts (λ k i. (k, i, Connected.here i)) (λ k h. ends_in h.2) (parts_across (turned_round (bits_match d m small)) c)
+
 -- ---- the background of a mask
 
 -- r holds the steps of the background, and s those of them that are side steps
@@ -92,6 +96,11 @@ dark_match d m r s a = record {
 pub background_counted : (d m r s n : ℕ) → AreDark d m r s → CountsParts (side_links d) r s n → HasMaskBackgroundNumber d m n
 background_counted d m r s n a c = parts_across
     (holding_matches (dark_match d m r s a) (λ k i g. ((a.sides k).0 g).2) (λ k h g. (a.sides k).1 (h.0, h.1, g))) c
+
+-- and the other way round
+pub background_of_mask : (d m r s n : ℕ) → AreDark d m r s → HasMaskBackgroundNumber d m n → CountsParts (side_links d) r s n
+background_of_mask d m r s n a c = parts_across
+    (turned_round (holding_matches (dark_match d m r s a) (λ k i g. ((a.sides k).0 g).2) (λ k h g. (a.sides k).1 (h.0, h.1, g)))) c
 
 -- a set that has the unset places among the round ones, and one that has those of the side steps
 pub dark_sets : (d m dark all : ℕ) → ((k : ℕ) → In dark k ↔ ((k < near_total d) × (bit_at m k ≡ 0))) → ((k : ℕ) → k < near_total d → In all k ↔ Round (origin d) (near_step d k))

@@ -3,11 +3,13 @@
 #![tactic(auto)]
 
 mod count;
+mod joined;
 mod links;
 mod mask;
 mod masked;
 mod number;
 mod simple;
+mod spread;
 mod table;
 
 pub use mask::mask_of;

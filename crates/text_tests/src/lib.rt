@@ -1,7 +1,11 @@
-//! Tests of texts, judges and drawings: desks, the readers of pictures, reports, the judges of their lines, and drawings.
+//! Tests of texts, judges and drawings: desks, the readers of pictures, reports, the judges of their lines, ball reports, and drawings.
 //! They ask public names alone, and the crates under test have no tests of their own: what is proved of them is proved once.
 #![tactic(auto)]
 
+#[cfg(test)]
+mod ball_lists;
+#[cfg(test)]
+mod balls;
 #[cfg(test)]
 mod cover_judge;
 #[cfg(test)]
@@ -14,6 +18,8 @@ mod field_judge;
 mod grids;
 #[cfg(test)]
 mod picture;
+#[cfg(test)]
+mod piece_reports;
 #[cfg(test)]
 mod plane_judge;
 #[cfg(test)]

@@ -1,6 +1,6 @@
 //! Lines that are read from their bytes, and texts that are no lines.
 //! A further text that is none is one more row of the table.
-use shape_refute::{Naive, Share, Step, StepShare};
+use shape_refute::{Naive, Refusal, Share, Step, StepShare, Turn};
 use shape_report::{Line, read_claim};
 use shape_space::P2;
 
@@ -20,9 +20,17 @@ fn lines_are_read(rt: HostRuntime) {
             })
         )
     );
-    let Some(Line::Shape { sides, rule }) = read_claim::<P2>(b"shape 1 pbm 3 1024 none") else {
+    let Some(
+        Line::Shape {
+            number,
+            sides,
+            rule,
+        },
+    ) = read_claim::<P2>(b"shape 1 pbm 3 1024 none")
+    else {
         panic!(rt; "a `shape` line")
     };
+    assert_eq!(rt; number, 1);
     assert_eq!(rt; sides, P2 { x: 3, y: 1024 });
     assert_eq!(rt; rule.word(), b"none".as_slice());
 }
@@ -51,10 +59,9 @@ fn lines_of_contours_are_read(rt: HostRuntime) {
     assert!(rt;
         matches!(
             read_claim::<P2>(b"turn x 2 7"),
-            Some(Line::Turn {
+            Some(Line::Gap {
                 axis: 0,
-                i: 2,
-                j: 7
+                refusal: Refusal::Turned(Turn { i: 2, j: 7 })
             })
         )
     );
@@ -74,9 +81,13 @@ fn lines_of_contours_are_read(rt: HostRuntime) {
 
 #[test]
 fn weights_are_read(rt: HostRuntime) {
-    let Some(Line::Cut { axis, why }) = read_claim::<P2>(
-        b"cut y 2 1 0 1 4 1 2 2 2 3 up 9223372036854775807 up-x",
-    ) else {
+    let Some(
+        Line::Gap {
+            axis,
+            refusal: Refusal::Cut(why),
+        },
+    ) = read_claim::<P2>(b"cut y 2 1 0 1 4 1 2 2 2 3 up 9223372036854775807 up-x")
+    else {
         panic!(rt; "a `cut` line")
     };
     assert_eq!(rt; axis, 1);

@@ -1,6 +1,6 @@
 -- What the parts of a thinning tell of a key, and that they still fit together after an event.
 -- Laws over pictures and keys alone.
-use Rattle.std.proofs.Common.{◌≡◌, ℕ, ◌+◌, ◌<◌, Bool, true, false, List, length, sym, ◌∙◌, ap, subst}
+use Rattle.std.proofs.Common.{◌≡◌, ℕ, ◌+◌, ◌<◌, Bool, true, false, List, length, sym, ◌∙◌, ap, subst, arith}
 use Rattle.std.proofs.Math.Logic.{∥∥₁_elim}
 use Rattle.std.proofs.Props.{props}
 use Rattle.std.proofs.lemmas.Grind.{merely}
@@ -9,9 +9,9 @@ use Rattle.shape_terms.specs.Points.{Point, in_box, box_count, raster_point}
 use Rattle.shape_terms.specs.Pictures.{Picture, object_points}
 use Rattle.shape_terms.specs.Parts.{Object}
 use Rattle.shape_terms.proofs.ObjectPlaces.{object_in_box}
-use Rattle.thin_terms.specs.Thinning.{without}
+use Rattle.thin_terms.specs.Thinning.{Rule, Event, without}
 use Rattle.shape_queue.specs.declared.key.Key.{Key}
-use Rattle.shape_queue.specs.Waiting.{Waits, IsQueue, IsQueueBut, Put}
+use Rattle.shape_queue.specs.Waiting.{key_at, Waits, IsQueue, IsQueueBut, Put}
 use Rattle.shape_queue.specs.Standing.{IsSubset}
 use Rattle.shape_queue.specs.Going.{IsGoing}
 use Rattle.shape_queue.proofs.GoingSteps.{key_place, at_object, at_free, one_free_less, stands_marked, waits_marked, stands_deleted, near_first}
@@ -21,6 +21,18 @@ use Rattle.thin_steps.specs.Fitting.{AreFitting}
 pub going_fits : {rule : _} {X : Picture} {events : _} {state : List ℕ} {left free : Picture} {ds : List ℕ} {keys : Key → Bool}
     → length ds ≡ box_count left.sides → IsGoing rule X events state left free ds keys → ∥ AreFitting left free ds keys ∥₁
 going_fits {X} {state} l c = merely (record { opening = X; marked = c.marked; state = state; filled = l; stands = c.stands; waits = c.waits })
+
+-- the same distances under another name
+pub fits_at : {left free : Picture} {ds ds' : List ℕ} {keys : Key → Bool} → ds' ≡ ds → ∥ AreFitting left free ds keys ∥₁ → ∥ AreFitting left free ds' keys ∥₁
+fits_at {left} {free} {keys = keys} e fits = subst (λ (xs : List ℕ). ∥ AreFitting left free xs keys ∥₁) (sym e) fits
+
+pub going_at : {rule : Rule} {X : Picture} {events : List Event} {state : List ℕ} {left free : Picture} {ds ds' : List ℕ} {keys : Key → Bool}
+    → ds' ≡ ds → IsGoing rule X events state left free ds keys → IsGoing rule X events state left free ds' keys
+going_at {rule} {X} {events} {state} {left} {free} {keys = keys} e h = subst (λ (xs : List ℕ). IsGoing rule X events state left free xs keys) (sym e) h
+
+pub looked_at : {p : Point} {left free : Picture} {ds ds' : List ℕ} {old new : Key → Bool}
+    → ds' ≡ ds → (IsQueueBut p left free ds' old → IsQueue left free ds' new) → IsQueueBut p left free ds old → IsQueue left free ds new
+looked_at {p} {left} {free} {old = old} {new = new} e h = subst (λ (xs : List ℕ). IsQueueBut p left free xs old → IsQueue left free xs new) e h
 
 module _ {left free : Picture} {ds : List ℕ} {keys : Key → Bool} (fits : ∥ AreFitting left free ds keys ∥₁) where
   pub fits_filled : length ds ≡ box_count left.sides
@@ -32,6 +44,17 @@ module _ {left free : Picture} {ds : List ℕ} {keys : Key → Bool} (fits : ∥
   module _ (k : Key) (there : keys k ≡ true) where
     pub fits_place : k.place < box_count left.sides
     fits_place = ∥∥₁_elim fits (Prim.hlevel props) (λ a. key_place a.opening a.marked a.state left free ds keys a.stands a.waits k there)
+
+    -- it is the key of its place
+    fits_key : k ≡ key_at ds k.place
+    fits_key = ∥∥₁_elim fits (Prim.hlevel props) (λ a. (a.waits.proper k there).2)
+
+    pub fits_room : k.place < length ds
+    fits_room = let p = fits_place in let f = fits_filled in omega (arith, p, f)
+
+    -- so what is told of that key is told of it
+    pub put_there : (new : Key → Bool) → Put keys new (key_at ds k.place) false → Put keys new k false
+    put_there new put = subst (λ (k : Key). Put keys new k false) (sym fits_key) put
 
     module _ (q : Point) (e : q ≡ raster_point left.sides k.place) where
       pub fits_left : Object left q

@@ -20,7 +20,7 @@ key_of n = record { distance = n.facts.distance; place = n.place }
 module _ {P : Type 0} {pairs : _} {point : _} {eq : _} {order : _} {partial : _} where
   -- these are the events so far of the thinning of X by the rule, which is in this state now
   abbrev pub StandsFor : Rule → Picture → List Event → List ℕ → Thinner P pairs point eq order partial → Type 0
-  StandsFor rule X events state t = IsGoing rule X events state t.left t.free t.distances.items (has t.keys)
+  StandsFor rule X events state t = IsGoing rule X events state t.left t.free t.keys.distances (has t.keys)
 
   -- how many events may still come
   abbrev pub room_of : Thinner P pairs point eq order partial → ℕ

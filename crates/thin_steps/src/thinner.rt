@@ -11,12 +11,11 @@ ghost use Rattle.thin_steps.specs.Fitting.{AreFitting};
 use crate::look::{look_at_all, look_round};
 use crate::next::Next;
 use shape_grid::Grid;
-use shape_queue::{Key, least, settle};
+use shape_queue::Queue;
 use shape_rules::Facts;
 use shape_space::{NoMemory, Steps};
 use shape_topo::{MaskedGrid, SimpleMask};
 use std::alloc::Global;
-use std::collections::BTreeSet;
 use std::sync::ledger::Ledger;
 
 /// A thinning between two events.
@@ -24,9 +23,8 @@ use std::sync::ledger::Ledger;
 pub struct Thinner<P: SimpleMask> {
     left: MaskedGrid<P>,
     free: Grid<P>,
-    distances: Vec<u64>,
-    keys: BTreeSet<Key, Global>,
-    ghost fits: { ∥ AreFitting left free distances.items (has keys) ∥₁ },
+    keys: Queue,
+    ghost fits: { ∥ AreFitting left free keys.distances (has keys) ∥₁ },
 }
 
 impl<P: SimpleMask> Thinner<P> {
@@ -48,13 +46,8 @@ impl<P: SimpleMask> Thinner<P> {
     {
         let left = MaskedGrid::new(alloc, grid.copy(alloc)?)?;
         let free = grid.copy(alloc)?;
-        let keys = look_at_all(alloc, &left, distances.as_slice(), steps)?;
-        Ok(Thinner {
-            left,
-            free,
-            distances,
-            keys,
-        })
+        let keys = look_at_all(alloc, &left, distances, steps)?;
+        Ok(Thinner { left, free, keys })
     }
 
     /// The next point, unless the thinning is at its end.
@@ -62,7 +55,7 @@ impl<P: SimpleMask> Thinner<P> {
         ensures { MatchOption result (IsAtEnd self.now)
             (λ n. IsNextOf self.now n (P.coords n.point)) }
     {
-        let key = least(&self.keys)?;
+        let key = self.keys.least()?;
         let point = self.left.sides().unraster(key.place);
         let facts = Facts {
             neighbours: self.left.near_count(point),
@@ -76,68 +69,39 @@ impl<P: SimpleMask> Thinner<P> {
     }
 
     // Marks the next point.
-    fn mark(mut self, next: &Next<P>) -> Result<Thinner<P>, NoMemory>
-        requires { IsNextOf self next.now (P.coords next.now.point) }
-        ensures stands { IfOk result (GoesOn self next.now (P.coords next.now.point) true) }
-        ensures room { IfOk result (λ t. room_of t + 1 ≡ room_of self) }
+    fn mark(&mut self, next: &Next<P>)
+        requires { IsNextOf self.old next.now (P.coords next.now.point) }
+        ensures stands { GoesOn self.old next.now (P.coords next.now.point) true self.new }
+        ensures room { room_of self.new + 1 ≡ room_of self.old }
     {
-        let distance = next.facts.distance;
-        let place = next.place;
-        settle(&mut self.keys, Key { distance, place }, false)?;
+        self.keys.settle(next.place, false);
         self.free.clear(next.point);
-        Ok(self)
     }
 
     // Deletes the next point, and looks at its free near neighbours.
-    fn delete<L: Ledger>(self, next: &Next<P>, steps: &mut Steps<L>) -> Result<Thinner<P>, NoMemory>
-        requires { IsNextOf self next.now (P.coords next.now.point) }
-        ensures stands { IfOk result (GoesOn self next.now (P.coords next.now.point) false) }
-        ensures room { IfOk result (λ t. room_of t + 1 ≡ room_of self) }
+    fn delete<L: Ledger>(&mut self, next: &Next<P>, steps: &mut Steps<L>)
+        requires { IsNextOf self.old next.now (P.coords next.now.point) }
+        ensures stands { GoesOn self.old next.now (P.coords next.now.point) false self.new }
+        ensures room { room_of self.new + 1 ≡ room_of self.old }
         ensures few { steps.new ≤ steps.old + P.NEAR_COUNT }
     {
-        let Thinner {
-            mut left,
-            mut free,
-            distances,
-            mut keys,
-        } = self;
-        let distance = next.facts.distance;
-        let place = next.place;
-        settle(&mut keys, Key { distance, place }, false)?;
-        free.clear(next.point);
-        left.clear(next.point);
-        look_round(
-            &left,
-            &free,
-            distances.as_slice(),
-            &mut keys,
-            next.point,
-            steps,
-        )?;
-        Ok(Thinner {
-            left,
-            free,
-            distances,
-            keys,
-        })
+        self.keys.settle(next.place, false);
+        self.free.clear(next.point);
+        self.left.clear(next.point);
+        look_round(&self.left, &self.free, &mut self.keys, next.point, steps);
     }
 
     /// Goes on after the next point was marked, or is deleted. After a deletion each near neighbour is tested: a step each.
-    pub fn settle<L: Ledger>(
-        self,
-        next: &Next<P>,
-        tips: bool,
-        steps: &mut Steps<L>,
-    ) -> Result<Thinner<P>, NoMemory>
-        requires { IsNextOf self next.now (P.coords next.now.point) }
-        ensures stands { IfOk result (GoesOn self next.now (P.coords next.now.point) tips) }
-        ensures room { IfOk result (λ t. room_of t + 1 ≡ room_of self) }
+    pub fn settle<L: Ledger>(&mut self, next: &Next<P>, tips: bool, steps: &mut Steps<L>)
+        requires { IsNextOf self.old next.now (P.coords next.now.point) }
+        ensures stands { GoesOn self.old next.now (P.coords next.now.point) tips self.new }
+        ensures room { room_of self.new + 1 ≡ room_of self.old }
         ensures few { steps.new ≤ steps.old + P.NEAR_COUNT }
     {
         if tips {
-            self.mark(next)
+            self.mark(next);
         } else {
-            self.delete(next, steps)
+            self.delete(next, steps);
         }
     }
 

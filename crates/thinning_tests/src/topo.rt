@@ -56,6 +56,24 @@ fn the_table_and_the_counts(rt: HostRuntime) {
     assert_eq!(rt; simple, 116);
 }
 
+#[test]
+fn the_spreads_and_the_counts(rt: HostRuntime) {
+    let mut state = 1u32;
+    for _ in 0..4000u32 {
+        state = state.wrapping_mul(1664525).wrapping_add(1013904223);
+        let mask = state >> 6;
+        let both_are_one = object_number::<P3>(mask) == 1 && background_number::<P3>(mask) == 1;
+        assert_eq!(rt; P3::simple_mask(mask), both_are_one);
+    }
+    // no near neighbour, all, one corner, two opposite sides, all but one side, all but two opposite sides
+    let masks = [0u32, 0x3ffffff, 1, 0x200010, 0x3ffffef, 0x3dfffef];
+    let simple = [false, false, true, false, true, false];
+    for i in 0..6usize {
+        let mask = masks[i] % 0x4000000;
+        assert_eq!(rt; P3::simple_mask(mask), simple[i]);
+    }
+}
+
 // Whether the corner, the middle and the end of the first row of a grid are simple, where they are object.
 fn first_row<L: Ledger>(blank: Blank, grid: &Grid<P2>) -> [bool; 3]
     requires name { blank.name ≡ L.name }

@@ -12,6 +12,6 @@ use Rattle.drawing.proofs.heading.flat_sides.Goals as goal
 pub returns-in-Some-Shape : goal.returns-in-Some-Shape
 returns-in-Some-Shape c =
     let e = c.in-Some-Shape.ensures in
-    let given = sides_given _ flat c.in-Some-Shape.sides (word_of c.in-Some-Shape.field-0-1) c.try_new.result c.try_new.ensures.given c.try_new.ensures.exactly in
+    let given = sides_given _ flat c.in-Some-Shape.sides c.in-Some-Shape.field-0-0 (word_of c.in-Some-Shape.field-0-2) c.try_new.result c.try_new.ensures.given c.try_new.ensures.exactly in
     from_line _ c.args.bytes.now (flat_line c.in-Some-Shape.field-0) c.try_new.result e.0 e.1
     (subst (λ (x : Line P2). MatchOption c.try_new.result (IsHeading (flat_line x) → ⊥) (λ s. GivesSides (flat_line x) (flat s.lengths))) (sym c.in-Some-Shape.field-0-is) given)

@@ -4,7 +4,7 @@ use Rattle.shape_space.specs.declared.point.P2.{P2}
 use Rattle.shape_terms.specs.Points.{in_box}
 use Rattle.report_terms.specs.Lines as Terms
 use Rattle.shape_report.specs.declared.line.Line.{Line}
-use Rattle.shape_report.specs.declared.line.Line.TheVariants.{Shape, Parts, Near, Contour, At, Seg, Turn, Cut, Face, Patch, On, Off, Del, Tip, Kept, End}
+use Rattle.shape_report.specs.declared.line.Line.TheVariants.{Shape, Parts, Near, Contour, At, Seg, Gap, Face, Patch, On, Off, Del, Tip, Kept, End}
 use Rattle.drawing.specs.Seen.{flat, flat_line}
 use Rattle.drawing.specs.Skeleton.{deleted_by}
 use Rattle.drawing.specs.Standing.{HasDeleted}
@@ -12,14 +12,13 @@ use Rattle.drawing.proofs.Deleting.{deletes, deletes_outside, keeps_deleted}
 use Rattle.drawing.proofs.skeleton.take_deleted.Goals as goal
 
 deletes_none : (l : Line P2) → ((p : P2) → l ≡ Del p → ⊥) → filter_map deleted_by (flat_line l ∷ []) ≡ []
-deletes_none (Shape sides rule) h = refl
+deletes_none (Shape number sides rule) h = refl
 deletes_none (Parts n o b) h = refl
 deletes_none (Near p q s) h = refl
 deletes_none (Contour p side n m) h = refl
 deletes_none (At p) h = refl
 deletes_none (Seg b e line) h = refl
-deletes_none (Turn t i j) h = refl
-deletes_none (Cut t why) h = refl
+deletes_none (Gap t refusal) h = refl
 deletes_none (Face t sense n) h = refl
 deletes_none (Patch k a mu) h = refl
 deletes_none (On p) h = refl

@@ -2,7 +2,7 @@ use Rattle.std.proofs.Common.{◌≡◌, ◌≤◌, [], ◌∷◌, length, inl, 
 use Rattle.report_terms.specs.Lines.{Line, IsLineOf}
 use Rattle.shape_terms.specs.Parts.{Counts}
 use Rattle.shape_rules.specs.Names.{word_of}
-use Rattle.shape_analyse.specs.Growing.{aim_of}
+use Rattle.shape_analyse.specs.Growing.{aim_of, heading_of}
 use Rattle.shape_analyse.proofs.Growth.{text_push, text_more, heading_fits, growing_none}
 use Rattle.shape_analyse.proofs.begin.open.Goals as goal
 
@@ -20,5 +20,7 @@ returns-clause-open g c =
     let first = heading_fits g.P.Point.MAX_SIDE (length X.sides) sides (word_of rule) s.in_range g.met.P.Point.flat_side axes rule.is_name in
     let second : IsLineOf (length X.sides) (Line.Parts n parts.object parts.background) = search rules in
     let counts : Counts X n parts.object parts.background = rw c.count.ensures c.requires in
-    let one = text_push _ _ [] (Line.Shape sides (word_of rule)) c.new-report.ensures c.in_ok-add.ensures.ok in
-    λ shelf by on. text_more _ _ _ (Line.Shape sides (word_of rule) ∷ []) _ one c.in_ok-add-2.ensures.ok (growing_none g.P.Point.MAX_SIDE (aim_of X shelf (word_of rule) by) sides n parts.object parts.background s.in_range c.sides-sides.ensures.value three first on second counts)
+    λ shelf by on.
+    let head = Line.Shape (heading_of (aim_of X shelf (word_of rule) by) sides) in
+    let one = text_push _ _ [] head c.new-report.ensures c.in_ok-add.ensures.ok in
+    text_more _ _ _ (head ∷ []) _ one c.in_ok-add-2.ensures.ok (growing_none g.P.Point.MAX_SIDE (aim_of X shelf (word_of rule) by) sides n parts.object parts.background s.in_range c.sides-sides.ensures.value three first on second counts)

@@ -1,5 +1,5 @@
 use Rattle.std.proofs.lemmas.Result.{err_from_is_err_and}
-use Rattle.report_terms.specs.Subjects.{subject_of}
+use Rattle.shape_cli.specs.Kinds.{read_report_kind}
 use Rattle.shape_cli.specs.Parts.{picture_of}
 use Rattle.shape_cli.proofs.Files.{judged}
 use Rattle.shape_cli.proofs.verdict.judge.Goals as goal
@@ -8,7 +8,7 @@ pub returns-clause-judged : goal.returns-clause-judged
 returns-clause-judged g c =
     let s = g.D.Desk.state in
     let b = c.in_ok-begin.ensures.answer in
-    judged (subject_of (picture_of c.args.image.now) _) c.args.report.now (s c.args.desk.now) (s c.begin.new.self) (s c.check_image.new.desk) c.check_image.result b.at_front b.only.later c.check_image.ensures.checked
+    judged _ (read_report_kind c.args.kind) (picture_of c.args.image.now) c.args.report.now (s c.args.desk.now) (s c.begin.new.self) (s c.check_image.new.desk) c.check_image.result b.at_front b.only.later c.check_image.ensures.checked
 
 pub returns-in_err-begin-clause-judged : goal.returns-in_err-begin-clause-judged
 returns-in_err-begin-clause-judged g c =

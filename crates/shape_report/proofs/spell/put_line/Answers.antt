@@ -4,7 +4,11 @@ use Rattle.report_terms.specs.Kinds.{Kind}
 use Rattle.shape_report.specs.Spelling.{kind_text}
 use Rattle.report_terms.specs.Lines.{IsLineOf}
 use Rattle.shape_report.specs.LineOf.{line_of}
+use Rattle.shape_report.proofs.Claims.{gap_range, gap_text}
 use Rattle.shape_report.proofs.spell.put_line.Goals as goal
+
+pub put_shape-requires-clause-number : goal.put_shape-requires-clause-number
+put_shape-requires-clause-number g c = (subst (λ l. IsLineOf g.P.Point.DIM (line_of g.P.Point.coords l)) c.in-Shape.is c.requires.range).0
 
 pub put_near-requires-clause-weight : goal.put_near-requires-clause-weight
 put_near-requires-clause-weight g c = (subst (λ l. IsLineOf g.P.Point.DIM (line_of g.P.Point.coords l)) c.in-Near.is c.requires.range).1.1
@@ -12,11 +16,8 @@ put_near-requires-clause-weight g c = (subst (λ l. IsLineOf g.P.Point.DIM (line
 pub put_seg-requires-clause-axis : goal.put_seg-requires-clause-axis
 put_seg-requires-clause-axis g c = (subst (λ l. IsLineOf g.P.Point.DIM (line_of g.P.Point.coords l)) c.in-Seg.is c.requires.range).1.1.1.0
 
-pub put_turn-requires-clause-axis : goal.put_turn-requires-clause-axis
-put_turn-requires-clause-axis g c = (subst (λ l. IsLineOf g.P.Point.DIM (line_of g.P.Point.coords l)) c.in-Turn.is c.requires.range).1.0
-
-pub put_cut-requires-clause-range : goal.put_cut-requires-clause-range
-put_cut-requires-clause-range g c = let r = (subst (λ l. IsLineOf g.P.Point.DIM (line_of g.P.Point.coords l)) c.in-Cut.is c.requires.range).1 in (refl, r)
+pub put_gap-requires-clause-range : goal.put_gap-requires-clause-range
+put_gap-requires-clause-range g c = gap_range g.P.Point.DIM c.in-Gap.axis c.in-Gap.refusal (subst (λ l. IsLineOf g.P.Point.DIM (line_of g.P.Point.coords l)) c.in-Gap.is c.requires.range)
 
 pub put_face-requires-clause-axis : goal.put_face-requires-clause-axis
 put_face-requires-clause-axis g c = (subst (λ l. IsLineOf g.P.Point.DIM (line_of g.P.Point.coords l)) c.in-Face.is c.requires.range).1.0
@@ -42,11 +43,8 @@ returns-in-At g c = rw c.in-At.is c.put_at.ensures
 pub returns-in-Seg : goal.returns-in-Seg
 returns-in-Seg g c = rw c.in-Seg.is c.put_seg.ensures
 
-pub returns-in-Turn : goal.returns-in-Turn
-returns-in-Turn g c = rw c.in-Turn.is c.put_turn.ensures
-
-pub returns-in-Cut : goal.returns-in-Cut
-returns-in-Cut g c = rw c.in-Cut.is c.put_cut.ensures
+pub returns-in-Gap : goal.returns-in-Gap
+returns-in-Gap g c = rw c.in-Gap.is (c.put_gap.ensures ∙ gap_text g.P.Point.DIM c.in-Gap.axis c.in-Gap.refusal)
 
 pub returns-in-Face : goal.returns-in-Face
 returns-in-Face g c = rw c.in-Face.is c.put_face.ensures

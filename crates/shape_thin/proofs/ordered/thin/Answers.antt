@@ -28,7 +28,7 @@ loop-next-init g c =
     }
 
 pub loop-next-smaller : goal.loop-next-smaller
-loop-next-smaller g c = let r = c.in_ok-thinner-2.ensures.room in omega arith
+loop-next-smaller g c = let r = c.settle.ensures.room in omega arith
 
 pub loop-next-preserved : goal.loop-next-preserved
 loop-next-preserved g c =
@@ -45,10 +45,10 @@ loop-next-preserved g c =
     let pushed = events_push X.sides c.loop-next.events.items n.place c.ask-tips.result (g.P.Point.coords n.point) (c.in-Some.ensures.place ∙ ap (λ z. raster_point z n.place) sides) in
     record {
       same = c.ask-tips.ensures.same_rule ∙ i.same;
-      stands = rw (items, moved, pushed) (c.in_ok-thinner-2.ensures.stands rule X (events_at X.sides c.loop-next.events.items) state i.stands told);
+      stands = rw (items, moved, pushed) (c.settle.ensures.stands rule X (events_at X.sides c.loop-next.events.items) state i.stands told);
       places = rw items (All-push (λ (d : Done). d.place < box_count X.sides) c.loop-next.events.items done i.places (subst (λ z. n.place < box_count z) sides c.in-Some.ensures.inside));
-      count = let m = ap length items ∙ length_push c.loop-next.events.items done in let h = i.count in let r = c.in_ok-thinner-2.ensures.room in omega arith;
-      few = few_more g.P.Pairing.NEAR_COUNT _ c.loop-next.steps _ (length c.loop-next.events.items) _ (ap length items ∙ length_push c.loop-next.events.items done) i.few c.in_ok-thinner-2.ensures.few;
+      count = let m = ap length items ∙ length_push c.loop-next.events.items done in let h = i.count in let r = c.settle.ensures.room in omega arith;
+      few = few_more g.P.Pairing.NEAR_COUNT _ c.loop-next.steps _ (length c.loop-next.events.items) _ (ap length items ∙ length_push c.loop-next.events.items done) i.few c.settle.ensures.few;
     }
 
 pub of-requires : goal.of-requires

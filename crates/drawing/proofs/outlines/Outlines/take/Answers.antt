@@ -4,7 +4,7 @@ use Rattle.shape_refute.specs.declared.naive.Naive.{Naive}
 use Rattle.shape_terms.specs.Points.{sides_of}
 use Rattle.report_terms.specs.Lines as Terms
 use Rattle.shape_report.specs.declared.line.Line.{Line}
-use Rattle.shape_report.specs.declared.line.Line.TheVariants.{Shape, Parts, Near, Contour, At, Seg, Turn, Cut, Face, Patch, On, Off, Del, Tip, Kept, End}
+use Rattle.shape_report.specs.declared.line.Line.TheVariants.{Shape, Parts, Near, Contour, At, Seg, Gap, Face, Patch, On, Off, Del, Tip, Kept, End}
 use Rattle.drawing.specs.Seen.{flat, flats, flat_line, all_strokes, all_stretches}
 use Rattle.drawing.specs.Outlines as Outlines
 use Rattle.drawing.specs.Standing.{HasOutlines}
@@ -14,14 +14,13 @@ use Rattle.drawing.proofs.outlines.Outlines.take.Goals as goal
 other_line : (sides : List ℕ) (lines : List Terms.Line) (l : Line P2) (kept : Outlines.Kept)
     → ((p : P2) (side n m : ℕ) → l ≡ Contour p side n m → ⊥) → ((p : P2) → l ≡ At p → ⊥) → ((b e : ℕ) (line : Naive) → l ≡ Seg b e line → ⊥)
     → HasOutlines sides lines kept → HasOutlines sides (lines ++ flat_line l ∷ []) kept
-other_line box lines (Shape sides rule) kept _ _ _ h = adds_nothing box lines (flat_line (Shape sides rule)) kept refl refl refl h
+other_line box lines (Shape number sides rule) kept _ _ _ h = adds_nothing box lines (flat_line (Shape number sides rule)) kept refl refl refl h
 other_line box lines (Parts n o b) kept _ _ _ h = adds_nothing box lines (flat_line (Parts n o b)) kept refl refl refl h
 other_line box lines (Near p q s) kept _ _ _ h = adds_nothing box lines (flat_line (Near p q s)) kept refl refl refl h
 other_line box lines (Contour p side n m) kept c a s h = absurd (c p side n m refl)
 other_line box lines (At p) kept c a s h = absurd (a p refl)
 other_line box lines (Seg b e line) kept c a s h = absurd (s b e line refl)
-other_line box lines (Turn t i j) kept _ _ _ h = adds_nothing box lines (flat_line (Turn t i j)) kept refl refl refl h
-other_line box lines (Cut t why) kept _ _ _ h = adds_nothing box lines (flat_line (Cut t why)) kept refl refl refl h
+other_line box lines (Gap t refusal) kept _ _ _ h = adds_nothing box lines (flat_line (Gap t refusal)) kept refl refl refl h
 other_line box lines (Face t sense n) kept _ _ _ h = adds_nothing box lines (flat_line (Face t sense n)) kept refl refl refl h
 other_line box lines (Patch k a mu) kept _ _ _ h = adds_nothing box lines (flat_line (Patch k a mu)) kept refl refl refl h
 other_line box lines (On p) kept _ _ _ h = adds_nothing box lines (flat_line (On p)) kept refl refl refl h

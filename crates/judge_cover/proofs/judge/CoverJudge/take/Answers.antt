@@ -1,10 +1,9 @@
 use Rattle.std.specs.Prelude.{take}
 use Rattle.report_terms.specs.Lines as Terms
-use Rattle.shape_terms.specs.Covers.{Evidence}
 use Rattle.shape_refute.specs.Terms.{naive_of}
-use Rattle.shape_refute.specs.Weights.{refutation_of}
+use Rattle.shape_refute.specs.Evidences.{evidence_of}
 use Rattle.shape_crack.specs.Terms.{point_of, crack_of}
-use Rattle.judge_cover.proofs.Standings.{claim_test, begun_stands, point_stands, segment_stands, turn_stands, cut_stands, begun_room, point_room, segment_room, gap_room}
+use Rattle.judge_cover.proofs.Standings.{claim_test, begun_stands, point_stands, segment_stands, gap_stands, begun_room, point_room, segment_room, gap_room}
 use Rattle.judge_cover.proofs.judge.CoverJudge.take.Goals as goal
 
 pub returns-in-Contour-clause-answer : goal.returns-in-Contour-clause-answer
@@ -46,35 +45,17 @@ returns-in-Seg-clause-room c =
     let l = c.in-Seg in
     segment_room c.args.self.now c.take_segment.new.self l.first l.last l.line.axis (naive_of 2 l.line) c.take_segment.result c.take_segment.ensures.contours c.take_segment.ensures.answer c.take_segment.ensures.next
 
-pub returns-in-Turn-clause-answer : goal.returns-in-Turn-clause-answer
-returns-in-Turn-clause-answer c =
-    let l = c.in-Turn in
-    rw l.is (λ X lines s. claim_test X c.args.self.now lines (Terms.Line.Turn l.axis l.i l.j) c.take_gap.result s c.take_gap.ensures.answer)
+pub returns-in-Gap-clause-answer : goal.returns-in-Gap-clause-answer
+returns-in-Gap-clause-answer c =
+    let l = c.in-Gap in
+    rw l.is (λ X lines s. claim_test X c.args.self.now lines (Terms.Line.Gap l.axis (evidence_of l.refusal)) c.take_gap.result s c.take_gap.ensures.answer)
 
-pub returns-in-Turn-clause-stands : goal.returns-in-Turn-clause-stands
-returns-in-Turn-clause-stands c =
-    let l = c.in-Turn in
-    rw l.is (λ X lines s. turn_stands X c.args.self.now c.take_gap.new.self lines l.axis l.i l.j c.take_gap.result s c.take_gap.ensures.contours c.take_gap.ensures.answer c.take_gap.ensures.next)
+pub returns-in-Gap-clause-stands : goal.returns-in-Gap-clause-stands
+returns-in-Gap-clause-stands c =
+    let l = c.in-Gap in
+    rw l.is (λ X lines s. gap_stands X c.args.self.now c.take_gap.new.self lines l.axis (evidence_of l.refusal) c.take_gap.result s c.take_gap.ensures.contours c.take_gap.ensures.answer c.take_gap.ensures.next)
 
-pub returns-in-Turn-clause-room : goal.returns-in-Turn-clause-room
-returns-in-Turn-clause-room c =
-    let l = c.in-Turn in
-    gap_room c.args.self.now c.take_gap.new.self l.axis (Evidence.Turned l.i l.j) c.take_gap.result c.take_gap.ensures.contours c.take_gap.ensures.answer c.take_gap.ensures.next
-
-pub returns-in-Cut-clause-answer : goal.returns-in-Cut-clause-answer
-returns-in-Cut-clause-answer c =
-    let l = c.in-Cut in
-    let took = c.take_gap-in-Cut in
-    rw l.is (λ X lines s. claim_test X c.args.self.now lines (Terms.Line.Cut l.axis (refutation_of l.why)) took.result s took.ensures.answer)
-
-pub returns-in-Cut-clause-stands : goal.returns-in-Cut-clause-stands
-returns-in-Cut-clause-stands c =
-    let l = c.in-Cut in
-    let took = c.take_gap-in-Cut in
-    rw l.is (λ X lines s. cut_stands X c.args.self.now took.new.self lines l.axis (refutation_of l.why) took.result s took.ensures.contours took.ensures.answer took.ensures.next)
-
-pub returns-in-Cut-clause-room : goal.returns-in-Cut-clause-room
-returns-in-Cut-clause-room c =
-    let l = c.in-Cut in
-    let took = c.take_gap-in-Cut in
-    gap_room c.args.self.now took.new.self l.axis (Evidence.Cut (refutation_of l.why)) took.result took.ensures.contours took.ensures.answer took.ensures.next
+pub returns-in-Gap-clause-room : goal.returns-in-Gap-clause-room
+returns-in-Gap-clause-room c =
+    let l = c.in-Gap in
+    gap_room c.args.self.now c.take_gap.new.self l.axis (evidence_of l.refusal) c.take_gap.result c.take_gap.ensures.contours c.take_gap.ensures.answer c.take_gap.ensures.next

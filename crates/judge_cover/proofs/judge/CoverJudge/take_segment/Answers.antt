@@ -21,7 +21,7 @@ returns-clause-answer c =
     let early : now.standing.gaps ≡ 0 = sym (ap (λ (t : CoverState). t.standing.gaps) c.self.view_is) ∙ c.if-self-ne0.false in
     let more : length (map stretch_of c.as_slice.result.now) < i.declared = omega (arith, c.if-len-self.false, c.len.ensures, length-map c.as_slice.result.now stretch_of, c.as_slice.ensures.len) in
     let places = c.come_next.ensures.0 c.if-not-come_next.false in
-    let held = c.holds_segment.ensures.0 c.if-not-holds_segment.false in (
+    let held = c.holds_segment.ensures.held.0 c.if-not-holds_segment.false in (
       λ t. next_segment now.contours now.standing c.len-n.result i.declared next.first next.last line.axis (naive_of 2 line) (map stretch_of c.as_slice.result.now) (map point_of c.arc.result.now) n declared listed given more early places c.arc.ensures.value held,
       λ h. refl,
     )

@@ -1,29 +1,27 @@
 use Rattle.std.proofs.Common.{◌≡◌, true, false, refl, sym, ◌∙◌, ap, not}
 use Rattle.shape_queue.specs.Keys.{has}
 use Rattle.thin_steps.specs.Standing.{key_of}
-use Rattle.judge_thin.proofs.Followed.{held, none_next, next_is, not_false, same_truth, other_truth}
+use Rattle.judge_thin.proofs.Followed.{none_next, next_is, not_false, same_truth, other_truth}
 use Rattle.judge_thin.proofs.judge.ThinJudge.event.Goals as goal
 
 -- ---- where the answer is false
 
-pub returns-in_default-next-clause-answer : goal.returns-in_default-next-clause-answer
-returns-in_default-next-clause-answer g c = λ X events h. (
+pub returns-in_default-clause-answer : goal.returns-in_default-clause-answer
+returns-in_default-clause-answer g c = λ X events h. (
   (λ b. cc),
   λ e. absurd (
-      let t = c.in-Some.thinner in
-      let stood = held _ X events _ c.args.self.now c.in-Some.thinner c.in-Some.ensures.value h in
-      none_next _ X events _ t.left t.free _ (has t.keys) stood c.in_default-next.ensures _ e),
+      let t = c.args.self.now.thinner in
+      none_next _ X events _ t.left t.free _ (has t.keys) h c.in_default.ensures _ e),
 )
 
 pub returns-then-ne-clause-answer : goal.returns-then-ne-clause-answer
 returns-then-ne-clause-answer g c = λ X events h. (
   (λ b. cc),
   λ e. absurd (
-      let t = c.in-Some.thinner in
-      let n = c.in-Some-next.next in
-      let is = c.in-Some-next.ensures in
-      let stood = held _ X events _ c.args.self.now c.in-Some.thinner c.in-Some.ensures.value h in
-      let w = (next_is _ X events _ t.left t.free _ (has t.keys) stood (key_of n) is.there (g.P.Point.coords n.point) is.place is.least _ is.near _ refl
+      let t = c.args.self.now.thinner in
+      let n = c.in-Some.next in
+      let is = c.in-Some.ensures in
+      let w = (next_is _ X events _ t.left t.free _ (has t.keys) h (key_of n) is.there (g.P.Point.coords n.point) is.place is.least _ is.near _ refl
       c.args.tips (g.P.Point.coords c.args.p)).0 e in
       let same = g.met.P.Point.same n.point c.args.p w.1 in
       let equal : g.P.PartialEq.eq c.args.p n.point ≡ true = ap (g.P.PartialEq.eq c.args.p) same ∙ g.met.P.Eq.laws.refl c.args.p in
@@ -35,11 +33,10 @@ pub returns-then-marked-tips-clause-answer : goal.returns-then-marked-tips-claus
 returns-then-marked-tips-clause-answer g c = λ X events h. (
   (λ b. cc),
   λ e. absurd (
-      let t = c.in-Some.thinner in
-      let n = c.in-Some-next.next in
-      let is = c.in-Some-next.ensures in
-      let stood = held _ X events _ c.args.self.now c.in-Some.thinner c.in-Some.ensures.value h in
-      let next = next_is _ X events _ t.left t.free _ (has t.keys) stood (key_of n) is.there (g.P.Point.coords n.point) is.place is.least _ is.near
+      let t = c.args.self.now.thinner in
+      let n = c.in-Some.next in
+      let is = c.in-Some.ensures in
+      let next = next_is _ X events _ t.left t.free _ (has t.keys) h (key_of n) is.there (g.P.Point.coords n.point) is.place is.least _ is.near
       c.keep-marked.result (sym c.keep-marked.ensures.0) in
       other_truth c.keep-marked.result c.args.tips c.if-marked-tips.true ((next c.args.tips (g.P.Point.coords c.args.p)).0 e).0),
 )
@@ -48,18 +45,16 @@ returns-then-marked-tips-clause-answer g c = λ X events h. (
 
 pub returns-clause-answer : goal.returns-clause-answer
 returns-clause-answer g c = λ X events h.
-    let t = c.in-Some.thinner in
-    let n = c.in-Some-next.next in
-    let is = c.in-Some-next.ensures in
-    let stood = held _ X events _ c.args.self.now c.in-Some.thinner c.in-Some.ensures.value h in
-    let next = next_is _ X events _ t.left t.free _ (has t.keys) stood (key_of n) is.there (g.P.Point.coords n.point) is.place is.least _ is.near
+    let t = c.args.self.now.thinner in
+    let n = c.in-Some.next in
+    let is = c.in-Some.ensures in
+    let next = next_is _ X events _ t.left t.free _ (has t.keys) h (key_of n) is.there (g.P.Point.coords n.point) is.place is.least _ is.near
     c.keep-marked.result (sym c.keep-marked.ensures.0) in
     let p = sym (ap g.P.Point.coords (g.met.P.Point.equal c.args.p n.point (not_false _ c.if-ne.ensures))) in
     ((λ b. (next c.args.tips (g.P.Point.coords c.args.p)).1 (same_truth c.keep-marked.result c.args.tips c.if-marked-tips.false, p)), λ e. refl)
 
 pub returns-clause-stands : goal.returns-clause-stands
 returns-clause-stands g c = λ X events h.
-    let stood = held _ X events _ c.args.self.now c.in-Some.thinner c.in-Some.ensures.value h in
-    let p = sym (ap g.P.Point.coords (g.met.P.Point.equal c.args.p c.in-Some-next.next.point (not_false _ c.if-ne.ensures))) in
+    let p = sym (ap g.P.Point.coords (g.met.P.Point.equal c.args.p c.in-Some.next.point (not_false _ c.if-ne.ensures))) in
     let told = sym c.keep-marked.ensures.0 ∙ same_truth c.keep-marked.result c.args.tips c.if-marked-tips.false in
-    rw (c.keep-marked.ensures.1.0, ← p) (c.in_ok-thinner.ensures.stands _ X events _ stood told)
+    rw (c.keep-marked.ensures.1.0, ← p) (c.settled.ensures.stands _ X events _ h told)

@@ -1,10 +1,10 @@
-use Rattle.std.proofs.Common.{◌≡◌, true, false, Bool, refl, sym, not}
+use Rattle.std.proofs.Common.{◌≡◌, true, false, Bool, refl, not}
 use Rattle.std.specs.Prelude.{◌↔◌, MatchOption, is_some, IsTrue}
 use Rattle.std.specs.declared.option.Option.{Option}
 use Rattle.std.specs.declared.option.Option.TheVariants.{None, Some}
 use Rattle.shape_queue.specs.Keys.{has}
 use Rattle.thin_steps.specs.Standing.{key_of}
-use Rattle.judge_thin.proofs.Followed.{held, all_of_none, not_all}
+use Rattle.judge_thin.proofs.Followed.{all_of_none, not_all}
 use Rattle.judge_thin.proofs.judge.ThinJudge.finished.Goals as goal
 
 -- whether there is none, of what tells either
@@ -15,10 +15,9 @@ none_tells None false E All N m s all none = absurd (let f : false ≡ true = s 
 none_tells (Some a) true E All N m s all none = absurd (let f : true ≡ false = s in cc)
 none_tells (Some a) false E All N m s all none = ((λ t. cc), λ x. absurd (none a m x))
 
-pub returns-in-Some : goal.returns-in-Some
-returns-in-Some g c = λ by X events now h.
-    let t = c.in-Some.thinner in
-    let stood = held by X events now c.args.self.now t (sym c.in-Some.is) h in
+pub returns : goal.returns
+returns g c = λ by X events now h.
+    let t = c.args.self.now.thinner in
     none_tells c.next.result c.is_none.result _ _ _ c.next.ensures c.is_none.ensures
-    (all_of_none by X events now t.left t.free t.distances.items (has t.keys) stood)
-    (λ n is. not_all by X events now t.left t.free t.distances.items (has t.keys) stood (key_of n) is.there (g.P.Point.coords n.point) is.place is.least _ is.near)
+    (all_of_none by X events now t.left t.free t.keys.distances (has t.keys) h)
+    (λ n is. not_all by X events now t.left t.free t.keys.distances (has t.keys) h (key_of n) is.there (g.P.Point.coords n.point) is.place is.least _ is.near)

@@ -1,0 +1,32 @@
+-- Lists of balls by places: what holds of each, and the first ones.
+-- Laws of lists alone.
+use Rattle.std.proofs.Common.{◌≡◌, ℕ, zero, suc, ◌<◌, refl, subst, arith, List, [], ◌∷◌, ◌++◌, length, take, get_or, Some}
+use Rattle.std.specs.Prelude.{slice_get, All}
+use Rattle.std.proofs.lemmas.List.Elements.{All-from_get_or, All-head, All-tail}
+use Rattle.ball_terms.specs.Balls.{Ball}
+
+-- what holds of each entry holds of the one at a place
+pub all_get : {A : Type 0} (P : A → Type 0) (xs : List A) (k : ℕ) (x : A) → slice_get xs k ≡ Some x → All P xs → P x
+all_get P [] k x e h = cc
+all_get P (y ∷ xs) zero x e h = let q : y ≡ x = cc in subst P q (All-head P y xs h)
+all_get P (y ∷ xs) (suc k) x e h = all_get P xs k x e (All-tail P y xs h)
+
+-- and what holds at each place holds of each ball
+pub each_of : (xs : List Ball) (P : Ball → Type 0) → ((k : ℕ) (x : Ball) → slice_get xs k ≡ Some x → P x) → All P xs
+each_of xs P h = All-from_get_or P xs (record { centre = []; near = []; s = 0; own = [] }) (λ k m. h k (get_or xs k (record { centre = []; near = []; s = 0; own = [] })) (there xs k m))
+  where
+    there : (xs : List Ball) (k : ℕ) → k < length xs → slice_get xs k ≡ Some (get_or xs k (record { centre = []; near = []; s = 0; own = [] }))
+    there [] k m = absurd (omega arith)
+    there (x ∷ xs) zero m = refl
+    there (x ∷ xs) (suc k) m = there xs k (omega arith)
+
+pub taken_get : {A : Type 0} (xs : List A) (k j : ℕ) → j < k → slice_get (take k xs) j ≡ slice_get xs j
+taken_get xs zero j l = absurd (omega arith)
+taken_get [] (suc k) j l = refl
+taken_get (x ∷ xs) (suc k) zero l = refl
+taken_get (x ∷ xs) (suc k) (suc j) l = taken_get xs k j (omega arith)
+
+pub get_kept : {A : Type 0} (xs ys : List A) (k : ℕ) (x : A) → slice_get xs k ≡ Some x → slice_get (xs ++ ys) k ≡ Some x
+get_kept [] ys k x e = cc
+get_kept (y ∷ xs) ys zero x e = e
+get_kept (y ∷ xs) ys (suc k) x e = get_kept xs ys k x e

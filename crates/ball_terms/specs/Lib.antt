@@ -1,0 +1,4 @@
+pub mod Balls
+pub mod Lines
+pub mod Reports
+pub mod Shows

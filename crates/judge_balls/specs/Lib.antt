@@ -1,0 +1,4 @@
+pub mod LineOf
+pub mod Standing
+pub mod Tests
+pub mod Course

@@ -1,9 +1,0 @@
-use Rattle.std.proofs.Common.{ℕ, ◌<◌, get_or}
-use Rattle.shape_space.specs.declared.point.P2.{P2}
-use Rattle.shape_terms.specs.Naive.{HoldsPoint}
-use Rattle.shape_refute.specs.Terms.{naive_of}
-use Rattle.shape_crack.specs.Terms.{point_of}
-use Rattle.judge_cover.proofs.line.holds_all.Given as goal
-
-abbrev pub invariant-loop-i : goal.invariant-loop-i
-invariant-loop-i l = (j : ℕ) (d : P2) → j < l.i → HoldsPoint l.line.axis (naive_of 2 l.line) (point_of (get_or l.run j d))

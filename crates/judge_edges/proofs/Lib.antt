@@ -1,0 +1,4 @@
+pub mod PathRuns
+pub mod Folds
+pub mod Standings
+pub mod Taken

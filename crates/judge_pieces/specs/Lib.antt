@@ -1,0 +1,3 @@
+pub mod PieceState
+pub mod LineOf
+pub mod Judged

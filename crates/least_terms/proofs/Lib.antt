@@ -1,0 +1,3 @@
+pub mod Farey
+pub mod ShortSlopes
+pub mod LeastLines

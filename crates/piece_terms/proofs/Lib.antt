@@ -1,0 +1,5 @@
+pub mod Breaks
+pub mod Fewest
+pub mod Listed
+pub mod LineLaws
+pub mod HoldsShows

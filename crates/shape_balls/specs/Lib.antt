@@ -1,0 +1,4 @@
+pub mod Chosen
+pub mod Keeping
+pub mod Listed
+pub mod Ranks

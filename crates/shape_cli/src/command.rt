@@ -1,0 +1,200 @@
+//! The words of a command line.
+//! A command has one spelling: a first word, the words of a source, and a last word; or those of a trial.
+ghost use Rattle.std.specs.Prelude.{◌≡◌, ℕ, List, MatchOption, None, Some, Contains, ◌∷◌, [], slice_get};
+ghost use Rattle.thin_terms.specs.Shelves.{names_of};
+ghost use Rattle.shape_cli.specs.Sources.{source_words, kind_at, read_kind, read_source};
+ghost use Rattle.shape_cli.specs.Kinds.{ReportKind as AskedKind, Takes, IsFound, kind_of, last_words, read_report_kind, read_wanted};
+ghost use Rattle.shape_cli.specs.Commands.{First as AskedFirst, AreTrial, IsNoForm, IsNoRest, IsNoSourceFor, IsRead, IsAtHand, begin_with, first_word, texts, trial_words, words_of, read_command, read_first};
+
+use crate::kind::{ReportKind, Wanted};
+use crate::numbers::number_in;
+use crate::source::{Kind, Source, kind_called, source_of};
+use shape_rules::Shelf;
+
+/// How the words of a command begin.
+#[derive(Clone, Copy)]
+pub enum First {
+    /// A report of a kind is to be made.
+    Make(ReportKind),
+    /// A report of a kind is to be checked.
+    Check(ReportKind),
+    /// The trial of a picture.
+    Trial,
+}
+
+/// What the words ask for.
+#[derive(Clone, Copy)]
+pub enum Command<'a> {
+    /// The making of a report of a picture.
+    Make {
+        source: Source<'a>,
+        wanted: Wanted<'a>,
+    },
+    /// The check of the report in a file against a picture.
+    Check {
+        source: Source<'a>,
+        kind: ReportKind,
+        report: &'a [u8],
+    },
+    /// The trial of the picture that a seed gives.
+    Trial {
+        kind: Kind,
+        seed: u32,
+        side: u32,
+    },
+}
+
+// How words with this first word begin.
+fn beginning(word: &[u8]) -> Option<First>
+    ensures { MatchOption result (begin_with word.now ≡ None)
+        (λ f. word.now ≡ first_word (read_first f)) }
+{
+    if word == b"analyse".as_slice() {
+        return Some(First::Make(ReportKind::Analysis));
+    }
+    if word == b"check".as_slice() {
+        return Some(First::Check(ReportKind::Analysis));
+    }
+    if word == b"edges".as_slice() {
+        return Some(First::Make(ReportKind::Edges));
+    }
+    if word == b"checkedges".as_slice() {
+        return Some(First::Check(ReportKind::Edges));
+    }
+    if word == b"pieces".as_slice() {
+        return Some(First::Make(ReportKind::Pieces));
+    }
+    if word == b"checkpieces".as_slice() {
+        return Some(First::Check(ReportKind::Pieces));
+    }
+    if word == b"balls".as_slice() {
+        return Some(First::Make(ReportKind::Balls));
+    }
+    if word == b"checkballs".as_slice() {
+        return Some(First::Check(ReportKind::Balls));
+    }
+    if word == b"trial".as_slice() {
+        return Some(First::Trial);
+    }
+    None
+}
+
+// The number of the rule that a word names.
+fn find_rule(shelf: &Shelf, word: &[u8]) -> Option<usize>
+    ensures { MatchOption result (Contains (names_of shelf.now) word.now → ⊥)
+        (λ i. slice_get (names_of shelf.now) i ≡ Some word.now) }
+{
+    for i in 0..shelf.len() {
+        if shelf.name(i).word() == word {
+            return Some(i);
+        }
+    }
+    None
+}
+
+// The source that words spell, of a picture that reports of the kind may be about.
+fn source_for<'a>(kind: ReportKind, words: &'a [Vec<u8>]) -> Option<Source<'a>>
+    ensures { MatchOption result (IsNoSourceFor (read_report_kind kind) (texts words.now))
+        (λ s. (texts words.now ≡ source_words (read_source s))
+        × Takes (read_report_kind kind) (kind_at (read_source s))) }
+{
+    let source = source_of(words)?;
+    if kind.takes(source.kind()) {
+        Some(source)
+    } else {
+        None
+    }
+}
+
+// The analysis that the words behind the first spell: those of a source, and the name of a rule.
+fn read_analysis<'a>(rest: &'a [Vec<u8>], shelf: &Shelf) -> Option<Command<'a>>
+    ensures { MatchOption result
+        (IsNoRest (names_of shelf.now) (AskedFirst.Make AskedKind.Analysis) (texts rest.now))
+        (IsRead (names_of shelf.now) (AskedFirst.Make AskedKind.Analysis) (texts rest.now)) }
+{
+    let (rule, at) = rest.split_last()?;
+    let rule = rule.as_slice();
+    let source = source_for(ReportKind::Analysis, at)?;
+    let which = find_rule(shelf, rule)?;
+    let wanted = Wanted::Analysis { rule, which };
+    Some(Command::Make { source, wanted })
+}
+
+// A report for which no more words are wanted than those of a source.
+fn read_plain<'a>(wanted: Wanted<'a>, rest: &'a [Vec<u8>]) -> Option<Command<'a>>
+    requires plain { last_words (read_wanted wanted) ≡ [] }
+    requires found { (names : List (List ℕ)) → IsFound names wanted }
+    ensures { (names : List (List ℕ)) → MatchOption result
+        (IsNoRest names (AskedFirst.Make (kind_of (read_wanted wanted.entry))) (texts rest.now))
+        (IsRead names (AskedFirst.Make (kind_of (read_wanted wanted.entry))) (texts rest.now)) }
+{
+    let source = source_for(wanted.kind(), rest)?;
+    Some(Command::Make { source, wanted })
+}
+
+// The making of a report of a kind that the words behind the first spell.
+fn read_making<'a>(kind: ReportKind, rest: &'a [Vec<u8>], shelf: &Shelf) -> Option<Command<'a>>
+    ensures { MatchOption result
+        (IsNoRest (names_of shelf.now) (AskedFirst.Make (read_report_kind kind)) (texts rest.now))
+        (IsRead (names_of shelf.now) (AskedFirst.Make (read_report_kind kind)) (texts rest.now)) }
+{
+    match kind {
+        ReportKind::Analysis => read_analysis(rest, shelf),
+        ReportKind::Edges => read_plain(Wanted::Edges, rest),
+        ReportKind::Pieces => read_plain(Wanted::Pieces, rest),
+        ReportKind::Balls => read_plain(Wanted::Balls, rest),
+    }
+}
+
+// The check that the words behind the first spell: those of a source, and the name of a report's file.
+fn read_check<'a>(kind: ReportKind, rest: &'a [Vec<u8>]) -> Option<Command<'a>>
+    ensures { (names : List (List ℕ)) → MatchOption result
+        (IsNoRest names (AskedFirst.Check (read_report_kind kind)) (texts rest.now))
+        (IsRead names (AskedFirst.Check (read_report_kind kind)) (texts rest.now)) }
+{
+    let (report, at) = rest.split_last()?;
+    let report = report.as_slice();
+    let source = source_for(kind, at)?;
+    Some(Command::Check {
+        source,
+        kind,
+        report,
+    })
+}
+
+// The trial that three words spell.
+fn trial_of<'a>(kind: &Vec<u8>, seed: &Vec<u8>, side: &Vec<u8>) -> Option<Command<'a>>
+    ensures { (names : List (List ℕ)) → MatchOption result
+        (IsNoRest names AskedFirst.Trial (kind.now.items ∷ seed.now.items ∷ side.now.items ∷ []))
+        (IsRead names AskedFirst.Trial (kind.now.items ∷ seed.now.items ∷ side.now.items ∷ [])) }
+{
+    let kind = kind_called(kind)?;
+    let seed = number_in(seed, 0, u32::MAX)?;
+    let side = number_in(side, 1, kind.most_side())?;
+    Some(Command::Trial { kind, seed, side })
+}
+
+// The trial that the words behind the first spell.
+fn read_trial<'a>(rest: &[Vec<u8>]) -> Option<Command<'a>>
+    ensures { (names : List (List ℕ)) → MatchOption result
+        (IsNoRest names AskedFirst.Trial (texts rest.now))
+        (IsRead names AskedFirst.Trial (texts rest.now)) }
+{
+    match rest {
+        [kind, seed, side] => trial_of(kind, seed, side),
+        _ => None,
+    }
+}
+
+/// The command that the words spell, if they are of a form, with numbers in range and a rule on the shelf.
+pub(crate) fn read_words<'a>(words: &'a [Vec<u8>], shelf: &Shelf) -> Option<Command<'a>>
+    ensures { MatchOption result (IsNoForm (names_of shelf.now) (texts words.now))
+        (λ c. (texts words.now ≡ words_of (read_command c)) × IsAtHand (names_of shelf.now) c) }
+{
+    let (first, rest) = words.split_first()?;
+    match beginning(first.as_slice())? {
+        First::Make(kind) => read_making(kind, rest, shelf),
+        First::Check(kind) => read_check(kind, rest),
+        First::Trial => read_trial(rest),
+    }
+}

@@ -1,0 +1,4 @@
+pub mod Lines
+pub mod Gaps
+pub mod Ways
+pub mod Arcs

@@ -1,0 +1,7 @@
+pub mod Growth
+pub mod PathSteps
+pub mod Searching
+pub mod Beginning
+pub mod Passing
+pub mod LineOf
+pub mod Growing

@@ -1,5 +1,0 @@
-pub mod Farey
-pub mod Ranges
-pub mod ShortSlopes
-pub mod LeastLines
-pub mod Walk

@@ -1,0 +1,4 @@
+pub mod Longest
+pub mod Fronting
+pub mod Fits
+pub mod Growth

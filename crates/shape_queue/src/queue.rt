@@ -1,0 +1,88 @@
+//! The queue: all places have ranks by their distances, and the ranks of those that wait are a set of numbers.
+//! Which keys wait is a matter of `specs/Waiting`; how ranks are found belongs elsewhere.
+ghost use Rattle.std.specs.Prelude.{◌≡◌, ℕ, ◌<◌, ◌≤◌, ◌^◌, length, IfOk, MatchOption, IfSome, false, true};
+ghost use Rattle.shape_queue.specs.declared.key.Key.{Key};
+ghost use Rattle.shape_queue.specs.Keys.{has, IsLeastKey};
+ghost use Rattle.shape_queue.specs.Waiting.{key_at, Put};
+
+use crate::key::Key;
+use crate::ranks::{places_of, ranks_of};
+use shape_bits::Numbers;
+use shape_space::NoMemory;
+use std::alloc::Global;
+use std::marker::Model;
+
+/// The places that wait, by the ranks of all places.
+#[derive(Drop)]
+pub struct Queue {
+    distances: Vec<u64>,
+    ranks: Vec<u32>,
+    places: Vec<u32>,
+    waiting: Numbers,
+}
+
+impl Model for Queue {
+    ghost use Rattle.shape_queue.specs.Keys.{Queued};
+    ghost use Rattle.shape_queue.specs.Ranks.{AreFitting};
+
+    ghost Value = { Queued };
+
+    ghost view = { λ q. record { distances = q.distances.items; waiting = q.waiting } };
+
+    ghost invariant = { λ q. AreFitting q.distances.items q.ranks.items q.places.items q.waiting };
+}
+
+impl Queue {
+    /// An empty queue of places with these squared distances. It takes all memory that it ever needs.
+    pub fn new(alloc: Global, distances: Vec<u64>) -> Result<Queue, NoMemory>
+        requires { length distances.items ≤ 2 ^ 23 }
+        ensures none { IfOk result (λ q. (k : Key) → has q k ≡ false) }
+        ensures distances { IfOk result (λ q. q.distances ≡ distances.items) }
+    {
+        let greatest = distances.iter().copied().max().unwrap_or(0);
+        // in no box is a point so far from the background, and no table is so long
+        if greatest >= 0x1_0000_0000 {
+            return Err(NoMemory);
+        }
+        let bound = greatest as usize + 1;
+        let ranks = ranks_of(alloc, distances.as_slice(), bound)?;
+        let places = places_of(alloc, distances.as_slice(), ranks.as_slice())?;
+        let waiting = Numbers::new(alloc, distances.len())?;
+        Ok(Queue {
+            distances,
+            ranks,
+            places,
+            waiting,
+        })
+    }
+
+    /// Puts the key of a place into the queue, or takes it out.
+    pub fn settle(&mut self, place: u32, waits: bool)
+        requires { place < length self.old.distances }
+        ensures put { Put (has self.old) (has self.new) (key_at self.old.distances place) waits }
+        ensures distances { self.new.distances ≡ self.old.distances }
+    {
+        let rank = self.ranks[place as usize] as usize;
+        if waits {
+            self.waiting.insert(rank);
+        } else {
+            self.waiting.remove(rank);
+        }
+    }
+
+    /// The least key of the queue.
+    pub fn least(&self) -> Option<Key>
+        ensures there { MatchOption result ((k : Key) → has self.now k ≡ false)
+            (λ key. has self.now key ≡ true) }
+        ensures least { IfSome result (λ key. IsLeastKey (has self.now) key) }
+    {
+        match self.waiting.least() {
+            None => None,
+            Some(rank) => {
+                let place = self.places[rank];
+                let distance = self.distances[place as usize];
+                Some(Key { distance, place })
+            }
+        }
+    }
+}
