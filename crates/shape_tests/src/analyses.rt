@@ -29,7 +29,7 @@ fn a_full_picture(rt: HostRuntime) -> Result<(), Fail> {
     }
     assert_eq!(rt;
         kinds.as_slice(),
-        b"sp111141111caaaaaaaassssttttttttddddddddke".as_slice()
+        b"sp111141111caaaaaaaaslslslslttttttttddddddddke".as_slice()
     );
     let tally = Tally {
         points: 9,
