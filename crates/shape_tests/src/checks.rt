@@ -6,7 +6,7 @@ use shape_check::{CheckFault, Judgement, check_flat};
 use shape_desk::{Desk, MemoryDesk, Place};
 use shape_grid::Grid;
 use shape_space::P2;
-use std::alloc::Global;
+use std::alloc::{AllocError, Global};
 use std::test::Fail;
 
 // The answer to a report of a picture, read in small pieces, where the calls of the desk with these numbers fail.
@@ -16,11 +16,11 @@ fn answer(
     report: &[u8],
     bad_reads: &[u64],
 ) -> Result<Result<Judgement, CheckFault>, Fail> {
-    let file = (
+    let mut files = Vec::new(alloc);
+    files.push((
         Vec::from_slice(alloc, b"r")?,
         Vec::from_slice(alloc, report)?,
-    );
-    let files = vec![in alloc; file]?;
+    ))?;
     let bad = Vec::from_slice(alloc, bad_reads)?;
     let mut desk = MemoryDesk::new(alloc, files, bad, Vec::new(alloc), 20, 0)?;
     desk.begin(Place::Report, b"r")?;
@@ -28,35 +28,60 @@ fn answer(
     Ok(check_flat(alloc, grid, &mut desk, &mut shelf))
 }
 
+// A report that holds.
+const YES: u64 = 0;
+
+// The first bad line of a report.
+fn first_bad(alloc: Global, grid: &Grid<P2>, report: &[u8]) -> Result<u64, Fail> {
+    match answer(alloc, grid, report, &[])? {
+        Ok(Judgement::Yes) => Ok(YES),
+        Ok(Judgement::No { line }) => Ok(line),
+        Err(_) => Err(Fail::from(AllocError)),
+    }
+}
+
+// Two texts behind one another.
+fn joined(alloc: Global, front: &[u8], back: &[u8]) -> Result<Vec<u8>, Fail> {
+    let mut text = Vec::from_slice(alloc, front)?;
+    text.extend_from_slice(back)?;
+    Ok(text)
+}
+
 // The report of one pixel, in front of its last line.
 const ONE_PIXEL: &[u8] =
     b"shape 1 pbm 1 1 none\nparts 1 1 1\nnear 0 0 0 -1 1\ncontour 0 0 0 1 1\nat 0 0\nseg 0 0 y 0 1 0\nturn x 0 0\nturn y 0 0\nkept 1 1 1\n";
+
+// How it ends, and its first bad line.
+const ENDINGS: [(&[u8], u64); 5] = [
+    (b"end\n", YES),
+    (b"", 10),
+    (b"end", 10),
+    (b"end\r\n", 10),
+    (b"end\n\n", 11),
+];
 
 #[test]
 fn one_pixel(rt: HostRuntime) -> Result<(), Fail> {
     let alloc = rt.alloc();
     let grid = full(alloc, 1, 1)?;
-    let endings: [(&[u8], Judgement); 5] = [
-        (b"end\n", Judgement::Yes),
-        (b"", Judgement::No { line: 10 }),
-        (b"end", Judgement::No { line: 10 }),
-        (b"end\r\n", Judgement::No { line: 10 }),
-        (b"end\n\n", Judgement::No { line: 11 }),
-    ];
-    for (ending, want) in endings {
-        let mut report = Vec::from_slice(alloc, ONE_PIXEL)?;
-        report.extend_from_slice(ending)?;
-        let got = answer(alloc, &grid, report.as_slice(), &[])?;
-        assert!(rt; matches!(got, Ok(judgement) if judgement == want));
+    for (ending, want) in &ENDINGS {
+        let report = joined(alloc, ONE_PIXEL, ending)?;
+        assert!(rt;
+            first_bad(alloc, &grid, report.as_slice())? == *want,
+            "line {want}"
+        );
     }
-    let got = answer(alloc, &grid, b"", &[])?;
-    assert!(rt; matches!(got, Ok(Judgement::No { line: 1 })));
+    assert!(rt; first_bad(alloc, &grid, b"")? == 1);
     let got = answer(alloc, &grid, ONE_PIXEL, &[3])?;
     assert!(rt; matches!(got, Err(CheckFault::ReadFault)));
+    Ok(())
+}
+
+#[test]
+fn laws() {
     holding_shows();
     one_first_bad();
     holding_is_answered();
-    Ok(())
 }
 
 // Each line of a report of the full picture of 2 by 2 points, the line with one thing changed, and the first bad line where it is left out:
@@ -113,20 +138,24 @@ fn square(alloc: Global, place: usize, times: usize, is_changed: bool) -> Result
 fn each_single_change(rt: HostRuntime) -> Result<(), Fail> {
     let alloc = rt.alloc();
     let grid = full(alloc, 2, 2)?;
-    let whole = square(alloc, 0, 1, false)?;
-    let got = answer(alloc, &grid, whole.as_slice(), &[])?;
-    assert!(rt; matches!(got, Ok(Judgement::Yes)));
+    assert!(rt; first_bad(alloc, &grid, square(alloc, 0, 1, false)?.as_slice())? == YES);
     for (place, (_, _, missing)) in SQUARE.iter().enumerate() {
         let number = place as u64 + 1;
-        let bad = [
-            (square(alloc, place, 0, false)?, *missing),
-            (square(alloc, place, 1, true)?, number),
-            (square(alloc, place, 2, false)?, number + 1),
-        ];
-        for (report, want) in &bad {
-            let got = answer(alloc, &grid, report.as_slice(), &[])?;
-            assert!(rt; matches!(got, Ok(Judgement::No { line }) if line == *want));
-        }
+        let left_out = square(alloc, place, 0, false)?;
+        assert!(rt;
+            first_bad(alloc, &grid, left_out.as_slice())? == *missing,
+            "{number}"
+        );
+        let changed = square(alloc, place, 1, true)?;
+        assert!(rt;
+            first_bad(alloc, &grid, changed.as_slice())? == number,
+            "{number}"
+        );
+        let doubled = square(alloc, place, 2, false)?;
+        assert!(rt;
+            first_bad(alloc, &grid, doubled.as_slice())? == number + 1,
+            "{number}"
+        );
     }
     Ok(())
 }
@@ -139,61 +168,59 @@ const ROW: &[u8] =
 const POINTS: &[u8] =
     b"shape 1 pbm 2 2 none\nparts 4 1 1\nnear 0 0 0 -1 1\nnear 1 0 1 -1 1\nnear 0 1 -1 1 1\nnear 1 1 2 1 1\n";
 
+// Lines behind them, and the first bad line.
+const GAPS: [(&[u8], u64); 3] = [
+    // A maximal run between two listed ones is missing: it is the run of their gap, so no evidence is good.
+    (
+        b"contour 0 0 0 4 3\nat 0 0\nat 1 0\nat 1 1\nat 0 1\nseg 0 1 y 0 1 0\nseg 2 3 y 0 1 1\nseg 3 4 x 1 0 0\nturn x 0 0\n",
+        15,
+    ),
+    // Segments so far apart that their gap has no run.
+    (
+        b"contour 0 0 0 4 2\nat 0 0\nat 1 0\nat 1 1\nat 0 1\nseg 0 0 y 0 1 0\nseg 3 3 y 0 1 1\nturn x 0 0\n",
+        14,
+    ),
+    (
+        b"contour 0 0 0 4 2\nat 0 0\nat 1 0\nat 1 1\nat 0 1\nseg 0 0 y 0 1 0\nseg 3 3 y 0 1 1\ncut x 0 0 0\n",
+        14,
+    ),
+];
+
 #[test]
 fn gaps_that_are_too_wide(rt: HostRuntime) -> Result<(), Fail> {
-    let alloc = rt.alloc();
-    let grid = full(alloc, 2, 2)?;
-    let table: [(&[u8], u64); 3] = [
-        // A maximal run between two listed ones is missing: it is the run of their gap, so no evidence is good.
-        (
-            b"contour 0 0 0 4 3\nat 0 0\nat 1 0\nat 1 1\nat 0 1\nseg 0 1 y 0 1 0\nseg 2 3 y 0 1 1\nseg 3 4 x 1 0 0\nturn x 0 0\n",
-            15,
-        ),
-        // Segments so far apart that their gap has no run.
-        (
-            b"contour 0 0 0 4 2\nat 0 0\nat 1 0\nat 1 1\nat 0 1\nseg 0 0 y 0 1 0\nseg 3 3 y 0 1 1\nturn x 0 0\n",
-            14,
-        ),
-        (
-            b"contour 0 0 0 4 2\nat 0 0\nat 1 0\nat 1 1\nat 0 1\nseg 0 0 y 0 1 0\nseg 3 3 y 0 1 1\ncut x 0 0 0\n",
-            14,
-        ),
-    ];
-    for (lines, want) in table {
-        let mut report = Vec::from_slice(alloc, POINTS)?;
-        report.extend_from_slice(lines)?;
-        let got = answer(alloc, &grid, report.as_slice(), &[])?;
-        assert!(rt; matches!(got, Ok(Judgement::No { line }) if line == want));
+    let grid = full(rt.alloc(), 2, 2)?;
+    for (lines, want) in &GAPS {
+        let report = joined(rt.alloc(), POINTS, lines)?;
+        assert!(rt; first_bad(rt.alloc(), &grid, report.as_slice())? == *want);
     }
     Ok(())
 }
 
+// Gap lines of the row that are to make the checker overflow or read too far, and the first bad line.
+const HOSTILE: [(&[u8], u64); 9] = [
+    (
+        b"cut x 1 9223372036854775807 0 1 9223372036854775807 0 0\n",
+        13,
+    ),
+    (
+        b"cut x 1 9223372036854775807 0 0 1 9223372036854775807 up\n",
+        13,
+    ),
+    (b"cut x 0 0 0\n", 13),
+    (b"cut x 1 0 0 1 0 0 1 0 up\n", 13),
+    (b"cut x 1 1 0 1 1 3 0\n", 13),
+    (b"cut x 1 1 0 1 1 0 1 1 up-x\n", 13),
+    (b"cut x 1 9223372036854775808 0 0 0\n", 13),
+    (b"turn x 0 0\ncut y 1 1 0 1 1 0 0\n", 14),
+    (b"turn x 0 0\nturn y 0 2\n", 14),
+];
+
 #[test]
 fn hostile_lines(rt: HostRuntime) -> Result<(), Fail> {
-    let alloc = rt.alloc();
-    let grid = full(alloc, 3, 1)?;
-    let lines: [(&[u8], u64); 9] = [
-        (
-            b"cut x 1 9223372036854775807 0 1 9223372036854775807 0 0\n",
-            13,
-        ),
-        (
-            b"cut x 1 9223372036854775807 0 0 1 9223372036854775807 up\n",
-            13,
-        ),
-        (b"cut x 0 0 0\n", 13),
-        (b"cut x 1 0 0 1 0 0 1 0 up\n", 13),
-        (b"cut x 1 1 0 1 1 3 0\n", 13),
-        (b"cut x 1 1 0 1 1 0 1 1 up-x\n", 13),
-        (b"cut x 1 9223372036854775808 0 0 0\n", 13),
-        (b"turn x 0 0\ncut y 1 1 0 1 1 0 0\n", 14),
-        (b"turn x 0 0\nturn y 0 2\n", 14),
-    ];
-    for (line, want) in lines {
-        let mut report = Vec::from_slice(alloc, ROW)?;
-        report.extend_from_slice(line)?;
-        let got = answer(alloc, &grid, report.as_slice(), &[])?;
-        assert!(rt; matches!(got, Ok(Judgement::No { line }) if line == want));
+    let grid = full(rt.alloc(), 3, 1)?;
+    for (lines, want) in &HOSTILE {
+        let report = joined(rt.alloc(), ROW, lines)?;
+        assert!(rt; first_bad(rt.alloc(), &grid, report.as_slice())? == *want);
     }
     Ok(())
 }
@@ -224,25 +251,23 @@ const THINNINGS: [(&[u8], &[u8], u64); 6] = [
     (b"zzz", b"del 0 0\ndel 1 0\ndel 0 1\nkept 1 1 1\nend\n", 1),
 ];
 
+// The report of the square by a rule, with these lines of its thinning.
+fn thinned(alloc: Global, rule: &[u8], lines: &[u8]) -> Result<Vec<u8>, Fail> {
+    let mut report = joined(alloc, b"shape 1 pbm 2 2 ", rule)?;
+    report.push(b'\n')?;
+    for (line, _, _) in SQUARE.iter().take(23).skip(1) {
+        report.extend_from_slice(line)?;
+    }
+    report.extend_from_slice(lines)?;
+    Ok(report)
+}
+
 #[test]
 fn thinnings(rt: HostRuntime) -> Result<(), Fail> {
-    let alloc = rt.alloc();
-    let grid = full(alloc, 2, 2)?;
-    for (rule, lines, bad) in THINNINGS {
-        let mut report = Vec::from_slice(alloc, b"shape 1 pbm 2 2 ")?;
-        report.extend_from_slice(rule)?;
-        report.push(b'\n')?;
-        for (line, _, _) in SQUARE.iter().take(23).skip(1) {
-            report.extend_from_slice(line)?;
-        }
-        report.extend_from_slice(lines)?;
-        let got = answer(alloc, &grid, report.as_slice(), &[])?;
-        let want = if bad == 0 {
-            Judgement::Yes
-        } else {
-            Judgement::No { line: bad }
-        };
-        assert!(rt; matches!(got, Ok(judgement) if judgement == want));
+    let grid = full(rt.alloc(), 2, 2)?;
+    for (rule, lines, want) in &THINNINGS {
+        let report = thinned(rt.alloc(), rule, lines)?;
+        assert!(rt; first_bad(rt.alloc(), &grid, report.as_slice())? == *want);
     }
     Ok(())
 }
@@ -250,9 +275,7 @@ fn thinnings(rt: HostRuntime) -> Result<(), Fail> {
 #[test]
 fn line_without_end(rt: HostRuntime) -> Result<(), Fail> {
     let alloc = rt.alloc();
-    let grid = full(alloc, 1, 1)?;
     let zeros = vec![in alloc; 0; 4000]?;
-    let got = answer(alloc, &grid, zeros.as_slice(), &[])?;
-    assert!(rt; matches!(got, Ok(Judgement::No { line: 1 })));
+    assert!(rt; first_bad(alloc, &full(alloc, 1, 1)?, zeros.as_slice())? == 1);
     Ok(())
 }

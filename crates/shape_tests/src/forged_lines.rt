@@ -54,60 +54,76 @@ const OF_RING: (&str, &str) = ("analyse pbm a none", "check pbm a b");
 
 const OF_THREE: (&str, &str) = ("analyse raw 3 1 2 a none", "check raw 3 1 2 a b");
 
+// A report of the picture with such a line, and the number of that line.
+fn forged(
+    alloc: Global,
+    analyse: &str,
+    picture: &[u8],
+    begin: &[u8],
+    steps: &[u8],
+) -> Result<(Vec<u8>, u64), Fail> {
+    let case = Case {
+        line: analyse,
+        picture,
+        report: b"",
+    };
+    let (_, report) = answer(alloc, case)?;
+    let mut line = begin.to_vec(alloc)?;
+    line.extend_from_slice(MOST)?;
+    line.extend_from_slice(MOST)?;
+    line.extend_from_slice(steps)?;
+    replaced(alloc, &report, begin, &line)
+}
+
 #[test]
 fn the_greatest_weights(rt: HostRuntime) -> Result<(), Fail> {
-    let alloc = rt.alloc();
-    for ((analyse, check), picture, begin, steps) in GREATEST {
-        let case = Case {
-            line: analyse,
-            picture,
-            report: b"",
-        };
-        let (outcome, report) = answer(alloc, case)?;
-        assert_eq!(rt; outcome, Outcome::Done);
-        let mut forged = begin.to_vec(alloc)?;
-        forged.extend_from_slice(MOST)?;
-        forged.extend_from_slice(MOST)?;
-        forged.extend_from_slice(steps)?;
-        let (text, line) = replaced(alloc, &report, begin, &forged)?;
-        assert!(rt; line > 3);
+    for ((analyse, check), picture, begin, steps) in &GREATEST {
+        let (text, line) = forged(rt.alloc(), analyse, picture, begin, steps)?;
+        assert!(rt; line > 3, "{analyse}");
         let case = Case {
             line: check,
             picture,
             report: text.as_slice(),
         };
-        let (outcome, _) = answer(alloc, case)?;
-        assert_eq!(rt; outcome, Outcome::No { line });
+        let (outcome, _) = answer(rt.alloc(), case)?;
+        assert!(rt; outcome == Outcome::No { line }, "{check}");
     }
     Ok(())
+}
+
+// How many bytes a line has, and what follows them.
+const LONG: [(usize, &[u8]); 5] = [
+    (1024, b""),
+    (1024, b"\n"),
+    (1025, b""),
+    (1025, b"\nparts 1 1 1\n"),
+    (5000, b"\n"),
+];
+
+// Good lines before it, and its number.
+const BEFORE: [(&[u8], u64); 2] = [(b"", 1), (b"shape 1 pbm 1 1 none\n", 2)];
+
+// The outcome of a check of a report with such a line.
+fn long_line(alloc: Global, good: &[u8], count: usize, end: &[u8]) -> Result<Outcome, Fail> {
+    let mut text = good.to_vec(alloc)?;
+    text.extend_from_slice(&vec![in alloc; b'x'; count]?)?;
+    text.extend_from_slice(end)?;
+    let case = Case {
+        line: "check pbm a b",
+        picture: b"P1 1 1 1",
+        report: text.as_slice(),
+    };
+    let (outcome, _) = answer(alloc, case)?;
+    Ok(outcome)
 }
 
 // Lines that are too long, or just not, behind so many good lines.
 #[test]
 fn long_lines(rt: HostRuntime) -> Result<(), Fail> {
-    let alloc = rt.alloc();
-    for (count, end) in [
-        (1024usize, b"".as_slice()),
-        (1024, b"\n".as_slice()),
-        (1025, b"".as_slice()),
-        (1025, b"\nparts 1 1 1\n".as_slice()),
-        (5000, b"\n".as_slice()),
-    ] {
-        for (good, line) in [
-            (b"".as_slice(), 1u64),
-            (b"shape 1 pbm 1 1 none\n".as_slice(), 2),
-        ] {
-            let mut text = good.to_vec(alloc)?;
-            let long = vec![in alloc; b'x'; count]?;
-            text.extend_from_slice(&long)?;
-            text.extend_from_slice(end)?;
-            let case = Case {
-                line: "check pbm a b",
-                picture: b"P1 1 1 1",
-                report: text.as_slice(),
-            };
-            let (outcome, _) = answer(alloc, case)?;
-            assert_eq!(rt; outcome, Outcome::No { line });
+    for (count, end) in &LONG {
+        for (good, line) in &BEFORE {
+            let outcome = long_line(rt.alloc(), good, *count, end)?;
+            assert!(rt; outcome == Outcome::No { line: *line }, "{count}");
         }
     }
     Ok(())

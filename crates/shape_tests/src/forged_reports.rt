@@ -170,9 +170,8 @@ fn the_report(rt: HostRuntime) -> Result<(), Fail> {
         report: b"",
     };
     let (outcome, text) = answer(alloc, case)?;
-    assert_eq!(rt; outcome, Outcome::Done);
-    assert_eq!(rt; text.as_slice(), REPORT);
-    assert_eq!(rt; judged(alloc, REPORT)?, Outcome::Yes);
+    assert!(rt; outcome == Outcome::Done && text.as_slice() == REPORT);
+    assert!(rt; judged(alloc, REPORT)? == Outcome::Yes);
     Ok(())
 }
 
@@ -183,7 +182,7 @@ fn cut_or_longer(rt: HostRuntime) -> Result<(), Fail> {
     let mut line: u64 = 1;
     for byte in REPORT {
         // A front is bad at the line that it has no LF of.
-        assert_eq!(rt; judged(alloc, &text)?, verdict(line));
+        assert!(rt; judged(alloc, &text)? == verdict(line), "line {line}");
         text.push(*byte)?;
         line = if *byte == b'\n' {
             line.saturating_add(1)
@@ -191,40 +190,57 @@ fn cut_or_longer(rt: HostRuntime) -> Result<(), Fail> {
             line
         };
     }
-    assert_eq!(rt; judged(alloc, &text)?, Outcome::Yes);
+    assert!(rt; judged(alloc, &text)? == Outcome::Yes);
     text.push(b'\n')?;
-    assert_eq!(rt; judged(alloc, &text)?, verdict(line));
+    assert!(rt; judged(alloc, &text)? == verdict(line), "line {line}");
     Ok(())
 }
 
 #[test]
-fn lines_left_out_doubled_or_exchanged(rt: HostRuntime) -> Result<(), Fail> {
-    let alloc = rt.alloc();
-    let lines = lines(alloc)?;
-    let last = lines.len();
-    assert_eq!(rt; last, LINES);
-    for at in 0..last {
+fn lines_left_out(rt: HostRuntime) -> Result<(), Fail> {
+    let lines = lines(rt.alloc())?;
+    assert!(rt; lines.len() == LINES);
+    for at in 0..LINES {
         let next = at.saturating_add(1);
-        let mut text = Vec::new(alloc);
+        let mut text = Vec::new(rt.alloc());
         put(&mut text, &lines, 0, at)?;
-        put(&mut text, &lines, next, last)?;
-        assert_eq!(rt; judged(alloc, &text)?, verdict(next as u64));
-        let mut text = Vec::new(alloc);
-        put(&mut text, &lines, 0, next)?;
-        put(&mut text, &lines, at, last)?;
-        assert_eq!(rt;
-            judged(alloc, &text)?,
-            verdict((next as u64).saturating_add(1))
+        put(&mut text, &lines, next, LINES)?;
+        assert!(rt;
+            judged(rt.alloc(), &text)? == verdict(next as u64),
+            "line {next}"
         );
     }
-    for at in 0..last.saturating_sub(1) {
+    Ok(())
+}
+
+#[test]
+fn lines_doubled(rt: HostRuntime) -> Result<(), Fail> {
+    let lines = lines(rt.alloc())?;
+    for at in 0..LINES {
         let next = at.saturating_add(1);
-        let mut text = Vec::new(alloc);
+        let mut text = Vec::new(rt.alloc());
+        put(&mut text, &lines, 0, next)?;
+        put(&mut text, &lines, at, LINES)?;
+        let want = verdict((next as u64).saturating_add(1));
+        assert!(rt; judged(rt.alloc(), &text)? == want, "line {next}");
+    }
+    Ok(())
+}
+
+#[test]
+fn lines_exchanged(rt: HostRuntime) -> Result<(), Fail> {
+    let lines = lines(rt.alloc())?;
+    for at in 0..LINES.saturating_sub(1) {
+        let next = at.saturating_add(1);
+        let mut text = Vec::new(rt.alloc());
         put(&mut text, &lines, 0, at)?;
         put(&mut text, &lines, next, next.saturating_add(1))?;
         put(&mut text, &lines, at, next)?;
-        put(&mut text, &lines, next.saturating_add(1), last)?;
-        assert_eq!(rt; judged(alloc, &text)?, verdict(next as u64));
+        put(&mut text, &lines, next.saturating_add(1), LINES)?;
+        assert!(rt;
+            judged(rt.alloc(), &text)? == verdict(next as u64),
+            "line {next}"
+        );
     }
     Ok(())
 }
@@ -236,12 +252,8 @@ fn numbers_raised(rt: HostRuntime) -> Result<(), Fail> {
     for (at, wants) in RAISED.iter().enumerate() {
         for (place, want) in wants.iter().enumerate() {
             let (text, count) = raised(alloc, &lines, at, place)?;
-            assert_eq!(rt; count, wants.len());
-            assert_eq!(rt;
-                judged(alloc, &text)?,
-                verdict(*want),
-                "line {at}, number {place}"
-            );
+            let is_as_wanted = count == wants.len() && judged(alloc, &text)? == verdict(*want);
+            assert!(rt; is_as_wanted, "line {at}, number {place}");
         }
     }
     Ok(())

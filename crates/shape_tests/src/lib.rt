@@ -17,6 +17,8 @@ mod forged_reports;
 #[cfg(test)]
 mod kinds;
 #[cfg(test)]
+mod least_lines;
+#[cfg(test)]
 mod pictures;
 #[cfg(test)]
 mod refusals;

@@ -3,24 +3,98 @@
 ghost use Rattle.std.specs.Prelude.{◌==◌, [], ◌∷◌, if◌then◌else◌, slice_index};
 ghost use Rattle.thin_terms.specs.Thinning.{rule_by};
 
-use crate::runs::{checked, checked_by, desk, ran, words};
+use crate::runs::{checked, checked_by, desk, ran, words, written};
 use shape_cli::{Outcome, run, shelf};
 use shape_desk::MemoryDesk;
-use shape_rules::{EndRule, Facts, NoEnds};
-use std::alloc::{AllocError, Global};
+use shape_rules::{EndRule, Facts, NoEnds, Shelf};
+use std::alloc::Global;
 use std::test::Fail;
 
+// The words of an analysis, a picture, and how its report begins and ends.
+const ANALYSES: [(&str, &[u8], &[u8], &[u8]); 11] = [
+    (
+        NONE,
+        b"P1 1 1 1",
+        b"shape 2 pbm 1 1 none\nparts 1 1 1\nnear 0 0 ",
+        b" 0\nleast 0 0 0 0\nturn x 0 0\nturn y 0 0\nkept 1 1 1\nend\n",
+    ),
+    (
+        NONE,
+        b"P1 2 2 0000",
+        b"shape 2 pbm 2 2 none\nparts 0 0 1\nkept 0 0 1\nend\n",
+        b"\nkept 0 0 1\nend\n",
+    ),
+    (
+        NONE,
+        b"P1 2 2 1001",
+        b"shape 2 pbm 2 2 none\nparts 2 1 1\nnear ",
+        b"\ndel 0 0\nkept 1 1 1\nend\n",
+    ),
+    (
+        NONE,
+        b"P1 3 3 111 101 111",
+        b"shape 2 pbm 3 3 none\nparts 8 1 2\nnear ",
+        b"\ndel 0 0\ndel 2 0\ndel 0 2\ndel 2 2\nkept 4 1 2\nend\n",
+    ),
+    (
+        NONE,
+        b"P1 3 3 111 111 111",
+        b"shape 2 pbm 3 3 none\n",
+        b"\ndel 0 0\ndel 1 0\ndel 2 0\ndel 0 1\ndel 2 1\ndel 0 2\ndel 1 2\ndel 2 2\nkept 1 1 1\nend\n",
+    ),
+    (
+        "analyse pbm a.pbm curve",
+        b"P1 3 3 111 111 111",
+        b"shape 2 pbm 3 3 curve\n",
+        b"\ndel 0 0\ndel 1 0\ndel 2 0\ndel 0 1\ndel 2 1\ndel 0 2\ndel 1 2\ntip 2 2\ntip 1 1\nkept 2 1 1\nend\n",
+    ),
+    (
+        NONE,
+        b"P1 # c\n1 1 1",
+        b"shape 2 pbm 1 1 none\n",
+        b"\nend\n",
+    ),
+    (
+        NONE,
+        b"P1 4 3 000000000000",
+        b"shape 2 pbm 4 3 none\n",
+        b"\nend\n",
+    ),
+    (
+        NONE,
+        b"P1 4 3 111111111111",
+        b"shape 2 pbm 4 3 none\n",
+        b"\nend\n",
+    ),
+    (
+        NONE,
+        b"P1 4 3 101001011010",
+        b"shape 2 pbm 4 3 none\n",
+        b"\nend\n",
+    ),
+    (
+        NONE,
+        b"P1 5 5 11111 10001 10101 10001 11111",
+        b"shape 2 pbm 5 5 none\n",
+        b"\nend\n",
+    ),
+];
+
+const NONE: &str = "analyse pbm a.pbm none";
+
 #[test]
-fn one_pixel(rt: HostRuntime) -> Result<(), Fail> {
-    let alloc = rt.alloc();
-    let mut desk = desk(alloc, b"P1 1 1 1", &[], &[])?;
-    let outcome = ran(alloc, "analyse pbm a.pbm none", &mut desk)?;
-    assert_eq!(rt; outcome, Outcome::Done);
-    let text = desk.output();
-    assert!(rt; text.starts_with(b"shape 2 pbm 1 1 none\nparts 1 1 1\nnear 0 0 ".as_slice()));
-    assert!(rt;
-        text.ends_with(b" 0\nleast 0 0 0 0\nturn x 0 0\nturn y 0 0\nkept 1 1 1\nend\n".as_slice())
-    );
+fn analyses_are_checked(rt: HostRuntime) -> Result<(), Fail> {
+    for (line, picture, begin, end) in &ANALYSES {
+        let report = written(rt.alloc(), line, picture)?;
+        assert!(rt;
+            report.as_slice().starts_with(begin) && report.as_slice().ends_with(end),
+            "{picture:?}"
+        );
+        assert!(rt;
+            checked(rt.alloc(), picture, &report)? == Outcome::Yes,
+            "{picture:?}"
+        );
+    }
     Ok(())
 }
 
@@ -111,37 +185,8 @@ const OF_ONE_PIXEL: [(&[u8], Outcome); 21] = [
 
 #[test]
 fn reports_of_one_pixel(rt: HostRuntime) -> Result<(), Fail> {
-    let alloc = rt.alloc();
-    for (report, outcome) in OF_ONE_PIXEL {
-        assert_eq!(rt; checked(alloc, b"P1 1 1 1", report)?, outcome);
-    }
-    Ok(())
-}
-
-#[test]
-fn counts_of_parts(rt: HostRuntime) -> Result<(), Fail> {
-    let alloc = rt.alloc();
-    let table = [
-        (
-            b"P1 2 2 0000".as_slice(),
-            b"shape 2 pbm 2 2 none\nparts 0 0 1\nkept 0 0 1\nend\n".as_slice(),
-        ),
-        (
-            b"P1 2 2 1001".as_slice(),
-            b"shape 2 pbm 2 2 none\nparts 2 1 1\nnear ".as_slice(),
-        ),
-        (
-            b"P1 3 3 111 101 111".as_slice(),
-            b"shape 2 pbm 3 3 none\nparts 8 1 2\nnear ".as_slice(),
-        ),
-    ];
-    for (picture, lines) in table {
-        let mut desk = desk(alloc, picture, &[], &[])?;
-        assert_eq!(rt;
-            ran(alloc, "analyse pbm a.pbm none", &mut desk)?,
-            Outcome::Done
-        );
-        assert!(rt; desk.output().starts_with(lines));
+    for (report, want) in &OF_ONE_PIXEL {
+        assert!(rt; checked(rt.alloc(), b"P1 1 1 1", report)? == *want);
     }
     Ok(())
 }
@@ -163,73 +208,29 @@ fn drawing(alloc: Global) -> Result<Vec<u8>, Fail> {
     Ok(bytes)
 }
 
+// How many lines of a text begin so.
+fn lines_of(text: &[u8], begin: &[u8]) -> u32 {
+    let mut count: u32 = 0;
+    for line in text.split(|&c| c == b'\n') {
+        if line.starts_with(begin) {
+            count = count.saturating_add(1);
+        }
+    }
+    count
+}
+
 #[test]
 fn a_drawing(rt: HostRuntime) -> Result<(), Fail> {
     let alloc = rt.alloc();
     let mut files = Vec::new(alloc);
     files.push((b"a.pbm".to_vec(alloc)?, drawing(alloc)?))?;
-    let Ok(mut desk) = MemoryDesk::new(alloc, files, Vec::new(alloc), Vec::new(alloc), 500, 90000)
-    else {
-        return Err(Fail::from(AllocError));
-    };
-    assert_eq!(rt;
-        ran(alloc, "analyse pbm a.pbm none", &mut desk)?,
-        Outcome::Done
-    );
+    let mut desk = MemoryDesk::new(alloc, files, Vec::new(alloc), Vec::new(alloc), 500, 90000)?;
+    assert!(rt; ran(alloc, NONE, &mut desk)? == Outcome::Done);
     let text = desk.output();
     assert!(rt; text.starts_with(b"shape 2 pbm 64 48 none\nparts 1408 1 1\nnear 10 8 ".as_slice()));
     assert!(rt; text.ends_with(b"\nkept 1 1 1\nend\n".as_slice()));
-    let mut nears = Vec::new(alloc);
-    let mut events = Vec::new(alloc);
-    let mut has_middle = false;
-    for line in text.split(|&c| c == b'\n') {
-        if line.starts_with(b"near ") {
-            nears.push(())?;
-        }
-        if line.starts_with(b"del ") {
-            events.push(())?;
-        }
-        if line == b"near 31 23 31 7 256".as_slice() {
-            has_middle = true;
-        }
-    }
-    assert_eq!(rt; nears.len(), 1408);
-    assert_eq!(rt; events.len(), 1407);
-    assert!(rt; has_middle);
-    Ok(())
-}
-
-#[test]
-fn thinnings(rt: HostRuntime) -> Result<(), Fail> {
-    let alloc = rt.alloc();
-    let table = [
-        (
-            "analyse pbm a.pbm none",
-            b"P1 3 3 111 111 111".as_slice(),
-            b"del 0 0\ndel 1 0\ndel 2 0\ndel 0 1\ndel 2 1\ndel 0 2\ndel 1 2\ndel 2 2\nkept 1 1 1\nend\n".as_slice(),
-        ),
-        (
-            "analyse pbm a.pbm curve",
-            b"P1 3 3 111 111 111".as_slice(),
-            b"del 0 0\ndel 1 0\ndel 2 0\ndel 0 1\ndel 2 1\ndel 0 2\ndel 1 2\ntip 2 2\ntip 1 1\nkept 2 1 1\nend\n".as_slice(),
-        ),
-        (
-            "analyse pbm a.pbm none",
-            b"P1 2 2 1001".as_slice(),
-            b"\ndel 0 0\nkept 1 1 1\nend\n".as_slice(),
-        ),
-        (
-            "analyse pbm a.pbm none",
-            b"P1 3 3 111 101 111".as_slice(),
-            b"\ndel 0 0\ndel 2 0\ndel 0 2\ndel 2 2\nkept 4 1 2\nend\n".as_slice(),
-        ),
-    ];
-    for (line, picture, end) in table {
-        let mut desk = desk(alloc, picture, &[], &[])?;
-        assert_eq!(rt; ran(alloc, line, &mut desk)?, Outcome::Done);
-        assert!(rt; desk.output().ends_with(end));
-        assert_eq!(rt; checked(alloc, picture, desk.output())?, Outcome::Yes);
-    }
+    assert!(rt; lines_of(text, b"near ") == 1408 && lines_of(text, b"del ") == 1407);
+    assert!(rt; lines_of(text, b"near 31 23 31 7 256") == 1);
     Ok(())
 }
 
@@ -256,79 +257,41 @@ impl EndRule for Alternate {
     }
 }
 
+// A shelf on which that rule stands under `curve`.
+fn alternating(alloc: Global) -> Result<Shelf, Fail> {
+    let none = Box::new(alloc, NoEnds)?;
+    let alternate = Box::new(alloc, Alternate { turn: 1 })?;
+    Ok(shelf(alloc, none, alternate, Box::new(alloc, NoEnds)?)?)
+}
+
+const BY_ALTERNATE: &[u8] =
+    b"\ndel 0 0\ntip 1 0\ndel 2 0\ntip 0 1\ndel 2 1\ntip 0 2\ndel 1 2\ntip 2 2\nkept 5 1 1\nend\n";
+
 #[test]
 fn a_rule_of_the_caller(rt: HostRuntime) -> Result<(), Fail> {
     let alloc = rt.alloc();
     let picture = b"P1 3 3 111111111".as_slice();
     let mut desk = desk(alloc, picture, &[], &[])?;
     let words = words(alloc, "analyse pbm a.pbm curve")?;
-    let first = shelf(
-        alloc,
-        Box::new(alloc, NoEnds)?,
-        Box::new(alloc, Alternate { turn: 1 })?,
-        Box::new(alloc, NoEnds)?,
-    )?;
-    assert_eq!(rt; run(alloc, &words, &mut desk, first), Outcome::Done);
-    let end =
-        b"\ndel 0 0\ntip 1 0\ndel 2 0\ntip 0 1\ndel 2 1\ntip 0 2\ndel 1 2\ntip 2 2\nkept 5 1 1\nend\n";
-    assert!(rt; desk.output().ends_with(end.as_slice()));
-    let second = shelf(
-        alloc,
-        Box::new(alloc, NoEnds)?,
-        Box::new(alloc, Alternate { turn: 1 })?,
-        Box::new(alloc, NoEnds)?,
-    )?;
-    assert_eq!(rt;
-        checked_by(
-            alloc,
-            "check pbm a.pbm a.report",
-            picture,
-            desk.output(),
-            second
-        )?,
-        Outcome::Yes
-    );
-    Ok(())
-}
-
-#[test]
-fn analyses_are_checked(rt: HostRuntime) -> Result<(), Fail> {
-    let alloc = rt.alloc();
-    let pictures = [
-        b"P1 # c\n1 1 1".as_slice(),
-        b"P1 4 3 000000000000".as_slice(),
-        b"P1 4 3 111111111111".as_slice(),
-        b"P1 4 3 101001011010".as_slice(),
-        b"P1 5 5 11111 10001 10101 10001 11111".as_slice(),
-    ];
-    for picture in pictures {
-        let mut desk = desk(alloc, picture, &[], &[])?;
-        assert_eq!(rt;
-            ran(alloc, "analyse pbm a.pbm none", &mut desk)?,
-            Outcome::Done
-        );
-        assert_eq!(rt; checked(alloc, picture, desk.output())?, Outcome::Yes);
-    }
+    assert!(rt; run(alloc, &words, &mut desk, alternating(alloc)?) == Outcome::Done);
+    assert!(rt; desk.output().ends_with(BY_ALTERNATE));
+    let check = "check pbm a.pbm a.report";
+    let outcome = checked_by(alloc, check, picture, desk.output(), alternating(alloc)?)?;
+    assert!(rt; outcome == Outcome::Yes);
     Ok(())
 }
 
 #[test]
 fn a_segment_left_out(rt: HostRuntime) -> Result<(), Fail> {
-    let alloc = rt.alloc();
     let picture = b"P1 2 2 1111".as_slice();
-    let mut desk = desk(alloc, picture, &[], &[])?;
-    assert_eq!(rt;
-        ran(alloc, "analyse pbm a.pbm none", &mut desk)?,
-        Outcome::Done
-    );
-    let mut report = Vec::new(alloc);
-    for line in desk.output().split(|&c| c == b'\n') {
+    let whole = written(rt.alloc(), NONE, picture)?;
+    let mut report = Vec::new(rt.alloc());
+    for line in whole.split(|&c| c == b'\n') {
         if !line.is_empty() && !line.starts_with(b"seg 1 2 ") {
             report.extend_from_slice(line)?;
             report.push(b'\n')?;
         }
     }
-    let want = Outcome::No { line: 14 };
-    assert_eq!(rt; checked(alloc, picture, &report)?, want);
+    assert!(rt; checked(rt.alloc(), picture, &report)? == Outcome::No { line: 14 });
     Ok(())
 }

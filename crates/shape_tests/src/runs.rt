@@ -3,7 +3,7 @@
 use shape_cli::{Outcome, run, shelf};
 use shape_desk::MemoryDesk;
 use shape_rules::{CurveEnds, FewEnds, NoEnds, Shelf};
-use std::alloc::Global;
+use std::alloc::{AllocError, Global};
 use std::test::Fail;
 
 // A desk with one file, whose calls move 4 bytes at most.
@@ -40,6 +40,15 @@ pub(crate) fn rules(alloc: Global) -> Result<Shelf, Fail> {
 // What the words of a command line come to, with the rules of the program.
 pub(crate) fn ran(alloc: Global, line: &str, desk: &mut MemoryDesk) -> Result<Outcome, Fail> {
     Ok(run(alloc, &words(alloc, line)?, desk, rules(alloc)?))
+}
+
+// What a command writes over the picture `a.pbm`, where it is done.
+pub(crate) fn written(alloc: Global, line: &str, picture: &[u8]) -> Result<Vec<u8>, Fail> {
+    let mut desk = desk(alloc, picture, &[], &[])?;
+    match ran(alloc, line, &mut desk)? {
+        Outcome::Done => Ok(desk.output().to_vec(alloc)?),
+        _ => Err(Fail::from(AllocError)),
+    }
 }
 
 // The outcome of the check of the report `a.report` against the picture `a.pbm`, with the rules of a shelf.

@@ -8,11 +8,11 @@ use std::test::Fail;
 
 // The answer to a report of the volume.
 fn answer(alloc: Global, report: &[u8]) -> Result<Result<Judgement, CheckFault>, Fail> {
-    let file = (
+    let mut files = Vec::new(alloc);
+    files.push((
         Vec::from_slice(alloc, b"r")?,
         Vec::from_slice(alloc, report)?,
-    );
-    let files = vec![in alloc; file]?;
+    ))?;
     let mut desk = MemoryDesk::new(alloc, files, Vec::new(alloc), Vec::new(alloc), 20, 0)?;
     desk.begin(Place::Report, b"r")?;
     let grid = volume(alloc)?;

@@ -202,86 +202,84 @@ fn outcome(alloc: Global, line: &str, report: &str) -> Result<Outcome, Fail> {
     Ok(run(alloc, &words(alloc, line)?, &mut desk))
 }
 
+// Reports and their drawings.
+const DRAWINGS: [(&str, &str); 3] = [
+    (FULL, FULL_DRAWN),
+    (RING, RING_DRAWN),
+    (STRANGE, STRANGE_DRAWN),
+];
+
 #[test]
-fn draws_a_full_picture(rt: HostRuntime) -> Result<(), Fail> {
-    let alloc = rt.alloc();
-    let mut desk = desk(alloc, FULL, &[], &[])?;
-    let words = words(alloc, "a.report")?;
-    assert_eq!(rt; run(alloc, &words, &mut desk), Outcome::Done);
-    assert_eq!(rt; desk.output(), FULL_DRAWN.as_bytes());
+fn whole_drawings(rt: HostRuntime) -> Result<(), Fail> {
+    let words = words(rt.alloc(), "a.report")?;
+    for (report, drawn) in &DRAWINGS {
+        let mut desk = desk(rt.alloc(), report, &[], &[])?;
+        assert!(rt;
+            run(rt.alloc(), &words, &mut desk) == Outcome::Done,
+            "{report}"
+        );
+        assert!(rt; desk.output() == drawn.as_bytes(), "{report}");
+    }
     Ok(())
 }
 
-#[test]
-fn draws_a_ring(rt: HostRuntime) -> Result<(), Fail> {
-    let alloc = rt.alloc();
-    let mut desk = desk(alloc, RING, &[], &[])?;
-    let words = words(alloc, "a.report")?;
-    assert_eq!(rt; run(alloc, &words, &mut desk), Outcome::Done);
-    assert_eq!(rt; desk.output(), RING_DRAWN.as_bytes());
-    Ok(())
-}
-
-#[test]
-fn draws_what_no_picture_has(rt: HostRuntime) -> Result<(), Fail> {
-    let alloc = rt.alloc();
-    let mut desk = desk(alloc, STRANGE, &[], &[])?;
-    let words = words(alloc, "a.report")?;
-    assert_eq!(rt; run(alloc, &words, &mut desk), Outcome::Done);
-    assert_eq!(rt; desk.output(), STRANGE_DRAWN.as_bytes());
-    Ok(())
-}
+// Texts that are no reports, and the line from which on they are none.
+const OTHERS: [(&str, u64); 12] = [
+    ("", 1),
+    ("parts 1 1 1\n", 1),
+    ("shape 1 pbm 0 1 none\n", 1),
+    ("shape 1 pbm 1 2049 none\n", 1),
+    ("shape 1 raw 1 1 none\n", 1),
+    ("shape 1 pbm 1 1 none", 1),
+    ("shape 1 pbm 1 1 none\nparts 1 1\n", 2),
+    ("shape 1 pbm 1 1 none\nend", 2),
+    (
+        "shape 1 pbm 1 1 none\nnear 0 0 0 1 1\nparts 1 1 1\nend\n",
+        3,
+    ),
+    ("shape 1 pbm 1 1 none\nparts 1 1 1\n", 3),
+    ("shape 1 pbm 1 1 none\nface x - 1\n", 2),
+    ("shape 1 pbm 1 1 none\nend\nend\n", 3),
+];
 
 #[test]
 fn refuses_other_texts(rt: HostRuntime) -> Result<(), Fail> {
-    let alloc = rt.alloc();
-    for (report, line) in [
-        ("", 1),
-        ("parts 1 1 1\n", 1),
-        ("shape 1 pbm 0 1 none\n", 1),
-        ("shape 1 pbm 1 2049 none\n", 1),
-        ("shape 1 raw 1 1 none\n", 1),
-        ("shape 1 pbm 1 1 none", 1),
-        ("shape 1 pbm 1 1 none\nparts 1 1\n", 2),
-        ("shape 1 pbm 1 1 none\nend", 2),
-        (
-            "shape 1 pbm 1 1 none\nnear 0 0 0 1 1\nparts 1 1 1\nend\n",
-            3,
-        ),
-        ("shape 1 pbm 1 1 none\nparts 1 1 1\n", 3),
-        ("shape 1 pbm 1 1 none\nface x - 1\n", 2),
-    ] {
-        assert_eq!(rt;
-            outcome(alloc, "a.report", report)?,
-            Outcome::NotReport { line },
-            "{report}"
-        );
+    for (report, line) in &OTHERS {
+        let told = outcome(rt.alloc(), "a.report", report)?;
+        assert!(rt; told == Outcome::NotReport { line: *line }, "{report}");
     }
-    let volume = outcome(alloc, "a.report", "shape 1 raw 1 1 1 none\n")?;
-    assert_eq!(rt; volume, Outcome::Volume);
     Ok(())
 }
 
+// Words and reports, and how the run ends.
+const RUNS: [(&str, &str, Outcome); 4] = [
+    ("a.report", "shape 1 raw 1 1 1 none\n", Outcome::Volume),
+    ("", FULL, Outcome::Usage),
+    ("a.report a.report", FULL, Outcome::Usage),
+    ("b.report", FULL, Outcome::ReadFault),
+];
+
 #[test]
-fn refuses_other_words_and_missing_files(rt: HostRuntime) -> Result<(), Fail> {
-    let alloc = rt.alloc();
-    assert_eq!(rt; outcome(alloc, "", FULL)?, Outcome::Usage);
-    assert_eq!(rt; outcome(alloc, "a.report a.report", FULL)?, Outcome::Usage);
-    assert_eq!(rt; outcome(alloc, "b.report", FULL)?, Outcome::ReadFault);
+fn refuses_volumes_other_words_and_missing_files(rt: HostRuntime) -> Result<(), Fail> {
+    for (line, report, want) in &RUNS {
+        assert!(rt; outcome(rt.alloc(), line, report)? == *want, "{line}");
+    }
     Ok(())
 }
 
 #[test]
 fn failing_calls_are_told(rt: HostRuntime) -> Result<(), Fail> {
-    let alloc = rt.alloc();
-    let words = words(alloc, "a.report")?;
-    for bad in [1, 2, 4] {
-        let mut desk = desk(alloc, FULL, &[bad], &[])?;
-        assert_eq!(rt; run(alloc, &words, &mut desk), Outcome::ReadFault);
+    let words = words(rt.alloc(), "a.report")?;
+    for bad in &FAILING {
+        let mut desk = desk(rt.alloc(), FULL, &[*bad], &[])?;
+        assert!(rt; run(rt.alloc(), &words, &mut desk) == Outcome::ReadFault);
         assert!(rt; desk.output().is_empty());
     }
-    let mut desk = desk(alloc, FULL, &[], &[3])?;
-    assert_eq!(rt; run(alloc, &words, &mut desk), Outcome::WriteFault);
-    assert_eq!(rt; desk.output(), &FULL_DRAWN.as_bytes()[..200]);
+    let mut desk = desk(rt.alloc(), FULL, &[], &[3])?;
+    assert!(rt; run(rt.alloc(), &words, &mut desk) == Outcome::WriteFault);
+    assert!(rt; desk.output() == &FULL_DRAWN.as_bytes()[..200]);
     Ok(())
 }
+
+// The numbers of calls that fail.
+const FAILING: [u64; 3] = [1, 2, 4];

@@ -56,98 +56,105 @@ fn fault(alloc: Global, bytes: &[u8]) -> Option<PictureError> {
     }
 }
 
-// The number of object points of the picture that is read in pieces of one byte.
-fn count(alloc: Global, bytes: &[u8]) -> Option<u32> {
-    match read(alloc, bytes, 1, 0) {
-        Ok(grid) => Some(grid.count()),
-        Err(_) => None,
+// A file, and what is wrong with it.
+const FAULTS: [(&[u8], PictureFault); 21] = [
+    (b"", PictureFault::Short { at: 0 }),
+    (b"P1 0", PictureFault::Short { at: 4 }),
+    (b"P1 3 1 1 0", PictureFault::Short { at: 10 }),
+    (b"P1 1 1 #1", PictureFault::Short { at: 9 }),
+    (b"P4\n3 2\n\xA0", PictureFault::Short { at: 8 }),
+    (b"P5 1 1 0", PictureFault::NotPlain),
+    (b"P1x", PictureFault::NotPlain),
+    (b"P1 2x2 1", PictureFault::BadNumber { at: 4 }),
+    (b"P1 0x", PictureFault::BadNumber { at: 4 }),
+    (b"P4 1 1x", PictureFault::BadNumber { at: 6 }),
+    (b"P4 1 1#\nx", PictureFault::BadNumber { at: 8 }),
+    (b"P4 1 1#\n1", PictureFault::BadNumber { at: 8 }),
+    (b"P1 0 3 ", PictureFault::ZeroSide),
+    (b"P1 0#", PictureFault::ZeroSide),
+    (b"P1 2049 1 1", PictureFault::SideTooLarge { value: 2049 }),
+    (b"P1 1025 1 1", PictureFault::Short { at: 11 }),
+    (b"P1 99999 1", PictureFault::SideTooLarge { value: 9999 }),
+    (b"P1 1 1 x", PictureFault::BadByte { at: 7 }),
+    (b"P1 2 1 0 2", PictureFault::BadByte { at: 9 }),
+    (b"P1 2 1 1#", PictureFault::BadByte { at: 8 }),
+    (b"P1 2 1 1 #c\n1", PictureFault::BadByte { at: 9 }),
+];
+
+#[test]
+fn faults(rt: HostRuntime) {
+    for (bytes, want) in &FAULTS {
+        assert!(rt;
+            fault(rt.alloc(), bytes) == Some(PictureError::Bad(*want)),
+            "{bytes:?}"
+        );
     }
 }
 
-#[test]
-fn faults(rt: HostRuntime) -> Result<(), Fail> {
-    let alloc = rt.alloc();
-    let cases: [(&[u8], PictureFault); 21] = [
-        (b"", PictureFault::Short { at: 0 }),
-        (b"P1 0", PictureFault::Short { at: 4 }),
-        (b"P1 3 1 1 0", PictureFault::Short { at: 10 }),
-        (b"P1 1 1 #1", PictureFault::Short { at: 9 }),
-        (b"P4\n3 2\n\xA0", PictureFault::Short { at: 8 }),
-        (b"P5 1 1 0", PictureFault::NotPlain),
-        (b"P1x", PictureFault::NotPlain),
-        (b"P1 2x2 1", PictureFault::BadNumber { at: 4 }),
-        (b"P1 0x", PictureFault::BadNumber { at: 4 }),
-        (b"P4 1 1x", PictureFault::BadNumber { at: 6 }),
-        (b"P4 1 1#\nx", PictureFault::BadNumber { at: 8 }),
-        (b"P4 1 1#\n1", PictureFault::BadNumber { at: 8 }),
-        (b"P1 0 3 ", PictureFault::ZeroSide),
-        (b"P1 0#", PictureFault::ZeroSide),
-        (b"P1 2049 1 1", PictureFault::SideTooLarge { value: 2049 }),
-        (b"P1 1025 1 1", PictureFault::Short { at: 11 }),
-        (b"P1 99999 1", PictureFault::SideTooLarge { value: 9999 }),
-        (b"P1 1 1 x", PictureFault::BadByte { at: 7 }),
-        (b"P1 2 1 0 2", PictureFault::BadByte { at: 9 }),
-        (b"P1 2 1 1#", PictureFault::BadByte { at: 8 }),
-        (b"P1 2 1 1 #c\n1", PictureFault::BadByte { at: 9 }),
-    ];
-    for (bytes, want) in cases {
-        assert_eq!(rt; fault(alloc, bytes), Some(PictureError::Bad(want)));
+// The object points of a picture, read in pieces of so many bytes; `?` where the file is none.
+fn told(alloc: Global, bytes: &[u8], piece: usize) -> Result<String, Fail> {
+    let mut text = String::new(alloc);
+    match read(alloc, bytes, piece, 0) {
+        Ok(grid) => {
+            for p in grid.objects() {
+                write!(text, " {} {},", p.x, p.y)?;
+            }
+        }
+        Err(_) => text.push('?')?,
     }
-    Ok(())
+    Ok(text)
 }
+
+// A file, and its object points. Of packed rows without object points the first byte behind the header is the row.
+const PICTURES: [(&[u8], &str); 8] = [
+    (
+        b"P1#a\n02#b\r3 \t#c\r\n#d\n10 1\n011rest",
+        " 0 0, 0 1, 0 2, 1 2,",
+    ),
+    (b"P1 1 1 #c\n1#", " 0 0,"),
+    (b"P1\t1\r\n01 1", " 0 0,"),
+    (b"P4 1 1\n\n", ""),
+    (b"P4 1 1#\n\n\n", ""),
+    (b"P4 1 1 x", ""),
+    (
+        b"P4\n# made by a paint program\n3 2\n\xA0\x7F",
+        " 0 0, 2 0, 1 1, 2 1,",
+    ),
+    (b"P1 3 2 011 001", " 1 0, 2 0, 2 1,"),
+];
+
+// Pieces of which the last holds each file whole.
+const PIECES: [usize; 3] = [1, 3, 512];
 
 #[test]
 fn pictures(rt: HostRuntime) -> Result<(), Fail> {
-    let alloc = rt.alloc();
-    assert_eq!(rt;
-        count(alloc, b"P1#a\n02#b\r3 \t#c\r\n#d\n10 1\n011rest"),
-        Some(4)
-    );
-    assert_eq!(rt; count(alloc, b"P1 1 1 #c\n1#"), Some(1));
-    assert_eq!(rt; count(alloc, b"P1\t1\r\n01 1"), Some(1));
-    for bytes in [b"P4 1 1\n\n".as_slice(), b"P4 1 1#\n\n\n", b"P4 1 1 x"] {
-        assert_eq!(rt; count(alloc, bytes), Some(0));
-    }
-    match read(alloc, b"P4\n# made by a paint program\n3 2\n\xA0\x7F", 3, 0) {
-        Ok(grid) => {
-            assert_eq!(rt; grid.count(), 4);
-            assert!(rt; grid.has(P2 { x: 0, y: 0 }) && grid.has(P2 { x: 2, y: 0 }));
-            assert!(rt; grid.has(P2 { x: 1, y: 1 }) && grid.has(P2 { x: 2, y: 1 }));
+    for (bytes, want) in &PICTURES {
+        for piece in &PIECES {
+            assert!(rt;
+                told(rt.alloc(), bytes, *piece)?.as_str() == *want,
+                "{bytes:?}"
+            );
         }
-        Err(_) => assert!(rt; false),
-    }
-    match read(alloc, b"P1 3 2 011 001", 512, 0) {
-        Ok(grid) => {
-            assert_eq!(rt; grid.count(), 3);
-            assert!(rt; grid.has(P2 { x: 2, y: 0 }) && grid.has(P2 { x: 2, y: 1 }));
-            assert!(rt; grid.has(P2 { x: 1, y: 0 }) && !grid.has(P2 { x: 1, y: 1 }));
-        }
-        Err(_) => assert!(rt; false),
     }
     Ok(())
 }
 
 #[test]
 fn widest(rt: HostRuntime) -> Result<(), Fail> {
-    let alloc = rt.alloc();
-    let mut widest = Vec::from_slice(alloc, b"P1 2048 1 ")?;
+    let mut bytes = Vec::from_slice(rt.alloc(), b"P1 2048 1 ")?;
     for _ in 0..2048u32 {
-        widest.push(b'0')?;
+        bytes.push(b'0')?;
     }
-    assert_eq!(rt; count(alloc, &widest), Some(0));
+    assert!(rt; told(rt.alloc(), &bytes, 512)?.as_str().is_empty());
     Ok(())
 }
 
 #[test]
-fn failed_reads(rt: HostRuntime) -> Result<(), Fail> {
-    let alloc = rt.alloc();
+fn failed_reads(rt: HostRuntime) {
     for bad_read in 2..5 {
-        match read(alloc, b"P1 1 1 1", 3, bad_read) {
-            Ok(_) => assert!(rt; false),
-            Err(error) => assert_eq!(rt; error, PictureError::ReadFault),
-        }
+        let read = read(rt.alloc(), b"P1 1 1 1", 3, bad_read);
+        assert!(rt; matches!(read, Err(PictureError::ReadFault)));
     }
-    Ok(())
 }
 
 // A file of some bytes and then so many line ends, which are not held. The desk tells nothing.
@@ -211,14 +218,9 @@ fn long_fault(alloc: Global, length: u64) -> Option<PictureError> {
 }
 
 #[test]
-fn longest(rt: HostRuntime) -> Result<(), Fail> {
-    let alloc = rt.alloc();
+fn longest(rt: HostRuntime) {
     let short = PictureFault::Short { at: 33554432 };
-    assert_eq!(rt; long_fault(alloc, 33554432), Some(PictureError::Bad(short)));
+    assert!(rt; long_fault(rt.alloc(), 33554432) == Some(PictureError::Bad(short)));
     let too_long = PictureFault::TooLong;
-    assert_eq!(rt;
-        long_fault(alloc, MOST_BYTES),
-        Some(PictureError::Bad(too_long))
-    );
-    Ok(())
+    assert!(rt; long_fault(rt.alloc(), MOST_BYTES) == Some(PictureError::Bad(too_long)));
 }

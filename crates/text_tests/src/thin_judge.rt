@@ -1,5 +1,5 @@
 //! The judge of thinnings: events of small pictures, found by hand, and the distances that it begins with.
-//! A further picture is one more test.
+//! A further list of events is one more row of a table.
 ghost use Rattle.std.specs.Prelude.{[], ◌∷◌, IfOk, IsTrue};
 ghost use Rattle.shape_terms.specs.Pictures.{at};
 ghost use Rattle.thin_terms.specs.Thinning.{HasDistance};
@@ -8,7 +8,7 @@ ghost use Rattle.shape_queue.specs.Distances.{AreDistances};
 use crate::grids::full;
 use judge_field::Scans;
 use judge_thin::ThinJudge;
-use shape_grid::Grid;
+use shape_report::{Line, read_claim};
 use shape_rules::{CurveEnds, EndRule, NoEnds};
 use shape_space::P2;
 use std::alloc::Global;
@@ -37,91 +37,74 @@ fn distances(alloc: Global, scans: &Scans<P2>) -> Result<Vec<u64>, Fail>
     Ok(distances)
 }
 
-// How many of the events are good; where all are, whether they are complete, and how many points are left.
-fn judged(
-    alloc: Global,
-    grid: &Grid<P2>,
-    rule: &mut dyn EndRule,
-    events: &[(P2, bool)],
-) -> Result<(usize, bool, u32), Fail> {
-    let scans = Scans::new(alloc, grid)?;
-    let mut judge = ThinJudge::new(alloc, grid, distances(alloc, &scans)?)?;
+// How many of the lines of events are good; where all are, whether they are complete, and how many points are left.
+fn judged(alloc: Global, rule: &mut dyn EndRule, lines: &str) -> Result<(usize, bool, u32), Fail> {
+    let grid = full(alloc, 3, 3)?;
+    let scans = Scans::new(alloc, &grid)?;
+    let mut judge = ThinJudge::new(alloc, &grid, distances(alloc, &scans)?)?;
     rule.reset();
-    for i in 0..events.len() {
-        let (p, tips) = events[i];
-        if !judge.event(p, tips, rule)? {
-            return Ok((i, false, 0));
+    let mut count: usize = 0;
+    for text in lines.lines() {
+        let is_good = match read_claim::<P2>(text.as_bytes()) {
+            Some(Line::Del { p }) => judge.event(p, false, rule)?,
+            Some(Line::Tip { p }) => judge.event(p, true, rule)?,
+            _ => false,
+        };
+        if !is_good {
+            return Ok((count, false, 0));
         }
+        count = count.saturating_add(1);
     }
-    Ok((events.len(), judge.finished(), judge.left()))
+    Ok((count, judge.finished(), judge.left()))
 }
 
-fn del(x: i32, y: i32) -> (P2, bool) {
-    (P2 { x, y }, false)
-}
+// Events of the full square of nine points: how many are good, whether they are complete, and how many points are left. The first
+// seven are those of both rules.
+const WITHOUT_ENDS: [(&str, (usize, bool, u32)); 4] = [
+    (
+        "del 0 0\ndel 1 0\ndel 2 0\ndel 0 1\ndel 2 1\ndel 0 2\ndel 1 2",
+        (7, false, 2),
+    ),
+    (
+        "del 0 0\ndel 1 0\ndel 2 0\ndel 0 1\ndel 2 1\ndel 0 2\ndel 1 2\ndel 2 2",
+        (8, true, 1),
+    ),
+    (
+        "del 0 0\ndel 1 0\ndel 2 0\ndel 0 1\ndel 2 1\ndel 0 2\ndel 1 2\ndel 2 2\ndel 1 1",
+        (8, false, 0),
+    ),
+    (
+        "del 0 0\ndel 2 0\ndel 1 0\ndel 0 1\ndel 2 1\ndel 0 2\ndel 1 2\ndel 2 2\ndel 1 1",
+        (1, false, 0),
+    ),
+];
 
-fn tip(x: i32, y: i32) -> (P2, bool) {
-    (P2 { x, y }, true)
-}
-
-// The first events of the full square of nine points.
-fn seven() -> [(P2, bool); 7] {
-    [
-        del(0, 0),
-        del(1, 0),
-        del(2, 0),
-        del(0, 1),
-        del(2, 1),
-        del(0, 2),
-        del(1, 2),
-    ]
-}
+const WITH_ENDS: [(&str, (usize, bool, u32)); 2] = [
+    (
+        "del 0 0\ndel 1 0\ndel 2 0\ndel 0 1\ndel 2 1\ndel 0 2\ndel 1 2\ntip 2 2\ntip 1 1",
+        (9, true, 2),
+    ),
+    (
+        "del 0 0\ndel 1 0\ndel 2 0\ndel 0 1\ndel 2 1\ndel 0 2\ndel 1 2\ndel 2 2\ntip 1 1",
+        (7, false, 0),
+    ),
+];
 
 #[test]
-fn a_square(rt: HostRuntime) -> Result<(), Fail> {
-    let alloc = rt.alloc();
-    let square = full(alloc, 3, 3)?;
-    let mut rule = NoEnds;
-    let mut events = Vec::from_array(alloc, seven())?;
-    assert_eq!(rt;
-        judged(alloc, &square, &mut rule, events.as_slice())?,
-        (7, false, 2)
-    );
-    events.push(del(2, 2))?;
-    assert_eq!(rt;
-        judged(alloc, &square, &mut rule, events.as_slice())?,
-        (8, true, 1)
-    );
-    events.push(del(1, 1))?;
-    assert_eq!(rt;
-        judged(alloc, &square, &mut rule, events.as_slice())?,
-        (8, false, 0)
-    );
-    events[1] = del(2, 0);
-    events[2] = del(1, 0);
-    assert_eq!(rt;
-        judged(alloc, &square, &mut rule, events.as_slice())?,
-        (1, false, 0)
-    );
+fn a_square_without_ends(rt: HostRuntime) -> Result<(), Fail> {
+    for (lines, want) in &WITHOUT_ENDS {
+        assert!(rt; judged(rt.alloc(), &mut NoEnds, lines)? == *want, "{lines}");
+    }
     Ok(())
 }
 
 #[test]
-fn ends_of_a_curve(rt: HostRuntime) -> Result<(), Fail> {
-    let alloc = rt.alloc();
-    let square = full(alloc, 3, 3)?;
-    let mut rule = CurveEnds;
-    let mut events = Vec::from_array(alloc, seven())?;
-    events.push(tip(2, 2))?;
-    events.push(tip(1, 1))?;
-    assert_eq!(rt;
-        judged(alloc, &square, &mut rule, events.as_slice())?,
-        (9, true, 2)
-    );
-    events[7] = del(2, 2);
-    assert_eq!(rt;
-        judged(alloc, &square, &mut rule, events.as_slice())?,
-        (7, false, 0)
-    );
+fn a_square_with_ends_of_curves(rt: HostRuntime) -> Result<(), Fail> {
+    for (lines, want) in &WITH_ENDS {
+        assert!(rt;
+            judged(rt.alloc(), &mut CurveEnds, lines)? == *want,
+            "{lines}"
+        );
+    }
     Ok(())
 }

@@ -33,51 +33,56 @@ fn error(read: Result<Grid<P3>, PictureError>) -> Option<PictureError> {
     }
 }
 
+// A file of a cube of 8 voxels, and what is wrong with it.
+const CUBES: [(&[u8], Option<PictureError>); 4] = [
+    (&[255; 9], TRAILING),
+    (&[0; 600], TRAILING),
+    (
+        &[255; 7],
+        Some(PictureError::Bad(PictureFault::Short { at: 7 })),
+    ),
+    (&[255; 8], None),
+];
+
+const TRAILING: Option<PictureError> = Some(PictureError::Bad(PictureFault::Trailing));
+
 #[test]
-fn cubes(rt: HostRuntime) -> Result<(), Fail> {
-    let alloc = rt.alloc();
+fn cubes(rt: HostRuntime) {
     let cube = P3 { x: 2, y: 2, z: 2 };
-    let trailing = Some(PictureError::Bad(PictureFault::Trailing));
-    assert_eq!(rt; error(read(alloc, cube, &[255; 9], 3, 0)), trailing);
-    assert_eq!(rt; error(read(alloc, cube, &[0; 600], 512, 0)), trailing);
-    let short = Some(PictureError::Bad(PictureFault::Short { at: 7 }));
-    assert_eq!(rt; error(read(alloc, cube, &[255; 7], 3, 0)), short);
-    match read(alloc, cube, &[255; 8], 3, 0) {
-        Ok(grid) => assert_eq!(rt; grid.count(), 8),
-        Err(_) => assert!(rt; false),
+    for (bytes, want) in &CUBES {
+        assert!(rt; error(read(rt.alloc(), cube, bytes, 512, 0)) == *want);
+        assert!(rt; error(read(rt.alloc(), cube, bytes, 3, 0)) == *want);
     }
-    Ok(())
 }
 
 #[test]
 fn order(rt: HostRuntime) -> Result<(), Fail> {
-    let alloc = rt.alloc();
-    match read(alloc, P3 { x: 3, y: 1, z: 2 }, &[1, 0, 1, 0, 1, 0], 4, 0) {
-        Ok(grid) => {
-            assert_eq!(rt; grid.count(), 3);
-            assert!(rt; grid.has(P3 { x: 0, y: 0, z: 0 }));
-            assert!(rt; grid.has(P3 { x: 2, y: 0, z: 0 }));
-            assert!(rt; grid.has(P3 { x: 1, y: 0, z: 1 }));
-        }
-        Err(_) => assert!(rt; false),
+    let grid = read(
+        rt.alloc(),
+        P3 { x: 3, y: 1, z: 2 },
+        &[1, 0, 1, 0, 1, 0],
+        4,
+        0,
+    )?;
+    let mut text = String::new(rt.alloc());
+    for p in grid.objects() {
+        write!(text, " {} {} {},", p.x, p.y, p.z)?;
     }
+    assert!(rt; text.as_str() == " 0 0 0, 2 0 0, 1 0 1,");
     Ok(())
 }
 
+// One byte a read: the last of these finds that the file has ended.
 #[test]
-fn failed_reads_of_volumes(rt: HostRuntime) -> Result<(), Fail> {
-    let alloc = rt.alloc();
-    // one byte a read: the last of these finds that the file has ended
+fn failed_reads_of_volumes(rt: HostRuntime) {
     for bad_read in 2..7 {
-        let read = read(alloc, P3 { x: 2, y: 1, z: 2 }, &[1; 4], 1, bad_read);
-        assert_eq!(rt; error(read), Some(PictureError::ReadFault));
+        let read = read(rt.alloc(), P3 { x: 2, y: 1, z: 2 }, &[1; 4], 1, bad_read);
+        assert!(rt; matches!(read, Err(PictureError::ReadFault)));
     }
-    Ok(())
 }
 
 #[test]
 fn endless(rt: HostRuntime) -> Result<(), Fail> {
-    let alloc = rt.alloc();
     let mut desk = Blanks {
         head: b"",
         at: 0,
@@ -86,7 +91,6 @@ fn endless(rt: HostRuntime) -> Result<(), Fail> {
     let Some(sides) = Sides::try_new(P3 { x: 2, y: 2, z: 2 }) else {
         return Err(Fail::from(AllocError));
     };
-    let trailing = Some(PictureError::Bad(PictureFault::Trailing));
-    assert_eq!(rt; error(read_raw(alloc, &mut desk, sides)), trailing);
+    assert!(rt; error(read_raw(rt.alloc(), &mut desk, sides)) == TRAILING);
     Ok(())
 }
