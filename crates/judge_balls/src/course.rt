@@ -93,7 +93,7 @@ impl<P: Point> BallReportJudge<P> {
                 if left > 0 {
                     return false;
                 }
-                if !self.balls.is_done() {
+                if !self.balls.done() {
                     return false;
                 }
                 self.state = State::Ended;

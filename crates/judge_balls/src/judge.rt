@@ -164,7 +164,7 @@ impl<P: Point> BallJudge<P> {
 
     /// Whether each object point is in a ball that was taken. Then the object is exactly their union, and none of
     /// them is needless.
-    pub fn is_done(&self) -> bool
+    pub fn done(&self) -> bool
         ensures answer { (X : Picture) (balls : List Ball) → StandsFor X balls self.now
             → (IsTrue result ↔ CoverObject X balls) }
         ensures union { (X : Picture) (balls : List Ball) → StandsFor X balls self.now

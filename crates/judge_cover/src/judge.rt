@@ -335,7 +335,7 @@ impl CoverJudge {
     }
 
     /// Whether each contour of the picture has its lines.
-    pub fn is_done(&self) -> bool
+    pub fn done(&self) -> bool
         ensures { (X : Picture) (lines : List Terms.Line) → StandsFor X self.now lines
             → (IsTrue result ↔ AllContours X lines) }
     {

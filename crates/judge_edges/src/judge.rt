@@ -212,7 +212,7 @@ impl EdgeJudge {
     }
 
     /// Whether each cycle of the picture has its lines.
-    pub fn is_done(&self) -> bool
+    pub fn done(&self) -> bool
         ensures { IsTrue result ↔ ((self.now.standing.begun ≡ length self.now.cycles)
             × IsFull self.now.standing) }
     {

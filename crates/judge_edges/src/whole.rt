@@ -26,7 +26,7 @@ impl EdgeJudge {
             EdgeLine::Cycle { start, steps, arcs } => self.begin(*start, *steps, *arcs),
             EdgeLine::Arc(arc) => self.take_arc(arc),
             EdgeLine::Gap(gap) => self.take_gap(gap),
-            EdgeLine::End => self.is_done(),
+            EdgeLine::End => self.done(),
         }
     }
 }

@@ -92,7 +92,7 @@ impl<P: Point> FieldJudge<P> {
     ///
     /// It names the next object point in raster order, and a nearest background point of the whole space with the
     /// square of their distance. A line of another kind is not good here.
-    pub fn take(&mut self, line: &Line<P>) -> bool
+    pub fn near(&mut self, line: &Line<P>) -> bool
         ensures picture { self.new.picture ≡ self.old.picture }
         ensures answer { (lines : List Terms.Line) → StandsFor self.old lines
             → (IsTrue result ↔ NearClaim self.old.picture lines (line_of P.coords line.now)) }
@@ -107,7 +107,7 @@ impl<P: Point> FieldJudge<P> {
     }
 
     /// Whether each object point has its line.
-    pub fn is_done(&self) -> bool
+    pub fn near_done(&self) -> bool
         ensures { (lines : List Terms.Line) → StandsFor self.now lines
             → (IsTrue result ↔ NearsComplete self.now.picture lines) }
     {

@@ -311,7 +311,7 @@ impl PlaneJudge {
     }
 
     /// Whether each of the six faces has its lines.
-    pub fn is_done(&self) -> bool
+    pub fn done(&self) -> bool
         ensures { (X : Picture) (lines : List Terms.Line) → StandsFor X self.now lines
             → (IsTrue result ↔ AllFaces X lines) }
     {

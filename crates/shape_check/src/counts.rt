@@ -66,7 +66,7 @@ impl<P: Point> SectionJudge<P> for CountsJudge {
         }
     }
 
-    fn is_done(&self) -> bool {
+    fn done(&self) -> bool {
         self.taken
     }
 }

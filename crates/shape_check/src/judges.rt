@@ -48,7 +48,7 @@ pub trait SectionJudge<P: Point>: Drop {
         ensures same_rule { means rule.new ≡ means rule.old };
 
     /// Whether the section is complete.
-    fn is_done(&self) -> bool
+    fn done(&self) -> bool
         ensures { (X : Subject) (n : ℕ) (by : Rule) (now : List ℕ) (lines : List Terms.Line)
             → stands X.picture n by self.now now lines
             → (IsTrue result ↔ SectionComplete X section lines) };

@@ -27,7 +27,7 @@ impl SectionJudge<P3> for NoContours {
         Ok(false)
     }
 
-    fn is_done(&self) -> bool {
+    fn done(&self) -> bool {
         true
     }
 }
@@ -51,7 +51,7 @@ impl SectionJudge<P2> for NoFaces {
         Ok(false)
     }
 
-    fn is_done(&self) -> bool {
+    fn done(&self) -> bool {
         true
     }
 }

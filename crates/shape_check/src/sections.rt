@@ -25,11 +25,11 @@ impl<P: Point> SectionJudge<P> for FieldJudge<P> {
     }
 
     fn take(&mut self, line: &Line<P>, _rule: &mut dyn EndRule) -> Result<bool, NoMemory> {
-        Ok(FieldJudge::take(self, line))
+        Ok(FieldJudge::near(self, line))
     }
 
-    fn is_done(&self) -> bool {
-        FieldJudge::is_done(self)
+    fn done(&self) -> bool {
+        FieldJudge::near_done(self)
     }
 }
 
@@ -50,8 +50,8 @@ impl SectionJudge<P2> for CoverJudge {
         Ok(CoverJudge::take(self, line))
     }
 
-    fn is_done(&self) -> bool {
-        CoverJudge::is_done(self)
+    fn done(&self) -> bool {
+        CoverJudge::done(self)
     }
 }
 
@@ -72,7 +72,7 @@ impl SectionJudge<P3> for PlaneJudge {
         Ok(PlaneJudge::take(self, line))
     }
 
-    fn is_done(&self) -> bool {
-        PlaneJudge::is_done(self)
+    fn done(&self) -> bool {
+        PlaneJudge::done(self)
     }
 }

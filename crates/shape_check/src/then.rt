@@ -62,7 +62,7 @@ impl<P: Point, J: SectionJudge<P>, R: Judges<P>> Judges<P> for Then<P, J, R> {
         if line.rank() == J::rank() {
             return self.first.take(line, rule);
         }
-        if !self.first.is_done() {
+        if !self.first.done() {
             return Ok(false);
         }
         self.is_past = true;

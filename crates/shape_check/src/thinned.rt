@@ -135,7 +135,7 @@ impl<P: SimpleMask> SectionJudge<P> for ThinnedJudge<P> {
         }
     }
 
-    fn is_done(&self) -> bool {
+    fn done(&self) -> bool {
         self.kept
     }
 }

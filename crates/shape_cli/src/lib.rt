@@ -19,3 +19,4 @@ pub use laws::{runs_are_complete, verdicts_are_right, words_are_of_one_command};
 pub use outcome::Outcome;
 pub use rules::shelf;
 pub use top::run;
+pub use trial_picture::make_picture;

@@ -62,7 +62,7 @@ cut y 1 2 1 2 1 0 1 2 0";
 // Whether a judge, which was not done, takes the line that a text spells.
 fn takes(judge: &mut CoverJudge, text: &str) -> bool {
     match read_claim::<P2>(text.as_bytes()) {
-        Some(line) => !judge.is_done() && judge.take(&line),
+        Some(line) => !judge.done() && judge.take(&line),
         None => false,
     }
 }
@@ -84,7 +84,7 @@ fn judge_after(alloc: Global, number: u8, count: usize) -> Result<CoverJudge, Fa
 fn a_ring(rt: HostRuntime) -> Result<(), Fail> {
     for number in 1..3 {
         let mut judge = judge_after(rt.alloc(), number, 38)?;
-        assert!(rt; judge.is_done());
+        assert!(rt; judge.done());
         assert!(rt;
             !judge.take(&Line::At {
                 p: P2 { x: 1, y: 0 }

@@ -13,15 +13,15 @@ fn taken(alloc: Global, lines: &str) -> Result<(usize, bool), Fail> {
     let mut count: usize = 0;
     for text in lines.lines() {
         let is_good = match read_claim::<P2>(text.as_bytes()) {
-            Some(line) => judge.take(&line),
+            Some(line) => judge.near(&line),
             None => false,
         };
         if !is_good {
-            return Ok((count, judge.is_done()));
+            return Ok((count, judge.near_done()));
         }
         count = count.saturating_add(1);
     }
-    Ok((count, judge.is_done()))
+    Ok((count, judge.near_done()))
 }
 
 const NEAR: [(&str, usize, bool); 4] = [
@@ -33,8 +33,8 @@ const NEAR: [(&str, usize, bool); 4] = [
 
 #[test]
 fn two_points(rt: HostRuntime) -> Result<(), Fail> {
-    for (lines, count, is_done) in &NEAR {
-        assert!(rt; taken(rt.alloc(), lines)? == (*count, *is_done), "{lines}");
+    for (lines, count, done) in &NEAR {
+        assert!(rt; taken(rt.alloc(), lines)? == (*count, *done), "{lines}");
     }
     Ok(())
 }

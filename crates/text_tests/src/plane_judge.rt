@@ -82,9 +82,9 @@ on 2 0 0";
 #[test]
 fn all_faces_are_taken(rt: HostRuntime) -> Result<(), Fail> {
     let grid = grid_of(rt.alloc(), P3 { x: 3, y: 1, z: 2 }, &THREE)?;
-    assert!(rt; judge_after(rt.alloc(), &grid, LINES, 38)?.is_done());
+    assert!(rt; judge_after(rt.alloc(), &grid, LINES, 38)?.done());
     for count in 0..38usize {
-        assert!(rt; !judge_after(rt.alloc(), &grid, LINES, count)?.is_done());
+        assert!(rt; !judge_after(rt.alloc(), &grid, LINES, count)?.done());
     }
     Ok(())
 }
@@ -148,7 +148,7 @@ face x + 4";
 #[test]
 fn refused_points_come_in_raster_order(rt: HostRuntime) -> Result<(), Fail> {
     let grid = grid_of(rt.alloc(), P3 { x: 3, y: 2, z: 2 }, &FOUR)?;
-    assert!(rt; !judge_after(rt.alloc(), &grid, FIRST_FACE, 10)?.is_done());
+    assert!(rt; !judge_after(rt.alloc(), &grid, FIRST_FACE, 10)?.done());
     let mut exchanged = judge_after(rt.alloc(), &grid, FIRST_FACE, 4)?;
     assert!(rt; !takes(&mut exchanged, "off 2 1 0 1 1 0 1 1 2 1 1 up+y"));
     let mut left_out = judge_after(rt.alloc(), &grid, FIRST_FACE, 5)?;

@@ -51,7 +51,7 @@ returns-clause-answer g c = λ X n lines ruled f m.
     let l = line_of g.P.Point.coords c.args.line.now in
     let h = row_first X s t me.is_past (g.J.SectionJudge.stands X.picture n by c.args.self.now.first now) (g.R.Judges.waits X.picture n c.args.self.now.rest) (g.R.Judges.follows X n by c.args.self.now.rest now) lines c.if-self.false f in
     let other : section_of l ≢ s = λ e. c.if-rank.false (c.rank.ensures ∙ ap rank e ∙ sym c.rank-2.ensures) in
-    let done = (c.is_done.ensures X n by now (lines_of s lines) h.0.stands).0 c.if-not-is_done.false in
+    let done = (c.done.ensures X n by now (lines_of s lines) h.0.stands).0 c.if-not-done.false in
     c.take-2.ensures.answer X n lines ruled
     (entered_with X s t lines l (g.J.SectionJudge.stands X.picture n by me.first now) (g.R.Judges.follows X n by me.rest now) me.next h.0 m other done (g.met.R.Judges.entered X n by me.rest now lines h.1))
     (may_follow X s t lines l (g.J.SectionJudge.stands X.picture n by me.first now) (g.R.Judges.follows X n by me.rest now) me.next h.0 m other done)
@@ -66,7 +66,7 @@ returns-clause-follows g c = λ X n lines ruled f m.
     let l = line_of g.P.Point.coords c.args.line.now in
     let h = row_first X s t me.is_past (g.J.SectionJudge.stands X.picture n by c.args.self.now.first now) (g.R.Judges.waits X.picture n c.args.self.now.rest) (g.R.Judges.follows X n by c.args.self.now.rest now) lines c.if-self.false f in
     let other : section_of l ≢ s = λ e. c.if-rank.false (c.rank.ensures ∙ ap rank e ∙ sym c.rank-2.ensures) in
-    let done = (c.is_done.ensures X n by now (lines_of s lines) h.0.stands).0 c.if-not-is_done.false in
+    let done = (c.done.ensures X n by now (lines_of s lines) h.0.stands).0 c.if-not-done.false in
     let may = may_follow X s t lines l (g.J.SectionJudge.stands X.picture n by me.first now) (g.R.Judges.follows X n by me.rest now) me.next h.0 m other done in
     rest_follows X t lines l c.take-2.result may (g.R.Judges.follows X n by c.take-2.new.self ((g.dyn-1.0.entry c.args.rule.now.0).1.state c.take-2.new.rule))
     (c.take-2.ensures.answer X n lines ruled (entered_with X s t lines l (g.J.SectionJudge.stands X.picture n by me.first now) (g.R.Judges.follows X n by me.rest now) me.next h.0 m other done (g.met.R.Judges.entered X n by me.rest now lines h.1)) may)

@@ -1,7 +1,7 @@
 use Rattle.std.proofs.Common.{ap, ◌∙◌, length}
 use Rattle.judge_cover.specs.CoverState.{CoverState}
 use Rattle.judge_cover.proofs.Standings.{done_all, done_short}
-use Rattle.judge_cover.proofs.judge.CoverJudge.is_done.Goals as goal
+use Rattle.judge_cover.proofs.judge.CoverJudge.done.Goals as goal
 
 pub returns-then-self-len : goal.returns-then-self-len
 returns-then-self-len c =

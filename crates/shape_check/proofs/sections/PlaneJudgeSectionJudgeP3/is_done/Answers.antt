@@ -1,4 +1,0 @@
-use Rattle.shape_check.proofs.sections.PlaneJudgeSectionJudgeP3.is_done.Goals as goal
-
-pub returns : goal.returns
-returns c = λ X n by now lines h. c.is_done.ensures X.picture lines h
