@@ -1,4 +1,5 @@
 pub mod Outcomes
+pub mod Rules
 pub mod Numbers
 pub mod Sources
 pub mod Formats

@@ -4,10 +4,10 @@ ghost use Rattle.std.specs.Prelude.{◌==◌, [], ◌∷◌, if◌then◌else◌
 ghost use Rattle.thin_terms.specs.Thinning.{rule_by};
 
 use crate::runs::{checked, checked_by, desk, ran, words, written};
-use shape_cli::{Outcome, run, shelf};
+use shape_cli::{Outcome, run};
 use shape_desk::MemoryDesk;
-use shape_rules::{EndRule, Facts, NoEnds, Shelf};
-use std::alloc::Global;
+use shape_rules::{EndRule, Entry, Facts, Name, Shelf};
+use std::alloc::{AllocError, Global};
 use std::test::Fail;
 
 // The words of an analysis, a picture, and how its report begins and ends.
@@ -257,11 +257,15 @@ impl EndRule for Alternate {
     }
 }
 
-// A shelf on which that rule stands under `curve`.
+// A shelf on which that rule stands alone, under `curve`.
 fn alternating(alloc: Global) -> Result<Shelf, Fail> {
-    let none = Box::new(alloc, NoEnds)?;
-    let alternate = Box::new(alloc, Alternate { turn: 1 })?;
-    Ok(shelf(alloc, none, alternate, Box::new(alloc, NoEnds)?)?)
+    let Some(name) = Name::new(b"curve") else {
+        return Err(Fail::from(AllocError));
+    };
+    let rule = Box::new(alloc, Alternate { turn: 1 })?;
+    let mut rules: Vec<Entry> = Vec::new(alloc);
+    rules.push(Entry { name, rule })?;
+    Ok(Shelf::new(rules))
 }
 
 const BY_ALTERNATE: &[u8] =
