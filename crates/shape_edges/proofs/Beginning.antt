@@ -5,10 +5,10 @@ use Rattle.shape_terms.specs.Points.{Point}
 use Rattle.shape_terms.specs.Covers.{arc}
 use Rattle.edge_terms.specs.EdgeStraight.{IsEdgeStraight}
 use Rattle.edge_terms.specs.EdgeWalks.{IsStart}
-use Rattle.edge_terms.proofs.RunArcs.{run_arcs, maximal_from}
+use Rattle.walk_terms.proofs.RunArcs.{run_arcs, maximal_from}
 use Rattle.edge_terms.proofs.EdgeCoverOf.{edge_straightness}
 use Rattle.edge_terms.proofs.EdgeExcludes.{evidence_excludes}
-use Rattle.edge_terms.proofs.FirstStarts.{first_start}
+use Rattle.walk_terms.proofs.FirstStarts.{first_start}
 use Rattle.edge_terms.proofs.ShortEdges.{short_edge}
 use Rattle.shape_corner.specs.Gaps.{gap_of}
 use Rattle.shape_corner.specs.declared.arc.Arc.{Arc}

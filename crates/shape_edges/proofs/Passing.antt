@@ -7,8 +7,8 @@ use Rattle.shape_terms.specs.Covers.{Stretch, arc}
 use Rattle.edge_terms.specs.Corners.{IsCornerPath}
 use Rattle.edge_terms.specs.EdgeCovers.{Arc as Term, IsHeld, IsEdgeCover}
 use Rattle.edge_terms.specs.EdgeWalks.{IsWalk, stretch_of_walk}
-use Rattle.edge_terms.proofs.WalkSteps.{walk_more, walk_same}
-use Rattle.edge_terms.proofs.WalkEnds.{walk_is_cover}
+use Rattle.walk_terms.proofs.WalkSteps.{walk_more, walk_same}
+use Rattle.walk_terms.proofs.WalkEnds.{walk_is_cover}
 use Rattle.shape_corner.specs.Lines.{standard_of}
 use Rattle.shape_corner.specs.declared.arc.Arc.{Arc}
 use Rattle.shape_edges.specs.declared.entry.Entry.{Entry}

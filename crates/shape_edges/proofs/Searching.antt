@@ -9,7 +9,7 @@ use Rattle.edge_terms.specs.Corners.{IsCornerPath}
 use Rattle.edge_terms.specs.EdgeStraight.{IsEdgeStraight}
 use Rattle.edge_terms.specs.EdgeCovers.{IsHeld, IsGap}
 use Rattle.edge_terms.specs.EdgeWalks.{IsLongest}
-use Rattle.edge_terms.proofs.RunArcs.{run_arcs}
+use Rattle.walk_terms.proofs.RunArcs.{run_arcs}
 use Rattle.edge_terms.proofs.EdgeCoverOf.{edge_straightness}
 use Rattle.edge_terms.proofs.EdgeExcludes.{evidence_excludes}
 use Rattle.edge_terms.proofs.ShortEdges.{short_edge}

@@ -1,5 +1,5 @@
 use Rattle.std.proofs.Common.{arith, ◌≡◌, ◌+◌, length}
-use Rattle.edge_terms.proofs.WalkSteps.{walk_begins}
+use Rattle.walk_terms.proofs.WalkSteps.{walk_begins}
 use Rattle.shape_corner.specs.Arcs.{stretch_of}
 use Rattle.shape_edges.proofs.Searching.{reach_longest}
 use Rattle.shape_edges.proofs.Passing.{goes_on, comes_round, few_entries}
