@@ -1,9 +1,9 @@
 -- The walk goes on by one arc, and comes round: of the program's entries.
 -- Stated of the values alone; the terms' side stands in `WalkSteps` and `EdgeWalks`.
-use Rattle.std.proofs.Common.{◌≡◌, ℕ, ◌+◌, ◌<◌, ◌≤◌, List, [], ◌∷◌, ◌++◌, length, map, arith, ap, sym, subst}
+use Rattle.std.proofs.Common.{◌≡◌, ℕ, ◌<◌, ◌≤◌, List, [], ◌∷◌, ◌++◌, length, map, arith, ap, sym, subst}
 use Rattle.std.proofs.lemmas.List.{map-append, length-map}
 use Rattle.shape_terms.specs.Points.{Point}
-use Rattle.shape_terms.specs.Covers.{Stretch, arc}
+use Rattle.shape_terms.specs.Covers.{arc}
 use Rattle.edge_terms.specs.Corners.{IsCornerPath}
 use Rattle.edge_terms.specs.EdgeCovers.{Arc as Term, IsHeld, IsEdgeCover}
 use Rattle.walk_terms.specs.RunWalks.{IsWalk}
