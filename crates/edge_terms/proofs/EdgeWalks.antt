@@ -7,10 +7,9 @@ use Rattle.shape_terms.specs.Covers.{Stretch}
 use Rattle.shape_terms.proofs.ArcRuns.{length-arc}
 use Rattle.walk_terms.specs.RunWalks.{IsWalk}
 use Rattle.walk_terms.proofs.RunArcs.{IsWalkKind}
-use Rattle.walk_terms.proofs.RunCoverOf.{covers}
 use Rattle.walk_terms.proofs.PlacedRuns.{IsPlaced, placed, few}
 use Rattle.walk_terms.proofs.WalkSteps.{length-stretches}
-use Rattle.walk_terms.proofs.WalkEnds.{some_found, runs_with_gaps, gap_bent}
+use Rattle.walk_terms.proofs.WalkEnds.{some_found, runs_with_gaps, gap_bent, walk_finds_all}
 use Rattle.edge_terms.specs.EdgeStraight.{IsEdgeStraight}
 use Rattle.edge_terms.specs.EdgeCovers.{Arc, stretches_of, arc_in, IsArc, IsEdgeCover}
 use Rattle.edge_terms.specs.EdgeWalks.{edge_walk}
@@ -51,7 +50,7 @@ module _ (path : List Point) (found : List Arc) (now : Stretch) (round : ℕ) (w
           arc = one_arc;
           gap = λ k l. (gap k _ l).shows;
         };
-        cover = covers IsEdgeStraight edge_straightness path (stretches_of found) gaps;
+        cover = walk_finds_all edge_walk edge_walks path found now round w over some;
         lines = λ k l. (w.held k _ l).short;
         gaps = λ k l. (gap k _ l).short;
       }

@@ -1,8 +1,8 @@
--- Each of the stretches of a path, after those before it: where it stands among them.
+-- Each of the stretches of a path, after those before it: where it stands among them, and that they rise where each stands so.
 -- Which evidence there is for the gaps does not matter here.
-use Rattle.std.proofs.Common.{◌≡◌, ℕ, zero, suc, ◌+◌, ◌-◌, ◌<◌, ◌≤◌, List, [], ◌∷◌, ◌++◌, length, get_or, take, ap, ◌∙◌, arith}
+use Rattle.std.proofs.Common.{◌≡◌, ℕ, zero, suc, ◌+◌, ◌-◌, ◌<◌, ◌≤◌, List, [], ◌∷◌, ◌++◌, length, get_or, take, ap, sym, subst, ◌∙◌, arith}
 use Rattle.std.specs.Prelude.{slice_get, Some, IfSome}
-use Rattle.std.proofs.lemmas.List.{get_or_default, get_or_append_left, get_or-take, length-take-le}
+use Rattle.std.proofs.lemmas.List.{get_or_default, get_or_append_left, get_or-take, length-take-le, take_all, take_more}
 use Rattle.std.proofs.lemmas.Option.{slice_get-get_or}
 use Rattle.shape_terms.specs.Points.{Point}
 use Rattle.shape_terms.specs.Covers.{Stretch}
@@ -70,4 +70,32 @@ module _ (S : List Point → Type 0) (is : IsStraightness S) (path : List Point)
       let l : length stretches - 1 < length stretches = omega arith in
       let a = at_least (length stretches - 1) l in
       let b = g.begins (length stretches - 1) l in
+      omega arith
+
+slice_get-taken : {A : Type 0} (xs : List A) (k : ℕ) → slice_get (take (suc k) xs) k ≡ slice_get xs k
+slice_get-taken [] k = λ i. slice_get [] k
+slice_get-taken (x ∷ xs) zero = λ i. Some x
+slice_get-taken (x ∷ xs) (suc k) = slice_get-taken xs k
+
+module _ (path : List Point) (stretches : List Stretch) (some : 1 ≤ length stretches) (each : (k : ℕ) → k < length stretches → IsPlaced path (length stretches) (take k stretches) (stretch_at stretches k)) where
+  pub placed_rise : (k : ℕ) → k + 1 < length stretches → ((stretch_at stretches k).first < (stretch_at stretches (k + 1)).first) × ((stretch_at stretches k).last < (stretch_at stretches (k + 1)).last)
+  placed_rise k h =
+      let s = stretch_at stretches k in
+      let u = stretch_at stretches (k + 1) in
+      let n : length (take (k + 1) stretches) - 1 ≡ k = omega (arith, length-take-le (k + 1) stretches (omega arith)) in
+      let q : k + 1 ≡ suc k = omega arith in
+      let e : slice_get (take (k + 1) stretches) (length (take (k + 1) stretches) - 1) ≡ Some s =
+      ap (slice_get (take (k + 1) stretches)) n ∙ (ap (λ j. slice_get (take j stretches) k) q ∙ (slice_get-taken stretches k ∙ slice_get-get_or stretches k _ (omega arith))) in
+      subst (λ o. IfSome o (λ x. (x.first < u.first) × (x.last < u.last))) e (each (k + 1) h).after
+
+  pub placed_close : (stretch_at stretches (length stretches - 1)).last < (stretch_at stretches 0).last + length path
+  placed_close =
+      let k = length stretches - 1 in
+      let l : k < length stretches = omega arith in
+      let x = stretch_at stretches k in
+      let n = length-take-le k stretches (omega arith) in
+      let h = (each k l).closes (omega arith) in
+      let e : take k stretches ++ x ∷ [] ≡ stretches = sym (take_more stretches k _ l) ∙ take_all (k + 1) stretches (omega arith) in
+      let f : get_or (take k stretches ++ x ∷ []) 0 x ≡ stretch_at stretches 0 = ap (λ l. get_or l 0 x) e ∙ get_or_default stretches 0 x _ some in
+      let p = ap (λ (z : Stretch). z.last) f in
       omega arith

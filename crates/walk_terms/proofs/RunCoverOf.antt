@@ -40,20 +40,14 @@ module _ (S : List Point → Type 0) (is : IsStraightness S) (path : List Point)
   abbrev finish : ℕ → ℕ
   finish k = (get_or stretches k onward).last
 
-  begin_is : (k : ℕ) → k < length stretches → begin k ≡ (stretch_at stretches k).first
-  begin_is k h = ap (λ (s : Stretch). s.first) (get_or_default stretches k onward (record { first = 0; last = 0 }) h)
+  at_is : (k : ℕ) → k < length stretches → get_or stretches k onward ≡ stretch_at stretches k
+  at_is k h = get_or_default stretches k onward (record { first = 0; last = 0 }) h
 
-  finish_is : (k : ℕ) → k < length stretches → finish k ≡ (stretch_at stretches k).last
-  finish_is k h = ap (λ (s : Stretch). s.last) (get_or_default stretches k onward (record { first = 0; last = 0 }) h)
-
-  begin_end : (k : ℕ) → length stretches ≤ k → begin k ≡ (stretch_at stretches 0).first + length path
-  begin_end k h = ap (λ (s : Stretch). s.first) (get_or_past stretches k onward h)
-
-  finish_end : (k : ℕ) → length stretches ≤ k → finish k ≡ (stretch_at stretches 0).last + length path
-  finish_end k h = ap (λ (s : Stretch). s.last) (get_or_past stretches k onward h)
+  at_end : get_or stretches (length stretches) onward ≡ onward
+  at_end = get_or_past stretches (length stretches) onward (omega arith)
 
   comes : onward.first ≡ begin 0 + length path
-  comes = ap (λ v. v + length path) (sym (begin_is 0 g.some))
+  comes = ap (λ (s : Stretch). s.first + length path) (sym (at_is 0 g.some))
 
   bent : (k : ℕ) → k < length stretches → Straight S is path (pred (begin (suc k))) (suc (finish k)) → ⊥
   bent k h s =
@@ -68,31 +62,32 @@ module _ (S : List Point → Type 0) (is : IsStraightness S) (path : List Point)
       let n = length-arc path (begin (suc k) - 1) (finish k + 1) in
       omega arith
 
-  rising_b : (k : ℕ) → k < length stretches → begin k < begin (suc k)
-  rising_b k h = elim (dec_lt (suc k) (length stretches)) [
-    | yes l ↦ (let q : k + 1 ≡ suc k = omega arith in let a = begin_is k h in let b = begin_is (suc k) l in let r = g.first_rises k (omega arith) in let e = ap (λ j. (stretch_at stretches j).first) q in omega arith)
-    | no l ↦ (let a = begin_is k h in let b = begin_end (suc k) (omega arith) in let r = g.begins k h in omega arith)
+  -- what rises from each stretch to the next, and from the last to the first, one round on
+  rises_on : (v : Stretch → ℕ) → ((k : ℕ) → k + 1 < length stretches → v (stretch_at stretches k) < v (stretch_at stretches (k + 1))) → v (stretch_at stretches (length stretches - 1)) < v onward → (k : ℕ) → k < length stretches → v (get_or stretches k onward) < v (get_or stretches (suc k) onward)
+  rises_on v r c k h = elim (dec_lt (suc k) (length stretches)) [
+    | yes l ↦ (let q : k + 1 ≡ suc k = omega arith in rw (at_is k h, at_is (suc k) l) (subst (λ j. v (stretch_at stretches k) < v (stretch_at stretches j)) q (r k (omega arith))))
+    | no l ↦ (let q : length stretches - 1 ≡ k = omega arith in rw (at_is k h, get_or_past stretches (suc k) onward (omega arith)) (subst (λ j. v (stretch_at stretches j) < v onward) q c))
   ]
 
-  rising_e : (k : ℕ) → k < length stretches → finish k < finish (suc k)
-  rising_e k h = elim (dec_lt (suc k) (length stretches)) [
-    | yes l ↦ (let q : k + 1 ≡ suc k = omega arith in let a = finish_is k h in let b = finish_is (suc k) l in let r = g.last_rises k (omega arith) in let e = ap (λ j. (stretch_at stretches j).last) q in omega arith)
-    | no l ↦ (let a = finish_is k h in let b = finish_end (suc k) (omega arith) in let r = g.closes in let q : length stretches - 1 ≡ k = omega arith in let e = ap (λ j. (stretch_at stretches j).last) q in omega arith)
-  ]
+  rising_b : (k : ℕ) → k < length stretches → begin k < begin (suc k)
+  rising_b = rises_on (λ s. s.first) g.first_rises (let b = g.begins (length stretches - 1) (omega (arith, g.some)) in omega arith)
 
   straight : (k : ℕ) → k < length stretches → Straight S is path (begin k) (finish k)
-  straight k h = subst (λ (s : Stretch). S (arc path s.first s.last)) (sym (get_or_default stretches k onward (record { first = 0; last = 0 }) h)) (g.straight k h)
+  straight k h = subst (λ (s : Stretch). S (arc path s.first s.last)) (sym (at_is k h)) (g.straight k h)
+
+  top : (k : ℕ) → k < length stretches → begin k < length path
+  top k h = subst (λ (s : Stretch). s.first < length path) (sym (at_is k h)) (g.begins k h)
 
   gapped : Gapped (length path) (Straight S is path) (length stretches) begin finish
   gapped = record {
     some = g.some;
-    low = (let a = begin_is 0 g.some in let b = g.begins 0 g.some in omega arith);
-    wrapped_b = begin_end (length stretches) (omega arith) ∙ comes;
-    wrapped_e = finish_end (length stretches) (omega arith) ∙ ap (λ v. v + length path) (sym (finish_is 0 g.some));
+    low = top 0 g.some;
+    wrapped_b = ap (λ (s : Stretch). s.first) at_end ∙ comes;
+    wrapped_e = ap (λ (s : Stretch). s.last) at_end ∙ ap (λ (s : Stretch). s.last + length path) (sym (at_is 0 g.some));
     in_range = λ k h. (run_arcs S is path).ordered (begin k) (finish k) (straight k h);
     rising_b = rising_b;
-    rising_e = rising_e;
-    top = λ k h. (let a = begin_is k h in let b = g.begins k h in omega arith);
+    rising_e = rises_on (λ s. s.last) g.last_rises g.closes;
+    top = top;
     straight = straight;
     wide = wide;
     bent = bent;
@@ -118,7 +113,7 @@ module _ (S : List Point → Type 0) (is : IsStraightness S) (path : List Point)
       listed s (k, h, e) =
           let f : get_or stretches k onward ≡ s = get_or_default stretches k onward s h ∙ e in
           let m = subst (λ (v : Stretch). Maximal (length path) (Straight S is path) v.first v.last) f (each_maximal (run_arcs S is path) gapped k h) in
-          ((let l = g.begins k h in let q = begin_is k h in let p = ap (λ (s : Stretch). s.first) f in omega arith), maximal_to S is path s.first s.last m)
+          (subst (λ (v : Stretch). v.first < length path) f (top k h), maximal_to S is path s.first s.last m)
 
       maximal : (s : Stretch) → (s.first < length path) × IsMaximalRun S path s.first s.last → Contains stretches s
       maximal s (l, x) =

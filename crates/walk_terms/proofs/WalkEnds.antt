@@ -8,10 +8,10 @@ use Rattle.shape_terms.specs.Covers.{Stretch, arc, gap_run}
 use Rattle.shape_terms.specs.GapCover.{stretch_at}
 use Rattle.shape_terms.proofs.Stretches.{Gapped, Walk}
 use Rattle.shape_terms.proofs.ArcRuns.{length-arc}
-use Rattle.walk_terms.specs.RunCovers.{AreRunsWithGaps}
+use Rattle.walk_terms.specs.RunCovers.{IsRunCover, AreRunsWithGaps}
 use Rattle.walk_terms.specs.RunWalks.{WalkKind, IsFollowedBy, IsWalk, stretch_of_walk}
 use Rattle.walk_terms.proofs.RunArcs.{IsWalkKind, Straight, run_arcs, maximal_to}
-use Rattle.walk_terms.proofs.RunCoverOf.{gap_is}
+use Rattle.walk_terms.proofs.RunCoverOf.{gap_is, covers}
 use Rattle.walk_terms.proofs.CoverWalks.{walk_covers}
 use Rattle.walk_terms.proofs.WalkSteps.{length-stretches, walk_found, walk_now}
 
@@ -139,3 +139,7 @@ module _ {F : Type 0} (k : WalkKind F) (laws : IsWalkKind k) (path : List Point)
           let a = ap (λ (s : Stretch). s.last) (at_is i (omega arith)) in
           let b = ap (λ (s : Stretch). s.last) (at_is 0 (omega arith)) in
           omega arith
+
+  -- so the walk has found exactly the maximal straight runs
+  pub walk_finds_all : IsRunCover k.Straight path stretches
+  walk_finds_all = covers k.Straight laws.straightness path stretches runs_with_gaps
