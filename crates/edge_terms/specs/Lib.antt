@@ -1,10 +1,8 @@
 pub mod Corners
 pub mod EdgeStraight
 pub mod EdgeEvidence
-pub mod RunCovers
 pub mod EdgeCovers
 pub mod EdgeWalks
-pub mod BackArcs
 pub mod EdgeCycles
 pub mod CycleLines
 pub mod Kinds

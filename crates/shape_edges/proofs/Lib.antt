@@ -1,7 +1,6 @@
 pub mod Growth
 pub mod PathSteps
 pub mod Searching
-pub mod Beginning
 pub mod Passing
 pub mod LineOf
 pub mod Growing

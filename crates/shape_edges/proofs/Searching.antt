@@ -8,8 +8,8 @@ use Rattle.shape_terms.proofs.ArcRuns.{length-arc}
 use Rattle.edge_terms.specs.Corners.{IsCornerPath}
 use Rattle.edge_terms.specs.EdgeStraight.{IsEdgeStraight}
 use Rattle.edge_terms.specs.EdgeCovers.{IsHeld, IsGap}
-use Rattle.edge_terms.specs.EdgeWalks.{IsLongest}
-use Rattle.edge_terms.proofs.RunArcs.{run_arcs}
+use Rattle.walk_terms.specs.RunWalks.{IsLongest}
+use Rattle.walk_terms.proofs.RunArcs.{run_arcs}
 use Rattle.edge_terms.proofs.EdgeCoverOf.{edge_straightness}
 use Rattle.edge_terms.proofs.EdgeExcludes.{evidence_excludes}
 use Rattle.edge_terms.proofs.ShortEdges.{short_edge}
@@ -28,7 +28,7 @@ part_arc path a b c d s h k l = (run_arcs IsEdgeStraight edge_straightness path)
 pub reach_straight : (path : List Point) (a : Arc) → IsReach path a → IsEdgeStraight (arc path a.first a.last)
 reach_straight path a h = record { some = (let r = h.rises in omega (arith, length-arc path a.first a.last)); line = (standard_of a.line, h.held.holds) }
 
-pub reach_longest : (path : List Point) (a : Arc) → IsReach path a → IsLongest path (stretch_of a)
+pub reach_longest : (path : List Point) (a : Arc) → IsReach path a → IsLongest IsEdgeStraight path (stretch_of a)
 reach_longest path a h = record { straight = reach_straight path a h; longest = h.longest }
 
 module _ (path : List Point) (is : IsCornerPath path) where
@@ -62,10 +62,3 @@ module _ (path : List Point) (is : IsCornerPath path) where
             | no l ↦ omega arith
           ] in
           omega arith
-
--- a reach goes as far as any straight run from its first place
-pub goes_as_far : (path : List Point) (a : Arc) → IsReach path a → (b e : ℕ) → a.first ≡ b → IsEdgeStraight (arc path b e) → e ≤ a.last
-goes_as_far path a h b e q s = elim (dec_lt a.last e) [
-  | no l ↦ omega arith
-  | yes l ↦ absurd (let rises = h.rises in h.longest (subst (λ x. IsEdgeStraight (arc path x (a.last + 1))) (sym q) (part_arc path b e b (a.last + 1) s (omega arith) (omega arith) (omega arith))))
-]

@@ -1,11 +1,12 @@
 -- What the program's searches find: straight runs that were grown, how far one reaches and where the next one begins.
--- The terms of walks stand in `EdgeWalks`; how a search goes belongs elsewhere.
+-- The terms of walks stand in `RunWalks`; how a search goes belongs elsewhere.
 use Rattle.std.specs.Prelude.{◌≡◌, ℕ, ◌+◌, ◌-◌, ◌<◌, ◌≤◌, List, [], ◌∷◌, ◌++◌, length}
 use Rattle.shape_terms.specs.Points.{Point}
 use Rattle.shape_terms.specs.Covers.{arc}
+use Rattle.walk_terms.specs.RunWalks.{IsFollowedBy}
 use Rattle.edge_terms.specs.EdgeStraight.{IsEdgeStraight}
 use Rattle.edge_terms.specs.EdgeCovers.{IsHeld, IsGap}
-use Rattle.edge_terms.specs.EdgeWalks.{IsFollowedBy}
+use Rattle.edge_terms.specs.EdgeWalks.{edge_walk}
 use Rattle.shape_corner.specs.Lines.{standard_of}
 use Rattle.shape_corner.specs.Gaps.{gap_of}
 use Rattle.shape_edges.specs.declared.grow.Grown.{Grown}
@@ -44,11 +45,10 @@ pub record IsNextStart (path : List Point) (a : Arc) (s : NextStart) : Type 0 wh
   pub straight : IsEdgeStraight (arc path s.first (a.last + 1))
   pub gap : IsGap (arc path (s.first - 1) (a.last + 1)) (gap_of s.gap)
 
--- the walk has left the arc, and goes on from the next one, which begins at most one place after it
+-- the walk has left the arc, and goes on from the next one
 pub record IsPassed (path : List Point) (a : Arc) (p : Passed) : Type 0 where
   pub same : p.entry.arc ≡ a
-  pub followed : IsFollowedBy path (found_of p.entry) (stretch_of p.next)
-  pub near : p.next.first ≤ a.last + 1
+  pub followed : IsFollowedBy edge_walk path (found_of p.entry) (stretch_of p.next)
   pub next : IsReach path p.next
 
 -- the arc that was left was put last, and the next one was reached

@@ -2,9 +2,10 @@
 //! That the runs are all follows from the evidence for the gaps between them.
 ghost use Rattle.std.specs.Prelude.{◌<◌, ◌^◌, IfOk, length, map};
 ghost use Rattle.shape_terms.specs.Contours.{IsCrack};
+ghost use Rattle.walk_terms.specs.RunWalks.{IsStart};
 ghost use Rattle.edge_terms.specs.Corners.{HasSmallSides};
 ghost use Rattle.edge_terms.specs.EdgeCovers.{IsEdgeCover, IsEdgeCoverFrom};
-ghost use Rattle.edge_terms.specs.EdgeWalks.{IsStart};
+ghost use Rattle.edge_terms.specs.EdgeStraight.{IsEdgeStraight};
 ghost use Rattle.shape_crack.specs.Terms.{crack_of};
 ghost use Rattle.shape_corner.specs.Arcs.{stretch_of};
 ghost use Rattle.shape_edges.specs.Entries.{found_of};
@@ -51,7 +52,7 @@ fn pass(path: &Corners, reach: Arc) -> Passed
 // An arc that the walk may begin with: the first maximal one.
 fn first_reach(path: &Corners) -> Arc
     ensures reach { IsReach path.now result }
-    ensures start { IsStart path.now (stretch_of result) }
+    ensures start { IsStart IsEdgeStraight path.now (stretch_of result) }
 {
     let n = path.len();
     let reach = longest_from(path, 0);
@@ -78,7 +79,7 @@ fn go_on(path: &Corners, entries: &mut Vec<Entry>, reach: Arc) -> Result<Arc, No
 // The entries of the arcs from the first one on, once round the path.
 fn go_round(alloc: Global, path: &Corners, first: Arc) -> Result<Vec<Entry>, NoMemory>
     requires reach { IsReach path.now first }
-    requires start { IsStart path.now (stretch_of first) }
+    requires start { IsStart IsEdgeStraight path.now (stretch_of first) }
     ensures cover { IfOk result (λ v. IsEdgeCover path.now (map found_of v.items)) }
     ensures few { IfOk result (λ v. length v.items < 2 ^ 32) }
 {

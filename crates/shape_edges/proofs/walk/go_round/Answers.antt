@@ -1,5 +1,7 @@
-use Rattle.std.proofs.Common.{arith, ◌≡◌, ◌+◌, length}
-use Rattle.edge_terms.proofs.WalkSteps.{walk_begins}
+use Rattle.std.proofs.Common.{arith, ◌≡◌, ◌+◌, length, subst, []}
+use Rattle.walk_terms.specs.RunWalks.{IsWalk}
+use Rattle.walk_terms.proofs.WalkSteps.{walk_begins}
+use Rattle.edge_terms.specs.EdgeWalks.{edge_walk}
 use Rattle.shape_corner.specs.Arcs.{stretch_of}
 use Rattle.shape_edges.proofs.Searching.{reach_longest}
 use Rattle.shape_edges.proofs.Passing.{goes_on, comes_round, few_entries}
@@ -12,10 +14,8 @@ loop-reach-init c =
     let n = c.len.ensures.value in
     let round : g.first + length path ≡ g.first + c.len.result = omega arith in
     rw c.new-entries.ensures.items (record {
-      walk = walk_begins path (stretch_of g) c.requires.start (reach_longest path g c.requires.reach);
+      walk = subst (IsWalk edge_walk path [] (stretch_of g)) round (walk_begins edge_walk path (stretch_of g) c.requires.start (reach_longest path g c.requires.reach));
       reach = c.requires.reach;
-      start = round;
-      near = omega arith;
     })
 
 pub loop-reach-preserved : goal.loop-reach-preserved

@@ -1,0 +1,9 @@
+pub mod RunArcs
+pub mod RunCoverOf
+pub mod PlacedRuns
+pub mod CoverWalks
+pub mod FirstStarts
+pub mod WalkStarts
+pub mod WalkSteps
+pub mod WalkEnds
+pub mod BackArcs

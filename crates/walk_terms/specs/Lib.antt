@@ -1,0 +1,3 @@
+pub mod RunCovers
+pub mod RunWalks
+pub mod BackArcs
