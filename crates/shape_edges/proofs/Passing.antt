@@ -1,13 +1,13 @@
 -- The walk goes on by one arc, and comes round: of the program's entries.
 -- Stated of the values alone; the terms' side stands in `WalkSteps` and `EdgeWalks`.
-use Rattle.std.proofs.Common.{◌≡◌, ℕ, ◌<◌, ◌≤◌, List, [], ◌∷◌, ◌++◌, length, map, arith, ap, sym, subst}
-use Rattle.std.proofs.lemmas.List.{map-append, length-map}
+use Rattle.std.proofs.Common.{ℕ, ◌<◌, ◌≤◌, List, [], ◌∷◌, ◌++◌, length, map, arith, ap, sym, subst}
+use Rattle.std.proofs.lemmas.List.{length-map}
 use Rattle.shape_terms.specs.Points.{Point}
 use Rattle.shape_terms.specs.Covers.{arc}
 use Rattle.edge_terms.specs.Corners.{IsCornerPath}
-use Rattle.edge_terms.specs.EdgeCovers.{Arc as Term, IsHeld, IsEdgeCover}
+use Rattle.edge_terms.specs.EdgeCovers.{IsHeld, IsEdgeCover}
 use Rattle.walk_terms.specs.RunWalks.{IsWalk}
-use Rattle.walk_terms.proofs.WalkSteps.{walk_more}
+use Rattle.walk_terms.proofs.WalkSteps.{walk_goes_on}
 use Rattle.edge_terms.specs.EdgeWalks.{edge_walk}
 use Rattle.edge_terms.proofs.EdgeWalks.{walk_is_cover}
 use Rattle.shape_corner.specs.Lines.{standard_of}
@@ -26,19 +26,11 @@ pub record IsGoing (path : List Point) (entries : List Entry) (g : Arc) (round :
 
 module _ (path : List Point) (entries : List Entry) (g : Arc) (round : ℕ) (w : IsGoing path entries g round) where
   pub goes_on : g.first < round → (p : Passed) → IsPassed path g p → IsGoing path (entries ++ p.entry ∷ []) p.next round
-  goes_on low p f =
-      let found = map found_of entries in
-      let more : map found_of entries ++ found_of p.entry ∷ [] ≡ map found_of (entries ++ p.entry ∷ []) = sym (map-append found_of entries (p.entry ∷ [])) in
-      let walk = subst (λ a. IsWalk edge_walk path found (stretch_of a) round) (sym f.same) w.walk in
-      let held = subst (λ (a : Arc). IsHeld (arc path a.first a.last) (standard_of a.line)) (sym f.same) w.reach.held in
-      let first : p.entry.arc.first ≡ g.first = ap (λ (a : Arc). a.first) f.same in
-      let last : p.entry.arc.last ≡ g.last = ap (λ (a : Arc). a.last) f.same in
-      let short = w.reach.short in
-      record {
-        walk = subst (λ (l : List Term). IsWalk edge_walk path l (stretch_of p.next) round) more
-            (walk_more edge_walk path found (found_of p.entry) (stretch_of p.next) round walk (omega arith) (omega arith) held f.followed (reach_longest path p.next f.next));
-        reach = f.next;
-      }
+  goes_on low p f = record {
+    walk = walk_goes_on edge_walk found_of path entries p.entry (stretch_of g) (stretch_of p.next) round w.walk (ap stretch_of f.same) low w.reach.short
+        (subst (λ (a : Arc). IsHeld (arc path g.first g.last) (standard_of a.line)) (sym f.same) w.reach.held) f.followed (reach_longest path p.next f.next);
+    reach = f.next;
+  }
 
   pub comes_round : IsCornerPath path → round ≤ g.first → IsEdgeCover path (map found_of entries)
   comes_round is l = walk_is_cover path (map found_of entries) (stretch_of g) round w.walk l is.some

@@ -2,7 +2,7 @@
 -- Stated of the values alone; how the stretches are searched belongs elsewhere.
 use Rattle.std.proofs.Common.{◌≡◌, ℕ, ◌+◌, ◌<◌, ◌≤◌, List, [], ◌∷◌, ◌++◌, length, length-append, get_or, map, ap, sym, subst, ◌∙◌, arith}
 use Rattle.std.proofs.Math.Seq.{get_or-append_seam}
-use Rattle.std.proofs.lemmas.List.{get_or_append_left, get_or-map, get_or_past, length-map}
+use Rattle.std.proofs.lemmas.List.{get_or_append_left, get_or-map, get_or_past, length-map, map-append}
 use Rattle.std.proofs.lemmas.List.Elements.{All-push}
 use native.Mathlib.Decide.{dec_lt, dec_le}
 use Rattle.shape_terms.specs.Points.{Point}
@@ -51,7 +51,7 @@ module _ {F : Type 0} (k : WalkKind F) where
     last i l = sym (walk_now (found ++ f ∷ []) next i (omega (arith, more)))
 
     -- the walk goes on to the next stretch
-    pub walk_more : IsWalk k path found (k.stretch f) round → (k.stretch f).first < round → (k.stretch f).last < (k.stretch f).first + length path → k.Holds f (arc path (k.stretch f).first (k.stretch f).last)
+    walk_more : IsWalk k path found (k.stretch f) round → (k.stretch f).first < round → (k.stretch f).last < (k.stretch f).first + length path → k.Holds f (arc path (k.stretch f).first (k.stretch f).last)
         → IsFollowedBy k path f next → IsLongest k.Straight path next → IsWalk k path (found ++ f ∷ []) next round
     walk_more w low short held followed h = record {
       start = subst (IsStart k.Straight path) (same 0 (omega arith)) w.start;
@@ -68,3 +68,12 @@ module _ {F : Type 0} (k : WalkKind F) where
       ];
       near = (let n = followed.near in omega arith);
     }
+
+  -- the same where a program keeps entries, each of which tells what was found
+  module _ {E : Type 0} (told : E → F) (path : List Point) (entries : List E) (e : E) (now next : Stretch) (round : ℕ) where
+    pub walk_goes_on : IsWalk k path (map told entries) now round → k.stretch (told e) ≡ now → now.first < round → now.last < now.first + length path → k.Holds (told e) (arc path now.first now.last)
+        → IsFollowedBy k path (told e) next → IsLongest k.Straight path next → IsWalk k path (map told (entries ++ e ∷ [])) next round
+    walk_goes_on w same low short held followed h =
+        subst (λ l. IsWalk k path l next round) (sym (map-append told entries (e ∷ [])))
+        (subst (λ (s : Stretch). IsWalk k path (map told entries) s round → s.first < round → s.last < s.first + length path → k.Holds (told e) (arc path s.first s.last) → IsWalk k path (map told entries ++ told e ∷ []) next round)
+        same (λ w l s r. walk_more path (map told entries) (told e) next round w l s r followed h) w low short held)
