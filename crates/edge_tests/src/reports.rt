@@ -99,6 +99,28 @@ const RING: &[u8] = b"edges 1 3 3\n\
     bend 2 0\n\
     end\n";
 
+// A ring without corners round two pixels: the first corner of its inner cycle is within an arc that begins before it.
+const HOLE: &[u8] = b"edges 1 4 3\n\
+    cycle 1 0 0 14 4\n\
+    arc 0 5 + + 2 3 2\n\
+    arc 4 9 - + 2 3 -15\n\
+    arc 7 12 - - 2 3 3\n\
+    arc 11 16 + - 2 3 2\n\
+    bend 2 0\n\
+    bend 3 0\n\
+    bend 2 0\n\
+    bend 3 0\n\
+    cycle 1 0 2 6 4\n\
+    arc 1 4 + + 1 2 -3\n\
+    arc 2 5 + - 1 2 5\n\
+    arc 4 7 - - 1 2 -1\n\
+    arc 5 8 - + 1 2 -5\n\
+    bend 3 0\n\
+    bend 2 0\n\
+    bend 3 0\n\
+    bend 2 0\n\
+    end\n";
+
 // A picture by its sides and values, and its report.
 struct Case {
     x: i32,
@@ -107,7 +129,7 @@ struct Case {
     report: &'static [u8],
 }
 
-const CASES: [Case; 6] = [
+const CASES: [Case; 7] = [
     Case {
         x: 2,
         y: 1,
@@ -143,6 +165,12 @@ const CASES: [Case; 6] = [
         y: 3,
         values: b"111101111",
         report: RING,
+    },
+    Case {
+        x: 4,
+        y: 3,
+        values: b"011010010110",
+        report: HOLE,
     },
 ];
 
@@ -201,12 +229,14 @@ fn reports_hold(rt: HostRuntime) -> Result<(), Fail> {
 }
 
 // A line of the square's report, another one in its place, and the first line that is bad then.
-const CHANGES: [(u64, &[u8], u64); 11] = [
+const CHANGES: [(u64, &[u8], u64); 12] = [
     (1, b"edges 1 2 1", 1),
     (2, b"cycle 0 0 1 8 8", 2),
     (2, b"cycle 0 0 0 8 7", 10),
     (3, b"arc 0 3 + + 0 0 0", 3),
     (3, b"arc 0 3 + - 1 2 0", 3),
+    // it holds the corners, and the steps go the other way
+    (3, b"arc 0 2 - + 1 2 -2", 3),
     // it ends too early for the last arc to close the round
     (3, b"arc 0 2 + + 1 2 0", 10),
     (4, b"arc 0 3 + + 1 2 0", 4),
@@ -242,6 +272,16 @@ fn reports_are_made(rt: HostRuntime) -> Result<(), Fail> {
         assert_eq!(rt; line_ends(report.text()), line_ends(case.report));
         let judgement = judged(alloc, case.x, case.y, case.values, report.text())?;
         assert_eq!(rt; judgement, Judgement::Yes);
+    }
+    Ok(())
+}
+
+// A picture has an edge report where no side is greater than 1000.
+#[test]
+fn long_sides(rt: HostRuntime) -> Result<(), Fail> {
+    for (x, y, is_small) in [(1, 1000, true), (1, 1001, false), (1001, 1, false)] {
+        let grid = picture(rt.alloc(), x, y, b"")?;
+        assert_eq!(rt; has_small_sides(&grid), is_small);
     }
     Ok(())
 }

@@ -66,7 +66,7 @@ fn a_staircase_is_straight(rt: HostRuntime) {
     ];
     match decide(&run, 1) {
         RunVerdict::Straight(line) => {
-            assert_eq!(rt; line.axis, 1);
+            assert_eq!(rt; (line.axis, line.a[2]), (1, 0));
             assert!(rt; holds_all(&line, &run));
             assert!(rt; !holds(&line, P2 { x: 0, y: 1 }));
             assert!(rt; !holds(&line, P2 { x: 2, y: 0 }));

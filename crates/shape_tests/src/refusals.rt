@@ -17,7 +17,8 @@ fn a_failed_write(rt: HostRuntime) -> Result<(), Fail> {
 #[test]
 fn a_failed_read(rt: HostRuntime) -> Result<(), Fail> {
     let mut desk = desk(rt.alloc(), b"P1 1 1 1", &[2], &[])?;
-    assert!(rt; ran(rt.alloc(), ANALYSE, &mut desk)? == Outcome::ReadFault);
+    let outcome = ran(rt.alloc(), ANALYSE, &mut desk)?;
+    assert!(rt; outcome == Outcome::ReadFault && outcome.status() == 4);
     Ok(())
 }
 

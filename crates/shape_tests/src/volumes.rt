@@ -6,7 +6,7 @@ use shape_picture::PictureFault;
 use std::test::Fail;
 
 // The words of an analysis, a volume, how its report begins and ends, and the words of a check.
-const VOLUMES: [(&str, &[u8], &[u8], &[u8], &str); 3] = [
+const VOLUMES: [(&str, &[u8], &[u8], &[u8], &str); 4] = [
     (
         "analyse raw 1 1 1 a.pbm none",
         &[255],
@@ -27,6 +27,13 @@ const VOLUMES: [(&str, &[u8], &[u8], &[u8], &str); 3] = [
         b"shape 1 raw 2 2 2 none\nparts 0 0 1\nface x - 0\nface x + 0\nface y - 0\nface y + 0\nface z - 0\nface z + 0\nkept 0 0 1\nend\n",
         b"\nface z + 0\nkept 0 0 1\nend\n",
         "check raw 2 2 2 a.pbm a.report",
+    ),
+    (
+        "analyse raw 2 1 1 a.pbm none",
+        &[0; 2],
+        b"shape 1 raw 2 1 1 none\nparts 0 0 1\n",
+        b"\nface z + 0\nkept 0 0 1\nend\n",
+        "check raw 2 1 1 a.pbm a.report",
     ),
 ];
 

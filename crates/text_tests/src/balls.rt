@@ -91,6 +91,7 @@ fn reports_are_judged(rt: HostRuntime) -> Result<(), Fail> {
 
     let blank = grid_of(alloc, P2 { x: 2, y: 2 }, &[])?;
     assert_eq!(rt; bad_line(alloc, &blank, b"balls 1 pbm 2 2 0\nend\n")?, YES);
+    assert_eq!(rt; bad_line(alloc, &blank, b"balls 1 pbm 2 2 1\nend\n")?, 1);
 
     let voxel = grid_of(alloc, P3 { x: 1, y: 1, z: 1 }, &[P3::origin()])?;
     let text = b"balls 1 raw 1 1 1 1\nball 0 0 0 0 0 -1 1 0 0 0\nend\n";
@@ -124,5 +125,16 @@ fn reports_are_made(rt: HostRuntime) -> Result<(), Fail> {
         bad_line(alloc, &voxel, made(alloc, &voxel, 0)?.as_slice())?,
         YES
     );
+    Ok(())
+}
+
+// Two pixels have a ball each.
+#[test]
+fn each_ball_is_told(rt: HostRuntime) -> Result<(), Fail> {
+    let pair = balls(rt.alloc(), &full(rt.alloc(), 2, 1)?)?;
+    assert_eq!(rt; pair.len(), 2);
+    if pair.len() == 2 {
+        assert_eq!(rt; pair.ball(1).centre, P2 { x: 1, y: 0 });
+    }
     Ok(())
 }

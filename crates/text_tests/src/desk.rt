@@ -61,11 +61,11 @@ fn reads_two_files(rt: HostRuntime) -> Result<(), Fail> {
 #[test]
 fn writes_until_the_room_is_used(rt: HostRuntime) -> Result<(), Fail> {
     let alloc = rt.alloc();
-    let mut desk = desk_of(alloc, b"", &[2], 2, 5)?;
+    let mut desk = desk_of(alloc, b"", &[2], 2, 6)?;
     assert!(rt; put_line(b"abc", &mut desk) == Err(Failed));
-    assert!(rt; desk.output() == b"ab".as_slice() && put_all(b"c", &mut desk) == Ok(()));
+    assert!(rt; desk.output() == b"ab".as_slice() && put_line(b"c", &mut desk) == Ok(()));
     assert!(rt; put_line(b"de", &mut desk) == Err(Failed));
-    assert!(rt; desk.output() == b"abcde".as_slice());
+    assert!(rt; desk.output() == b"abc\nde".as_slice());
     Ok(())
 }
 

@@ -103,6 +103,7 @@ fn first_bad_lines(rt: HostRuntime) -> Result<(), Fail> {
         (1, b"pieces 1 2 3\n".as_slice()),
         (2, b"pieces 1 2 2\nchain 0 0 0 4 0\n".as_slice()),
         (2, b"pieces 1 2 2\nchain 1 0 0 4 2\n".as_slice()),
+        (3, b"pieces 1 2 2\nchain 0 0 0 4 2\nend\n".as_slice()),
         // a piece too many: the run from 0 to 1 is straight for the axis y
         (
             5,

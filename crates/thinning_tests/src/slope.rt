@@ -67,3 +67,12 @@ fn a_pair_of_space_clashes(rt: HostRuntime) {
         _ => assert!(rt; false),
     }
 }
+
+#[test]
+fn a_pair_on_the_second_axis_clashes(rt: HostRuntime) {
+    let points = [P3 { x: 0, y: 0, z: 0 }, P3 { x: 0, y: 1, z: 2 }];
+    match solve(rt.alloc(), &points, 2, &[Pair { low: 0, high: 1 }]) {
+        Ok(Solved::Clash(why)) => assert!(rt; refutes(&points, 2, &why)),
+        _ => assert!(rt; false),
+    }
+}

@@ -70,7 +70,7 @@ impl EndRule for Alternate {
     }
 }
 
-const WITHOUT_ENDS: [(&str, &str); 4] = [
+const WITHOUT_ENDS: [(&str, &str); 5] = [
     (
         SQUARE,
         "8 1: del 0 0 del 1 0 del 2 0 del 0 1 del 2 1 del 0 2 del 1 2 del 2 2",
@@ -78,6 +78,7 @@ const WITHOUT_ENDS: [(&str, &str); 4] = [
     ("../..", "0 0:"),
     ("#./.#", "1 1: del 0 0"),
     ("###/#.#/###", "4 4: del 0 0 del 2 0 del 0 2 del 2 2"),
+    (".#.#/#.#./.#..", "1 4: del 3 0"),
 ];
 
 #[test]
