@@ -6,11 +6,11 @@ use Rattle.shape_terms.specs.Pictures.{Picture, at, with_value}
 use Rattle.report_lines.specs.Said.{Said}
 
 -- pictures and numbers of a box with these sides
-pub record AreOf (sides : List ℕ) (object : Picture) (squares : List ℕ) (deleted left : Picture) : Type 0 where
-  pub object : object.sides ≡ sides
-  pub squares : length squares ≡ box_count sides
-  pub deleted : deleted.sides ≡ sides
-  pub left : left.sides ≡ sides
+pub record AreOf (sides : List ℕ) (s : Said) : Type 0 where
+  pub object_sides : s.object.sides ≡ sides
+  pub count : length s.squares ≡ box_count sides
+  pub deleted_sides : s.deleted.sides ≡ sides
+  pub left_sides : s.left.sides ≡ sides
 
 -- the point is object, with this squared distance; it is left where it is not deleted
 abbrev pub now_near : Said → Point → ℕ → Said

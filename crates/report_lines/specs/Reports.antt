@@ -1,7 +1,7 @@
 -- Which texts are reports of a picture with so many axes, as far as their lines have to come in order, and where a text that is none goes wrong.
 -- No claim is judged: lines have to be spelled right and to stand in the order of their sections, from the heading to `end`.
 use Rattle.std.specs.Prelude.{◌≡◌, ◌<◌, ◌≤◌, ℕ, ℤ, List, [], All, pos}
-use Rattle.shape_terms.specs.Points.{Point, AreSides}
+use Rattle.shape_terms.specs.Points.{AreSides}
 use Rattle.text_terms.specs.Reports as Texts
 use Rattle.text_terms.specs.Reports.{Report, report_of, BeginsWith, EndsWith}
 use Rattle.report_terms.specs.Lines.{Line, Heading, spelled}
@@ -31,13 +31,6 @@ line_rank l = rank (section_of l)
 abbrev pub IsHeading : (greatest : ℤ) → Line → Type 0
 IsHeading m (Line.Shape h) = AreSides m h.sides
 IsHeading m _ = ⊥
-
--- the line gives these sides, which are those of a box
-pub record GivesSides (greatest : ℤ) (l : Line) (sides : Point) : Type 0 where
-  pub heading : Heading
-  pub is : l ≡ Line.Shape heading
-  pub given : heading.sides ≡ sides
-  pub box : AreSides greatest sides
 
 -- the line comes in order: the first is a heading, and no line before it is of a later section, nor `end`
 pub record ComesInOrder (greatest : ℤ) (before : List Line) (l : Line) : Type 0 where

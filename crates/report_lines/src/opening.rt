@@ -1,7 +1,9 @@
 //! Headings: what the first line of a report tells.
 //! Another space is one more variant of `Opening`.
+ghost use Rattle.std.specs.Prelude.{◌≡◌, ◌∷◌, []};
+ghost use Rattle.shape_terms.specs.Points.{sides_of};
 ghost use Rattle.shape_report.specs.LineOf.{line_of};
-ghost use Rattle.report_lines.specs.Reports.{GivesSides};
+ghost use Rattle.report_lines.specs.Said.{given_sides};
 
 use shape_report::Line;
 use shape_space::{P2, P3, Point, Sides};
@@ -13,7 +15,8 @@ pub struct Heading<P: Point> {
     pub line: Line<P>,
     /// The sides of the picture.
     pub sides: Sides<P>,
-    pub ghost given: { GivesSides P.MAX_SIDE (line_of P.coords line) (P.coords sides.lengths) },
+    pub ghost given: { given_sides (line_of P.coords line ∷ [])
+        ≡ sides_of (P.coords sides.lengths) },
 }
 
 impl<P: Point> Clone for Heading<P> {

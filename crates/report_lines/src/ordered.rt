@@ -37,6 +37,13 @@ impl<P: Point, S: Sketch<P>> Ordered<P, S> {
             points: PhantomData,
         }
     }
+
+    /// The sketch.
+    pub(crate) fn into_sketch(self) -> S
+        ensures { result ≡ self.sketch }
+    {
+        self.sketch
+    }
 }
 
 impl<P: Point, S: Sketch<P>> ReportJudge<Line<P>> for Ordered<P, S> {

@@ -38,7 +38,7 @@ pub fn read_lines<P: Point, S: Sketch<P>, D: Desk>(
 {
     let mut lines = Ordered::new(sketch);
     match check_from::<Line<P>, Ordered<P, S>, D>(&mut lines, reader, desk, 2) {
-        Ok(Judgement::Yes) => Ok(lines.sketch),
+        Ok(Judgement::Yes) => Ok(lines.into_sketch()),
         Ok(Judgement::No { line }) => Err(ReportFault::NotReport { line }),
         Err(CheckFault::ReadFault) => Err(ReportFault::ReadFault),
         Err(CheckFault::NoMemory) => Err(ReportFault::NoMemory),

@@ -42,8 +42,12 @@ impl<P: Point> Model for Seen<P> {
       left = s.left;
     } };
 
-    ghost invariant = { λ s. AreOf (sides_of (P.coords s.sides.lengths)) s.object s.squares.items
-        s.deleted s.left };
+    ghost invariant = { λ s. AreOf (sides_of (P.coords s.sides.lengths)) (record {
+      object = s.object;
+      squares = s.squares.items;
+      deleted = s.deleted;
+      left = s.left;
+    }) };
 }
 
 impl<P: Point> Seen<P> {
@@ -125,6 +129,7 @@ impl<P: Point> Sketch<P> for Seen<P> {
     ghost IsOf = { λ lines s. s ≡ said lines };
 
     fn take(&mut self, line: &Line<P>) -> Result<(), NoMemory> {
+        self.object.is_picture();
         match line {
             Line::Near { p, s, .. } => self.near(*p, *s),
             Line::Del { p } => self.delete(*p),
