@@ -10,7 +10,8 @@ use Rattle.report_terms.specs.Lines.{Line, spelling, IsLineOf, spelled}
 use Rattle.report_terms.specs.Progress.{StartsWithLine, StartsWithNoLine}
 use Rattle.report_terms.proofs.Spelled.{spelling_injective, are_spelled}
 use Rattle.text_terms.proofs.Checking.{same_front, no_line_without_lf, no_line_too_long}
-use Rattle.report_lines.specs.Reports.{Space, IsHeading, IsOfVolume}
+use Rattle.report_lines.specs.Reports.{Space, flat, solid, IsHeading, IsOfVolume}
+use Rattle.report_lines.specs.Seen.{flat_line, solid_line}
 use Rattle.report_lines.specs.Headings.{Spells, IsAnyHeading, IsHeadingLine, HeadingOf, IsNoBoxLine, TakesHeading, LacksHeading, IsOfNoBox, IsNoOpening}
 use Rattle.report_lines.specs.Answers.{OpeningOf, OpeningAnswer}
 use Rattle.report_lines.specs.declared.fault.ReportFault.{ReportFault}
@@ -64,3 +65,64 @@ volume_so bytes line rest n e len short h =
 
 not_volume_so : (bytes line rest : List ℕ) → bytes ≡ (line ++ 10 ∷ []) ++ rest → HasNoLf line → (Spells 3 line IsAnyHeading → ⊥) → IsOfVolume bytes → ⊥
 not_volume_so bytes line rest e free none = λ (k, after, t). none (Line.Shape k, t.fields, spelled_so 3 bytes line rest (Line.Shape k) after e free t, (k, refl))
+
+-- what the bytes of a line are, where its line was found
+pub heading_found : {H : Type 0} (s : Space) (line : H → Line) (bytes : List ℕ) (l : Line) (o : Option H) → IsLineOf s.axes l → spelling l ≡ bytes → IsSome o ↔ IsHeading s.greatest l → IfSome o (λ h. line h ≡ l) → HeadingOf s line bytes o
+heading_found s line bytes l None f e exactly same = no_heading_line s bytes l f e (λ i. let z = exactly.1 i in cc)
+heading_found s line bytes l (Some h) f e exactly same = (subst (IsLineOf s.axes) (sym same) f, ap spelling same ∙ e, subst (IsHeading s.greatest) (sym same) (exactly.0 refl))
+
+-- ---- the opening
+
+-- what the first line tells of the bytes
+pub opening_taken : (old new : Option (List ℕ)) (line : List ℕ) (n before now : ℕ) (r : Result Opening ReportFault) → TakesLine old new line n → OpeningOf line r → OpeningAnswer old new before now r
+opening_taken None new line n before now (Ok (Flat h)) t k = tt
+opening_taken None new line n before now (Ok (Solid h)) t k = tt
+opening_taken None new line n before now (Ok NoBox) t k = tt
+opening_taken None new line n before now (Err (NotReport j)) t k = (k.0, tt)
+opening_taken old new line n before now (Err ReadFault) t k = absurd k
+opening_taken old new line n before now (Err NoMemory) t k = absurd k
+opening_taken (Some bytes) None line n before now (Ok (Flat h)) t k = let g = t.taken in cc
+opening_taken (Some bytes) None line n before now (Ok (Solid h)) t k = let g = t.taken in cc
+opening_taken (Some bytes) None line n before now (Ok NoBox) t k = let g = t.taken in cc
+opening_taken (Some bytes) None line n before now (Err (NotReport j)) t k = let g = t.taken in cc
+opening_taken (Some bytes) (Some rest) line n before now (Ok (Flat h)) t k =
+    let g = t.taken in
+    let e : bytes ≡ (line ++ 10 ∷ []) ++ rest = cc in
+    taken_so flat bytes line rest n (flat_line h.line) e t.len t.short k
+opening_taken (Some bytes) (Some rest) line n before now (Ok (Solid h)) t k =
+    let g = t.taken in
+    let e : bytes ≡ (line ++ 10 ∷ []) ++ rest = cc in
+    taken_so solid bytes line rest n (solid_line h.line) e t.len t.short k
+opening_taken (Some bytes) (Some rest) line n before now (Ok NoBox) t k =
+    let g = t.taken in
+    let e : bytes ≡ (line ++ 10 ∷ []) ++ rest = cc in
+    record {
+      volume = volume_so bytes line rest n e t.len t.short k.volume;
+      flat = lacks_so flat bytes line rest e t.no_lf k.flat;
+      solid = lacks_so solid bytes line rest e t.no_lf k.no_box;
+    }
+opening_taken (Some bytes) (Some rest) line n before now (Err (NotReport j)) t k =
+    let g = t.taken in
+    let e : bytes ≡ (line ++ 10 ∷ []) ++ rest = cc in (
+      k.0,
+      record {
+        flat = lacks_so flat bytes line rest e t.no_lf k.1.flat;
+        volume = not_volume_so bytes line rest e t.no_lf k.1.solid;
+      },
+    )
+
+-- ---- no line
+
+no_opening : (bytes : List ℕ) → ((d : ℕ) → StartsWithNoLine d bytes) → IsNoOpening bytes
+no_opening bytes none = record {
+  flat = λ l rest s i. none 2 l rest s;
+  volume = λ (h, rest, s). none 3 (Line.Shape h) rest s;
+}
+
+pub first_too_long : (old : Option (List ℕ)) → IfTold old IsTooLong → IfTold old IsNoOpening
+first_too_long None h = tt
+first_too_long (Some bytes) h = no_opening bytes (λ d. no_line_too_long (spelled d) bytes h.long h.no_lf)
+
+pub first_cut_short : (old : Option (List ℕ)) → IfTold old IsCutShort → IfTold old IsNoOpening
+first_cut_short None h = tt
+first_cut_short (Some bytes) h = no_opening bytes (λ d. no_line_without_lf (spelled d) bytes h.no_lf)

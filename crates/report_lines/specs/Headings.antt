@@ -33,6 +33,7 @@ SolidHeading bytes true = Spells 3 bytes IsAnyHeading
 -- the bytes of a line are the heading of a volume with sides of no box
 pub record IsNoBoxLine (bytes : List ℕ) : Type 0 where
   pub volume : Spells 3 bytes IsAnyHeading
+  pub flat : Spells 2 bytes (IsHeading flat.greatest) → ⊥
   pub no_box : Spells 3 bytes (IsHeading solid.greatest) → ⊥
 
 -- the bytes of a line are no heading of a flat picture that stands in a box, and none of a volume

@@ -68,11 +68,15 @@ pub record Said : Type 0 where
   pub deleted : Picture
   pub left : Picture
 
--- what the lines say of the points of the box that their heading gives
-abbrev pub said : List Line → Said
-said lines = let sides = given_sides lines in record {
+-- what the lines say of the points of a box with these sides
+abbrev pub said_in : List ℕ → List Line → Said
+said_in sides lines = record {
   object = picture_of sides (is_near lines);
   squares = values_of sides (square_of lines);
   deleted = picture_of sides (is_deleted lines);
   left = picture_of sides (is_left lines);
 }
+
+-- what they say of the points of the box that their heading gives
+abbrev pub said : List Line → Said
+said lines = said_in (given_sides lines) lines

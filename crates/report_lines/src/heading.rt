@@ -1,11 +1,13 @@
 //! The first line of a report, which gives the sides of the picture.
 //! The heading of a volume is known from any other text, whatever its sides are.
-ghost use Rattle.std.specs.Prelude.{◌≡◌, MatchOption, true};
+ghost use Rattle.std.specs.Prelude.{◌≡◌, ◌↔◌, ◌∷◌, [], IsSome, IfSome, true};
+ghost use Rattle.shape_terms.specs.Points.{sides_of};
 ghost use Rattle.shape_desk.specs.Desk.{OnlyReadsAt};
 ghost use Rattle.shape_desk.specs.Line.{ahead_of};
 ghost use Rattle.shape_desk.specs.declared.desk.Place.TheVariants.{Report};
 ghost use Rattle.shape_report.specs.LineOf.{line_of};
 ghost use Rattle.report_lines.specs.Reports.{IsHeading, space};
+ghost use Rattle.report_lines.specs.Said.{given_sides};
 ghost use Rattle.report_lines.specs.Headings.{HeadingOf, SolidHeading};
 ghost use Rattle.report_lines.specs.Answers.{OpeningOf, OpeningAnswer};
 
@@ -15,15 +17,24 @@ use shape_desk::{Desk, LineFault, LineReader};
 use shape_report::{Line, read_claim};
 use shape_space::{P2, P3, Point, Sides};
 
+// The sides that a heading gives.
+fn sides_in<P: Point>(line: &Line<P>) -> Option<Sides<P>>
+    ensures exactly { IsSome result ↔ IsHeading P.MAX_SIDE (line_of P.coords line.now) }
+    ensures given { IfSome result (λ s. given_sides (line_of P.coords line.now ∷ [])
+        ≡ sides_of (P.coords s.lengths)) }
+{
+    match line {
+        Line::Shape { sides, .. } => Sides::try_new(*sides),
+        _ => None,
+    }
+}
+
 // The heading that a line is.
 fn with_sides<P: Point>(line: Line<P>) -> Option<Heading<P>>
-    ensures { MatchOption result (IsHeading P.MAX_SIDE (line_of P.coords line) → ⊥)
-        (λ h. h.line ≡ line) }
+    ensures exactly { IsSome result ↔ IsHeading P.MAX_SIDE (line_of P.coords line) }
+    ensures line { IfSome result (λ h. h.line ≡ line) }
 {
-    let Line::Shape { sides, .. } = line else {
-        return None;
-    };
-    let sides = Sides::try_new(sides)?;
+    let sides = sides_in(&line)?;
     Some(Heading { line, sides })
 }
 
