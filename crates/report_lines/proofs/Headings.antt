@@ -67,9 +67,10 @@ not_volume_so : (bytes line rest : List ℕ) → bytes ≡ (line ++ 10 ∷ []) +
 not_volume_so bytes line rest e free none = λ (k, after, t). none (Line.Shape k, t.fields, spelled_so 3 bytes line rest (Line.Shape k) after e free t, (k, refl))
 
 -- what the bytes of a line are, where its line was found
-pub heading_found : {H : Type 0} (s : Space) (line : H → Line) (bytes : List ℕ) (l : Line) (o : Option H) → IsLineOf s.axes l → spelling l ≡ bytes → IsSome o ↔ IsHeading s.greatest l → IfSome o (λ h. line h ≡ l) → HeadingOf s line bytes o
-heading_found s line bytes l None f e exactly same = no_heading_line s bytes l f e (λ i. let z = exactly.1 i in cc)
-heading_found s line bytes l (Some h) f e exactly same = (subst (IsLineOf s.axes) (sym same) f, ap spelling same ∙ e, subst (IsHeading s.greatest) (sym same) (exactly.0 refl))
+pub heading_found : {H P : Type 0} (s : Space) (inner : H → P) (see : P → Line) (bytes : List ℕ) (q : P) (o : Option H) → IsLineOf s.axes (see q) → spelling (see q) ≡ bytes → IsSome o ↔ IsHeading s.greatest (see q) → IfSome o (λ h. inner h ≡ q)
+    → HeadingOf s (λ h. see (inner h)) bytes o
+heading_found s inner see bytes q None f e exactly same = no_heading_line s bytes (see q) f e (λ i. let z = exactly.1 i in cc)
+heading_found s inner see bytes q (Some h) f e exactly same = (subst (λ x. IsLineOf s.axes (see x)) (sym same) f, ap (λ x. spelling (see x)) same ∙ e, subst (λ x. IsHeading s.greatest (see x)) (sym same) (exactly.0 refl))
 
 -- ---- the opening
 
