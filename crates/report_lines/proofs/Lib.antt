@@ -5,3 +5,8 @@ pub mod SamePoints
 pub mod BoxValues
 pub mod Saying
 pub mod Quiet
+pub mod TextLines
+pub mod Holding
+pub mod ObjectTold
+pub mod LeftTold
+pub mod Telling
