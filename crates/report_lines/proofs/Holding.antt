@@ -16,7 +16,6 @@ use Rattle.report_terms.specs.Holds as Analyses
 use Rattle.report_terms.proofs.SectionLaws.{rank_most, is_report}
 use Rattle.report_lines.specs.Reports.{Space, line_rank, IsHeading, in_order, IsReport, FirstBad}
 use Rattle.report_lines.specs.Said.{given_sides}
-use Rattle.report_lines.specs.Tells.{StandsIn}
 use Rattle.report_lines.proofs.Order.{only_end}
 
 -- behind no line no section but the heading has come
@@ -69,16 +68,21 @@ good_in_order s X lines box good k l e =
           ]);
     }
 
-pub holding_in_order : (s : Space) (X : Subject) (text : List ℕ) (front : List Line) → Analyses.BeginsWith X text (front ++ Line.End ∷ []) [] → StandsIn s X.picture → IsReport s text (front ++ Line.End ∷ [])
-holding_in_order s X text front b stands = record {
+-- good lines with `end` last are a report in order
+pub lines_in_order : (s : Space) (X : Subject) (text : List ℕ) (front : List Line) → Analyses.BeginsWith X text (front ++ Line.End ∷ []) [] → length X.picture.sides ≡ s.axes → AreSides s.greatest (map pos X.picture.sides)
+    → IsReport s text (front ++ Line.End ∷ [])
+lines_in_order s X text front b axes box = record {
   whole = record {
     split = b.split;
-    fields = subst (λ d. All (IsLineOf d) (front ++ Line.End ∷ [])) stands.picture.axes b.fields;
+    fields = subst (λ d. All (IsLineOf d) (front ++ Line.End ∷ [])) axes b.fields;
     short = b.short;
-    good = good_in_order s X (front ++ Line.End ∷ []) stands.box b.good;
+    good = good_in_order s X (front ++ Line.End ∷ []) box b.good;
   };
   ends = record { front = front; is = refl };
 }
+
+pub holding_in_order : (s : Space) (X : Subject) (text : List ℕ) → Analyses.Holds X text → length X.picture.sides ≡ s.axes → AreSides s.greatest (map pos X.picture.sides) → (lines : List Line) × IsReport s text lines
+holding_in_order s X text (front, b) axes box = (front ++ Line.End ∷ [], lines_in_order s X text front b axes box)
 
 -- a report has no first bad line
 pub never_both : (s : Space) (text : List ℕ) (lines : List Line) (k : ℕ) → IsReport s text lines → FirstBad s text k → ⊥

@@ -18,7 +18,7 @@ use Rattle.report_lines.specs.Said.{said_in, is_near, is_left, picture_of}
 use Rattle.report_lines.specs.Tells.{StandsIn, Tells, AreSquares}
 use Rattle.report_lines.proofs.BoxValues.{picture_is}
 use Rattle.report_lines.proofs.TextLines.{one_list}
-use Rattle.report_lines.proofs.Holding.{given_all, holding_in_order}
+use Rattle.report_lines.proofs.Holding.{given_all, lines_in_order}
 use Rattle.report_lines.proofs.ObjectTold.{near_is_object, squares_told}
 use Rattle.report_lines.proofs.LeftTold.{deleted_is_gone, leaves}
 
@@ -35,7 +35,7 @@ holding_tells s X text (front, b) stands =
     let left = leaves t.rule X.picture (events_of all) (opening_stage t.rule X.picture) stage shows.thinning.thinning.0 stands.picture.filled in
     record {
       lines = all;
-      report = holding_in_order s X text front b stands;
+      report = lines_in_order s X text front b stands.picture.axes stands.box;
       object = ap (λ n. picture_of n (is_near all)) given ∙ picture_is X.picture (is_near all) stands.picture.filled near;
       squares = subst (λ n. AreSquares X.picture n) (ap (λ n. (said_in n all).squares) (sym given)) (squares_told X.picture all shows.nears);
       rule = t.rule;
