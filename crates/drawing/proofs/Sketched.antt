@@ -13,7 +13,7 @@ use Rattle.report_lines.proofs.Order.{comes_first}
 use Rattle.report_lines.proofs.Headings.{any_heading}
 use Rattle.drawing.specs.Svg.{drawing}
 use Rattle.drawing.specs.Standing.{IsSketchOf}
-use Rattle.drawing.specs.Answers.{IsNoReport, IsDrawingOf, HeadingAnswer, Refused}
+use Rattle.drawing.specs.Answers.{IsNoReport, IsDrawingOf, HeadingFails, Refused}
 use Rattle.drawing.specs.declared.fault.DrawFault.{DrawFault}
 use Rattle.drawing.specs.declared.fault.DrawFault.TheVariants.{NotReport, Volume, ReadFault, NoMemory}
 use Rattle.drawing.specs.declared.sketch.FlatSketch.{FlatSketch}
@@ -39,11 +39,11 @@ no_report text h = if_told text (λ t lacks. record {
     none_there (l ∷ front) e = cc
 
 -- why there is no heading, of the bytes that were left
-pub refused_heading : {H : Type 0} (line : H → Line) (bytes new text : Option (List ℕ)) (before now : ℕ) (fault : DrawFault) → bytes ≡ text → HeadingAnswer line bytes new before now (Rattle.std.specs.Prelude.Err fault) → Refused text before now fault
-refused_heading line bytes new text before now (NotReport k) e h = subst (λ t. IfTold t (λ b. IsNoReport b k)) e (subst (λ j. IfTold bytes (λ t. IsNoReport t j)) (sym h.0) (no_report bytes h.1))
-refused_heading line bytes new text before now Volume e h = subst (λ t. IfTold t IsOfVolume) e h
-refused_heading line bytes new text before now ReadFault e h = h
-refused_heading line bytes new text before now NoMemory e h = tt
+pub refused_heading : (bytes text : Option (List ℕ)) (before now : ℕ) (fault : DrawFault) → bytes ≡ text → HeadingFails bytes before now fault → Refused text before now fault
+refused_heading bytes text before now (NotReport k) e h = subst (λ t. IfTold t (λ b. IsNoReport b k)) e (subst (λ j. IfTold bytes (λ t. IsNoReport t j)) (sym h.0) (no_report bytes h.1))
+refused_heading bytes text before now Volume e h = subst (λ t. IfTold t IsOfVolume) e h
+refused_heading bytes text before now ReadFault e h = h
+refused_heading bytes text before now NoMemory e h = tt
 
 -- ---- lines behind the heading
 

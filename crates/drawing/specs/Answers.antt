@@ -39,13 +39,17 @@ abbrev pub Draws : {V : Type 0} → (V → List ℕ) → (text : Option (List �
 Draws bytes text before now (Ok svg) = IfTold text (λ t. IsDrawingOf t (bytes svg))
 Draws bytes text before now (Err fault) = Refused text before now fault
 
+-- why no heading of a flat picture was taken: of the bytes that were left, and the count of faults of reading before and now
+abbrev pub HeadingFails : (old : Option (List ℕ)) (before now : ℕ) → DrawFault → Type 0
+HeadingFails old before now (NotReport k) = (k ≡ 1) × IfTold old IsNoOpening
+HeadingFails old before now Volume = IfTold old IsOfVolume
+HeadingFails old before now ReadFault = Rose before now
+HeadingFails old before now NoMemory = ⊤
+
 -- what taking the heading of a flat picture answers, of the bytes left before and now, where `line` gives its line
 abbrev pub HeadingAnswer : {H : Type 0} → (H → Line) → (old new : Option (List ℕ)) (before now : ℕ) → Result H DrawFault → Type 0
 HeadingAnswer line old new before now (Ok h) = IfTold old (λ bytes. TakesHeading flat bytes new (line h))
-HeadingAnswer line old new before now (Err (NotReport k)) = (k ≡ 1) × IfTold old IsNoOpening
-HeadingAnswer line old new before now (Err Volume) = IfTold old IsOfVolume
-HeadingAnswer line old new before now (Err ReadFault) = Rose before now
-HeadingAnswer line old new before now (Err NoMemory) = ⊤
+HeadingAnswer line old new before now (Err fault) = HeadingFails old before now fault
 
 -- what going through the lines behind the heading answers: the text is a report in order, and this is the sketch of its lines
 abbrev pub Sketches : (text : Option (List ℕ)) (before now : ℕ) → Result FlatSketch DrawFault → Type 0

@@ -9,7 +9,7 @@ use Rattle.report_terms.specs.ContourLines.{contour_groups, point_of, segment_of
 use Rattle.report_lines.specs.Said.{given_sides}
 use Rattle.drawing.specs.Object.{pixels}
 use Rattle.drawing.specs.Outlines.{contour_strokes, is_inside, Kept}
-use Rattle.drawing.specs.Skeleton.{is_deleted}
+use Rattle.report_lines.specs.Said.{is_deleted}
 use Rattle.drawing.specs.Seen.{flat, all_pixels}
 use Rattle.drawing.specs.declared.sketch.FlatSketch.{FlatSketch}
 

@@ -39,15 +39,15 @@ module _ {A : Type 0} (sides : List ℕ) where
       let n = raster_number sides q in
       let size = length-set (values_of sides f) n a ∙ length-values_of f in
       same_lists (set (values_of sides f) n a) (values_of sides g) (size ∙ sym (length-values_of g)) (λ k d l.
-          let m : k < box_count sides = omega (arith, l, size) in
-          sym (get_or-values_of g k d m ∙ elim (ℕ_discrete k n) [
-            | yes e ↦
-                ap g (ap (raster_point sides) e ∙ raster_point-raster_number sides q inside) ∙ there
-                ∙ sym (ap (λ j. get_or (set (values_of sides f) n a) j d) e ∙ get_or-set_same (values_of sides f) n a d (omega (arith, raster_below sides q inside, length-values_of f)))
-            | no e ↦
-                other (raster_point sides k) (λ s. e (sym (raster_number-raster_point sides k m) ∙ ap (raster_number sides) s))
-                ∙ sym (get_or-set_other (values_of sides f) n k a d e ∙ get_or-values_of f k d m)
-          ]))
+      let m : k < box_count sides = omega (arith, l, size) in
+      sym (get_or-values_of g k d m ∙ elim (ℕ_discrete k n) [
+        | yes e ↦
+            ap g (ap (raster_point sides) e ∙ raster_point-raster_number sides q inside) ∙ there
+            ∙ sym (ap (λ j. get_or (set (values_of sides f) n a) j d) e ∙ get_or-set_same (values_of sides f) n a d (omega (arith, raster_below sides q inside, length-values_of f)))
+        | no e ↦
+            other (raster_point sides k) (λ s. e (sym (raster_number-raster_point sides k m) ∙ ap (raster_number sides) s))
+            ∙ sym (get_or-set_other (values_of sides f) n k a d e ∙ get_or-values_of f k d m)
+      ]))
 
 -- ---- pictures
 

@@ -44,5 +44,5 @@ holding_tells s X text (front, b) stands =
       thinning = shows.thinning.thinning;
       left = ap (λ n. picture_of n (is_left all)) (given ∙ sym left.sides)
           ∙ picture_is stage.left (is_left all) left.filled (λ p i.
-              (λ j. near p (subst (λ n. IsTrue (in_box n p)) left.sides i) j && not (deleted_is_gone all p j)) ∙ sym (left.value p));
+          (λ j. near p (subst (λ n. IsTrue (in_box n p)) left.sides i) j && not (deleted_is_gone all p j)) ∙ sym (left.value p));
     }

@@ -75,10 +75,7 @@ fn opening_of(bytes: &[u8]) -> Result<Opening, ReportFault>
 /// Takes the heading of the report that was begun at `Place::Report`, through a reader that has taken nothing.
 ///
 /// `ReadFault` comes only where `read_faults` rose in this call, and `NoMemory` never.
-pub fn read_opening<D: Desk>(
-    reader: &mut LineReader,
-    desk: &mut D,
-) -> Result<Opening, ReportFault>
+pub fn read_opening<D: Desk>(reader: &mut LineReader, desk: &mut D) -> Result<Opening, ReportFault>
     requires { (D.state desk.old).begun Report ≡ true }
     ensures answer { OpeningAnswer
         (ahead_of reader.old.ahead ((D.state desk.old).left Report))

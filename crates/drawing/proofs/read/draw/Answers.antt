@@ -12,7 +12,7 @@ returns-in_err-heading-clause-answer g c =
     let old = (g.D.Desk.state c.args.desk.now).left Report in
     let ahead = none_ahead c.in-Ok.reader.ahead old c.in-Ok.ensures.ahead in
     let p = err_from_is_err_and c.from_residual.result c.from_residual.ensures.1 in
-    rw (p.1, p.2) (refused_heading _ (ahead_of c.in-Ok.reader.ahead old) _ old _ _ c.in_err-heading.field-0.0 ahead c.in_err-heading.ensures.answer)
+    rw (p.1, p.2) (refused_heading (ahead_of c.in-Ok.reader.ahead old) old _ _ c.in_err-heading.field-0.0 ahead c.in_err-heading.ensures.answer)
 
 pub returns-in_err-sketch-clause-answer : goal.returns-in_err-sketch-clause-answer
 returns-in_err-sketch-clause-answer g c =

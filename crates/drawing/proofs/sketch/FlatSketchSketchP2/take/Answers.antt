@@ -2,7 +2,8 @@ use Rattle.std.proofs.Common.{[], ◌∷◌, ◌++◌, ap, sym, ◌∙◌, lengt
 use Rattle.shape_terms.specs.Points.{sides_of}
 use Rattle.report_lines.proofs.Saying.{some_lines, given_more}
 use Rattle.drawing.specs.Object.{pixels}
-use Rattle.drawing.specs.Seen.{flat, flat_line}
+use Rattle.report_lines.specs.Seen.{flat_line}
+use Rattle.drawing.specs.Seen.{flat}
 use Rattle.drawing.proofs.Deleting.{pixels_more}
 use Rattle.drawing.proofs.sketch.FlatSketchSketchP2.take.Goals as goal
 
