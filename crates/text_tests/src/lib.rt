@@ -17,6 +17,8 @@ mod field_judge;
 #[cfg(test)]
 mod grids;
 #[cfg(test)]
+mod line_texts;
+#[cfg(test)]
 mod picture;
 #[cfg(test)]
 mod piece_reports;
@@ -24,8 +26,6 @@ mod piece_reports;
 mod plane_judge;
 #[cfg(test)]
 mod report;
-#[cfg(test)]
-mod report_lines;
 #[cfg(test)]
 mod thin_judge;
 #[cfg(test)]

@@ -1,5 +1,5 @@
 //! Reports that are read line by line, spelled again and written; and what comes next in one that is read.
-//! A further line, of the plane or of space, is one more line of a text. What a line is read as stands in `report_lines`.
+//! A further line, of the plane or of space, is one more line of a text. What a line is read as stands in `line_texts`.
 use shape_desk::{Desk, LineReader, MemoryDesk, Place};
 use shape_refute::Sense;
 use shape_report::{Line, Next, ReadFault, Report, next_claim, read_claim, write_report};
