@@ -1,4 +1,4 @@
-//! Tests of texts, judges and drawings: desks, the readers of pictures, reports, the judges of their lines, ball reports, and drawings.
+//! Tests of texts, judges and drawings: desks, the readers of pictures, reports, the judges of their lines, ball reports, drawings and masks.
 //! They ask public names alone, and the crates under test have no tests of their own: what is proved of them is proved once.
 #![tactic(auto)]
 
@@ -18,6 +18,8 @@ mod field_judge;
 mod grids;
 #[cfg(test)]
 mod line_texts;
+#[cfg(test)]
+mod masks;
 #[cfg(test)]
 mod picture;
 #[cfg(test)]
