@@ -1,0 +1,6 @@
+pub mod Facts
+pub mod Measures
+pub mod OneMore
+pub mod Rounding
+pub mod Tables
+pub mod Texts
