@@ -1,6 +1,6 @@
 //! What is known of one point of the box.
 //! A further column may want one more field here, and its word in `Facts`.
-ghost use Rattle.std.specs.Prelude.{◌≡◌, ◌<◌, ◌≤◌, ◌+◌, ◌^◌, IsTrue, length, slice_index, nat_abs, pos, negsuc};
+ghost use Rattle.std.specs.Prelude.{◌≡◌, ◌<◌, ◌≤◌, ◌+◌, ◌^◌, IsTrue, ℕ, List, length, slice_index, nat_abs, pos, negsuc};
 ghost use Rattle.shape_terms.specs.Points.{coordinate, sides_of, in_box, box_count, raster_point};
 ghost use Rattle.shape_terms.specs.Pictures.{at};
 ghost use Rattle.shape_terms.specs.FramedBox.{IsWithin};
@@ -83,7 +83,7 @@ fn neighbours<P: Pairing>(left: &Grid<P>, p: P) -> Option<u32>
 }
 
 // The fact of the point with a raster number, of an object with a number.
-pub(crate) fn fact<P: Pairing>(left: &Grid<P>, part: u32, square: u64, i: u32) -> Fact<P>
+pub(crate) fn fact_of<P: Pairing>(left: &Grid<P>, part: u32, square: u64, i: u32) -> Fact<P>
     requires { i < box_count left.now.sides }
     ensures told { (squares labels : List ℕ) → part ≡ slice_index labels i → square ≡ slice_index squares i → fact_told P.coords result ≡ fact_at squares left.now labels i }
     ensures inside { IsTrue (in_box left.now.sides (P.coords result.point)) }

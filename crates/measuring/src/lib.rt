@@ -2,8 +2,11 @@
 //! It finds no component and no distance: labels come from `shape_adj`, distances and the points left from the caller.
 #![tactic(auto)]
 
+mod count;
 mod fact;
+mod measure;
 mod span;
 
 pub use fact::Fact;
+pub use measure::Measures;
 pub use span::Span;
