@@ -1,1 +1,2 @@
 mod PointFacts
+mod TableSteps

@@ -1,14 +1,14 @@
 //! The measures of an object as its points come one after the other.
 //! Each function here says what one point more does to one measure.
-ghost use Rattle.std.specs.Prelude.{◌≡◌, ◌<◌, ◌≤◌, ◌+◌, ◌*◌, ◌^◌, [], IsTrue};
+ghost use Rattle.std.specs.Prelude.{◌≡◌, ◌<◌, ◌≤◌, ◌+◌, ◌*◌, ◌^◌, [], ℕ, List, IsTrue};
 ghost use Rattle.std.specs.Option.{option_map};
-ghost use Rattle.shape_terms.specs.Points.{sides_of, in_box};
+ghost use Rattle.shape_terms.specs.Points.{sides_of, in_box, raster_point};
 ghost use Rattle.measure_terms.specs.Measures.{is_left, is_end, is_junction, measures_of};
 ghost use Rattle.measure_terms.specs.OneMore.{counted, deepest_with, measures_with};
 ghost use Rattle.measuring.specs.Told.{fact_told, measures_told};
 
 use crate::fact::{Fact, place};
-use crate::measure::Measures;
+use crate::row::Measures;
 use crate::span::Span;
 use shape_space::{Point, Sides};
 
@@ -41,21 +41,21 @@ fn is_junction(left: Option<u32>) -> bool
     }
 }
 
-// The first deepest point, with one more point.
-fn deepest_with<P: Point>(old: Option<P>, depth: u64, square: u64, p: P) -> Option<P>
-    ensures { option_map P.coords result
-        ≡ deepest_with (option_map P.coords old) depth square (P.coords p) }
+// The first deepest point, with one more point; both by their raster numbers.
+fn deepest_with(old: Option<u32>, depth: u64, square: u64, i: u32) -> Option<u32>
+    ensures { (sides : List ℕ) → option_map (raster_point sides) result
+        ≡ deepest_with (option_map (raster_point sides) old) depth square (raster_point sides i) }
 {
     match old {
         Some(q) if square <= depth => Some(q),
-        _ => Some(p),
+        _ => Some(i),
     }
 }
 
-impl<P: Point> Measures<P> {
+impl Measures {
     // The measures of no point.
-    pub(crate) fn none() -> Measures<P>
-        ensures { measures_told P.coords result ≡ measures_of [] }
+    pub(crate) fn none() -> Measures
+        ensures { (sides : List ℕ) → measures_told sides result ≡ measures_of [] }
     {
         let span = Span {
             least: 0,
@@ -77,12 +77,15 @@ impl<P: Point> Measures<P> {
     }
 
     // The measures with one more point, of a box with these sides.
-    pub(crate) fn with(&self, sides: Sides<P>, f: &Fact<P>) -> Measures<P>
+    pub(crate) fn with<P: Point>(&self, sides: Sides<P>, f: &Fact<P>) -> Measures
         requires few { self.now.area < 2 ^ 23 }
         requires inside { IsTrue (in_box (sides_of (P.coords sides.lengths))
             (P.coords f.now.point)) }
-        ensures { measures_told P.coords result
-            ≡ measures_with (measures_told P.coords self.now) (fact_told P.coords f.now) }
+        requires number { P.coords f.now.point
+            ≡ raster_point (sides_of (P.coords sides.lengths)) f.now.number }
+        ensures { measures_told (sides_of (P.coords sides.lengths)) result
+            ≡ measures_with (measures_told (sides_of (P.coords sides.lengths)) self.now)
+            (fact_told P.coords f.now) }
     {
         Measures {
             area: self.area + 1,
@@ -90,7 +93,7 @@ impl<P: Point> Measures<P> {
             y: self.y.with(self.area, place(sides, f.point, 1)),
             z: self.z.with(self.area, place(sides, f.point, 2)),
             depth: self.depth.max(f.square),
-            deepest: deepest_with(self.deepest, self.depth, f.square, f.point),
+            deepest: deepest_with(self.deepest, self.depth, f.square, f.number),
             skeleton: counted(f.left.is_some(), self.skeleton),
             ends: counted(is_end(f.left), self.ends),
             junctions: counted(is_junction(f.left), self.junctions),

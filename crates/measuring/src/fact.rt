@@ -16,6 +16,8 @@ use shape_space::{Point, Sides};
 pub struct Fact<P: Point> {
     /// The number of its object from 1 on, and 0 for a point of the background.
     pub part: u32,
+    /// The raster number of the point.
+    pub number: u32,
     /// The point.
     pub point: P,
     /// Its squared distance to the background.
@@ -87,11 +89,13 @@ pub(crate) fn fact_of<P: Pairing>(left: &Grid<P>, part: u32, square: u64, i: u32
     requires { i < box_count left.now.sides }
     ensures told { (squares labels : List ℕ) → part ≡ slice_index labels i → square ≡ slice_index squares i → fact_told P.coords result ≡ fact_at squares left.now labels i }
     ensures inside { IsTrue (in_box left.now.sides (P.coords result.point)) }
+    ensures number { P.coords result.point ≡ raster_point left.now.sides result.number }
 {
     let sides = left.sides();
     let point = sides.unraster(i);
     Fact {
         part,
+        number: i,
         point,
         square,
         left: neighbours(left, point),

@@ -3,10 +3,14 @@
 #![tactic(auto)]
 
 mod count;
+mod csv;
 mod fact;
-mod measure;
+mod round;
+mod row;
 mod span;
+mod table;
 
 pub use fact::Fact;
-pub use measure::Measures;
+pub use row::Measures;
 pub use span::Span;
+pub use table::measure;

@@ -6,7 +6,7 @@ use crate::span::Span;
 use std::alloc::AllocError;
 
 /// The measures of one object.
-pub struct Measures<P> {
+pub struct Measures {
     /// How many points it has.
     pub area: u32,
     /// Where it lies along the first axis.
@@ -17,8 +17,8 @@ pub struct Measures<P> {
     pub z: Span,
     /// The greatest squared distance of its points to the background.
     pub depth: u64,
-    /// The first of its points with that distance.
-    pub deepest: Option<P>,
+    /// The raster number of the first of its points with that distance.
+    pub deepest: Option<u32>,
     /// How many of its points are left.
     pub skeleton: u32,
     /// How many points left have one near neighbour left.
@@ -30,10 +30,10 @@ pub struct Measures<P> {
     ghost fits: { Fitting area x y z skeleton ends junctions },
 }
 
-impl<P: Copy> Clone for Measures<P> {
-    fn clone(&self) -> Result<Measures<P>, AllocError> {
+impl Clone for Measures {
+    fn clone(&self) -> Result<Measures, AllocError> {
         Ok(*self)
     }
 }
 
-impl<P: Copy> Copy for Measures<P> {}
+impl Copy for Measures {}
