@@ -3,4 +3,5 @@ pub mod Measures
 pub mod OneMore
 pub mod Rounding
 pub mod Tables
+pub mod Components
 pub mod Texts

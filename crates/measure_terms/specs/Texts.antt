@@ -52,8 +52,16 @@ skeleton_text m = whole m.skeleton ++ (whole m.ends ++ whole m.junctions)
 abbrev pub touches_text : Measures → List ℕ
 touches_text m = whole (cond m.touches 1 0)
 
+-- how large the object is, and where it lies
+abbrev pub size_text : ℕ → Measures → List ℕ
+size_text d m = whole m.area ++ (box_text d m ++ centre_text d m)
+
+-- how deep it is, what is left of it, and whether it may go on outside the box
+abbrev pub form_text : ℕ → Measures → List ℕ
+form_text d m = depth_text d m ++ (skeleton_text m ++ touches_text m)
+
 abbrev pub cells : ℕ → Measures → List ℕ
-cells d m = whole m.area ++ (box_text d m ++ (centre_text d m ++ (depth_text d m ++ (skeleton_text m ++ touches_text m))))
+cells d m = size_text d m ++ form_text d m
 
 -- the row of the object with a number
 abbrev pub row_text : (d number : ℕ) → Measures → List ℕ

@@ -1,2 +1,3 @@
 mod PointFacts
 mod TableSteps
+mod TextSteps

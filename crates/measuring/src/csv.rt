@@ -25,7 +25,7 @@ impl Model for Csv {
 
 // The three digits of a number below a thousand.
 fn three_digits(n: u16) -> [u8; 3]
-    ensures { result.entry ≡ three_digits n }
+    ensures { result ≡ three_digits n }
 {
     [
         48 + (n / 100 % 10) as u8,

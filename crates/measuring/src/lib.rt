@@ -9,8 +9,10 @@ mod round;
 mod row;
 mod span;
 mod table;
+mod text;
 
 pub use fact::Fact;
 pub use row::Measures;
 pub use span::Span;
 pub use table::measure;
+pub use text::table_text;
