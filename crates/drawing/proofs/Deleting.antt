@@ -15,35 +15,13 @@ use Rattle.thin_terms.proofs.OneValue.{with_value_picture, value_there, value_el
 use Rattle.report_terms.specs.Lines.{Line}
 use Rattle.text_terms.proofs.ListPushes.{filter_map-same, filter_map-push}
 use Rattle.std.proofs.lemmas.List.Elements.{filter-append, filter_map-append}
+use Rattle.report_lines.proofs.SamePoints.{same_yes, same_only, same_not}
 use Rattle.drawing.specs.declared.pixels.Pixel as Program
 use Rattle.drawing.specs.Object.{Pixel, pixels, pixel_of}
 use Rattle.drawing.specs.Seen.{flat, flats, all_pixels}
-use Rattle.drawing.specs.Skeleton.{deleted_by, is_deleted, left}
+use Rattle.report_lines.specs.Said.{deleted_point, is_deleted}
+use Rattle.drawing.specs.Skeleton.{left}
 use Rattle.drawing.specs.Standing.{HasDeleted}
-
--- ---- the same point
-
-same_yes : (p q : Point) → p ≡ q → pointwise int_eq p q ≡ true
-same_yes [] [] e = refl
-same_yes [] (y ∷ q) e = cc
-same_yes (x ∷ p) [] e = cc
-same_yes (x ∷ p) (y ∷ q) e =
-    let f : x ≡ y = cc in
-    let g : p ≡ q = cc in
-    and_from (int_eq x y) (pointwise int_eq p q) ((Decides-int_eq x y).1 f) (same_yes p q g)
-
-same_only : (p q : Point) → pointwise int_eq p q ≡ true → p ≡ q
-same_only [] [] e = refl
-same_only [] (y ∷ q) e = cc
-same_only (x ∷ p) [] e = cc
-same_only (x ∷ p) (y ∷ q) e =
-    let both = and_parts (int_eq x y) (pointwise int_eq p q) e in
-    let f = (Decides-int_eq x y).0 both.0 in
-    let g = same_only p q both.1 in
-    λ i. f i ∷ g i
-
-same_not : (p q : Point) → p ≢ q → pointwise int_eq p q ≡ false
-same_not p q n = elim (cases_Bool (pointwise int_eq p q)) [ inl y ↦ absurd (n (same_only p q y)) | inr f ↦ f ]
 
 -- ---- one more line
 
@@ -55,13 +33,13 @@ or_true : (a b : Bool) → b ≡ true → (a || b) ≡ true
 or_true true b e = refl
 or_true false b e = e
 
-deleted_same : (lines : List Line) (l : Line) (p : Point) → filter_map deleted_by (l ∷ []) ≡ [] → is_deleted (lines ++ l ∷ []) p ≡ is_deleted lines p
-deleted_same lines l p e = ap (list_any (λ q. pointwise int_eq p q)) (filter_map-same deleted_by lines l e)
+deleted_same : (lines : List Line) (l : Line) (p : Point) → filter_map deleted_point (l ∷ []) ≡ [] → is_deleted (lines ++ l ∷ []) p ≡ is_deleted lines p
+deleted_same lines l p e = ap (list_any (λ q. pointwise int_eq p q)) (filter_map-same deleted_point lines l e)
 
 deleted_push : (lines : List Line) (q p : Point) → is_deleted (lines ++ Line.Del q ∷ []) p ≡ (is_deleted lines p || list_any (λ r. pointwise int_eq p r) (q ∷ []))
 deleted_push lines q p =
-    ap (list_any (λ r. pointwise int_eq p r)) (filter_map-push deleted_by lines (Line.Del q) q refl)
-    ∙ list_any-append (λ r. pointwise int_eq p r) (filter_map deleted_by lines) (q ∷ [])
+    ap (list_any (λ r. pointwise int_eq p r)) (filter_map-push deleted_point lines (Line.Del q) q refl)
+    ∙ list_any-append (λ r. pointwise int_eq p r) (filter_map deleted_point lines) (q ∷ [])
 
 any_one : (b : Bool) → (b || false) ≡ b
 any_one true = refl
@@ -87,7 +65,7 @@ none_deleted sides two = record {
 }
 
 -- a line that deletes no point
-pub keeps_deleted : (sides : List ℕ) (lines : List Line) (l : Line) (X : Picture) → filter_map deleted_by (l ∷ []) ≡ [] → HasDeleted sides lines X → HasDeleted sides (lines ++ l ∷ []) X
+pub keeps_deleted : (sides : List ℕ) (lines : List Line) (l : Line) (X : Picture) → filter_map deleted_point (l ∷ []) ≡ [] → HasDeleted sides lines X → HasDeleted sides (lines ++ l ∷ []) X
 keeps_deleted sides lines l X e h = record {
   picture = h.picture;
   box = h.box;

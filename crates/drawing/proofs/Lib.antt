@@ -2,8 +2,6 @@ pub mod RunLaws
 pub mod LayerLaws
 pub mod Contours
 pub mod Deleting
-pub mod Headings
-pub mod Order
+pub mod FirstLine
 pub mod Sketched
 pub mod Files
-pub mod Holding

@@ -6,24 +6,25 @@ use Rattle.shape_desk.specs.Desk.{Files, DeskState, Rose, IsMissing, Puts, PutsF
 use Rattle.shape_desk.specs.Line.{IfTold}
 use Rattle.report_terms.specs.Lines.{Line}
 use Rattle.text_terms.specs.Going.{IsTextOf}
-use Rattle.drawing.specs.Reports.{in_order, IsReport, FirstBad, IsOfVolume}
-use Rattle.drawing.specs.Standing.{StandsFor}
+use Rattle.report_lines.specs.Reports.{flat, in_order, IsReport, FirstBad, IsOfVolume}
+use Rattle.report_lines.specs.Headings.{TakesHeading, IsNoOpening}
+use Rattle.drawing.specs.Standing.{IsSketchOf}
 use Rattle.drawing.specs.Svg.{drawing}
 use Rattle.drawing.specs.declared.fault.DrawFault.{DrawFault}
 use Rattle.drawing.specs.declared.fault.DrawFault.TheVariants.{NotReport, Volume, ReadFault, NoMemory}
 use Rattle.drawing.specs.declared.outcome.Outcome.{Outcome}
 use Rattle.drawing.specs.declared.outcome.Outcome.TheVariants as outcome
-use Rattle.drawing.specs.declared.sketch.Sketch.{Sketch}
+use Rattle.drawing.specs.declared.sketch.FlatSketch.{FlatSketch}
 
 -- the text is a report, and this is the drawing of its lines
 pub record IsDrawingOf (text svg : List ℕ) : Type 0 where
   pub lines : List Line
-  pub report : IsReport text lines
+  pub report : IsReport flat text lines
   pub drawn : svg ≡ drawing lines
 
 -- line k of the text is the first bad one, and is not the heading of a volume
 pub record IsNoReport (text : List ℕ) (k : ℕ) : Type 0 where
-  pub bad : FirstBad text k
+  pub bad : FirstBad flat text k
   pub flat : k ≡ 1 → IsOfVolume text → ⊥
 
 -- why a report is not drawn: its text, where it is told, and the count of faults of reading before and now
@@ -38,10 +39,22 @@ abbrev pub Draws : {V : Type 0} → (V → List ℕ) → (text : Option (List �
 Draws bytes text before now (Ok svg) = IfTold text (λ t. IsDrawingOf t (bytes svg))
 Draws bytes text before now (Err fault) = Refused text before now fault
 
--- what going through the lines behind the heading answers
-abbrev pub Sketches : Sketch → (text : Option (List ℕ)) (before now : ℕ) → Result (Unit {0}) DrawFault → Type 0
-Sketches s text before now (Ok done) = IfTold text (IsTextOf in_order (StandsFor s))
-Sketches s text before now (Err fault) = Refused text before now fault
+-- why no heading of a flat picture was taken: of the bytes that were left, and the count of faults of reading before and now
+abbrev pub HeadingFails : (old : Option (List ℕ)) (before now : ℕ) → DrawFault → Type 0
+HeadingFails old before now (NotReport k) = (k ≡ 1) × IfTold old IsNoOpening
+HeadingFails old before now Volume = IfTold old IsOfVolume
+HeadingFails old before now ReadFault = Rose before now
+HeadingFails old before now NoMemory = ⊤
+
+-- what taking the heading of a flat picture answers, of the bytes left before and now, where `line` gives its line
+abbrev pub HeadingAnswer : {H : Type 0} → (H → Line) → (old new : Option (List ℕ)) (before now : ℕ) → Result H DrawFault → Type 0
+HeadingAnswer line old new before now (Ok h) = IfTold old (λ bytes. TakesHeading flat bytes new (line h))
+HeadingAnswer line old new before now (Err fault) = HeadingFails old before now fault
+
+-- what going through the lines behind the heading answers: the text is a report in order, and this is the sketch of its lines
+abbrev pub Sketches : (text : Option (List ℕ)) (before now : ℕ) → Result FlatSketch DrawFault → Type 0
+Sketches text before now (Ok s) = IfTold text (IsTextOf (in_order flat) (λ lines. IsSketchOf lines s))
+Sketches text before now (Err fault) = Refused text before now fault
 
 -- ---- runs
 

@@ -5,8 +5,5 @@ pub mod Skeleton
 pub mod Svg
 pub mod Seen
 pub mod Standing
-pub mod Reports
-pub mod Ended
-pub mod Heading
 pub mod Answers
 pub mod Outcomes

@@ -1,11 +1,8 @@
--- What the program's own types mean: its points, pixels, strokes and lines as those of the definitions.
+-- What the program's own types mean: its points, pixels and strokes as those of the definitions.
 -- A point is the list of its coordinates.
 use Rattle.std.specs.Prelude.{List, [], ◌∷◌, map}
 use Rattle.shape_space.specs.declared.point.P2.{P2}
 use Rattle.shape_terms.specs.Points.{Point}
-use Rattle.report_terms.specs.Lines as Terms
-use Rattle.shape_report.specs.declared.line.Line.{Line}
-use Rattle.shape_report.specs.LineOf.{line_of}
 use Rattle.drawing.specs.declared.pixels.Pixel.{Pixel}
 use Rattle.drawing.specs.declared.outlines.Stroke.{Stroke}
 use Rattle.drawing.specs.declared.outlines.Stretch.{Stretch}
@@ -19,10 +16,6 @@ flat p = p.x ∷ p.y ∷ []
 
 abbrev pub flats : List P2 → List Point
 flats ps = map flat ps
-
--- a line of a report of a flat picture
-abbrev pub flat_line : Line P2 → Terms.Line
-flat_line l = line_of flat l
 
 abbrev pub pixel : Pixel → Object.Pixel
 pixel x = record { point = flat x.point; depth = x.depth }

@@ -1,18 +1,17 @@
 -- What the program keeps of the lines so far.
--- Each part stands for the same lines; which texts these are lines of is told in `Reports`.
+-- Each part stands for the same lines; which texts these are lines of is told in `report_lines`.
 use Rattle.std.specs.Prelude.{◌≡◌, ◌≤◌, ℕ, Bool, false, IsTrue, if◌then◌else◌, List, [], ◌∷◌, ◌++◌, filter, filter_map, flat_map, All}
 use Rattle.shape_terms.specs.Points.{Point, in_box, sides_of}
 use Rattle.shape_terms.specs.Pictures.{Picture, IsPicture, at}
 use Rattle.report_terms.specs.Lines.{Line}
 use Rattle.report_terms.specs.ContourFacts.{stretches_of}
 use Rattle.report_terms.specs.ContourLines.{contour_groups, point_of, segment_of}
+use Rattle.report_lines.specs.Said.{given_sides}
 use Rattle.drawing.specs.Object.{pixels}
 use Rattle.drawing.specs.Outlines.{contour_strokes, is_inside, Kept}
-use Rattle.drawing.specs.Skeleton.{is_deleted}
-use Rattle.drawing.specs.Reports.{line_rank}
+use Rattle.report_lines.specs.Said.{is_deleted}
 use Rattle.drawing.specs.Seen.{flat, all_pixels}
-use Rattle.drawing.specs.Svg.{given_sides}
-use Rattle.drawing.specs.declared.sketch.Sketch.{Sketch}
+use Rattle.drawing.specs.declared.sketch.FlatSketch.{FlatSketch}
 
 -- the groups of contours begun: none, or some closed ones and the last
 abbrev pub groups_with : Bool → List (List Line) → List Line → List (List Line)
@@ -34,22 +33,9 @@ pub record HasDeleted (sides : List ℕ) (lines : List Line) (X : Picture) : Typ
   pub box : X.sides ≡ sides
   pub value : (p : Point) → IsTrue (in_box sides p) → at X p ≡ is_deleted lines p
 
--- a sketch of the lines
-pub record IsSketchOf (lines : List Line) (s : Sketch) : Type 0 where
+-- a sketch of the lines, the first of which gives its sides
+pub record IsSketchOf (lines : List Line) (s : FlatSketch) : Type 0 where
+  pub given : given_sides lines ≡ sides_of (flat s.sides.lengths)
   pub pixels : all_pixels s.pixels.items ≡ pixels (sides_of (flat s.sides.lengths)) lines
   pub outlines : HasOutlines (sides_of (flat s.sides.lengths)) lines s.outlines
   pub deleted : HasDeleted (sides_of (flat s.sides.lengths)) lines s.deleted
-
--- the last of the lines is of the section with this rank, and none of a later one
-pub record HasRisenTo (r : ℕ) (lines : List Line) : Type 0 where
-  pub all : All (λ e. line_rank e ≤ r) lines
-  pub front : List Line
-  pub last : Line
-  pub is : lines ≡ front ++ last ∷ []
-  pub highest : line_rank last ≡ r
-
--- the sketch stands for the lines: the first gives its sides, and the last one is of the section with its rank
-pub record StandsFor (s : Sketch) (lines : List Line) : Type 0 where
-  pub come : HasRisenTo s.rank lines
-  pub sketch : IsSketchOf lines s
-  pub given : given_sides lines ≡ sides_of (flat s.sides.lengths)

@@ -5,6 +5,7 @@ use Rattle.std.specs.List.{range_with_len}
 use Rattle.std.specs.Fmt.{decimal, signed_decimal}
 use Rattle.shape_terms.specs.Points.{Point, coordinate, sides_of}
 use Rattle.report_terms.specs.Lines.{Line}
+use Rattle.report_lines.specs.Said.{given_sides}
 use Rattle.drawing.specs.Runs.{Run, runs}
 use Rattle.drawing.specs.Object.{Pixel, pixels, points_at}
 use Rattle.drawing.specs.Outlines.{Stroke, strokes}
@@ -95,11 +96,6 @@ layers sides xs ss ps = head (slice_index sides 0) (slice_index sides 1) ++ (obj
 -- the drawing of these lines in a box with these sides
 abbrev pub drawn : List ℕ → List Line → List ℕ
 drawn sides lines = layers sides (pixels sides lines) (strokes sides lines) (left sides lines)
-
--- the sides that the heading gives
-abbrev pub given_sides : List Line → List ℕ
-given_sides (Line.Shape h ∷ lines) = sides_of h.sides
-given_sides _ = []
 
 -- the drawing of a report with these lines
 abbrev pub drawing : List Line → List ℕ

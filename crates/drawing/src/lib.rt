@@ -3,8 +3,6 @@
 #![tactic(auto)]
 
 mod fault;
-mod heading;
-mod judge;
 mod law;
 mod layers;
 mod outcome;

@@ -4,7 +4,8 @@ ghost use Rattle.std.specs.Prelude.{◌≡◌, ◌++◌, ◌∷◌, [], List, tr
 ghost use Rattle.std.specs.Option.{option_map, option_to_list};
 ghost use Rattle.shape_terms.specs.Points.{sides_of};
 ghost use Rattle.report_terms.specs.Lines as Terms;
-ghost use Rattle.drawing.specs.Seen.{flat, flats, flat_line, stretch, all_stretches, all_strokes};
+ghost use Rattle.report_lines.specs.Seen.{flat_line};
+ghost use Rattle.drawing.specs.Seen.{flat, flats, stretch, all_stretches, all_strokes};
 ghost use Rattle.drawing.specs.Outlines.{point_at, stroke_of, strokes_along, is_inside, strokes as strokes_of, closed, with_point, with_stretch};
 ghost use Rattle.drawing.specs.Standing.{HasOutlines};
 

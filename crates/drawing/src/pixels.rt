@@ -2,7 +2,8 @@
 //! What counts as deep is told in `depth` and its definition alone.
 ghost use Rattle.std.specs.Prelude.{◌≡◌, ◌==◌, ◌++◌, ◌∷◌, [], map, filter, IfOk, OnOk};
 ghost use Rattle.shape_terms.specs.Points.{sides_of};
-ghost use Rattle.drawing.specs.Seen.{flat, flat_line, all_pixels};
+ghost use Rattle.report_lines.specs.Seen.{flat_line};
+ghost use Rattle.drawing.specs.Seen.{flat, all_pixels};
 ghost use Rattle.drawing.specs.Object.{depth, pixels};
 
 use shape_report::Line;

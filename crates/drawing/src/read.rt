@@ -1,42 +1,63 @@
 //! Drawing a report: its heading, and then each of its lines in turn.
 //! Nothing is drawn before the whole report was read.
-ghost use Rattle.std.specs.Prelude.{◌≡◌, ◌≤◌, ◌^◌, ℕ, List, Option, true};
+ghost use Rattle.std.specs.Prelude.{◌≡◌, [], ◌∷◌, ℕ, List, Option, true};
 ghost use Rattle.shape_desk.specs.Desk.{OnlyReadsAt};
-ghost use Rattle.shape_desk.specs.Line.{ahead_of};
+ghost use Rattle.shape_desk.specs.Line.{ahead_of, IfTold};
 ghost use Rattle.shape_desk.specs.declared.desk.Place.TheVariants.{Report};
-ghost use Rattle.report_text.specs.Checks.{HasCome};
-ghost use Rattle.drawing.specs.Reports.{in_order};
-ghost use Rattle.drawing.specs.Standing.{StandsFor};
-ghost use Rattle.drawing.specs.Answers.{Draws, Sketches};
+ghost use Rattle.report_terms.specs.Lines as Terms;
+ghost use Rattle.report_lines.specs.Reports.{flat};
+ghost use Rattle.report_lines.specs.Headings.{TakesHeading};
+ghost use Rattle.report_lines.specs.Seen as Lines;
+ghost use Rattle.drawing.specs.Standing.{IsSketchOf};
+ghost use Rattle.drawing.specs.Answers.{HeadingAnswer, Draws, Sketches};
 
 use crate::fault::DrawFault;
-use crate::heading::read_heading;
-use crate::sketch::Sketch;
-use report_text::{CheckFault, Judgement, check_from};
+use crate::sketch::FlatSketch;
+use report_lines::{Heading, Opening, ReportFault, read_lines, read_opening};
 use shape_desk::{Desk, LineReader};
-use shape_report::Line;
 use shape_space::P2;
 use std::alloc::Global;
 
-// Goes through the lines behind the heading.
-fn read_lines<D: Desk>(
-    sketch: &mut Sketch,
+// Takes the heading of a flat picture.
+fn read_heading<D: Desk>(
     reader: &mut LineReader,
     desk: &mut D,
-) -> Result<(), DrawFault>
-    requires begun { (D.state desk.old).begun Report ≡ true }
-    requires few { sketch.old.room ≤ 2 ^ 61 }
-    ensures answer { (text : Option (List ℕ)) → HasCome in_order (StandsFor sketch.old) text
-        (ahead_of reader.old.ahead ((D.state desk.old).left Report)) 2
-        → Sketches sketch.new text
+) -> Result<Heading<P2>, DrawFault>
+    requires { (D.state desk.old).begun Report ≡ true }
+    ensures answer { HeadingAnswer (λ h. Lines.flat_line h.line)
+        (ahead_of reader.old.ahead ((D.state desk.old).left Report))
+        (ahead_of reader.new.ahead ((D.state desk.new).left Report))
         (D.state desk.old).read_faults (D.state desk.new).read_faults result }
     ensures reads { OnlyReadsAt Report (D.state desk.old) (D.state desk.new) }
 {
-    match check_from::<Line<P2>, Sketch, D>(sketch, reader, desk, 2) {
-        Ok(Judgement::Yes) => Ok(()),
-        Ok(Judgement::No { line }) => Err(DrawFault::NotReport { line }),
-        Err(CheckFault::ReadFault) => Err(DrawFault::ReadFault),
-        Err(CheckFault::NoMemory) => Err(DrawFault::NoMemory),
+    match read_opening(reader, desk) {
+        Ok(Opening::Flat(heading)) => Ok(heading),
+        Ok(Opening::Solid(_)) => Err(DrawFault::Volume),
+        Ok(Opening::NoBox) => Err(DrawFault::Volume),
+        Err(ReportFault::NotReport { line }) => Err(DrawFault::NotReport { line }),
+        Err(ReportFault::ReadFault) => Err(DrawFault::ReadFault),
+        Err(ReportFault::NoMemory) => Err(DrawFault::NoMemory),
+    }
+}
+
+// Goes through the lines behind the heading.
+fn read_sketch<D: Desk>(
+    sketch: FlatSketch,
+    reader: &mut LineReader,
+    desk: &mut D,
+) -> Result<FlatSketch, DrawFault>
+    requires { (D.state desk.old).begun Report ≡ true }
+    ensures answer { (text : Option (List ℕ)) (heading : Terms.Line) → IfTold text (λ bytes.
+        TakesHeading flat bytes (ahead_of reader.old.ahead ((D.state desk.old).left Report)) heading)
+        → IsSketchOf (heading ∷ []) sketch
+        → Sketches text (D.state desk.old).read_faults (D.state desk.new).read_faults result }
+    ensures reads { OnlyReadsAt Report (D.state desk.old) (D.state desk.new) }
+{
+    match read_lines::<P2, FlatSketch, D>(sketch, reader, desk) {
+        Ok(sketch) => Ok(sketch),
+        Err(ReportFault::NotReport { line }) => Err(DrawFault::NotReport { line }),
+        Err(ReportFault::ReadFault) => Err(DrawFault::ReadFault),
+        Err(ReportFault::NoMemory) => Err(DrawFault::NoMemory),
     }
 }
 
@@ -52,11 +73,11 @@ pub(crate) fn draw<D: Desk>(alloc: Global, desk: &mut D) -> Result<Vec<u8>, Draw
     let Ok(mut reader) = LineReader::new(alloc) else {
         return Err(DrawFault::NoMemory);
     };
-    let sides = read_heading(&mut reader, desk)?;
-    let Ok(mut sketch) = Sketch::new(alloc, sides) else {
+    let heading = read_heading(&mut reader, desk)?;
+    let Ok(sketch) = FlatSketch::new(alloc, &heading) else {
         return Err(DrawFault::NoMemory);
     };
-    read_lines(&mut sketch, &mut reader, desk)?;
+    let sketch = read_sketch(sketch, &mut reader, desk)?;
     match sketch.draw(alloc) {
         Ok(svg) => Ok(svg),
         Err(_) => Err(DrawFault::NoMemory),

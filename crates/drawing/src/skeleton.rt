@@ -3,7 +3,8 @@
 ghost use Rattle.std.specs.Prelude.{◌≡◌, ◌++◌, ◌∷◌, [], ℕ, List, not, map, filter, IfOk};
 ghost use Rattle.shape_terms.specs.Pictures.{at};
 ghost use Rattle.report_terms.specs.Lines as Terms;
-ghost use Rattle.drawing.specs.Seen.{flat, flat_line};
+ghost use Rattle.report_lines.specs.Seen.{flat_line};
+ghost use Rattle.drawing.specs.Seen.{flat};
 ghost use Rattle.drawing.specs.Standing.{HasDeleted};
 
 use crate::pixels::Pixel;

@@ -5,13 +5,14 @@ use Rattle.shape_terms.specs.Points.{in_box}
 use Rattle.report_terms.specs.Lines as Terms
 use Rattle.shape_report.specs.declared.line.Line.{Line}
 use Rattle.shape_report.specs.declared.line.Line.TheVariants.{Shape, Parts, Near, Contour, At, Seg, Least, Gap, Face, Patch, On, Off, Del, Tip, Kept, End}
-use Rattle.drawing.specs.Seen.{flat, flat_line}
-use Rattle.drawing.specs.Skeleton.{deleted_by}
+use Rattle.report_lines.specs.Seen.{flat_line}
+use Rattle.drawing.specs.Seen.{flat}
+use Rattle.report_lines.specs.Said.{deleted_point}
 use Rattle.drawing.specs.Standing.{HasDeleted}
 use Rattle.drawing.proofs.Deleting.{deletes, deletes_outside, keeps_deleted}
 use Rattle.drawing.proofs.skeleton.take_deleted.Goals as goal
 
-deletes_none : (l : Line P2) → ((p : P2) → l ≡ Del p → ⊥) → filter_map deleted_by (flat_line l ∷ []) ≡ []
+deletes_none : (l : Line P2) → ((p : P2) → l ≡ Del p → ⊥) → filter_map deleted_point (flat_line l ∷ []) ≡ []
 deletes_none (Shape number sides rule) h = refl
 deletes_none (Parts n o b) h = refl
 deletes_none (Near p q s) h = refl

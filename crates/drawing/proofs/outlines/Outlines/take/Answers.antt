@@ -5,7 +5,8 @@ use Rattle.shape_terms.specs.Points.{sides_of}
 use Rattle.report_terms.specs.Lines as Terms
 use Rattle.shape_report.specs.declared.line.Line.{Line}
 use Rattle.shape_report.specs.declared.line.Line.TheVariants.{Shape, Parts, Near, Contour, At, Seg, Least, Gap, Face, Patch, On, Off, Del, Tip, Kept, End}
-use Rattle.drawing.specs.Seen.{flat, flats, flat_line, all_strokes, all_stretches}
+use Rattle.report_lines.specs.Seen.{flat_line}
+use Rattle.drawing.specs.Seen.{flat, flats, all_strokes, all_stretches}
 use Rattle.drawing.specs.Outlines as Outlines
 use Rattle.drawing.specs.Standing.{HasOutlines}
 use Rattle.drawing.proofs.Contours.{begins_contour, adds_point, adds_stretch, adds_nothing}

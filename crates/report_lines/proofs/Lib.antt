@@ -1,0 +1,12 @@
+pub mod Order
+pub mod Headings
+pub mod Reading
+pub mod SamePoints
+pub mod BoxValues
+pub mod Saying
+pub mod Quiet
+pub mod TextLines
+pub mod Holding
+pub mod ObjectTold
+pub mod LeftTold
+pub mod Telling

@@ -1,0 +1,9 @@
+pub mod Reports
+pub mod Said
+pub mod Kept
+pub mod Ended
+pub mod Standing
+pub mod Seen
+pub mod Headings
+pub mod Answers
+pub mod Tells

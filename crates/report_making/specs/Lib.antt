@@ -1,0 +1,4 @@
+pub mod Made
+pub mod Files
+pub mod Runs
+pub mod Outcomes

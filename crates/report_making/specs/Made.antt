@@ -1,0 +1,44 @@
+-- What is made of a report, and why nothing is.
+-- What is made is a function of what the lines say of the points of their box, and of the number of axes.
+use Rattle.std.specs.Prelude.{◌≡◌, ◌⊎◌, ℕ, ⊤, List, Option, Result, Ok, Err}
+use Rattle.shape_desk.specs.Desk.{Rose}
+use Rattle.shape_desk.specs.Line.{IfTold}
+use Rattle.report_terms.specs.Lines.{Line}
+use Rattle.report_lines.specs.Reports.{Space, flat, solid, IsReport, FirstBad}
+use Rattle.report_lines.specs.Said.{Said, said}
+use Rattle.report_lines.specs.declared.fault.ReportFault.{ReportFault}
+use Rattle.report_lines.specs.declared.fault.ReportFault.TheVariants.{NotReport, ReadFault, NoMemory}
+
+-- bytes for what is said of the points of a box with so many axes
+abbrev pub Maker : Type 0
+Maker = ℕ → Said → List ℕ
+
+-- the space is that of flat pictures or of volumes
+abbrev pub IsSpace : Space → Type 0
+IsSpace s = (s ≡ flat) ⊎ (s ≡ solid)
+
+-- the text is a report of a flat picture or of a volume, and the bytes are made of what its lines say
+pub record IsMadeOf (make : Maker) (text bytes : List ℕ) : Type 0 where
+  pub space : Space
+  pub known : IsSpace space
+  pub lines : List Line
+  pub report : IsReport space text lines
+  pub made : bytes ≡ make space.axes (said lines)
+
+-- line k of the text is the first bad one: where it is the first of all, it is a heading of neither space
+pub record IsNoReport (text : List ℕ) (k : ℕ) : Type 0 where
+  pub space : Space
+  pub known : IsSpace space
+  pub bad : FirstBad space text k
+  pub either : k ≡ 1 → FirstBad flat text 1 × FirstBad solid text 1
+
+-- why nothing is made of a report: of its text, where it is told, and the count of faults of reading before and now
+abbrev pub Refused : (text : Option (List ℕ)) (before now : ℕ) → ReportFault → Type 0
+Refused text before now (NotReport k) = IfTold text (λ t. IsNoReport t k)
+Refused text before now ReadFault = Rose before now
+Refused text before now NoMemory = ⊤
+
+-- what making bytes of a report answers
+abbrev pub Makes : {V : Type 0} → Maker → (V → List ℕ) → (text : Option (List ℕ)) (before now : ℕ) → Result V ReportFault → Type 0
+Makes make bytes text before now (Ok v) = IfTold text (λ t. IsMadeOf make t (bytes v))
+Makes make bytes text before now (Err fault) = Refused text before now fault

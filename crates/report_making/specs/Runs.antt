@@ -1,0 +1,43 @@
+-- What a run did that makes bytes of the report in a file, outcome by outcome.
+-- What is made is handed in; every program that makes something of a report has these outcomes.
+use Rattle.std.specs.Prelude.{◌≡◌, ◌⊎◌, ℕ, ⊤, List, Result, Ok, Err}
+use Rattle.shape_desk.specs.Desk.{DeskState, Rose, IsMissing, Puts, PutsFront}
+use Rattle.report_lines.specs.declared.fault.ReportFault.{ReportFault}
+use Rattle.report_lines.specs.declared.fault.ReportFault.TheVariants.{NotReport, ReadFault, NoMemory}
+use Rattle.report_making.specs.Files.{OfFile, IsSilent}
+use Rattle.report_making.specs.Made.{Maker, IsMadeOf, IsNoReport}
+use Rattle.report_making.specs.declared.outcome.Outcome.{Outcome}
+use Rattle.report_making.specs.declared.outcome.Outcome.TheVariants as outcome
+
+-- why nothing is made of the report in a file
+abbrev pub FileRefused : List ℕ → DeskState → DeskState → ReportFault → Type 0
+FileRefused name old new (NotReport k) = OfFile old.files name (λ text. IsNoReport text k)
+FileRefused name old new ReadFault = Rose old.read_faults new.read_faults ⊎ IsMissing old.files name
+FileRefused name old new NoMemory = ⊤
+
+-- what making bytes of the report in a file answers
+abbrev pub FileMade : {V : Type 0} → Maker → (V → List ℕ) → List ℕ → DeskState → DeskState → Result V ReportFault → Type 0
+FileMade make bytes name old new (Ok v) = OfFile old.files name (λ text. IsMadeOf make text (bytes v))
+FileMade make bytes name old new (Err fault) = FileRefused name old new fault
+
+-- what is made of the report in the file was written
+pub record WritesMade (make : Maker) (name : List ℕ) (old new : DeskState) : Type 0 where
+  pub bytes : List ℕ
+  pub made : OfFile old.files name (λ text. IsMadeOf make text bytes)
+  pub puts : Puts old.written new.written bytes
+
+-- a write failed, and a front of what is made was written
+pub record CutsShort (make : Maker) (name : List ℕ) (old new : DeskState) : Type 0 where
+  pub bytes : List ℕ
+  pub made : OfFile old.files name (λ text. IsMadeOf make text bytes)
+  pub puts : PutsFront old.written new.written bytes
+  pub cause : Rose old.write_faults new.write_faults
+
+-- what a run did for the file with this name, outcome by outcome
+abbrev pub Ran : Maker → List ℕ → DeskState → DeskState → Outcome → Type 0
+Ran make name old new outcome.Done = WritesMade make name old new
+Ran make name old new outcome.Usage = ⊥
+Ran make name old new (outcome.NotReport k) = OfFile old.files name (λ text. IsNoReport text k) × IsSilent old new
+Ran make name old new outcome.ReadFault = (Rose old.read_faults new.read_faults ⊎ IsMissing old.files name) × IsSilent old new
+Ran make name old new outcome.WriteFault = CutsShort make name old new
+Ran make name old new outcome.NoMemory = IsSilent old new

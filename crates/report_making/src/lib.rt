@@ -1,0 +1,12 @@
+//! Bytes that are made of what a report says of the points of its box: the one run that masks and tables share.
+//! A further program is one more `impl` of `Making`; what it makes is its own.
+#![tactic(auto)]
+
+mod make;
+mod making;
+mod outcome;
+mod top;
+
+pub use making::Making;
+pub use outcome::Outcome;
+pub use top::run_named;

@@ -1,0 +1,110 @@
+//! Making bytes of a report: its heading, each of its lines in turn, and what they say at the end.
+//! Nothing is made before the whole report was read.
+ghost use Rattle.std.specs.Prelude.{◌≡◌, ℕ, List, Option, true};
+ghost use Rattle.shape_desk.specs.Desk.{OnlyReadsAt};
+ghost use Rattle.shape_desk.specs.Line.{ahead_of, IfTold};
+ghost use Rattle.shape_desk.specs.declared.desk.Place.TheVariants.{Report};
+ghost use Rattle.shape_report.specs.LineOf.{line_of};
+ghost use Rattle.report_lines.specs.Reports.{space, flat, solid};
+ghost use Rattle.report_lines.specs.Headings.{TakesHeading};
+ghost use Rattle.report_lines.specs.Seen.{flat_line, solid_line};
+ghost use Rattle.report_lines.specs.Said.{said};
+ghost use Rattle.report_lines.specs.Answers.{Reads};
+ghost use Rattle.report_making.specs.Made.{Makes};
+
+use crate::making::Making;
+use report_lines::{Heading, Opening, ReportFault, Seen, read_lines, read_opening};
+use shape_desk::{Desk, LineReader};
+use shape_space::{P2, P3, Point};
+use std::alloc::Global;
+
+// What the lines of a report say, where its heading was taken.
+fn read_seen<P: Point, D: Desk>(
+    alloc: Global,
+    heading: &Heading<P>,
+    reader: &mut LineReader,
+    desk: &mut D,
+) -> Result<Seen<P>, ReportFault>
+    requires { (D.state desk.old).begun Report ≡ true }
+    ensures answer { (text : Option (List ℕ)) → IfTold text (λ bytes.
+        TakesHeading (space P.DIM P.MAX_SIDE) bytes
+        (ahead_of reader.old.ahead ((D.state desk.old).left Report))
+        (line_of P.coords heading.now.line))
+        → Reads (space P.DIM P.MAX_SIDE) (λ lines s. s ≡ said lines) text
+        (D.state desk.old).read_faults (D.state desk.new).read_faults result }
+    ensures reads { OnlyReadsAt Report (D.state desk.old) (D.state desk.new) }
+{
+    match Seen::new(alloc, heading) {
+        Ok(seen) => read_lines::<P, Seen<P>, D>(seen, reader, desk),
+        Err(_) => Err(ReportFault::NoMemory),
+    }
+}
+
+// Makes the bytes of a flat picture's report, whose heading was taken.
+fn make_flat<M: Making, D: Desk>(
+    alloc: Global,
+    making: &M,
+    heading: &Heading<P2>,
+    reader: &mut LineReader,
+    desk: &mut D,
+) -> Result<Vec<u8>, ReportFault>
+    requires { (D.state desk.old).begun Report ≡ true }
+    ensures answer { (text : Option (List ℕ)) → IfTold text (λ bytes. TakesHeading flat bytes
+        (ahead_of reader.old.ahead ((D.state desk.old).left Report))
+        (flat_line heading.now.line))
+        → Makes (M.bytes making.now) (λ v. v.items) text
+        (D.state desk.old).read_faults (D.state desk.new).read_faults result }
+    ensures reads { OnlyReadsAt Report (D.state desk.old) (D.state desk.new) }
+{
+    let seen = read_seen(alloc, heading, reader, desk)?;
+    match making.make_flat(alloc, &seen) {
+        Ok(bytes) => Ok(bytes),
+        Err(_) => Err(ReportFault::NoMemory),
+    }
+}
+
+// Makes the bytes of a volume's report, whose heading was taken.
+fn make_solid<M: Making, D: Desk>(
+    alloc: Global,
+    making: &M,
+    heading: &Heading<P3>,
+    reader: &mut LineReader,
+    desk: &mut D,
+) -> Result<Vec<u8>, ReportFault>
+    requires { (D.state desk.old).begun Report ≡ true }
+    ensures answer { (text : Option (List ℕ)) → IfTold text (λ bytes. TakesHeading solid bytes
+        (ahead_of reader.old.ahead ((D.state desk.old).left Report))
+        (solid_line heading.now.line))
+        → Makes (M.bytes making.now) (λ v. v.items) text
+        (D.state desk.old).read_faults (D.state desk.new).read_faults result }
+    ensures reads { OnlyReadsAt Report (D.state desk.old) (D.state desk.new) }
+{
+    let seen = read_seen(alloc, heading, reader, desk)?;
+    match making.make_solid(alloc, &seen) {
+        Ok(bytes) => Ok(bytes),
+        Err(_) => Err(ReportFault::NoMemory),
+    }
+}
+
+/// Makes the bytes of the report that was begun at `Place::Report`.
+///
+/// `ReadFault` comes only where `read_faults` rose in this call.
+pub(crate) fn make<M: Making, D: Desk>(
+    alloc: Global,
+    making: &M,
+    desk: &mut D,
+) -> Result<Vec<u8>, ReportFault>
+    requires { (D.state desk.old).begun Report ≡ true }
+    ensures answer { Makes (M.bytes making.now) (λ v. v.items) ((D.state desk.old).left Report)
+        (D.state desk.old).read_faults (D.state desk.new).read_faults result }
+    ensures reads { OnlyReadsAt Report (D.state desk.old) (D.state desk.new) }
+{
+    let Ok(mut reader) = LineReader::new(alloc) else {
+        return Err(ReportFault::NoMemory);
+    };
+    match read_opening(&mut reader, desk)? {
+        Opening::Flat(heading) => make_flat(alloc, making, &heading, &mut reader, desk),
+        Opening::Solid(heading) => make_solid(alloc, making, &heading, &mut reader, desk),
+        Opening::NoBox => Err(ReportFault::NotReport { line: 1 }),
+    }
+}

@@ -1,0 +1,54 @@
+//! The run: what a program makes of the report in a file is written.
+//! What each outcome means for the desk stands in `specs/Runs.antt`.
+ghost use Rattle.std.specs.Prelude.{◌≡◌, ℕ, List};
+ghost use Rattle.shape_desk.specs.Desk.{OnlyReads};
+ghost use Rattle.report_making.specs.Files.{KeepsFiles};
+ghost use Rattle.report_making.specs.Runs.{FileMade, Ran};
+
+use crate::make::make;
+use crate::making::Making;
+use crate::outcome::{Outcome, refused};
+use report_lines::ReportFault;
+use shape_desk::{Desk, Place, put_all};
+use std::alloc::Global;
+
+// Makes the bytes of the report in a file.
+fn make_file<M: Making, D: Desk>(
+    alloc: Global,
+    making: &M,
+    name: &[u8],
+    desk: &mut D,
+) -> Result<Vec<u8>, ReportFault>
+    ensures answer { FileMade (M.bytes making.now) (λ v. v.items) name.now
+        (D.state desk.old) (D.state desk.new) result }
+    ensures only { OnlyReads (D.state desk.old) (D.state desk.new) }
+{
+    match desk.begin(Place::Report, name) {
+        Ok(()) => make(alloc, making, desk),
+        Err(_) => Err(ReportFault::ReadFault),
+    }
+}
+
+/// Makes the bytes of the report in the file with this name, and writes them.
+///
+/// Nothing is written before the whole report was read. The report is not checked: what it claims is taken as it stands, and
+/// what it says of points outside the box of its heading does not count. Want of memory may be answered at any time, and
+/// comes for a report of more than 2^61 lines as well.
+pub fn run_named<M: Making, D: Desk>(
+    alloc: Global,
+    making: &M,
+    name: &[u8],
+    desk: &mut D,
+) -> Outcome
+    ensures ran { Ran (M.bytes making.now) name.now (D.state desk.old) (D.state desk.new) result }
+    ensures kept { KeepsFiles (D.state desk.old) (D.state desk.new) }
+{
+    let bytes = match make_file(alloc, making, name, desk) {
+        Ok(bytes) => bytes,
+        Err(fault) => return refused(fault),
+    };
+    match put_all(bytes.as_slice(), desk) {
+        Ok(()) => Outcome::Done,
+        Err(_) => Outcome::WriteFault,
+    }
+}
