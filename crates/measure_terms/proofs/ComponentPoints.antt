@@ -25,16 +25,16 @@ fact squares left labels p = fact_of squares left labels (raster_number left.sid
 -- a label that is not 0 is that of an object point
 seen : (X : Picture) (labels : List ℕ) (k i : ℕ) → 0 < k → (get_or labels i 0 == k) ≡ true → (at X (raster_point X.sides i) ≡ false → get_or labels i 0 ≡ 0) → at X (raster_point X.sides i) ≡ true
 seen X labels k i some t back = elim (cases_Bool (at X (raster_point X.sides i))) [
-    | inl o ↦ o
-    | inr f ↦ (let z = back f in absurd (grind (arith, nat_tests)))
-  ]
+  | inl o ↦ o
+  | inr f ↦ (let z = back f in absurd (grind (arith, nat_tests)))
+]
 
 -- a point that fails the second test does not come through
 passed : (p q : Point → Bool) (x : Point) (xs : List Point) → q x ≡ false → filter q (filter p (x ∷ xs)) ≡ filter q (filter p xs)
 passed p q x xs f = elim (cases_Bool (p x)) [
-    | inl t ↦ ap (filter q) (cond-true (p x) (x ∷ filter p xs) (filter p xs) t) ∙ cond-false (q x) (x ∷ filter q (filter p xs)) (filter q (filter p xs)) f
-    | inr n ↦ ap (filter q) (cond-false (p x) (x ∷ filter p xs) (filter p xs) n)
-  ]
+  | inl t ↦ ap (filter q) (cond-true (p x) (x ∷ filter p xs) (filter p xs) t) ∙ cond-false (q x) (x ∷ filter q (filter p xs)) (filter q (filter p xs)) f
+  | inr n ↦ ap (filter q) (cond-false (p x) (x ∷ filter p xs) (filter p xs) n)
+]
 
 -- the facts of an object as those of its points, found one after the other in a part of the box
 part_of_box : (squares : List ℕ) (left X : Picture) (labels : List ℕ) (k a n : ℕ) → left.sides ≡ X.sides → 0 < k → a + n ≤ box_count X.sides
@@ -51,7 +51,7 @@ part_of_box squares left X labels k a (suc n) s some l back =
     let number : raster_number left.sides (raster_point left.sides a) ≡ a = ap (λ t. raster_number t (raster_point t a)) s ∙ here in
     let point : raster_point left.sides a ≡ p = ap (λ t. raster_point t a) s in
     let one : fact_at squares left labels a ≡ fact squares left labels p =
-        ap (λ i. fact_of squares left labels i (raster_point left.sides a)) (sym number) ∙ ap (fact squares left labels) point in
+    ap (λ i. fact_of squares left labels i (raster_point left.sides a)) (sym number) ∙ ap (fact squares left labels) point in
     let same : test p ≡ (get_or labels a 0 == k) = ap (λ i. get_or labels i 0 == k) here in
     elim (cases_Bool (get_or labels a 0 == k)) [
       | inl t ↦ (
@@ -59,7 +59,7 @@ part_of_box squares left X labels k a (suc n) s some l back =
           cond-true (get_or labels a 0 == k) (fact_at squares left labels a ∷ facts_of k facts_rest) (facts_of k facts_rest) t
           ∙ (λ i. one i ∷ r i)
           ∙ sym (ap (λ l. map (fact squares left labels) (filter test l)) (cond-true (at X p) (p ∷ filter (at X) rest) (filter (at X) rest) object)
-              ∙ ap (map (fact squares left labels)) (cond-true (test p) (p ∷ filter test (filter (at X) rest)) (filter test (filter (at X) rest)) (same ∙ t))))
+          ∙ ap (map (fact squares left labels)) (cond-true (test p) (p ∷ filter test (filter (at X) rest)) (filter test (filter (at X) rest)) (same ∙ t))))
       | inr f ↦ cond-false (get_or labels a 0 == k) (fact_at squares left labels a ∷ facts_of k facts_rest) (facts_of k facts_rest) f
           ∙ r ∙ sym (ap (map (fact squares left labels)) (passed (at X) test p rest (same ∙ f)))
     ]

@@ -50,16 +50,16 @@ some_above (g ∷ gs) x h = omega arith
 one_greatest : (fs : List Fact) → 0 < length fs → is_some (find (λ g. g.square == depth fs) fs) ≡ true
 one_greatest [] l = absurd (omega arith)
 one_greatest (f ∷ fs) l = elim (cases_Bool (nat_le (depth fs) f.square)) [
-    | inl t ↦ (
-        let e : (f.square == depth (f ∷ fs)) ≡ true = grind (arith, nat_tests) in
-        ap is_some (cond-true (f.square == depth (f ∷ fs)) (Some f) (find (λ g. g.square == depth (f ∷ fs)) fs) e))
-    | inr h ↦ (
-        let ne : (f.square == depth (f ∷ fs)) ≡ false = grind (arith, nat_tests) in
-        let s : depth (f ∷ fs) ≡ depth fs = grind (arith, nat_tests) in
-        let a : f.square < depth fs = grind (arith, nat_tests) in
-        ap is_some (cond-false (f.square == depth (f ∷ fs)) (Some f) (find (λ g. g.square == depth (f ∷ fs)) fs) ne ∙ ap (λ n. find (λ g. g.square == n) fs) s)
-        ∙ one_greatest fs (some_above fs f.square a))
-  ]
+  | inl t ↦ (
+      let e : (f.square == depth (f ∷ fs)) ≡ true = grind (arith, nat_tests) in
+      ap is_some (cond-true (f.square == depth (f ∷ fs)) (Some f) (find (λ g. g.square == depth (f ∷ fs)) fs) e))
+  | inr h ↦ (
+      let ne : (f.square == depth (f ∷ fs)) ≡ false = grind (arith, nat_tests) in
+      let s : depth (f ∷ fs) ≡ depth fs = grind (arith, nat_tests) in
+      let a : f.square < depth fs = grind (arith, nat_tests) in
+      ap is_some (cond-false (f.square == depth (f ∷ fs)) (Some f) (find (λ g. g.square == depth (f ∷ fs)) fs) ne ∙ ap (λ n. find (λ g. g.square == n) fs) s)
+      ∙ one_greatest fs (some_above fs f.square a))
+]
 
 squares_more : (fs : List Fact) (f : Fact) → depth (fs ++ f ∷ []) ≡ max (depth fs) f.square
 squares_more fs f = ap greatest (map-append (λ g. g.square) fs (f ∷ [])) ∙ greatest_more (map (λ g. g.square) fs) f.square
@@ -71,28 +71,30 @@ first_more [] f n e =
     let same : (f.square == n) ≡ true = grind (arith, nat_tests) in
     cond-true (f.square == n) (Some f) None same
 first_more (h ∷ fs) f n e = elim (cases_Bool (nat_le f.square (depth (h ∷ fs)))) [
-    | inl t ↦ (
-        let s : n ≡ depth (h ∷ fs) = grind (arith, nat_tests) in
-        let o = one_greatest (h ∷ fs) (omega arith) in
-        find-append (λ g. g.square == n) (h ∷ fs) (f ∷ [])
-        ∙ ap (λ m. option_or (find (λ g. g.square == m) (h ∷ fs)) (find (λ g. g.square == n) (f ∷ []))) s
-        ∙ some_first (find (λ g. g.square == depth (h ∷ fs)) (h ∷ fs)) _ o
-        ∙ sym (cond-true _ (find (λ g. g.square == depth (h ∷ fs)) (h ∷ fs)) (Some f) (both_true o t)))
-    | inr t ↦ (
-        let s : n ≡ f.square = grind (arith, nat_tests) in
-        let a : depth (h ∷ fs) < n = grind (arith, nat_tests) in
-        let same : (f.square == n) ≡ true = grind (arith, nat_tests) in
-        find-append (λ g. g.square == n) (h ∷ fs) (f ∷ [])
-        ∙ ap (λ o. option_or o (find (λ g. g.square == n) (f ∷ []))) (none_above (h ∷ fs) n a)
-        ∙ cond-true (f.square == n) (Some f) None same
-        ∙ sym (cond-false _ (find (λ g. g.square == depth (h ∷ fs)) (h ∷ fs)) (Some f) (second_false _ _ t)))
-  ]
+  | inl t ↦ (
+      let s : n ≡ depth (h ∷ fs) = grind (arith, nat_tests) in
+      let o = one_greatest (h ∷ fs) (omega arith) in
+      find-append (λ g. g.square == n) (h ∷ fs) (f ∷ [])
+      ∙ ap (λ m. option_or (find (λ g. g.square == m) (h ∷ fs)) (find (λ g. g.square == n) (f ∷ []))) s
+      ∙ some_first (find (λ g. g.square == depth (h ∷ fs)) (h ∷ fs)) _ o
+      ∙ sym (cond-true _ (find (λ g. g.square == depth (h ∷ fs)) (h ∷ fs)) (Some f) (both_true o t)))
+  | inr t ↦ (
+      let s : n ≡ f.square = grind (arith, nat_tests) in
+      let a : depth (h ∷ fs) < n = grind (arith, nat_tests) in
+      let same : (f.square == n) ≡ true = grind (arith, nat_tests) in
+      find-append (λ g. g.square == n) (h ∷ fs) (f ∷ [])
+      ∙ ap (λ o. option_or o (find (λ g. g.square == n) (f ∷ []))) (none_above (h ∷ fs) n a)
+      ∙ cond-true (f.square == n) (Some f) None same
+      ∙ sym (cond-false _ (find (λ g. g.square == depth (h ∷ fs)) (h ∷ fs)) (Some f) (second_false _ _ t)))
+]
   where
     some_first : {X : Type 0} (a b : Option X) → is_some a ≡ true → option_or a b ≡ a
     some_first (Some x) b o = refl
     some_first None b o = cc
+
     both_true : {a b : Bool} → a ≡ true → b ≡ true → (a && b) ≡ true
     both_true p q = rw (p, q) refl
+
     second_false : (a b : Bool) → b ≡ false → (a && b) ≡ false
     second_false true b q = q
     second_false false b q = refl

@@ -28,12 +28,12 @@ at_most_square (suc s) = let h : suc s * 1 ≤ suc s * suc s = mul-le-mul_left (
 -- no root has more thousandths than the number has
 small_root : (s r : ℕ) → IsRoot s r → r < 1000 * s + 1
 small_root s r h = elim (split r (1000 * s + 1)) [
-    | inl l ↦ l
-    | inr g ↦ (
-        let low = h.low (1000 * s) (omega arith) in
-        let q = at_most_square s in
-        absurd (omega (arith, low, q)))
-  ]
+  | inl l ↦ l
+  | inr g ↦ (
+      let low = h.low (1000 * s) (omega arith) in
+      let q = at_most_square s in
+      absurd (omega (arith, low, q)))
+]
   where
     split : (a b : ℕ) → (a < b) ⊎ (b ≤ a)
     split a b = grind arith

@@ -1,17 +1,18 @@
 -- One row more of a table's text, and the digits of a raster number one after the other.
 -- Lists and numbers alone stand here.
-use Rattle.std.proofs.Common.{◌≡◌, ◌+◌, ◌-◌, ◌<◌, ◌≤◌, ◌/◌, ◌%◌, ℕ, zero, suc, ℤ, pos, List, [], ◌∷◌, ◌++◌, length, map, get_or, drop, refl, sym, ap, ◌∙◌, arith, append_assoc}
+use Rattle.std.proofs.Common.{◌≡◌, ◌+◌, ◌-◌, ◌<◌, ◌≤◌, ◌/◌, ◌%◌, Bool, nat_eq, ℕ, zero, suc, ℤ, pos, List, [], ◌∷◌, ◌++◌, length, map, get_or, drop, refl, sym, ap, ◌∙◌, arith, append_assoc}
 use Rattle.std.proofs.lemmas.List.{drop_more, drop_all, append-nil, get_or_past}
 use Rattle.shape_terms.specs.Points.{Point, coordinate, raster_point}
 use Rattle.measure_terms.specs.Measures.{Measures}
-use Rattle.measure_terms.specs.Texts.{row_text, rows_text}
+use Rattle.measure_terms.specs.Texts.{row_text, rows_text, header}
 
 -- ---- rows
 
-pub row_step : {M : Type 0} (told : M → Measures) (all : List M) (d i : ℕ) (e : M) (old new whole : List ℕ) → i < length all
-    → new ≡ old ++ row_text d (i + 1) (told (get_or all i e)) → old ++ rows_text d (i + 1) (map told (drop i all)) ≡ whole
+pub row_step : {M : Type 0} (told : M → Measures) (all : List M) (d i : ℕ) (e : M) (old new whole : List ℕ) → i < length all → e ≡ get_or all i e
+    → new ≡ old ++ row_text d (i + 1) (told e) → old ++ rows_text d (i + 1) (map told (drop i all)) ≡ whole
     → new ++ rows_text d (i + 1 + 1) (map told (drop (i + 1) all)) ≡ whole
-row_step told all d i e old new whole l h w =
+row_step told all d i e old new whole l is g w =
+    let h = g ∙ ap (λ m. old ++ row_text d (i + 1) (told m)) is in
     let row = row_text d (i + 1) (told (get_or all i e)) in
     let rest = rows_text d (i + 1 + 1) (map told (drop (i + 1) all)) in
     ap (λ t. t ++ rest) h ∙ append_assoc old row rest ∙ sym (ap (λ ms. old ++ rows_text d (i + 1) (map told ms)) (drop_more all i e l)) ∙ w
@@ -49,3 +50,8 @@ two s₀ s₁ s₂ a b p q = q ∙ ap (λ t. t ++ b) p ∙ append_assoc s₀ a b
 
 pub three : (s₀ s₁ s₂ s₃ a b c : List ℕ) → s₁ ≡ s₀ ++ a → s₂ ≡ s₁ ++ b → s₃ ≡ s₂ ++ c → s₃ ≡ s₀ ++ (a ++ (b ++ c))
 three s₀ s₁ s₂ s₃ a b c p q r = two s₀ s₁ s₃ a (b ++ c) p (two s₁ s₂ s₃ b c q r)
+
+-- a header behind no text
+pub head_first : (rest none start text : List ℕ) (d : ℕ) (flat : Bool) → none ≡ [] → start ≡ none ++ text → text ≡ header flat → flat ≡ nat_eq d 2 → start ++ rest ≡ header (nat_eq d 2) ++ rest
+head_first rest none start text d flat n s t f =
+    ap (λ x. x ++ rest) (s ∙ ap (λ x. x ++ text) n ∙ t ∙ ap header f)
