@@ -40,9 +40,9 @@ pub(crate) fn mask_called(word: &[u8]) -> Option<Mask>
 }
 
 impl Making for Mask {
-    ghost use Rattle.masking.specs.Masks.{mask_bytes};
+    ghost use Rattle.masking.specs.Masks.{IsMask};
 
-    ghost bytes = { mask_bytes };
+    ghost makes = { IsMask };
 
     fn make_flat(&self, alloc: Global, seen: &Seen<P2>) -> Result<Vec<u8>, NoMemory> {
         match self {

@@ -3,7 +3,7 @@
 ghost use Rattle.std.specs.Prelude.{◌≡◌, ◌≢◌, ◌↔◌, ◌∷◌, [], ℕ, List};
 ghost use Rattle.report_making.specs.Files.{texts, KeepsFiles};
 ghost use Rattle.report_making.specs.Runs.{Ran};
-ghost use Rattle.masking.specs.Masks.{mask_bytes};
+ghost use Rattle.masking.specs.Masks.{IsMask};
 ghost use Rattle.masking.specs.Words.{mask_word};
 
 use crate::mask::{Mask, mask_called};
@@ -24,7 +24,7 @@ pub fn run<D: Desk>(alloc: Global, words: &[Vec<u8>], desk: &mut D) -> Outcome
         ↔ ((mask : Mask) (name : List ℕ) → texts words.now ≢ mask_word mask ∷ name ∷ []) }
     ensures untouched { result ≡ Outcome.Usage → desk.new ≡ desk.old }
     ensures ran { (mask : Mask) (name : List ℕ) → texts words.now ≡ mask_word mask ∷ name ∷ []
-        → Ran (mask_bytes mask) name (D.state desk.old) (D.state desk.new) result }
+        → Ran (IsMask mask) name (D.state desk.old) (D.state desk.new) result }
     ensures kept { KeepsFiles (D.state desk.old) (D.state desk.new) }
 {
     let [word, name] = words else {

@@ -4,7 +4,7 @@ ghost use Rattle.std.specs.Prelude.{◌≡◌, [], ◌∷◌, ℕ, List, IfOk};
 ghost use Rattle.shape_terms.specs.Points.{sides_of};
 ghost use Rattle.shape_report.specs.LineOf.{line_of};
 ghost use Rattle.report_lines.specs.Said.{said};
-ghost use Rattle.report_lines.specs.Kept.{with_near, with_deleted};
+ghost use Rattle.report_lines.specs.Kept.{AreOf, with_near, with_deleted};
 
 use crate::opening::Heading;
 use crate::sketch::Sketch;
@@ -75,6 +75,13 @@ impl<P: Point> Seen<P> {
         ensures { sides_of (P.coords result.lengths) ≡ self.now.object.sides }
     {
         self.sides
+    }
+
+    /// The pictures stand in one box, and each point of the box has a number.
+    pub fn is_of_box(&self)
+        ensures { AreOf self.now.object.sides self.now }
+    {
+        let _ = &self.sides;
     }
 
     /// The object points.

@@ -20,13 +20,13 @@ use Rattle.report_making.specs.Made.{Maker, IsSpace, IsMadeOf, IsNoReport, Refus
 
 -- ---- what is made
 
-pub made_so : (make : Maker) (s : Space) (known : IsSpace s) (seen : Said) (text : Option (List ℕ)) (bytes : List ℕ) → IfTold text (IsTextOf (in_order s) (λ lines. seen ≡ said lines)) → bytes ≡ make s.axes seen → IfTold text (λ t. IsMadeOf make t bytes)
+pub made_so : (make : Maker) (s : Space) (known : IsSpace s) (seen : Said) (text : Option (List ℕ)) (bytes : List ℕ) → IfTold text (IsTextOf (in_order s) (λ lines. seen ≡ said lines)) → make s.axes seen bytes → IfTold text (λ t. IsMadeOf make t bytes)
 made_so make s known seen text bytes h e = if_told text (λ t k. record {
   space = s;
   known = known;
   lines = k.front ++ Line.End ∷ [];
   report = record { whole = k.whole; ends = record { front = k.front; is = refl } };
-  made = e ∙ ap (make s.axes) k.follows;
+  made = subst (λ z. make s.axes z bytes) k.follows e;
 }) h
 
 -- ---- no heading

@@ -1,5 +1,5 @@
 -- What is made of a report, and why nothing is.
--- What is made is a function of what the lines say of the points of their box, and of the number of axes.
+-- What is made is told by what the lines say of the points of their box, and of the number of axes.
 use Rattle.std.specs.Prelude.{◌≡◌, ◌⊎◌, ℕ, ⊤, List, Option, Result, Ok, Err}
 use Rattle.shape_desk.specs.Desk.{Rose}
 use Rattle.shape_desk.specs.Line.{IfTold}
@@ -9,9 +9,9 @@ use Rattle.report_lines.specs.Said.{Said, said}
 use Rattle.report_lines.specs.declared.fault.ReportFault.{ReportFault}
 use Rattle.report_lines.specs.declared.fault.ReportFault.TheVariants.{NotReport, ReadFault, NoMemory}
 
--- bytes for what is said of the points of a box with so many axes
-abbrev pub Maker : Type 0
-Maker = ℕ → Said → List ℕ
+-- which bytes are made of what is said of the points of a box with so many axes
+abbrev pub Maker : Type 1
+Maker = ℕ → Said → List ℕ → Type 0
 
 -- the space is that of flat pictures or of volumes
 abbrev pub IsSpace : Space → Type 0
@@ -23,7 +23,7 @@ pub record IsMadeOf (make : Maker) (text bytes : List ℕ) : Type 0 where
   pub known : IsSpace space
   pub lines : List Line
   pub report : IsReport space text lines
-  pub made : bytes ≡ make space.axes (said lines)
+  pub made : make space.axes (said lines) bytes
 
 -- line k of the text is the first bad one: where it is the first of all, it is a heading of neither space
 pub record IsNoReport (text : List ℕ) (k : ℕ) : Type 0 where

@@ -52,7 +52,7 @@ fn make_flat<M: Making, D: Desk>(
     ensures answer { (text : Option (List ℕ)) → IfTold text (λ bytes. TakesHeading flat bytes
         (ahead_of reader.old.ahead ((D.state desk.old).left Report))
         (flat_line heading.now.line))
-        → Makes (M.bytes making.now) (λ v. v.items) text
+        → Makes (M.makes making.now) (λ v. v.items) text
         (D.state desk.old).read_faults (D.state desk.new).read_faults result }
     ensures reads { OnlyReadsAt Report (D.state desk.old) (D.state desk.new) }
 {
@@ -75,7 +75,7 @@ fn make_solid<M: Making, D: Desk>(
     ensures answer { (text : Option (List ℕ)) → IfTold text (λ bytes. TakesHeading solid bytes
         (ahead_of reader.old.ahead ((D.state desk.old).left Report))
         (solid_line heading.now.line))
-        → Makes (M.bytes making.now) (λ v. v.items) text
+        → Makes (M.makes making.now) (λ v. v.items) text
         (D.state desk.old).read_faults (D.state desk.new).read_faults result }
     ensures reads { OnlyReadsAt Report (D.state desk.old) (D.state desk.new) }
 {
@@ -95,7 +95,7 @@ pub(crate) fn make<M: Making, D: Desk>(
     desk: &mut D,
 ) -> Result<Vec<u8>, ReportFault>
     requires { (D.state desk.old).begun Report ≡ true }
-    ensures answer { Makes (M.bytes making.now) (λ v. v.items) ((D.state desk.old).left Report)
+    ensures answer { Makes (M.makes making.now) (λ v. v.items) ((D.state desk.old).left Report)
         (D.state desk.old).read_faults (D.state desk.new).read_faults result }
     ensures reads { OnlyReadsAt Report (D.state desk.old) (D.state desk.new) }
 {

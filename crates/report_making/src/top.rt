@@ -19,7 +19,7 @@ fn make_file<M: Making, D: Desk>(
     name: &[u8],
     desk: &mut D,
 ) -> Result<Vec<u8>, ReportFault>
-    ensures answer { FileMade (M.bytes making.now) (λ v. v.items) name.now
+    ensures answer { FileMade (M.makes making.now) (λ v. v.items) name.now
         (D.state desk.old) (D.state desk.new) result }
     ensures only { OnlyReads (D.state desk.old) (D.state desk.new) }
 {
@@ -40,7 +40,7 @@ pub fn run_named<M: Making, D: Desk>(
     name: &[u8],
     desk: &mut D,
 ) -> Outcome
-    ensures ran { Ran (M.bytes making.now) name.now (D.state desk.old) (D.state desk.new) result }
+    ensures ran { Ran (M.makes making.now) name.now (D.state desk.old) (D.state desk.new) result }
     ensures kept { KeepsFiles (D.state desk.old) (D.state desk.new) }
 {
     let bytes = match make_file(alloc, making, name, desk) {

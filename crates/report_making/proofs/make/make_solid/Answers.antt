@@ -15,4 +15,4 @@ returns-in_err-seen-clause-answer g c = λ text taken.
 
 pub returns-in-Ok-clause-answer : goal.returns-in-Ok-clause-answer
 returns-in-Ok-clause-answer g c = λ text taken.
-    made_so (g.M.Making.bytes c.args.making.now) solid (inr refl) c.in_ok-seen.seen text _ (c.in_ok-seen.ensures.answer text taken) c.in-Ok.ensures
+    made_so (g.M.Making.makes c.args.making.now) solid (inr refl) c.in_ok-seen.seen text _ (c.in_ok-seen.ensures.answer text taken) c.in-Ok.ensures

@@ -5,4 +5,4 @@ pub returns-in-Ok-clause-answer : goal.returns-in-Ok-clause-answer
 returns-in-Ok-clause-answer g c =
     let s = g.D.Desk.state in
     let b = c.in-Ok.ensures.answer in
-    file_made (g.M.Making.bytes c.args.making.now) _ c.args.name.now (s c.args.desk.now) (s c.begin.new.self) (s c.make.new.desk) _ c.make.result b.at_front b.only.later c.make.ensures.answer
+    file_made (g.M.Making.makes c.args.making.now) _ c.args.name.now (s c.args.desk.now) (s c.begin.new.self) (s c.make.new.desk) _ c.make.result b.at_front b.only.later c.make.ensures.answer

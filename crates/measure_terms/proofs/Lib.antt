@@ -1,0 +1,4 @@
+pub mod OneMore
+pub mod TableRows
+pub mod RootFound
+pub mod ComponentPoints

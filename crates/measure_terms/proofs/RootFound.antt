@@ -1,0 +1,62 @@
+-- The square root in thousandths that a definition searches for, and the one that a whole root gives.
+-- Numbers alone.
+use Rattle.std.proofs.Common.{◌≡◌, ◌⊎◌, inl, inr, ◌+◌, ◌*◌, ◌/◌, ◌<◌, ◌≤◌, ℕ, zero, suc, Bool, true, false, List, [], ◌∷◌, refl, sym, ap, ◌∙◌, arith}
+use Rattle.std.specs.Prelude.{nat_lt, Option, Some, None}
+use Rattle.std.specs.List.{range_with_len, find}
+use Rattle.std.specs.Option.{unwrap_or}
+use Rattle.std.proofs.lemmas.Bool.{cond-true, cond-false}
+use Rattle.std.proofs.lemmas.Bool.Decides.{nat_tests}
+use Rattle.std.proofs.Math.Nat.{mul-le-mul_left, mul-div-le, lt-mul-div-succ}
+use Rattle.std.proofs.lemmas.Nat.{mul-le}
+use Rattle.measure_terms.specs.Rounding.{is_below_half, IsRoot, root, IsMean, mean}
+
+-- the first number that passes a test
+first_found : (p : ℕ → Bool) (a n r : ℕ) → a ≤ r → r < a + n → p r ≡ true → ((m : ℕ) → a ≤ m → m < r → p m ≡ false) → find p (range_with_len a n) ≡ Some r
+first_found p a zero r low high pass fail = absurd (omega arith)
+first_found p a (suc n) r low high pass fail =
+    let split : (a ≡ r) ⊎ (a < r) = grind arith in
+    elim split [
+      | inl e ↦ cond-true (p a) (Some a) (find p (range_with_len (a + 1) n)) (ap p e ∙ pass) ∙ ap Some e
+      | inr l ↦ cond-false (p a) (Some a) (find p (range_with_len (a + 1) n)) (fail a (omega arith) l)
+          ∙ first_found p (a + 1) n r (omega arith) (omega arith) pass (λ m h k. fail m (omega arith) k)
+    ]
+
+at_most_square : (s : ℕ) → s ≤ s * s
+at_most_square zero = omega arith
+at_most_square (suc s) = let h : suc s * 1 ≤ suc s * suc s = mul-le-mul_left (suc s) (omega arith) in omega (arith, h)
+
+-- no root has more thousandths than the number has
+small_root : (s r : ℕ) → IsRoot s r → r < 1000 * s + 1
+small_root s r h = elim (split r (1000 * s + 1)) [
+  | inl l ↦ l
+  | inr g ↦ (
+      let low = h.low (1000 * s) (omega arith) in
+      let q = at_most_square s in
+      absurd (omega (arith, low, q)))
+]
+  where
+    split : (a b : ℕ) → (a < b) ⊎ (b ≤ a)
+    split a b = grind arith
+
+-- the number that is the root is the one that the definition finds
+pub root_is : (s r : ℕ) → IsRoot s r → r ≡ root s
+unfolding root
+root_is s r h =
+    let high = h.high in
+    let pass : is_below_half s r ≡ true = grind (arith, nat_tests, high) in
+    let few = small_root s r h in
+    sym (ap (λ o. unwrap_or o 0) (first_found (is_below_half s) 0 (1000 * s + 1) r (omega arith) (omega (arith, few)) pass (λ m _ l. let low = h.low m l in grind (arith, nat_tests, low))))
+
+-- half the whole root, rounded up
+pub root_from_whole : (s w r : ℕ) → w * w ≤ 4000000 * s → 4000000 * s < (w + 1) * (w + 1) → r ≡ (w + 1) / 2 → IsRoot s r
+root_from_whole s w r low high e = record {
+  low = λ m l. let h : (2 * m + 1) * (2 * m + 1) ≤ w * w = mul-le (2 * m + 1) (2 * m + 1) w w (omega arith) (omega arith) in omega (arith, low, h);
+  high = let h : (w + 1) * (w + 1) ≤ (2 * r + 1) * (2 * r + 1) = mul-le (w + 1) (w + 1) (2 * r + 1) (2 * r + 1) (omega arith) (omega arith) in omega (arith, high, h);
+}
+
+-- the mean that the definition divides for is rounded to nearest
+pub mean_is : (sum count : ℕ) → 0 < count → IsMean sum count (mean sum count)
+mean_is sum count l = record {
+  low = mul-div-le (2000 * sum + count) (2 * count);
+  high = lt-mul-div-succ (2000 * sum + count) (omega arith);
+}

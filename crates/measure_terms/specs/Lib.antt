@@ -1,0 +1,7 @@
+pub mod Facts
+pub mod Measures
+pub mod OneMore
+pub mod Rounding
+pub mod Tables
+pub mod Components
+pub mod Texts

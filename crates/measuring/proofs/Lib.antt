@@ -1,0 +1,3 @@
+mod PointFacts
+mod TableSteps
+mod TextSteps

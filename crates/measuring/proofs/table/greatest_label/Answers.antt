@@ -1,0 +1,10 @@
+use Rattle.std.proofs.Common.{arith, length, ◌≡◌, ◌<◌, ap, ◌∙◌}
+use Rattle.std.proofs.Math.Seq.{take-length}
+use Rattle.measure_terms.specs.Measures.{greatest}
+use Rattle.measuring.proofs.TableSteps.{greatest_so_far}
+use Rattle.measuring.proofs.table.greatest_label.Goals as goal
+
+pub loop-i-preserved : goal.loop-i-preserved
+loop-i-preserved c =
+    let l : c.loop-i.i < length c.args.labels.now = omega arith in
+    greatest_so_far c.args.labels.now c.loop-i.i c.label.result c.max-most.result c.loop-i.most l c.loop-i.invariant c.label.ensures c.max-most.ensures

@@ -1,0 +1,10 @@
+use Rattle.std.proofs.Common.{◌≡◌, ◌++◌, ◌+◌, map, drop}
+use Rattle.shape_terms.specs.Points.{sides_of}
+use Rattle.measure_terms.specs.Texts.{rows_text, table_text}
+use Rattle.measuring.specs.Told.{measures_told}
+use Rattle.measuring.proofs.text.table_text.Given as goal
+
+abbrev pub invariant-loop-i : goal.invariant-loop-i
+invariant-loop-i g l =
+    let told = measures_told (sides_of (g.P.Point.coords l.sides.lengths)) in
+    l.csv ++ rows_text g.P.Point.DIM (l.i + 1) (map told (drop l.i l.all)) ≡ table_text g.P.Point.DIM (map told l.all)

@@ -1,0 +1,104 @@
+//! What is known of one point of the box.
+//! A further column may want one more field here, and its word in `Facts`.
+ghost use Rattle.std.specs.Prelude.{◌≡◌, ◌<◌, ◌≤◌, ◌+◌, ◌^◌, IsTrue, ℕ, List, length, slice_index, nat_abs, pos, negsuc};
+ghost use Rattle.shape_terms.specs.Points.{coordinate, sides_of, in_box, box_count, raster_point};
+ghost use Rattle.shape_terms.specs.Pictures.{at};
+ghost use Rattle.shape_terms.specs.FramedBox.{IsWithin};
+ghost use Rattle.measure_terms.specs.Facts.{at_end, at_rim, near_count, neighbours, fact_at};
+ghost use Rattle.measuring.specs.Told.{fact_told};
+
+use shape_adj::Pairing;
+use shape_grid::Grid;
+use shape_space::{Point, Sides};
+
+/// A point of the box, with what is known of it.
+#[derive(Clone, Copy)]
+pub struct Fact<P: Point> {
+    /// The number of its object from 1 on, and 0 for a point of the background.
+    pub part: u32,
+    /// The raster number of the point.
+    pub number: u32,
+    /// The point.
+    pub point: P,
+    /// Its squared distance to the background.
+    pub square: u64,
+    /// Where it is left: how many of its near neighbours are left.
+    pub left: Option<u32>,
+    /// Whether it lies at the border of the box.
+    pub rim: bool,
+}
+
+// The coordinate of a point of the box, and 0 on an axis that the space does not have.
+pub(crate) fn place<P: Point>(sides: Sides<P>, p: P, k: usize) -> u32
+    requires { IsTrue (in_box (sides_of (P.coords sides.lengths)) (P.coords p)) }
+    ensures value { result ≡ nat_abs (coordinate (P.coords p) k) }
+    ensures small { result < 2 ^ 12 }
+{
+    if k < P::DIM { p.coord(k) as u32 } else { 0 }
+}
+
+// Whether a coordinate is the first or the last of a side.
+fn at_end(side: u32, x: u32) -> bool
+    requires { x < 2 ^ 12 }
+    ensures { result ≡ at_end side x }
+{
+    x == 0 || x + 1 == side
+}
+
+// Whether a point of the box lies at its border.
+fn at_rim<P: Point>(sides: Sides<P>, p: P) -> bool
+    requires { IsTrue (in_box (sides_of (P.coords sides.lengths)) (P.coords p)) }
+    ensures { result ≡ at_rim (sides_of (P.coords sides.lengths)) (P.coords p) }
+{
+    let mut rim = false;
+    for k in 0..P::DIM {
+        let end = at_end(sides.side(k) as u32, place(sides, p, k));
+        rim = rim || end;
+    }
+    rim
+}
+
+// How many of a point's near neighbours are left.
+fn near_count<P: Pairing>(left: &Grid<P>, p: P) -> u32
+    requires { IsWithin (negsuc 1) (pos 4096) (P.coords p) }
+    ensures { result ≡ near_count left.now (P.coords p) }
+{
+    let mut count = 0;
+    for k in 0..P::NEAR_COUNT {
+        if left.has(p.near(k)) {
+            count += 1;
+        }
+    }
+    count
+}
+
+// Where a point is left: how many of its near neighbours are left.
+fn neighbours<P: Pairing>(left: &Grid<P>, p: P) -> Option<u32>
+    requires { IsWithin (negsuc 1) (pos 4096) (P.coords p) }
+    ensures { result ≡ neighbours left.now (P.coords p) }
+{
+    if left.has(p) {
+        Some(near_count(left, p))
+    } else {
+        None
+    }
+}
+
+// The fact of the point with a raster number, of an object with a number.
+pub(crate) fn fact_of<P: Pairing>(left: &Grid<P>, part: u32, square: u64, i: u32) -> Fact<P>
+    requires { i < box_count left.now.sides }
+    ensures told { (squares labels : List ℕ) → part ≡ slice_index labels i → square ≡ slice_index squares i → fact_told P.coords result ≡ fact_at squares left.now labels i }
+    ensures inside { IsTrue (in_box left.now.sides (P.coords result.point)) }
+    ensures number { P.coords result.point ≡ raster_point left.now.sides result.number }
+{
+    let sides = left.sides();
+    let point = sides.unraster(i);
+    Fact {
+        part,
+        number: i,
+        point,
+        square,
+        left: neighbours(left, point),
+        rim: at_rim(sides, point),
+    }
+}

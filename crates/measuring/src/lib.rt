@@ -1,0 +1,18 @@
+//! The table of the objects of a picture: the measures of each, counted in one pass over the box, and their text.
+//! It finds no component and no distance: labels come from `shape_adj`, distances and the points left from the caller.
+#![tactic(auto)]
+
+mod count;
+mod csv;
+mod fact;
+mod round;
+mod row;
+mod span;
+mod table;
+mod text;
+
+pub use fact::Fact;
+pub use row::Measures;
+pub use span::Span;
+pub use table::measure;
+pub use text::table_text;
