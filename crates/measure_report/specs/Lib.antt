@@ -1,1 +1,2 @@
 pub mod TableTexts
+pub mod Holding

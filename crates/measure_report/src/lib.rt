@@ -2,9 +2,11 @@
 //! No claim of the report is judged.
 #![tactic(auto)]
 
+mod law;
 mod tables;
 mod top;
 
+pub use law::holding_measures;
 pub use report_making::Outcome;
 pub use tables::Tables;
 pub use top::run;

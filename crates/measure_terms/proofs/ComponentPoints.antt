@@ -23,7 +23,7 @@ abbrev pub fact : (squares : List ℕ) (left : Picture) (labels : List ℕ) → 
 fact squares left labels p = fact_of squares left labels (raster_number left.sides p) p
 
 -- a label that is not 0 is that of an object point
-seen : (X : Picture) (labels : List ℕ) (k i : ℕ) → 0 < k → (get_or labels i 0 == k) ≡ true → (at X (raster_point X.sides i) ≡ false → get_or labels i 0 ≡ 0) → at X (raster_point X.sides i) ≡ true
+pub seen : (X : Picture) (labels : List ℕ) (k i : ℕ) → 0 < k → (get_or labels i 0 == k) ≡ true → (at X (raster_point X.sides i) ≡ false → get_or labels i 0 ≡ 0) → at X (raster_point X.sides i) ≡ true
 seen X labels k i some t back = elim (cases_Bool (at X (raster_point X.sides i))) [
   | inl o ↦ o
   | inr f ↦ (let z = back f in absurd (grind (arith, nat_tests)))

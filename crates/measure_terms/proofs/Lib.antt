@@ -2,3 +2,5 @@ pub mod OneMore
 pub mod TableRows
 pub mod RootFound
 pub mod ComponentPoints
+pub mod ComponentMeasures
+pub mod TableOfComponents

@@ -1,6 +1,6 @@
 -- The measures of an object with one point more, and the bounds of what is counted and summed.
 -- Laws of lists alone.
-use Rattle.std.proofs.Common.{◌≡◌, ◌⊎◌, inl, inr, ◌+◌, ◌*◌, ◌<◌, ◌≤◌, ℕ, zero, suc, Bool, true, false, List, [], ◌∷◌, ◌++◌, length, map, refl, sym, ap, ◌∙◌, arith, length-append}
+use Rattle.std.proofs.Common.{◌≡◌, ◌⊎◌, inl, inr, ◌+◌, ◌*◌, ◌<◌, ◌≤◌, ℕ, zero, suc, Bool, true, false, List, [], ◌∷◌, ◌++◌, length, map, get_or, refl, sym, ap, ◌∙◌, arith, length-append}
 use Rattle.std.specs.Prelude.{◌==◌, min, max, Option, Some, None, cond, nat_abs, sum, sum_by, count_by, ◌||◌, ◌&&◌, nat_le, nat_eq}
 use Rattle.std.specs.List.{fold, find, list_any}
 use Rattle.std.specs.Option.{option_map, is_some, option_or}
@@ -26,6 +26,12 @@ least_more (y ∷ xs) x = fold-append min y xs (x ∷ []) ∙ sym (cond-false (n
 pub greatest_more : (xs : List ℕ) (x : ℕ) → greatest (xs ++ x ∷ []) ≡ max (greatest xs) x
 greatest_more [] x = omega arith
 greatest_more (y ∷ xs) x = ap (max y) (greatest_more xs x) ∙ omega arith
+
+-- no number in a list is above the greatest
+pub below_greatest : (xs : List ℕ) (i : ℕ) → get_or xs i 0 ≤ greatest xs
+below_greatest [] i = omega arith
+below_greatest (x ∷ xs) zero = omega arith
+below_greatest (x ∷ xs) (suc i) = let h = below_greatest xs i in omega arith
 
 sum_more : (xs : List ℕ) (x : ℕ) → sum (xs ++ x ∷ []) ≡ sum xs + x
 sum_more xs x = fold-append (λ a y. a + y) 0 xs (x ∷ [])

@@ -12,12 +12,6 @@ use Rattle.measure_terms.specs.Tables.{rows}
 use Rattle.measure_terms.proofs.OneMore.{greatest_more}
 use Rattle.measure_terms.proofs.TableRows.{facts_more, length-facts, few_facts, length-rows, row_is, background_row, object_row}
 
--- no number in a list is above the greatest
-pub below_greatest : (xs : List ℕ) (i : ℕ) → get_or xs i 0 ≤ greatest xs
-below_greatest [] i = omega arith
-below_greatest (x ∷ xs) zero = omega arith
-below_greatest (x ∷ xs) (suc i) = let h = below_greatest xs i in omega arith
-
 pub greatest_so_far : (xs : List ℕ) (i x r most : ℕ) → i < length xs → most ≡ greatest (take i xs) → x ≡ get_or xs i 0 → r ≡ max x most → r ≡ greatest (take (i + 1) xs)
 greatest_so_far xs i x r most l h e m =
     let t = ap greatest (take_more xs i 0 l) ∙ greatest_more (take i xs) (get_or xs i 0) in

@@ -5,6 +5,7 @@
 mod count;
 mod csv;
 mod fact;
+mod law;
 mod round;
 mod row;
 mod span;
@@ -12,6 +13,7 @@ mod table;
 mod text;
 
 pub use fact::Fact;
+pub use law::table_measures_components;
 pub use row::Measures;
 pub use span::Span;
 pub use table::measure;

@@ -2,9 +2,10 @@ use Rattle.std.proofs.Common.{arith, length, ◌≡◌, ◌<◌, ◌≤◌, ap, 
 use Rattle.shape_terms.specs.Points.{box_count}
 use Rattle.measure_terms.specs.Facts.{facts_below}
 use Rattle.measure_terms.specs.OneMore.{measures_with}
+use Rattle.measure_terms.proofs.OneMore.{below_greatest}
 use Rattle.measure_terms.proofs.TableRows.{length-facts}
 use Rattle.measuring.specs.Told.{measures_told, fact_told}
-use Rattle.measuring.proofs.TableSteps.{below_greatest, few_points, one_passed, one_added}
+use Rattle.measuring.proofs.TableSteps.{few_points, one_passed, one_added}
 use Rattle.measuring.proofs.table.add_point.Goals as goal
 
 pub bounds-all-row : goal.bounds-all-row
