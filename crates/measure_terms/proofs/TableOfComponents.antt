@@ -102,9 +102,9 @@ table_measures X left squares table s h =
       named = h.named;
       all = subst (λ (m : ℕ). NamesParts Near (Object X) m (label_of X labels)) same names;
       each = λ k d l.
-        let some = some_point X labels n k names (omega (arith, same, l)) in
-        let row = ap (λ ms. get_or ms k d) h.rows ∙ row_is (greatest labels) fs k d (omega (arith, len, l)) ∙ ap measures_of (facts_are squares left X labels (k + 1) s (omega arith) h.named) in
-        let m = some_measures squares left labels (component X labels (k + 1)) some.0 some.1 in
-        let m2 = subst (λ (sides : List ℕ). AreMeasuresOf (λ q. get_or squares (raster_number sides q) 0) left (component X labels (k + 1)) (measures_of (map (fact squares left labels) (component X labels (k + 1))))) s m in
-        subst (λ (x : Measures). AreMeasuresOf (λ q. get_or squares (raster_number X.sides q) 0) left (component X labels (k + 1)) x) (sym row) m2;
+          let some = some_point X labels n k names (omega (arith, same, l)) in
+          let row = ap (λ ms. get_or ms k d) h.rows ∙ row_is (greatest labels) fs k d (omega (arith, len, l)) ∙ ap measures_of (facts_are squares left X labels (k + 1) s (omega arith) h.named) in
+          let m = some_measures squares left labels (component X labels (k + 1)) some.0 some.1 in
+          let m2 = subst (λ (sides : List ℕ). AreMeasuresOf (λ q. get_or squares (raster_number sides q) 0) left (component X labels (k + 1)) (measures_of (map (fact squares left labels) (component X labels (k + 1))))) s m in
+          subst (λ (x : Measures). AreMeasuresOf (λ q. get_or squares (raster_number X.sides q) 0) left (component X labels (k + 1)) x) (sym row) m2;
     }
