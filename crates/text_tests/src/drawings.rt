@@ -55,7 +55,7 @@ const FULL_DRAWN: &str =
 </svg>\n";
 
 // The report of the ring of eight pixels.
-const RING: &str = "shape 1 pbm 3 3 none\n\
+pub(crate) const RING: &str = "shape 1 pbm 3 3 none\n\
 parts 8 1 2\n\
 near 0 0 -1 0 1\n\
 near 1 0 1 1 1\n\
@@ -166,7 +166,7 @@ const STRANGE_DRAWN: &str =
 </svg>\n";
 
 // A desk with the file `a.report`, whose calls move 100 bytes at most.
-fn desk(
+pub(crate) fn desk(
     alloc: Global,
     report: &str,
     bad_reads: &[u64],
@@ -188,7 +188,7 @@ fn desk(
 }
 
 // The words of a command line.
-fn words(alloc: Global, line: &str) -> Result<Vec<Vec<u8>>, Fail> {
+pub(crate) fn words(alloc: Global, line: &str) -> Result<Vec<Vec<u8>>, Fail> {
     let mut words = Vec::new(alloc);
     for word in line.split_whitespace() {
         words.push(word.as_bytes().to_vec(alloc)?)?;

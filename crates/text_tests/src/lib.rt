@@ -1,4 +1,4 @@
-//! Tests of texts, judges and drawings: desks, the readers of pictures, reports, the judges of their lines, ball reports, and drawings.
+//! Tests of texts, judges and drawings: desks, the readers of pictures, reports, the judges of their lines, ball reports, drawings and masks.
 //! They ask public names alone, and the crates under test have no tests of their own: what is proved of them is proved once.
 #![tactic(auto)]
 
@@ -16,6 +16,8 @@ mod drawings;
 mod field_judge;
 #[cfg(test)]
 mod grids;
+#[cfg(test)]
+mod masks;
 #[cfg(test)]
 mod picture;
 #[cfg(test)]

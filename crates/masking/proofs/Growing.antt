@@ -1,0 +1,36 @@
+-- Bytes that grow piece by piece, for each number below a bound or for each value of a list.
+-- Laws of lists alone.
+use Rattle.std.proofs.Common.{◌≡◌, ◌+◌, ◌<◌, ℕ, suc, List, [], ◌∷◌, ◌++◌, length, get_or, map, take, drop, sym, ap, ◌∙◌, arith, append_assoc}
+use Rattle.std.specs.List.{flat_map, range_with_len}
+use Rattle.std.proofs.Math.Seq.{take-suc}
+use Rattle.std.proofs.lemmas.List.{append-nil, map-append, map-id}
+use Rattle.std.proofs.lemmas.List.FromFn.{map-range_with_len_more}
+use Rattle.std.proofs.lemmas.Grind.{flat_map-append}
+
+-- a piece of a list that grows
+pub one_more : (s₀ s₁ s₂ all more a : List ℕ) → s₁ ≡ s₀ ++ all → s₂ ≡ s₁ ++ a → more ≡ all ++ a → s₂ ≡ s₀ ++ more
+one_more s₀ s₁ s₂ all more a p q m = q ∙ ap (λ t. t ++ a) p ∙ append_assoc s₀ all a ∙ ap (λ t. s₀ ++ t) (sym m)
+
+-- the pieces of the numbers below n, with one number more
+pub more_numbers : (f : ℕ → List ℕ) (n : ℕ) → flat_map f (range_with_len 0 (n + 1)) ≡ flat_map f (range_with_len 0 n) ++ f n
+more_numbers f n =
+    let z : 0 + n ≡ n = omega arith in
+    ap (flat_map f) (sym (map-id (range_with_len 0 (n + 1))) ∙ map-range_with_len_more (λ x. x) 0 n n z ∙ ap (λ t. t ++ n ∷ []) (map-id (range_with_len 0 n)))
+    ∙ flat_map-append f (range_with_len 0 n) (n ∷ []) ∙ ap (λ t. flat_map f (range_with_len 0 n) ++ t) (append-nil (f n))
+
+-- the values of the numbers below n, with one number more
+pub more_values : (f : ℕ → ℕ) (n : ℕ) → map f (range_with_len 0 (n + 1)) ≡ map f (range_with_len 0 n) ++ f n ∷ []
+more_values f n = map-range_with_len_more f 0 n n (omega arith)
+
+-- the pieces of the first values of a list, with one value more
+pub more_pieces : (f : ℕ → List ℕ) (xs : List ℕ) (n d : ℕ) → n < length xs → flat_map f (take (n + 1) xs) ≡ flat_map f (take n xs) ++ f (get_or xs n d)
+more_pieces f xs n d h =
+    let e : n + 1 ≡ suc n = omega arith in
+    ap (λ k. flat_map f (take k xs)) e ∙ ap (flat_map f) (take-suc xs n d h)
+    ∙ flat_map-append f (take n xs) (get_or xs n d ∷ []) ∙ ap (λ t. flat_map f (take n xs) ++ t) (append-nil (f (get_or xs n d)))
+
+-- what is made of the first values of a list, with one value more
+pub more_mapped : {A : Type 0} (f : A → ℕ) (xs : List A) (n : ℕ) (d : A) → n < length xs → map f (take (n + 1) xs) ≡ map f (take n xs) ++ f (get_or xs n d) ∷ []
+more_mapped f xs n d h =
+    let e : n + 1 ≡ suc n = omega arith in
+    ap (λ k. map f (take k xs)) e ∙ ap (map f) (take-suc xs n d h) ∙ map-append f (take n xs) (get_or xs n d ∷ [])

@@ -1,0 +1,4 @@
+pub mod Roots
+pub mod Pictures
+pub mod Masks
+pub mod Words

@@ -1,0 +1,14 @@
+//! Masks of a report: the points left, the object or the distances, as raw pictures that other tools read.
+//! No claim is judged; what is masked is what `report_lines` sees of the report.
+#![tactic(auto)]
+
+mod bits;
+mod distances;
+mod header;
+mod mask;
+mod top;
+mod voxels;
+
+pub use mask::Mask;
+pub use report_making::Outcome;
+pub use top::{USAGE, run};

@@ -1,0 +1,63 @@
+//! The masks, and what each is made of.
+//! A further mask is a variant and an arm of each `match`.
+ghost use Rattle.std.specs.Prelude.{◌≡◌, ◌≢◌, MatchOption};
+ghost use Rattle.masking.specs.Words.{mask_word};
+
+use crate::bits::bits;
+use crate::distances::{depths, greys};
+use crate::voxels::voxels;
+use report_lines::Seen;
+use report_making::Making;
+use shape_space::{NoMemory, P2, P3};
+use std::alloc::Global;
+
+/// What is shown of a report.
+#[derive(Clone, Copy, Debug, PartialEq, Eq)]
+pub enum Mask {
+    /// The object points that are not deleted.
+    Skeleton,
+    /// The object points.
+    Object,
+    /// The distances to the background.
+    Distances,
+}
+
+// The mask with this word.
+pub(crate) fn mask_called(word: &[u8]) -> Option<Mask>
+    ensures { MatchOption result ((m : Mask) → word.now ≢ mask_word m)
+        (λ m. word.now ≡ mask_word m) }
+{
+    if word == b"skeleton".as_slice() {
+        return Some(Mask::Skeleton);
+    }
+    if word == b"object".as_slice() {
+        return Some(Mask::Object);
+    }
+    if word == b"distances".as_slice() {
+        return Some(Mask::Distances);
+    }
+    None
+}
+
+impl Making for Mask {
+    ghost use Rattle.report_making.specs.Made.{exactly};
+    ghost use Rattle.masking.specs.Masks.{mask_bytes};
+
+    ghost makes = { λ mask. exactly (mask_bytes mask) };
+
+    fn make_flat(&self, alloc: Global, seen: &Seen<P2>) -> Result<Vec<u8>, NoMemory> {
+        match self {
+            Mask::Skeleton => bits(alloc, seen.left()),
+            Mask::Object => bits(alloc, seen.object()),
+            Mask::Distances => greys(alloc, seen.object(), seen.squares()),
+        }
+    }
+
+    fn make_solid(&self, alloc: Global, seen: &Seen<P3>) -> Result<Vec<u8>, NoMemory> {
+        match self {
+            Mask::Skeleton => voxels(alloc, seen.left()),
+            Mask::Object => voxels(alloc, seen.object()),
+            Mask::Distances => depths(alloc, seen.squares()),
+        }
+    }
+}
