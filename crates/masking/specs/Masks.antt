@@ -3,7 +3,6 @@
 use Rattle.std.specs.Prelude.{◌≡◌, ℕ, ◌==◌, if◌then◌else◌, List}
 use Rattle.shape_terms.specs.Pictures.{Picture}
 use Rattle.report_lines.specs.Said.{Said}
-use Rattle.report_making.specs.Made.{Maker}
 use Rattle.masking.specs.Pictures.{pbm, voxels, pgm, depths}
 use Rattle.masking.specs.declared.mask.Mask.{Mask}
 use Rattle.masking.specs.declared.mask.Mask.TheVariants.{Skeleton, Object, Distances}

@@ -40,9 +40,10 @@ pub(crate) fn mask_called(word: &[u8]) -> Option<Mask>
 }
 
 impl Making for Mask {
-    ghost use Rattle.masking.specs.Masks.{IsMask};
+    ghost use Rattle.report_making.specs.Made.{exactly};
+    ghost use Rattle.masking.specs.Masks.{mask_bytes};
 
-    ghost makes = { IsMask };
+    ghost makes = { λ mask. exactly (mask_bytes mask) };
 
     fn make_flat(&self, alloc: Global, seen: &Seen<P2>) -> Result<Vec<u8>, NoMemory> {
         match self {

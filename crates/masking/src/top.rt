@@ -2,6 +2,7 @@
 //! What each outcome means for the desk stands in `report_making`.
 ghost use Rattle.std.specs.Prelude.{◌≡◌, ◌≢◌, ◌↔◌, ◌∷◌, [], ℕ, List};
 ghost use Rattle.report_making.specs.Files.{texts, KeepsFiles};
+ghost use Rattle.report_making.specs.Made.{exactly};
 ghost use Rattle.report_making.specs.Runs.{Ran};
 ghost use Rattle.masking.specs.Masks.{IsMask};
 ghost use Rattle.masking.specs.Words.{mask_word};
@@ -24,7 +25,7 @@ pub fn run<D: Desk>(alloc: Global, words: &[Vec<u8>], desk: &mut D) -> Outcome
         ↔ ((mask : Mask) (name : List ℕ) → texts words.now ≢ mask_word mask ∷ name ∷ []) }
     ensures untouched { result ≡ Outcome.Usage → desk.new ≡ desk.old }
     ensures ran { (mask : Mask) (name : List ℕ) → texts words.now ≡ mask_word mask ∷ name ∷ []
-        → Ran (IsMask mask) name (D.state desk.old) (D.state desk.new) result }
+        → Ran (exactly (mask_bytes mask)) name (D.state desk.old) (D.state desk.new) result }
     ensures kept { KeepsFiles (D.state desk.old) (D.state desk.new) }
 {
     let [word, name] = words else {

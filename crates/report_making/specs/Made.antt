@@ -13,6 +13,10 @@ use Rattle.report_lines.specs.declared.fault.ReportFault.TheVariants.{NotReport,
 abbrev pub Maker : Type 1
 Maker = ℕ → Said → List ℕ → Type 0
 
+-- just the bytes of a function
+abbrev pub exactly : (ℕ → Said → List ℕ) → Maker
+exactly f d s bytes = bytes ≡ f d s
+
 -- the space is that of flat pictures or of volumes
 abbrev pub IsSpace : Space → Type 0
 IsSpace s = (s ≡ flat) ⊎ (s ≡ solid)
