@@ -1,6 +1,6 @@
 -- The masks that are made of a report: which points, or how far they are from the background.
 -- A further mask is one more line of each table.
-use Rattle.std.specs.Prelude.{◌≡◌, ℕ, ◌==◌, if◌then◌else◌, List}
+use Rattle.std.specs.Prelude.{ℕ, ◌==◌, if◌then◌else◌, List}
 use Rattle.shape_terms.specs.Pictures.{Picture}
 use Rattle.report_lines.specs.Said.{Said}
 use Rattle.masking.specs.Pictures.{pbm, voxels, pgm, depths}
@@ -20,7 +20,3 @@ abbrev pub mask_bytes : Mask → ℕ → Said → List ℕ
 mask_bytes Skeleton d s = points_mask d s.left
 mask_bytes Object d s = points_mask d s.object
 mask_bytes Distances d s = distances_mask d s.object.sides s.squares
-
--- the bytes are those of the mask
-abbrev pub IsMask : Mask → Maker
-IsMask mask d s bytes = bytes ≡ mask_bytes mask d s

@@ -4,7 +4,7 @@ ghost use Rattle.std.specs.Prelude.{◌≡◌, ◌≢◌, ◌↔◌, ◌∷◌, 
 ghost use Rattle.report_making.specs.Files.{texts, KeepsFiles};
 ghost use Rattle.report_making.specs.Made.{exactly};
 ghost use Rattle.report_making.specs.Runs.{Ran};
-ghost use Rattle.masking.specs.Masks.{IsMask};
+ghost use Rattle.masking.specs.Masks.{mask_bytes};
 ghost use Rattle.masking.specs.Words.{mask_word};
 
 use crate::mask::{Mask, mask_called};

@@ -1,7 +1,7 @@
 use Rattle.std.proofs.Common.{subst, arith, ap, sym, ◌∙◌, [], ◌∷◌}
 use Rattle.report_making.specs.Made.{exactly}
 use Rattle.report_making.specs.Runs.{Ran}
-use Rattle.masking.specs.Masks.{IsMask}
+use Rattle.masking.specs.Masks.{mask_bytes}
 use Rattle.masking.proofs.CommandWords.{two_words}
 use Rattle.masking.proofs.top.run.Goals as goal
 
