@@ -19,10 +19,7 @@ use shape_space::P2;
 use std::alloc::Global;
 
 // Takes the heading of a flat picture.
-fn read_heading<D: Desk>(
-    reader: &mut LineReader,
-    desk: &mut D,
-) -> Result<Heading<P2>, DrawFault>
+fn read_heading<D: Desk>(reader: &mut LineReader, desk: &mut D) -> Result<Heading<P2>, DrawFault>
     requires { (D.state desk.old).begun Report ≡ true }
     ensures answer { HeadingAnswer (λ h. Lines.flat_line h.line)
         (ahead_of reader.old.ahead ((D.state desk.old).left Report))

@@ -33,5 +33,5 @@ root_is n r h =
     let pass : is_past n r ≡ true = grind (arith, nat_tests, high) in
     let few : r < n + 1 = omega (arith, low, at_most_square r) in
     sym (ap (λ o. unwrap_or o 0) (first_found (is_past n) 0 (n + 1) r (omega arith) (omega (arith, few)) pass (λ m _ l.
-        let q : (m + 1) * (m + 1) ≤ r * r = mul-le (m + 1) (m + 1) r r (omega arith) (omega arith) in
-        grind (arith, nat_tests, low, q))))
+    let q : (m + 1) * (m + 1) ≤ r * r = mul-le (m + 1) (m + 1) r r (omega arith) (omega arith) in
+    grind (arith, nat_tests, low, q))))

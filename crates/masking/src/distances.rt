@@ -47,11 +47,7 @@ fn put_levels(squares: &[u64], out: &mut Vec<u8>) -> Result<(), NoMemory>
 }
 
 /// The raw PGM of the distances of the points of a grid's box.
-pub(crate) fn greys(
-    alloc: Global,
-    grid: &Grid<P2>,
-    squares: &[u64],
-) -> Result<Vec<u8>, NoMemory>
+pub(crate) fn greys(alloc: Global, grid: &Grid<P2>, squares: &[u64]) -> Result<Vec<u8>, NoMemory>
     ensures { IfOk result (λ v. v.items ≡ pgm grid.now.sides squares.now) }
 {
     let mut out = Vec::new(alloc);

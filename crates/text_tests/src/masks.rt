@@ -47,9 +47,21 @@ fn outcome(alloc: Global, line: &str, report: &str) -> Result<Outcome, Fail> {
 
 // Words and reports, and how the run ends.
 const RUNS: [(&str, &str, Outcome); 8] = [
-    ("object a.report", "shape 1 raw 193 1 1 none\nend\n", Outcome::NotReport { line: 1 }),
-    ("object a.report", "shape 1 raw 1 1 1 none\nnear 0 0 1\n", Outcome::NotReport { line: 2 }),
-    ("object a.report", "shape 1 pbm 1 1 none\ndel 0 0\n", Outcome::NotReport { line: 3 }),
+    (
+        "object a.report",
+        "shape 1 raw 193 1 1 none\nend\n",
+        Outcome::NotReport { line: 1 },
+    ),
+    (
+        "object a.report",
+        "shape 1 raw 1 1 1 none\nnear 0 0 1\n",
+        Outcome::NotReport { line: 2 },
+    ),
+    (
+        "object a.report",
+        "shape 1 pbm 1 1 none\ndel 0 0\n",
+        Outcome::NotReport { line: 3 },
+    ),
     ("", RING, Outcome::Usage),
     ("object", RING, Outcome::Usage),
     ("objects a.report", RING, Outcome::Usage),
