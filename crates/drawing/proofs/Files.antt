@@ -7,13 +7,9 @@ use Rattle.shape_desk.specs.Desk.{Files, DeskState, IsAtFront, Rose}
 use Rattle.shape_desk.specs.Line.{IfTold}
 use Rattle.drawing.specs.declared.fault.DrawFault.{DrawFault}
 use Rattle.drawing.specs.declared.fault.DrawFault.TheVariants.{NotReport, Volume, ReadFault, NoMemory}
-use Rattle.drawing.specs.Answers.{IsDrawingOf, IsNoReport, Refused, Draws, OfFile, FileRefused, FileDrawn, texts}
-
--- a fact of the bytes that are left at the front of a file is one of the file
-pub of_file : (files : Option Files) (name : List ℕ) (left : Option (List ℕ)) (P : List ℕ → Type 0) → IsAtFront files name left → IfTold left P → OfFile files name P
-of_file None name left P a h = tt
-of_file (Some files) name None P a h = absurd (let z = a.1 in cc)
-of_file (Some files) name (Some bytes) P a h = rw (sym a.0) h
+use Rattle.report_making.specs.Files.{texts}
+use Rattle.report_making.proofs.Files.{of_file, rose_under}
+use Rattle.drawing.specs.Answers.{IsDrawingOf, IsNoReport, Refused, Draws, FileRefused, FileDrawn}
 
 -- why a report is not drawn, of the file that it is in
 pub file_refused : (name : List ℕ) (old mid new : DeskState) (left : Option (List ℕ)) (fault : DrawFault) → IsAtFront old.files name left → (Rose mid.read_faults new.read_faults → Rose old.read_faults new.read_faults) → Refused left mid.read_faults new.read_faults fault → FileRefused name old new fault
@@ -21,9 +17,6 @@ file_refused name old mid new left (NotReport k) a rose h = of_file old.files na
 file_refused name old mid new left Volume a rose h = of_file old.files name left _ a h
 file_refused name old mid new left ReadFault a rose h = inl (rose h)
 file_refused name old mid new left NoMemory a rose h = tt
-
-rose_under : (most before mid now : ℕ) → before ≤ mid → min (mid + 1) most ≤ now → min (before + 1) most ≤ now
-rose_under most before mid now h r = omega (arith, h, r)
 
 -- what drawing a report answers, of the file that it is in
 pub file_drawn : {V : Type 0} (bytes : V → List ℕ) (name : List ℕ) (old mid new : DeskState) (left : Option (List ℕ)) (r : Result V DrawFault) → IsAtFront old.files name left → old.read_faults ≤ mid.read_faults → Draws bytes left mid.read_faults new.read_faults r → FileDrawn bytes name old new r

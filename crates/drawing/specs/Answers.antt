@@ -1,13 +1,13 @@
 -- What drawing a report answers, and what a run of the program does.
 -- Clauses on the bytes of files hold where the desk tells its files.
 use Rattle.std.specs.Prelude.{◌≡◌, ◌⊎◌, ℕ, ◌≤◌, ⊤, List, Option, None, Some, Result, Ok, Err, MatchOption, map}
-use Rattle.std.specs.declared.vec.Vec.{Vec}
 use Rattle.shape_desk.specs.Desk.{Files, DeskState, Rose, IsMissing, Puts, PutsFront}
 use Rattle.shape_desk.specs.Line.{IfTold}
 use Rattle.report_terms.specs.Lines.{Line}
 use Rattle.text_terms.specs.Going.{IsTextOf}
 use Rattle.report_lines.specs.Reports.{flat, in_order, IsReport, FirstBad, IsOfVolume}
 use Rattle.report_lines.specs.Headings.{TakesHeading, IsNoOpening}
+use Rattle.report_making.specs.Files.{OfFile, IsSilent}
 use Rattle.drawing.specs.Standing.{IsSketchOf}
 use Rattle.drawing.specs.Svg.{drawing}
 use Rattle.drawing.specs.declared.fault.DrawFault.{DrawFault}
@@ -58,15 +58,6 @@ Sketches text before now (Err fault) = Refused text before now fault
 
 -- ---- runs
 
--- the bytes of the words of a command line
-abbrev pub texts : {Z : Type 0} → List (Vec ℕ Z) → List (List ℕ)
-texts words = map (λ w. w.items) words
-
--- where the desk tells its files, there is one with the name, and its bytes are so
-abbrev pub OfFile : Option Files → List ℕ → (List ℕ → Type 0) → Type 0
-OfFile None name P = ⊤
-OfFile (Some files) name P = MatchOption (files name) ⊥ P
-
 -- why the report in a file is not drawn
 abbrev pub FileRefused : List ℕ → DeskState → DeskState → DrawFault → Type 0
 FileRefused name old new (NotReport k) = OfFile old.files name (λ text. IsNoReport text k)
@@ -78,10 +69,6 @@ FileRefused name old new NoMemory = ⊤
 abbrev pub FileDrawn : {V : Type 0} → (V → List ℕ) → List ℕ → DeskState → DeskState → Result V DrawFault → Type 0
 FileDrawn bytes name old new (Ok svg) = OfFile old.files name (λ text. IsDrawingOf text (bytes svg))
 FileDrawn bytes name old new (Err fault) = FileRefused name old new fault
-
--- nothing was written
-abbrev pub IsSilent : DeskState → DeskState → Type 0
-IsSilent old new = new.written ≡ old.written
 
 -- the drawing of the report in the file was written
 pub record WritesDrawing (name : List ℕ) (old new : DeskState) : Type 0 where
@@ -105,9 +92,3 @@ Ran name old new (outcome.NotReport k) = OfFile old.files name (λ text. IsNoRep
 Ran name old new outcome.ReadFault = (Rose old.read_faults new.read_faults ⊎ IsMissing old.files name) × IsSilent old new
 Ran name old new outcome.WriteFault = CutsShort name old new
 Ran name old new outcome.NoMemory = IsSilent old new
-
--- no file changed, and no count fell
-pub record KeepsFiles (old new : DeskState) : Type 0 where
-  pub files : new.files ≡ old.files
-  pub read_later : old.read_faults ≤ new.read_faults
-  pub write_later : old.write_faults ≤ new.write_faults

@@ -16,7 +16,7 @@ of_file None name left P a h = tt
 of_file (Some files) name None P a h = absurd (let z = a.1 in cc)
 of_file (Some files) name (Some bytes) P a h = rw (sym a.0) h
 
-rose_under : (most before mid now : ℕ) → before ≤ mid → min (mid + 1) most ≤ now → min (before + 1) most ≤ now
+pub rose_under : (most before mid now : ℕ) → before ≤ mid → min (mid + 1) most ≤ now → min (before + 1) most ≤ now
 rose_under most before mid now h r = omega (arith, h, r)
 
 -- why nothing is made of a report, of the file that it is in
