@@ -1,0 +1,4 @@
+pub mod Told
+pub mod Cells
+pub mod Kept
+pub mod OneMore

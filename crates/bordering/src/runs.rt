@@ -1,0 +1,63 @@
+//! Runs of a contour's steps along a line, as segments give them.
+//! Other limits are a change here and of the definition.
+ghost use Rattle.std.specs.Prelude.{◌≡◌, ◌≤◌, ◌^◌, nat_abs};
+ghost use Rattle.std.specs.Option.{option_map};
+ghost use Rattle.border_terms.specs.Runs.{fair};
+ghost use Rattle.border_terms.specs.Lengths.{weight, norm};
+ghost use Rattle.bordering.specs.Told.{run_told, step_told};
+
+use crate::run::Run;
+use crate::step::Step;
+
+// A run has no more steps.
+const MOST_STEPS: u64 = 2048;
+
+// No coefficient of a run is greater in size.
+const MOST: u64 = 1 << 23;
+
+// A number that is no greater in size than the coefficients of a run may be.
+fn coefficient(x: i64) -> i32
+    requires { nat_abs x ≤ 2 ^ 23 }
+    ensures { result ≡ x }
+{
+    x as i32
+}
+
+/// The run from a place to a place along a line, where it is within the limits.
+pub(crate) fn fair_run(first: u32, last: u32, a: i64, b: i64) -> Option<Run>
+    ensures { option_map run_told result
+        ≡ fair (record { first = first; last = last; a = a; b = b }) }
+{
+    if last as u64 <= first as u64 + MOST_STEPS
+        && a.unsigned_abs() <= MOST
+        && b.unsigned_abs() <= MOST
+    {
+        Some(Run {
+            first,
+            last,
+            a: coefficient(a),
+            b: coefficient(b),
+        })
+    } else {
+        None
+    }
+}
+
+impl Run {
+    /// What a step weighs along the run.
+    pub(crate) fn weight(self, s: Step) -> u64
+        ensures value { result ≡ weight (run_told self) (step_told s) }
+        ensures small { result ≤ 2 ^ 24 }
+    {
+        (s.x * self.b as i64 - s.y * self.a as i64).unsigned_abs()
+    }
+
+    /// The squared length of the run's direction.
+    pub(crate) fn norm(self) -> u64
+        ensures { result ≡ norm (run_told self) }
+    {
+        let a = self.a.unsigned_abs() as u64;
+        let b = self.b.unsigned_abs() as u64;
+        a * a + b * b
+    }
+}
