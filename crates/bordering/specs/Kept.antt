@@ -33,9 +33,10 @@ begin_with c k = record (closed k) { begun = Some c }
 abbrev pub with_point : Kept → Point → Kept
 with_point k p = if is_some k.begun then record k { points = k.points ++ p ∷ [] } else k
 
--- the same with one more run of the last contour, where one was begun
-abbrev pub with_run : Kept → Run → Kept
-with_run k r = if is_some k.begun then record k { runs = k.runs ++ r ∷ [] } else k
+-- the same with one more run of the last contour, where there is one and a contour was begun
+abbrev pub with_segment : Kept → Option Run → Kept
+with_segment k None = k
+with_segment k (Some r) = if is_some k.begun then record k { runs = k.runs ++ r ∷ [] } else k
 
 -- the groups of contours begun: none, or some closed ones and the last
 abbrev pub groups_with : Option Crack → List (List Line) → List Line → List (List Line)

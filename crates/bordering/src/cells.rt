@@ -64,7 +64,8 @@ fn add_shares(
     ensures same { along.new.run ≡ along.old.run }
 {
     let end = to.min(points.len());
-    for i in from..end {
+    let start = from.min(end);
+    for i in start..end {
         let share = along.share(step_at(points, i));
         cells[i] = cells[i].with(share)?;
     }
@@ -87,5 +88,6 @@ pub(crate) fn add_run(cells: &mut [Cell], points: &[P2], run: Run) -> Result<(),
         &mut along,
         first.saturating_sub(count),
         last.saturating_sub(count),
-    )
+    )?;
+    Ok(())
 }

@@ -1,10 +1,11 @@
 //! The borders of a report, kept while its lines come.
 //! Points and runs of the contour that was begun last are kept until the next one begins.
 ghost use Rattle.std.specs.Prelude.{◌≡◌, ◌++◌, ◌∷◌, [], List, IfOk, OnOk};
+ghost use Rattle.std.specs.Option.{option_map};
 ghost use Rattle.report_terms.specs.Lines as Terms;
 ghost use Rattle.border_terms.specs.Borders.{borders as borders_of};
 ghost use Rattle.bordering.specs.Told.{flat, flat_line, crack_told, run_told, all_borders};
-ghost use Rattle.bordering.specs.Kept.{begin_with, closed, with_point, with_run, HasBorders};
+ghost use Rattle.bordering.specs.Kept.{begin_with, closed, with_point, with_segment, HasBorders};
 
 use crate::cells::Cell;
 use crate::length::contour_length;
@@ -104,13 +105,14 @@ impl Contours {
         Ok(())
     }
 
-    // Puts a run of the contour that was begun last.
-    fn add_run(&mut self, r: Run) -> Result<(), NoMemory>
-        ensures { OnOk result (self.new ≡ with_run self.old (run_told r)) }
+    // Puts a run of the contour that was begun last, where there is one.
+    fn add_segment(&mut self, r: Option<Run>) -> Result<(), NoMemory>
+        ensures { OnOk result (self.new ≡ with_segment self.old (option_map run_told r)) }
     {
-        if self.begun.is_some() {
-            self.runs.push(r)?;
-        }
+        let (Some(_), Some(run)) = (self.begun, r) else {
+            return Ok(());
+        };
+        self.runs.push(run)?;
         Ok(())
     }
 
@@ -120,16 +122,20 @@ impl Contours {
             → OnOk result (HasBorders (lines ++ flat_line line.now ∷ []) self.new) }
     {
         match line {
-            Line::Contour { p, side, .. } => self.begin(Start {
-                point: *p,
-                side: *side,
-            }),
-            Line::At { p } => self.add_point(*p),
+            Line::Contour { p, side, .. } => {
+                self.begin(Start {
+                    point: *p,
+                    side: *side,
+                })?;
+                Ok(())
+            }
+            Line::At { p } => {
+                self.add_point(*p)?;
+                Ok(())
+            }
             Line::Seg { first, last, line } => {
-                match fair_run(*first, *last, line.a[0], line.a[1]) {
-                    Some(run) => self.add_run(run),
-                    None => Ok(()),
-                }
+                self.add_segment(fair_run(*first, *last, line.a[0], line.a[1]))?;
+                Ok(())
             }
             _ => Ok(()),
         }

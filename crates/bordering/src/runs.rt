@@ -1,6 +1,6 @@
 //! Runs of a contour's steps along a line, as segments give them.
 //! Other limits are a change here and of the definition.
-ghost use Rattle.std.specs.Prelude.{◌≡◌, ◌≤◌, ◌^◌, nat_abs};
+ghost use Rattle.std.specs.Prelude.{◌≡◌, ◌≤◌, ◌^◌, ◌*ℤ◌, ◌-ℤ◌, nat_abs};
 ghost use Rattle.std.specs.Option.{option_map};
 ghost use Rattle.border_terms.specs.Runs.{fair};
 ghost use Rattle.border_terms.specs.Lengths.{weight, norm};
@@ -43,13 +43,33 @@ pub(crate) fn fair_run(first: u32, last: u32, a: i64, b: i64) -> Option<Run>
     }
 }
 
+// The product of a change of a coordinate with a coefficient.
+fn product(x: i64, c: i32) -> i64
+    requires x { nat_abs x ≤ 1 }
+    requires c { nat_abs c ≤ 2 ^ 23 }
+    ensures value { result ≡ x *ℤ c }
+    ensures small { nat_abs result ≤ 2 ^ 23 }
+{
+    x * c as i64
+}
+
+// How far two such products are apart.
+fn distance(u: i64, v: i64) -> u64
+    requires u { nat_abs u ≤ 2 ^ 23 }
+    requires v { nat_abs v ≤ 2 ^ 23 }
+    ensures value { result ≡ nat_abs (u -ℤ v) }
+    ensures small { result ≤ 2 ^ 24 }
+{
+    (u - v).unsigned_abs()
+}
+
 impl Run {
     /// What a step weighs along the run.
     pub(crate) fn weight(self, s: Step) -> u64
         ensures value { result ≡ weight (run_told self) (step_told s) }
         ensures small { result ≤ 2 ^ 24 }
     {
-        (s.x * self.b as i64 - s.y * self.a as i64).unsigned_abs()
+        distance(product(s.x, self.b), product(s.y, self.a))
     }
 
     /// The squared length of the run's direction.

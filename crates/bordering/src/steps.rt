@@ -1,7 +1,7 @@
 //! Steps of a contour, from a point to the next.
 //! What a step weighs along a line is told in `runs`.
 ghost use Rattle.std.specs.Prelude.{◌≡◌, ◌<◌, ◌≤◌, ℤ, pos, nat_abs, ◌-ℤ◌, length};
-ghost use Rattle.border_terms.specs.Lengths.{near_step, step, step_at};
+ghost use Rattle.border_terms.specs.Lengths.{near_step, step as step_of, step_at};
 ghost use Rattle.bordering.specs.Told.{flat, flats, step_told};
 
 use crate::step::Step;
@@ -25,12 +25,17 @@ fn near_step(x: i64, y: i64) -> Step
     }
 }
 
+// The step from a point to another.
+fn step(p: P2, q: P2) -> Step
+    ensures { step_told result ≡ step_of (flat p) (flat q) }
+{
+    near_step(change(p.x, q.x), change(p.y, q.y))
+}
+
 /// The step of a contour from a place to the next.
 pub(crate) fn step_at(points: &[P2], i: usize) -> Step
     requires { i < length points.now }
     ensures { step_told result ≡ step_at (flats points.now) i }
 {
-    let p = points[i];
-    let q = points[(i + 1) % points.len()];
-    near_step(change(p.x, q.x), change(p.y, q.y))
+    step(points[i], points[(i + 1) % points.len()])
 }
