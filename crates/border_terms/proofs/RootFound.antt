@@ -1,7 +1,7 @@
 -- The quotient by a root that a definition searches for: it is the one number that is rounded down, and whole roots give it.
 -- Numbers alone.
-use Rattle.std.proofs.Common.{◌≡◌, ◌⊎◌, inl, inr, ◌+◌, ◌*◌, ◌/◌, ◌<◌, ◌≤◌, ℕ, zero, suc, Bool, true, false, List, [], ◌∷◌, refl, sym, subst, ap, ◌∙◌, arith}
-use Rattle.std.specs.Prelude.{nat_lt, Option, Some, None}
+use Rattle.std.proofs.Common.{◌≡◌, ◌⊎◌, inl, inr, ◌+◌, ◌*◌, ◌/◌, ◌<◌, ◌≤◌, ℕ, zero, suc, Bool, true, false, refl, sym, subst, ap, ◌∙◌, arith}
+use Rattle.std.specs.Prelude.{Some, None}
 use Rattle.std.specs.List.{range_with_len, find}
 use Rattle.std.specs.Option.{unwrap_or}
 use Rattle.std.proofs.lemmas.Bool.{cond-true, cond-false, cases_Bool}
@@ -24,9 +24,9 @@ first_found p a (suc n) r low high pass fail =
 -- a number whose square is no greater than another's is no greater
 below_square : (a b : ℕ) → a * a ≤ b * b → a ≤ b
 below_square a b h = elim (split a b) [
-    | inl l ↦ l
-    | inr g ↦ (let k : (b + 1) * (b + 1) ≤ a * a = mul-le (b + 1) (b + 1) a a (omega arith) (omega arith) in absurd (omega (arith, h, k)))
-  ]
+  | inl l ↦ l
+  | inr g ↦ (let k : (b + 1) * (b + 1) ≤ a * a = mul-le (b + 1) (b + 1) a a (omega arith) (omega arith) in absurd (omega (arith, h, k)))
+]
   where
     split : (a b : ℕ) → (a ≤ b) ⊎ (b < a)
     split a b = grind arith
@@ -70,12 +70,12 @@ quotient_from_whole v n q some low high =
 first_exists : (p : ℕ → Bool) (a n r : ℕ) → a ≤ r → r < a + n → p r ≡ true → (q : ℕ) × (find p (range_with_len a n) ≡ Some q) × (p q ≡ true) × (a ≤ q) × ((m : ℕ) → a ≤ m → m < q → p m ≡ false)
 first_exists p a zero r low high pass = absurd (omega arith)
 first_exists p a (suc n) r low high pass = elim (cases_Bool (p a)) [
-    | inl y ↦ (a, cond-true (p a) (Some a) (find p (range_with_len (a + 1) n)) y, y, omega arith, (λ m h k. absurd (omega arith)))
-    | inr f ↦
-        let ne : (a ≡ r) → ⊥ = (λ e. absurd (let g : true ≡ false = sym pass ∙ ap p (sym e) ∙ f in cc)) in
-        let h = first_exists p (a + 1) n r (omega arith) (omega arith) pass in
-        (h.0, cond-false (p a) (Some a) (find p (range_with_len (a + 1) n)) f ∙ h.1, h.2, (let l = h.3 in omega arith), below f h.0 h.4)
-  ]
+  | inl y ↦ (a, cond-true (p a) (Some a) (find p (range_with_len (a + 1) n)) y, y, omega arith, (λ m h k. absurd (omega arith)))
+  | inr f ↦
+      let ne : (a ≡ r) → ⊥ = (λ e. absurd (let g : true ≡ false = sym pass ∙ ap p (sym e) ∙ f in cc)) in
+      let h = first_exists p (a + 1) n r (omega arith) (omega arith) pass in
+      (h.0, cond-false (p a) (Some a) (find p (range_with_len (a + 1) n)) f ∙ h.1, h.2, (let l = h.3 in omega arith), below f h.0 h.4)
+]
   where
     below : p a ≡ false → (q : ℕ) → ((m : ℕ) → a + 1 ≤ m → m < q → p m ≡ false) → (m : ℕ) → a ≤ m → m < q → p m ≡ false
     below f q h m l k =

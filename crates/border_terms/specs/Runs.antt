@@ -1,6 +1,6 @@
 -- The segments of a contour as runs of its steps along a line, as the lines of a report give them.
 -- Which segments are right does not matter here; those beyond the limits count for nothing.
-use Rattle.std.specs.Prelude.{ℕ, ℤ, ◌+◌, ◌^◌, ◌≤◌, nat_le, nat_abs, Bool, ◌&&◌, if◌then◌else◌, List, Option, Some, None}
+use Rattle.std.specs.Prelude.{ℕ, ℤ, ◌+◌, ◌^◌, nat_le, nat_abs, Bool, ◌&&◌, if◌then◌else◌, List, Option, Some, None}
 use Rattle.shape_terms.specs.Points.{coordinate}
 use Rattle.report_terms.specs.Lines.{Line}
 

@@ -1,8 +1,7 @@
 -- What the borders of objects add up to, one border after another.
 -- Lists and numbers; the program's loop stands in none.
-use Rattle.std.proofs.Common.{◌≡◌, ◌⊎◌, inl, inr, ◌∙◌, ap, sym, subst, refl, ℕ, zero, suc, ◌+◌, ◌<◌, Bool, true, false, List, [], ◌∷◌, ◌++◌, length, get_or, arith, map, get_or-set_other, get_or-set_same, length-set}
+use Rattle.std.proofs.Common.{◌≡◌, ◌⊎◌, inl, inr, ◌∙◌, ap, sym, subst, refl, ℕ, zero, suc, ◌+◌, ◌<◌, Bool, true, false, List, [], ◌∷◌, ◌++◌, length, get_or, arith, get_or-set_other, get_or-set_same, length-set}
 use Rattle.std.specs.Prelude.{nat_eq, if◌then◌else◌, filter, sum_by, count_by, cond}
-use Rattle.std.specs.List.{range_with_len}
 use Rattle.std.proofs.Math.ListN.{set, replicate}
 use Rattle.std.proofs.lemmas.Bool.{cond-true, cond-false}
 use Rattle.std.proofs.lemmas.Bool.Decides.{nat_tests}
@@ -64,6 +63,7 @@ border_counted sides labels n bs b old new h more =
     with_test : (t : Bool) (xs : List Border) → bounds_of (xs ++ (if t then b ∷ [] else [])) ≡ (if t then bounds_with (bounds_of xs) b else bounds_of xs)
     with_test true xs = bounds_more xs b
     with_test false xs = ap bounds_of (append-nil xs)
+
     each : (k : ℕ) → k < n → length old ≡ n → get_or new k no_bounds ≡ bounds_of (filter (is_of sides labels (k + 1)) (bs ++ b ∷ []))
     each k l e =
         let within : k < length old = omega arith in

@@ -1,7 +1,7 @@
 -- The borders that are kept while the lines come: what one more line changes.
 -- Laws of lines and of what is kept; the program stands in none.
-use Rattle.std.proofs.Common.{◌≡◌, ◌⊎◌, inl, inr, ℕ, Bool, true, false, List, [], ◌∷◌, ◌++◌, refl, ap, sym, subst, ◌∙◌}
-use Rattle.std.specs.Prelude.{ℤ, filter_map, Option, Some, None, if◌then◌else◌}
+use Rattle.std.proofs.Common.{◌≡◌, ◌⊎◌, inl, inr, ℕ, false, List, [], ◌∷◌, ◌++◌, refl, ap, sym, subst, ◌∙◌}
+use Rattle.std.specs.Prelude.{ℤ, filter_map, Option, Some, None}
 use Rattle.std.specs.Option.{option_map, option_to_list, is_some}
 use Rattle.std.proofs.lemmas.Bool.{cond-true, cond-false, cases_Bool}
 use Rattle.std.proofs.lemmas.List.{append-nil}
@@ -13,7 +13,7 @@ use Rattle.report_terms.specs.ContourLines.{is_contour, contour_groups, point_of
 use Rattle.report_terms.proofs.ContourGroups.{group_begun, group_more}
 use Rattle.border_terms.specs.Runs.{Run, run_of, run, fair}
 use Rattle.border_terms.specs.Lengths.{contour_length}
-use Rattle.border_terms.specs.Borders.{Border, first_crack, border_of, borders}
+use Rattle.border_terms.specs.Borders.{first_crack, border_of, borders}
 use Rattle.bordering.specs.Kept.{Kept, last_border, closed, begin_with, with_point, with_segment, groups_with, HasBorders}
 
 -- what is kept of a single element
@@ -48,7 +48,7 @@ closed_borders lines k h = elim (begun_or_not k.begun) [
   | inl b ↦
       let g : contour_groups lines ≡ h.closed ++ h.last ∷ [] = h.groups ∙ ap (λ o. groups_with o h.closed h.last) b.1 in
       let last : option_to_list (last_border k) ≡ option_to_list (border_of h.last) =
-          λ i. option_to_list (option_map (λ c. record { start = c; length = contour_length (h.points i) (h.runs i) }) (h.begun i)) in
+      λ i. option_to_list (option_map (λ c. record { start = c; length = contour_length (h.points i) (h.runs i) }) (h.begun i)) in
       (λ i. h.borders i ++ last i) ∙ ap (λ t. filter_map border_of h.closed ++ t) (sym (kept_single border_of h.last))
       ∙ sym (ap (filter_map border_of) g ∙ filter_map-append border_of h.closed (h.last ∷ []))
   | inr n ↦

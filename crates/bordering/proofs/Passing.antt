@@ -1,10 +1,9 @@
 -- The lengths of steps as they are put along one run after another.
 -- Lists and numbers; the program's loop stands in none.
-use Rattle.std.proofs.Common.{◌≡◌, ◌⊎◌, inl, inr, ◌∙◌, ap, sym, subst, refl, ℕ, ◌+◌, ◌-◌, ◌<◌, ◌≤◌, Bool, true, false, List, [], ◌∷◌, ◌++◌, length, get_or, arith, map, min}
-use Rattle.std.specs.Prelude.{nat_le, nat_lt, ◌&&◌, if◌then◌else◌, sum, flat_map, cond}
-use Rattle.std.specs.List.{range_with_len}
+use Rattle.std.proofs.Common.{◌≡◌, ◌⊎◌, inl, inr, ◌∙◌, ap, sym, subst, refl, ℕ, ◌+◌, ◌-◌, ◌<◌, ◌≤◌, Bool, true, false, List, [], ◌∷◌, ◌++◌, length, get_or, arith, min}
+use Rattle.std.specs.Prelude.{if◌then◌else◌, sum}
 use Rattle.std.proofs.Math.ListN.{set}
-use Rattle.std.proofs.lemmas.Bool.{cond-true, cond-false, cases_Bool}
+use Rattle.std.proofs.lemmas.Bool.{cond-true, cond-false}
 use Rattle.std.proofs.lemmas.Bool.Decides.{nat_tests}
 use Rattle.std.proofs.lemmas.List.{length-append, append-nil, append_assoc, get_or-replicate, length-replicate}
 use Rattle.std.proofs.Math.ListN.{replicate}
@@ -65,6 +64,7 @@ passed_more ps r a i old new c low high h e = record {
   where
     split : (k i : ℕ) → (k ≡ i) ⊎ (k ≡ i → ⊥)
     split k i = grind arith
+
     here : (k : ℕ) → k ≡ i → get_or (set new i c) k no_cell ≡ (if is_between a (i + 1) k then cell_with (get_or old k no_cell) (share r (step_at ps k)) else get_or old k no_cell)
     here k s =
         let within : i < length new = let g = h.all in omega arith in
@@ -121,10 +121,10 @@ run_put ps runs r old mid new h first second =
         let lm' : i < length mid = omega arith in
         let was : get_or old i no_cell ≡ cell_of xs = ap (λ c. get_or c i no_cell) h ∙ get_or-map-range_with_len (λ j. cell_of (shares ps runs j)) 0 n i i no_cell l (omega arith) in
         let mid_is : get_or mid i no_cell ≡ cell_of (xs ++ a) =
-            first.each i lo' ∙ ap (λ c. if passes r i then cell_with c x else c) was ∙ sym (cell_more (passes r i) x xs) in
+        first.each i lo' ∙ ap (λ c. if passes r i then cell_with c x else c) was ∙ sym (cell_more (passes r i) x xs) in
         let new_is : get_or new i no_cell ≡ cell_of ((xs ++ a) ++ b) =
-            second.each i lm' ∙ ap (λ t. if t then cell_with (get_or mid i no_cell) x else get_or mid i no_cell) (second_round r.first r.last n i)
-            ∙ ap (λ c. if passes r (i + n) then cell_with c x else c) mid_is ∙ sym (cell_more (passes r (i + n)) x (xs ++ a)) in
+        second.each i lm' ∙ ap (λ t. if t then cell_with (get_or mid i no_cell) x else get_or mid i no_cell) (second_round r.first r.last n i)
+        ∙ ap (λ c. if passes r (i + n) then cell_with c x else c) mid_is ∙ sym (cell_more (passes r (i + n)) x (xs ++ a)) in
         let all : shares ps (runs ++ r ∷ []) i ≡ (xs ++ a) ++ b =
-            flat_map-append (shares_at ps i) runs (r ∷ []) ∙ ap (λ t. xs ++ t) (append-nil (a ++ b)) ∙ sym (append_assoc xs a b) in
+        flat_map-append (shares_at ps i) runs (r ∷ []) ∙ ap (λ t. xs ++ t) (append-nil (a ++ b)) ∙ sym (append_assoc xs a b) in
         new_is ∙ ap cell_of (sym all)

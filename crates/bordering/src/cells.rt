@@ -31,8 +31,7 @@ impl Cell {
     fn with(self, share: u64) -> Result<Cell, NoMemory>
         ensures { IfOk result (λ c. c ≡ cell_with self share) }
     {
-        let (Some(sum), Some(many)) = (self.sum.checked_add(share), self.many.checked_add(1))
-        else {
+        let (Some(sum), Some(many)) = (self.sum.checked_add(share), self.many.checked_add(1)) else {
             return Err(NoMemory);
         };
         Ok(Cell { sum, many })

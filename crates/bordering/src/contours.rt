@@ -10,7 +10,7 @@ ghost use Rattle.bordering.specs.Kept.{begin_with, closed, with_point, with_segm
 use crate::cells::Cell;
 use crate::length::contour_length;
 use crate::run::Run;
-use crate::runs::fair_run;
+use crate::runs::run_along;
 use shape_report::Line;
 use shape_space::{NoMemory, P2};
 use std::alloc::Global;
@@ -134,7 +134,7 @@ impl Contours {
                 Ok(())
             }
             Line::Seg { first, last, line } => {
-                self.add_segment(fair_run(*first, *last, line.a[0], line.a[1]))?;
+                self.add_segment(run_along(*first, *last, line))?;
                 Ok(())
             }
             _ => Ok(()),

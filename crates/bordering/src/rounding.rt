@@ -12,5 +12,9 @@ pub fn thousandths(length: u64) -> u64
 {
     let whole = length / THOUSANDTH;
     let rest = length % THOUSANDTH;
-    if rest < THOUSANDTH / 2 { whole } else { whole + 1 }
+    if rest < THOUSANDTH / 2 {
+        whole
+    } else {
+        whole + 1
+    }
 }

@@ -1,13 +1,15 @@
 //! Runs of a contour's steps along a line, as segments give them.
 //! Other limits are a change here and of the definition.
-ghost use Rattle.std.specs.Prelude.{◌≡◌, ◌≤◌, ◌^◌, ◌*ℤ◌, ◌-ℤ◌, nat_abs};
+ghost use Rattle.std.specs.Prelude.{◌≡◌, ◌≤◌, ◌^◌, ◌*ℤ◌, ◌-ℤ◌, ◌<◌, nat_abs, take};
 ghost use Rattle.std.specs.Option.{option_map};
-ghost use Rattle.border_terms.specs.Runs.{fair};
+ghost use Rattle.shape_terms.specs.Points.{coordinate};
+ghost use Rattle.border_terms.specs.Runs.{fair, run};
 ghost use Rattle.border_terms.specs.Lengths.{weight, norm};
 ghost use Rattle.bordering.specs.Told.{run_told, step_told};
 
 use crate::run::Run;
 use crate::step::Step;
+use shape_refute::Naive;
 
 // A run has no more steps.
 const MOST_STEPS: u64 = 2048;
@@ -23,8 +25,8 @@ fn coefficient(x: i64) -> i32
     x as i32
 }
 
-/// The run from a place to a place along a line, where it is within the limits.
-pub(crate) fn fair_run(first: u32, last: u32, a: i64, b: i64) -> Option<Run>
+// The run with these places and coefficients, where it is within the limits.
+fn fair_run(first: u32, last: u32, a: i64, b: i64) -> Option<Run>
     ensures { option_map run_told result
         ≡ fair (record { first = first; last = last; a = a; b = b }) }
 {
@@ -41,6 +43,26 @@ pub(crate) fn fair_run(first: u32, last: u32, a: i64, b: i64) -> Option<Run>
     } else {
         None
     }
+}
+
+// The coefficient of x or y in a line of the plane.
+fn coefficient_of(line: &Naive, axis: usize) -> i64
+    requires { axis < 2 }
+    ensures { result ≡ coordinate (take 2 line.now.a) axis }
+{
+    line.a[axis]
+}
+
+/// The run from a place to a place along a line of the plane, where it is within the limits.
+pub(crate) fn run_along(first: u32, last: u32, line: &Naive) -> Option<Run>
+    ensures { option_map run_told result ≡ fair (run first last (take 2 line.now.a)) }
+{
+    fair_run(
+        first,
+        last,
+        coefficient_of(line, 0),
+        coefficient_of(line, 1),
+    )
 }
 
 // The product of a change of a coordinate with a coefficient.

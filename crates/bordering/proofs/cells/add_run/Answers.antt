@@ -18,6 +18,6 @@ returns c = λ runs h.
     let same = c.add_shares.ensures.same ∙ c.new-along.ensures in
     let one = subst (λ k. ArePassed ps (run_told k) r.first r.last old mid) c.new-along.ensures c.in_ok-add_shares.ensures.passed in
     let two = subst (λ k. ArePassed ps (run_told k) (r.first - length ps) (r.last - length ps) mid new) same
-        (subst (λ x. ArePassed ps (run_told c.add_shares.new.along.run) x (r.last - length ps) mid new) a
-        (subst (λ y. ArePassed ps (run_told c.add_shares.new.along.run) c.saturating_sub.result y mid new) b c.in_ok-add_shares-2.ensures.passed)) in
+    (subst (λ x. ArePassed ps (run_told c.add_shares.new.along.run) x (r.last - length ps) mid new) a
+    (subst (λ y. ArePassed ps (run_told c.add_shares.new.along.run) c.saturating_sub.result y mid new) b c.in_ok-add_shares-2.ensures.passed)) in
     run_put ps runs (run_told r) old mid new h one two

@@ -1,4 +1,4 @@
-use Rattle.std.proofs.Common.{ap, sym, ◌∙◌, ◌≡◌, length, get_or, arith, subst, min}
+use Rattle.std.proofs.Common.{ap, ◌∙◌, ◌≡◌, length, get_or, arith, subst, min}
 use Rattle.border_terms.specs.Lengths.{share}
 use Rattle.bordering.specs.Told.{flats, run_told}
 use Rattle.bordering.specs.Cells.{cell_with, no_cell, ArePassed}
@@ -9,7 +9,7 @@ pub loop-i-preserved : goal.loop-i-preserved
 loop-i-preserved c =
     let same = c.share-share.ensures.same ∙ c.loop-i.invariant.0 in
     let put = c.in_ok-cells.ensures ∙ ap (λ x. cell_with (get_or c.loop-i.cells c.loop-i.i no_cell) x)
-        (c.share-share.ensures.value ∙ (λ j. share (run_told (c.loop-i.invariant.0 j)) (c.step_at.ensures j))) in
+    (c.share-share.ensures.value ∙ (λ j. share (run_told (c.loop-i.invariant.0 j)) (c.step_at.ensures j))) in
     (same, passed_more _ _ _ _ _ _ _ c.loop-i.auto.i (omega arith) c.loop-i.invariant.1 put)
 
 pub returns-clause-passed : goal.returns-clause-passed

@@ -1,4 +1,4 @@
-use Rattle.std.proofs.Common.{ap, sym, ◌∙◌, ◌≡◌, take, [], ◌∷◌, ◌++◌, ◌+◌, length, subst}
+use Rattle.std.proofs.Common.{ap, sym, ◌∙◌, take, [], ◌∷◌, ◌++◌, ◌+◌, length, subst}
 use Rattle.std.proofs.lemmas.List.{length-map, take_more, map-append, with_items_is}
 use Rattle.std.proofs.lemmas.List.FromFn.{length-map-range_with_len}
 use Rattle.border_terms.specs.Lengths.{shares}
@@ -17,8 +17,8 @@ loop-run-preserved c =
     let ps = flats c.args.points.now in
     let rs = runs_told (take c.loop-run.run-index c.args.runs.now) in
     let more = ap runs_told (take_more c.args.runs.now c.loop-run.run-index c.run-item.result c.loop-run-test.true)
-        ∙ map-append run_told (take c.loop-run.run-index c.args.runs.now) _
-        ∙ ap (λ r. rs ++ run_told r ∷ []) (sym c.run-item.is) in
+    ∙ map-append run_told (take c.loop-run.run-index c.args.runs.now) _
+    ∙ ap (λ r. rs ++ run_told r ∷ []) (sym c.run-item.is) in
     let items = with_items_is c.loop-run.cells c.add_run.new.cells (c.add_run.auto.cells ∙ c.as_mut_slice.ensures.len) in
     subst (AreCells ps (runs_told (take (c.loop-run.run-index + 1) c.args.runs.now))) (sym items)
     (subst (λ t. AreCells ps t c.add_run.new.cells) (sym more)

@@ -1,4 +1,4 @@
-use Rattle.std.proofs.Common.{◌≡◌, take}
+use Rattle.std.proofs.Common.{take}
 use Rattle.bordering.specs.Told.{flats, runs_told}
 use Rattle.bordering.specs.Cells.{AreCells}
 use Rattle.bordering.proofs.length.add_runs.Given as goal

@@ -1,4 +1,4 @@
-use Rattle.std.proofs.Common.{ap, sym, ◌∙◌, ◌≡◌, ◌<◌, ◌-◌, length, get_or, arith, subst}
+use Rattle.std.proofs.Common.{ap, sym, ◌∙◌, ◌<◌, ◌-◌, length, arith, subst}
 use Rattle.std.proofs.lemmas.List.{length-map, get_or-map, map-set}
 use Rattle.bordering.specs.Told.{bounds_told, all_bounds, border_told}
 use Rattle.bordering.specs.OneMore.{no_bounds, bounds_with, HasOneMore}

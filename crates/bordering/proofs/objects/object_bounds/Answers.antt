@@ -1,4 +1,4 @@
-use Rattle.std.proofs.Common.{ap, sym, ◌∙◌, ◌≡◌, take, [], ◌∷◌, ◌++◌, ◌+◌, length, subst, get_or, pos}
+use Rattle.std.proofs.Common.{ap, sym, ◌∙◌, ◌≡◌, take, [], ◌∷◌, ◌++◌, ◌+◌, subst, get_or, pos}
 use Rattle.std.specs.Prelude.{replicate}
 use Rattle.std.proofs.lemmas.List.{take_more, map-append, with_items_is}
 use Rattle.shape_terms.specs.Points.{sides_of}

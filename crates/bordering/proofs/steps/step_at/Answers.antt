@@ -1,7 +1,5 @@
-use Rattle.std.proofs.Common.{◌≡◌, ◌<◌, ◌+◌, ◌%◌, length, ap, sym, ◌∙◌, arith}
+use Rattle.std.proofs.Common.{◌<◌, length, ◌∙◌, arith}
 use Rattle.border_terms.specs.Lengths.{step}
-use Rattle.shape_terms.specs.Refutations.{point_at}
-use Rattle.bordering.specs.Told.{flats}
 use Rattle.bordering.proofs.Reading.{point_read, next_read}
 use Rattle.bordering.proofs.steps.step_at.Goals as goal
 

@@ -1,4 +1,4 @@
-use Rattle.std.proofs.Common.{◌≡◌, ℕ, true, List, [], ◌∷◌, ◌++◌, take, refl, sym, subst, ◌∙◌}
+use Rattle.std.proofs.Common.{◌≡◌, ℕ, List, [], ◌∷◌, ◌++◌, take, refl, sym, subst, ap, ◌∙◌}
 use Rattle.shape_space.specs.declared.point.P2.{P2}
 use Rattle.shape_refute.specs.declared.naive.Naive.{Naive}
 use Rattle.report_terms.specs.Lines as Terms
@@ -52,4 +52,6 @@ returns-in_ok-add_segment-in-Seg c = λ lines h.
     let n = c.in-Seg.line in
     let k = c.add_segment.new.self in
     let l = flat_line (Seg c.in-Seg.first c.in-Seg.last n) in
-    subst (λ (x : Line P2). HasBorders (lines ++ flat_line x ∷ []) k) (sym c.in-Seg.is) ?
+    let put = c.in_ok-add_segment-in-Seg.ensures ∙ ap (Keep.with_segment c.args.self.now) c.run_along.ensures in
+    subst (λ (x : Line P2). HasBorders (lines ++ flat_line x ∷ []) k) (sym c.in-Seg.is)
+    (subst (HasBorders (lines ++ l ∷ [])) (sym put) (adds_segment lines c.in-Seg.first c.in-Seg.last n.axis (take 2 n.a) n.mu c.args.self.now h))
