@@ -4,3 +4,4 @@ pub mod Means
 pub mod Lengths
 pub mod Borders
 pub mod Objects
+pub mod Shown
