@@ -1,6 +1,6 @@
 -- The borders that the lines of a report tell are those of the contours that they say.
 -- Laws of lists of lines; what the contours of a report that holds show stands in `report_terms`.
-use Rattle.std.proofs.Common.{◌≡◌, Bool, true, false, List, [], ◌∷◌, map, refl, ap, sym, ◌∙◌, Some, None}
+use Rattle.std.proofs.Common.{◌≡◌, true, false, List, [], ◌∷◌, map, refl, ap, sym, ◌∙◌}
 use Rattle.std.specs.Prelude.{ℕ, not, filter_map, take_while, Option}
 use Rattle.std.proofs.lemmas.Bool.{cond-true, cond-false}
 use Rattle.std.proofs.lemmas.List.Sums.{take_while-cons}
@@ -13,7 +13,7 @@ use Rattle.report_terms.specs.ContourLines.{is_contour, contour_groups, point_of
 use Rattle.report_terms.specs.Shows.{contour_fact, content_of}
 use Rattle.border_terms.specs.Runs.{run_of, run, fair}
 use Rattle.border_terms.specs.Lengths.{contour_length}
-use Rattle.border_terms.specs.Borders.{Border, border_of, borders}
+use Rattle.border_terms.specs.Borders.{borders}
 use Rattle.border_terms.specs.Shown.{run_of_segment, border_shown, BordersShow}
 
 -- the lines up to the next contour

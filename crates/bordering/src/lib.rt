@@ -16,6 +16,6 @@ mod step;
 mod steps;
 
 pub use contours::{Border, Contours};
-pub use law::shares_are_rounded_down;
+pub use law::{holding_tells_borders, shares_are_rounded_down};
 pub use objects::{Bounds, object_bounds};
 pub use rounding::thousandths;
