@@ -1,0 +1,2 @@
+pub mod RootFound
+pub mod BordersShown

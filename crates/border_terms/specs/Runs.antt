@@ -1,0 +1,29 @@
+-- The segments of a contour as runs of its steps along a line, as the lines of a report give them.
+-- Which segments are right does not matter here; those beyond the limits count for nothing.
+use Rattle.std.specs.Prelude.{ℕ, ℤ, ◌+◌, ◌^◌, nat_le, nat_abs, Bool, ◌&&◌, if◌then◌else◌, List, Option, Some, None}
+use Rattle.shape_terms.specs.Points.{coordinate}
+use Rattle.report_terms.specs.Lines.{Line}
+
+-- the steps of a contour from its first to its last place, and the coefficients of x and y in a line along them
+pub record Run : Type 0 where
+  pub first : ℕ
+  pub last : ℕ
+  pub a : ℤ
+  pub b : ℤ
+
+-- the run has at most 2048 steps, and no coefficient greater in size than 2^23. In a picture with sides up to 2048 no straight run has more steps, and no least line greater coefficients
+abbrev pub is_fair : Run → Bool
+is_fair r = nat_le r.last (r.first + 2048) && nat_le (nat_abs r.a) (2 ^ 23) && nat_le (nat_abs r.b) (2 ^ 23)
+
+-- the run, where it is within the limits
+abbrev pub fair : Run → Option Run
+fair r = if is_fair r then Some r else None
+
+-- the run of a segment from place b to place e, with the coefficients of its line
+abbrev pub run : (b e : ℕ) → List ℤ → Run
+run b e a = record { first = b; last = e; a = coordinate a 0; b = coordinate a 1 }
+
+-- the run that a `seg` line gives
+abbrev pub run_of : Line → Option Run
+run_of (Line.Seg b e t a mu) = fair (run b e a)
+run_of _ = None

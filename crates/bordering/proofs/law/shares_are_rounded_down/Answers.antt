@@ -1,0 +1,5 @@
+use Rattle.border_terms.proofs.RootFound.{quotient_holds}
+use Rattle.bordering.proofs.law.shares_are_rounded_down.Goals as goal
+
+pub returns-clause-share : goal.returns-clause-share
+returns-clause-share c = quotient_holds

@@ -1,0 +1,25 @@
+use Rattle.std.proofs.Common.{ap, sym, ◌∙◌, take, [], ◌∷◌, ◌++◌, ◌+◌, length, subst}
+use Rattle.std.proofs.lemmas.List.{length-map, take_more, map-append, with_items_is}
+use Rattle.std.proofs.lemmas.List.FromFn.{length-map-range_with_len}
+use Rattle.border_terms.specs.Lengths.{shares}
+use Rattle.bordering.specs.Told.{flat, flats, runs_told, run_told}
+use Rattle.bordering.specs.Cells.{AreCells, cell_of}
+use Rattle.bordering.proofs.length.add_runs.Goals as goal
+
+pub add_run-requires : goal.add_run-requires
+add_run-requires c =
+    let ps = flats c.args.points.now in
+    let rs = runs_told (take c.loop-run.run-index c.args.runs.now) in
+    ap length c.as_mut_slice.ensures.value ∙ ap length c.loop-run.invariant ∙ length-map-range_with_len (λ i. cell_of (shares ps rs i)) 0 (length ps) ∙ length-map c.args.points.now flat
+
+pub loop-run-preserved : goal.loop-run-preserved
+loop-run-preserved c =
+    let ps = flats c.args.points.now in
+    let rs = runs_told (take c.loop-run.run-index c.args.runs.now) in
+    let more = ap runs_told (take_more c.args.runs.now c.loop-run.run-index c.run-item.result c.loop-run-test.true)
+    ∙ map-append run_told (take c.loop-run.run-index c.args.runs.now) _
+    ∙ ap (λ r. rs ++ run_told r ∷ []) (sym c.run-item.is) in
+    let items = with_items_is c.loop-run.cells c.add_run.new.cells (c.add_run.auto.cells ∙ c.as_mut_slice.ensures.len) in
+    subst (AreCells ps (runs_told (take (c.loop-run.run-index + 1) c.args.runs.now))) (sym items)
+    (subst (λ t. AreCells ps t c.add_run.new.cells) (sym more)
+    (c.in_ok-add_run.ensures rs (subst (AreCells ps rs) (sym c.as_mut_slice.ensures.value) c.loop-run.invariant)))

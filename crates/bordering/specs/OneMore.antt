@@ -1,0 +1,23 @@
+-- What one border more changes of what the borders of objects add up to.
+-- That all borders in turn give the sums of the definitions is a law.
+use Rattle.std.specs.Prelude.{◌≡◌, ℕ, ◌+◌, ◌<◌, ◌==◌, List, length, slice_index_or, if◌then◌else◌}
+use Rattle.border_terms.specs.Borders.{Border}
+use Rattle.border_terms.specs.Objects.{Bounds, is_outer, is_hole, outer_length, hole_length}
+
+-- no border
+abbrev pub no_bounds : Bounds
+no_bounds = record { border = 0; hole_border = 0; holes = 0 }
+
+-- one border more
+abbrev pub bounds_with : Bounds → Border → Bounds
+bounds_with t b = record {
+  border = t.border + (if is_outer b then outer_length b else 0);
+  hole_border = t.hole_border + (if is_hole b then hole_length b else 0);
+  holes = t.holes + (if is_hole b then 1 else 0);
+}
+
+-- of the objects from 1 on, the one with the label has one border more
+pub record HasOneMore (label : ℕ) (b : Border) (old new : List Bounds) : Type 0 where
+  pub all : length new ≡ length old
+  pub each : (i : ℕ) → i < length old → slice_index_or new i no_bounds
+      ≡ (if label == i + 1 then bounds_with (slice_index_or old i no_bounds) b else slice_index_or old i no_bounds)

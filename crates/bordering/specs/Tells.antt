@@ -1,0 +1,14 @@
+-- What the text of a report that holds tells of the borders of its picture.
+-- Geometry stands in `border_terms`.
+use Rattle.std.specs.Prelude.{◌≡◌, ℕ, List}
+use Rattle.shape_terms.specs.Pictures.{Picture}
+use Rattle.report_terms.specs.Lines.{Line, text_of}
+use Rattle.border_terms.specs.Borders.{borders}
+use Rattle.border_terms.specs.Shown.{BordersShow}
+
+-- the text is made of lines whose borders are those of the picture's contours
+pub record TellsBorders (X : Picture) (text : List ℕ) : Type 0 where
+  pub lines : List Line
+  pub is : text ≡ text_of lines
+  pub number : ℕ
+  pub shows : BordersShow number X (borders lines)

@@ -1,0 +1,21 @@
+//! The borders of a report of a flat picture: the length of each by the segments of its contour, and what those of each object add up to.
+//! It judges no claim and labels no object: lines and labels come from the caller.
+#![tactic(auto)]
+
+mod along;
+mod cells;
+mod contours;
+mod law;
+mod length;
+mod objects;
+mod quotient;
+mod rounding;
+mod run;
+mod runs;
+mod step;
+mod steps;
+
+pub use contours::{Border, Contours};
+pub use law::{holding_tells_borders, shares_are_rounded_down};
+pub use objects::{Bounds, object_bounds};
+pub use rounding::thousandths;
