@@ -13,8 +13,9 @@ from .faults import Fault
 
 REMEDY = "`shapes check` tells whether a report holds, and why not"
 
-# Letters become blanks, but the names of the axes, which become 0, 1 and 2; signs that stand alone are spelled as numbers before.
-_LETTERS = bytes.maketrans(b"abcdefghijklmnopqrstuvwxyz", b" " * 23 + b"012")
+# Words become blanks. Before that the names of axes, which stand between blanks, become 0, 1 and 2, and signs that stand alone 1 and -1.
+_LETTERS = bytes.maketrans(b"abcdefghijklmnopqrstuvwxyz", b" " * 26)
+_AXES_AND_SIGNS = ((b" x ", b" 0 "), (b" y ", b" 1 "), (b" z ", b" 2 "), (b"- ", b"-1 "), (b"+", b"1"))
 
 
 def _code(word: str) -> int:
@@ -93,6 +94,6 @@ class Lines:
 
 def _parsed(block: bytes) -> np.ndarray:
     """All numbers of a block; fewer where something in it is no number."""
-    if b"+" in block:
-        block = block.replace(b"+", b"1")
-    return np.fromstring(block.replace(b"- ", b"-1 ").translate(_LETTERS), np.int64, sep=" ")
+    for word, number in _AXES_AND_SIGNS:
+        block = block.replace(word, number)
+    return np.fromstring(block.translate(_LETTERS), np.int64, sep=" ")

@@ -1,0 +1,131 @@
+"""Makes all that one picture gives: its file, its report, checked, its table and its drawing; and a record of how.
+
+Everything is made in a folder aside and then renamed, the record last. So what has a record is whole, and a second run with the
+same picture, rule and programs leaves it as it is.
+"""
+from __future__ import annotations
+
+import os
+import tempfile
+from collections.abc import Iterator
+from contextlib import contextmanager
+from dataclasses import dataclass
+from pathlib import Path
+from typing import Any
+
+from .arrays import verdict
+from .convert import Picture
+from .faults import Fault
+from .files import gzipped, read_json, shown, sum_of, sum_of_bytes, write_json
+from .pictures import Source, sides_of, spelled, suffix_of
+from .programs import call, explained, has, made, sums
+
+_ASIDE = ".making-"
+Record = dict[str, Any]
+
+
+@dataclass(frozen=True)
+class Plan:
+    """Where the files go, the rule of the thinning, and whether reports are gzipped."""
+
+    folder: Path
+    rule: str
+    gzip: bool = False
+
+
+def make(picture: Picture, plan: Plan) -> Record:
+    """Makes what a picture gives, but where its record says that it is there already. The record; a Fault where it fails."""
+    head = _head(picture, plan)
+    record = read_json(plan.folder / (picture.key + ".json"))
+    if record is not None and _is_made(record, head, plan.folder):
+        return record
+    place = (plan.folder / picture.key).parent
+    with _folder_aside(place) as work:
+        counts = _products(picture, plan, work)
+        files = {}
+        for path in sorted(work.iterdir()):
+            files[path.name] = sum_of(path)
+            os.replace(path, place / path.name)
+        record = {**head, **counts, "files": files}
+        write_json(plan.folder / (picture.key + ".json"), record)
+    return record
+
+
+def _head(picture: Picture, plan: Plan) -> Record:
+    """What says how a picture's files are made: equal heads, equal files."""
+    return {
+        "image": picture.image, "label": picture.label, "sides": list(sides_of(picture.mask)), "fit": picture.fit,
+        "threshold": picture.threshold, "notes": list(picture.notes), "rule": plan.rule, "gzip": plan.gzip,
+        "picture": sum_of_bytes(spelled(picture.mask)), "programs": sums(),
+    }  # fmt: skip
+
+
+def _is_made(record: Record, head: Record, folder: Path) -> bool:
+    """Whether a record has this head, and its files are there as they were written."""
+    if any(record.get(key) != value for key, value in head.items()) or not record.get("files"):
+        return False
+    place = (folder / record["image"]).parent
+    return all(sum_of(place / name) == told for name, told in record["files"].items())
+
+
+@contextmanager
+def _folder_aside(place: Path) -> Iterator[Path]:
+    try:
+        place.mkdir(parents=True, exist_ok=True)
+        with tempfile.TemporaryDirectory(prefix=f"{_ASIDE}{os.getpid()}-", dir=place) as work:
+            yield Path(work)
+    except OSError as error:
+        raise Fault(shown(place), f"cannot be written ({error.strerror})", "is the disk full, or may you not write there?") from error
+
+
+def clear_aside(folder: Path) -> None:
+    """Takes away what a run left in the folder that was ended in the middle and is no more."""
+    for work in folder.rglob(_ASIDE + "*"):
+        process = work.name.removeprefix(_ASIDE).split("-")[0]
+        if work.is_dir() and process.isdigit() and not Path("/proc", process).exists():
+            for path in work.iterdir():
+                path.unlink()
+            work.rmdir()
+
+
+def _products(picture: Picture, plan: Plan, work: Path) -> Record:
+    """Writes the files of a picture into the folder `work`; what the record says of them."""
+    name = Path(picture.key).name
+    image, report = work / (name + suffix_of(picture.mask)), work / (name + ".report")
+    image.write_bytes(spelled(picture.mask))
+    source = Source.of(image)
+    with open(report, "wb") as out:
+        made("shape", "analyse", *source.words, plan.rule, out=out, about=picture.key)
+    answer = verdict(source, report)
+    if not answer:
+        raise Fault(picture.key, f"its fresh report does not hold ({answer})", "this must never be: is the disk or the memory broken?")
+    if has("shape_measure"):
+        with open(work / (name + ".csv"), "wb") as out:
+            made("shape_measure", report, out=out, about=picture.key)
+    _draw(report, work / (name + ".svg"), picture.key)
+    counts = {"parts": _numbers(report, 1), "kept": _numbers(report, -2)}
+    if plan.gzip:
+        report.with_name(report.name + ".gz").write_bytes(gzipped(report.read_bytes()))
+        report.unlink()
+    return counts
+
+
+def _draw(report: Path, drawing: Path, about: str) -> None:
+    """Draws a report, where the program is there and draws reports of this kind."""
+    if not has("shape_draw"):
+        return
+    with open(drawing, "wb") as out:
+        answer = call("shape_draw", report, out=out)
+    if answer.status:
+        drawing.unlink()
+        if answer.message != "a report of a volume":
+            raise explained(about, answer)
+
+
+def _numbers(report: Path, line: int) -> list[int]:
+    """The numbers of the report's second line, `parts`, or of the last but one, `kept`, as it prints them."""
+    with open(report, "rb") as file:
+        if line < 0:
+            file.seek(max(0, report.stat().st_size - 400))
+            return [int(word) for word in file.read().splitlines()[line].split()[1:]]
+        return [int(word) for word in [file.readline() for _ in range(line + 1)][line].split()[1:]]
