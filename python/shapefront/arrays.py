@@ -9,6 +9,7 @@ from pathlib import Path
 
 import numpy as np
 
+from .faults import Fault
 from .pictures import Source, checked_mask, spelled, suffix_of
 from .programs import call, explained
 from .report import Analysis, read, text_of
@@ -44,6 +45,8 @@ def analyse(mask: np.ndarray, rule: str = "none") -> Analysis:
 
     A Fault where the array is none, a side is too large, or a program is missing. Lengths are in pixels.
     """
+    if rule not in RULES:
+        raise Fault(rule, "no rule of the thinning", f"the rules are {', '.join(RULES)}")
     with stored(mask) as source:
         return read(report_of(source, rule))
 

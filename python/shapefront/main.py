@@ -101,7 +101,7 @@ def measure(words: argparse.Namespace) -> int:
     find("shape")
     images, passed = images_of(words.images, is_volume)
     if passed:
-        print(f"{passed} files of the folders are no images by their names, and were passed over", file=sys.stderr)
+        print(f"passed over, as their names are not those of images: {passed} of the files", file=sys.stderr)
     if not images:
         raise Fault(shown(words.images[0]), "no image is in this folder", "name the files themselves")
     for program in ("shape_measure", "shape_draw"):

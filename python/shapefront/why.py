@@ -23,9 +23,9 @@ _CHOICES = {
     "ball": "it is no ball of the object, comes out of order, or its own point is not its own",
 }
 _ONE_TRUTH = {
-    "shape": "the picture or its rule", "parts": "the counts", "contour": "the next border", "at": "the next point of the border",
+    "parts": "true", "contour": "the next border", "at": "the next point of the border",
     "face": "the next face", "del": "the next point of the thinning", "tip": "the next point of the thinning",
-    "kept": "what is left", "end": "the end", "edges": "the picture", "pieces": "the picture", "balls": "the picture",
+    "kept": "true", "end": "true",
     "cycle": "the next cycle", "chain": "the next contour",
 }  # fmt: skip
 

@@ -26,7 +26,7 @@ class Reasons(unittest.TestCase):
 
     def test_other_kinds(self):
         self.assertIn("the report is of another one", self.why(1, b"shape 2 pbm 60 29 none"))
-        self.assertIn("the counts is `parts 95 5 5`", self.why(2, b"parts 95 5 4"))
+        self.assertIn("true is `parts 95 5 5`", self.why(2, b"parts 95 5 4"))
         number = self.lines.index(b"at 15 10") + 1
         self.assertIn("the next point of the border is `at 15 10`", self.why(number, b"at 15 11"))
         number = self.lines.index(b"end") + 1
