@@ -12,21 +12,22 @@ from .faults import Fault
 from .images import Grey, array_of, load, load_stack
 from .pictures import sides_of, told_sides
 from .programs import SIDE_FLAT, SIDE_SOLID
-from .thresholds import Settings, cut_of, looks_like_labels
+from .thresholds import Cut, Settings, cut_of, looks_like_labels
 
 
 @dataclass(frozen=True)
 class Picture:
     """A picture or volume of two values: its image's name, its label where it is one of several, and how it was made, in words.
 
-    `fit` is how many of the image's pixels one of its pixels is wide: 1 where the image was not made smaller.
+    `fit` is how many of the image's pixels one of its pixels is wide: 1 where the image was not made smaller. `cut` is None where
+    the image's values were taken as labels.
     """
 
     image: str
     label: int | None
     mask: np.ndarray
     fit: int
-    threshold: float | None
+    cut: Cut | None
     notes: tuple[str, ...]
 
     @property
@@ -95,7 +96,7 @@ def _made(image: Grey, name: str, settings: Settings, limit: int) -> Iterator[Pi
     cut = cut_of(image, settings)
     if looks_like_labels(image.values):
         notes.append(f"its values are 0 to {image.values.max()}: if these are labels, give --labels")
-    yield Picture(name, None, cut.mask(image.values), fit, cut.threshold, (str(cut), *notes))
+    yield Picture(name, None, cut.mask(image.values), fit, cut, (str(cut), *notes))
 
 
 def _labelled(image: Grey, name: str, how: str, fit: int) -> Iterator[Picture]:

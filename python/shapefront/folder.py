@@ -75,8 +75,8 @@ def pictures(records: list[Record]) -> Iterator[Row]:
     counts = ["points", "pieces", "background", "skeleton"]
     yield ["image", *(["label"] if labels else []), *"xyz"[:axes], "fit", "threshold", *counts]
     for record in records:
-        threshold = record["threshold"]
-        own = [*record["sides"], record["fit"], "" if threshold is None else f"{threshold:.12g}"]
+        cut = record["cut"]
+        own = [*record["sides"], record["fit"], f"{cut['threshold']:.12g}" if cut else ""]
         label = [record["label"]] if labels else []
         yield [str(word) for word in (record["image"], *label, *own, *record["parts"], record["kept"][0])]
 
@@ -101,12 +101,12 @@ def summary(images: list[Image], plan: Plan, pixel: Pixel | None) -> Iterator[st
 
 def _warnings(images: list[Image]) -> Iterator[str]:
     """What a user should look at before the numbers."""
-    notes = [note for image in images for record in image.records for note in record["notes"]]
-    chosen = [note for note in notes if "(the frame is " in note]
-    dark = sum("objects dark" in note for note in chosen)
-    if 0 < dark < len(chosen):
+    cuts = [record["cut"] for image in images for record in image.records if record["cut"]]
+    chosen = [cut["objects"] for cut in cuts if cut["side"].startswith("the frame")]
+    if len(set(chosen)) > 1:
+        dark = chosen.count("dark")
         yield f"the objects were taken to be dark in {dark} images and light in {len(chosen) - dark}: give --dark or --light where all are alike"
-    if any("chosen by Otsu" in note for note in notes) and len(notes) > 1:
-        yield "each image has a threshold of its own, see below: give --threshold where areas are to be compared"
+    if len({cut["threshold"] for cut in cuts if cut["how"].startswith("chosen")}) > 1:
+        yield "each image has a threshold of its own, told below: give --threshold where their areas are to be compared"
     if not sums()["shape_measure"]:
         yield "the program shape_measure is not found: there is no objects.csv; pictures.csv has a row for each picture"

@@ -20,6 +20,7 @@ from .report import text_of
 from .thresholds import Settings
 from .units import Pixel
 
+MASKS = ("object", "skeleton", "distances")
 DONE, FAILED, USAGE, NOTHING, STOPPED = 0, 1, 2, 3, 130
 
 _STATUS = """
@@ -63,6 +64,7 @@ def _making(parser: argparse.ArgumentParser) -> None:
     parser.add_argument("--rule", choices=RULES, default="curve", help="what the thinning keeps: ends of curves (curve), the first two (few), or none")
     parser.add_argument("--jobs", type=_jobs, default=1, metavar="N", help="how many images at once")
     parser.add_argument("--gzip", action="store_true", help="gzip the reports: a fifth of their size")
+    parser.add_argument("--masks", action="append", choices=MASKS, default=[], help="also write a picture of this; may be given again for another")
     parser.add_argument("-o", dest="folder", type=Path, default=Path("measured"), metavar="FOLDER", help="where all is written (measured)")
 
 
@@ -104,11 +106,14 @@ def measure(words: argparse.Namespace) -> int:
         print(f"passed over, as their names are not those of images: {passed} of the files", file=sys.stderr)
     if not images:
         raise Fault(shown(words.images[0]), "no image is in this folder", "name the files themselves")
-    for program in ("shape_measure", "shape_draw"):
+    for program, made in (("shape_measure", "objects.csv"), ("shape_draw", "drawings"), *([("shape_mask", "masks")] if words.masks else [])):
         if not has(program):
-            print(f"{program}: this program is not found, so there is no {'objects.csv' if program == 'shape_measure' else 'drawing'}", file=sys.stderr)
+            print(f"{program}: this program is not found, so no {made}; all else goes on", file=sys.stderr)
+    if any(path.is_dir() and path.resolve() == words.folder.resolve() for path in words.images):
+        raise Fault("-o", "the folder of the images themselves", "choose another one for what is written")
     clear_aside(words.folder)
-    plan, convert = Plan(words.folder, words.rule, words.gzip), volumes_of if is_volume else pictures_of
+    plan = Plan(words.folder, words.rule, words.gzip, tuple(dict.fromkeys(words.masks)))
+    convert = volumes_of if is_volume else pictures_of
     run(images, plan, lambda path, name: convert(path, name, settings), words.jobs)
     finish(images, plan, pixel, _told(words))
     failed = sum(image.failure is not None for image in images)
@@ -168,10 +173,11 @@ def _picture_of_image(words: argparse.Namespace, report: Path, is_volume: bool) 
 
 
 def _recorded(record: dict) -> Settings:
-    """The settings that a record tells: its threshold and its side, so that the same image gives the same picture."""
-    notes, threshold = " ".join(record["notes"]), record["threshold"]
-    labels = None if threshold is not None else "each" if record["label"] is not None else "all"
-    return Settings(None if threshold is None else repr(threshold), "dark" if "objects dark" in notes else "light", labels, record["fit"] > 1)
+    """The settings that a record tells: with them the same image gives the same picture."""
+    cut = record["cut"]
+    if cut is None:
+        return Settings(labels="all" if record["label"] is None else "each", fit=record["fit"] > 1)
+    return Settings(repr(cut["threshold"]), cut["objects"], None, record["fit"] > 1)
 
 
 def main(words: list[str] | None = None) -> int:
@@ -181,7 +187,7 @@ def main(words: list[str] | None = None) -> int:
         return check(given) if given.command == "check" else measure(given)
     except Fault as fault:
         print(f"shapes: {fault}", file=sys.stderr)
-        return USAGE if fault.about.startswith("--") else NOTHING
+        return USAGE if fault.about.startswith("-") else NOTHING
     except KeyboardInterrupt:
         print("\nshapes: stopped; the same command goes on where it was", file=sys.stderr)
         return STOPPED

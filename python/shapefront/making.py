@@ -9,7 +9,7 @@ import os
 import tempfile
 from collections.abc import Iterator
 from contextlib import contextmanager
-from dataclasses import dataclass
+from dataclasses import asdict, dataclass
 from pathlib import Path
 from typing import Any
 
@@ -26,11 +26,12 @@ Record = dict[str, Any]
 
 @dataclass(frozen=True)
 class Plan:
-    """Where the files go, the rule of the thinning, and whether reports are gzipped."""
+    """Where the files go, the rule of the thinning, whether reports are gzipped, and the masks that are wanted beside them."""
 
     folder: Path
     rule: str
     gzip: bool = False
+    masks: tuple[str, ...] = ()
 
 
 def make(picture: Picture, plan: Plan) -> Record:
@@ -55,7 +56,7 @@ def _head(picture: Picture, plan: Plan) -> Record:
     """What says how a picture's files are made: equal heads, equal files."""
     return {
         "image": picture.image, "label": picture.label, "sides": list(sides_of(picture.mask)), "fit": picture.fit,
-        "threshold": picture.threshold, "notes": list(picture.notes), "rule": plan.rule, "gzip": plan.gzip,
+        "cut": asdict(picture.cut) if picture.cut else None, "notes": list(picture.notes), "rule": plan.rule, "gzip": plan.gzip, "masks": list(plan.masks),
         "picture": sum_of_bytes(spelled(picture.mask)), "programs": sums(),
     }  # fmt: skip
 
@@ -103,6 +104,8 @@ def _products(picture: Picture, plan: Plan, work: Path) -> Record:
         with open(work / (name + ".csv"), "wb") as out:
             made("shape_measure", report, out=out, about=picture.key)
     _draw(report, work / (name + ".svg"), picture.key)
+    for kind in plan.masks if has("shape_mask") else ():
+        _mask(kind, report, work / f"{name}.{kind}", picture)
     counts = {"parts": _numbers(report, 1), "kept": _numbers(report, -2)}
     if plan.gzip:
         report.with_name(report.name + ".gz").write_bytes(gzipped(report.read_bytes()))
@@ -120,6 +123,15 @@ def _draw(report: Path, drawing: Path, about: str) -> None:
         drawing.unlink()
         if answer.message != "a report of a volume":
             raise explained(about, answer)
+
+
+def _mask(kind: str, report: Path, path: Path, picture: Picture) -> None:
+    """Writes a picture of what a report says: a PBM or a PGM, or of a volume raw bytes, whose sides its name tells."""
+    with open(path, "wb") as out:
+        made("shape_mask", kind, report, out=out, about=picture.key)
+    with open(path, "rb") as file:
+        suffix = {b"P1": ".pbm", b"P4": ".pbm", b"P2": ".pgm", b"P5": ".pgm"}.get(file.read(2)) if picture.mask.ndim == 2 else None
+    os.replace(path, path.with_name(path.name + (suffix or suffix_of(picture.mask))))
 
 
 def _numbers(report: Path, line: int) -> list[int]:

@@ -94,8 +94,8 @@ def otsu(values: np.ndarray) -> float:
 
 
 def looks_like_labels(values: np.ndarray) -> bool:
-    """Whether the values are 0 to n without a gap, n at least 2, as programs that find cells write them."""
-    if not np.issubdtype(values.dtype, np.integer) or values.min() != 0 or values.max() > 1 << 20:
+    """Whether the values are 0 to n without a gap, n at least 2, and mostly those of their neighbours, as labels are."""
+    if not np.issubdtype(values.dtype, np.integer) or values.min() != 0 or not 2 <= values.max() < 1 << 20:
         return False
     present = np.bincount(values.ravel().astype(np.int64)) > 0
-    return present.size > 2 and bool(present.all()) and (present.size < 200 or values.dtype.itemsize > 1)
+    return bool(present.all()) and bool((values[..., 1:] == values[..., :-1]).mean() > 0.8)

@@ -41,7 +41,7 @@ class Pictures(InFolder):
         Image.fromarray(ramp).save("ramp.png")
         for given, value in (("100", 100), ("50%", 127.5), ("0", 0)):
             picture = one("ramp.png", threshold=given, objects="dark")
-            self.assertEqual(picture.threshold, value)
+            self.assertEqual(picture.cut.threshold, value)
             np.testing.assert_array_equal(picture.mask, ramp < value)
         wide = (ramp.astype(np.uint16) * 257)
         Image.fromarray(wide).save("wide.tif")

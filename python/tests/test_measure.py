@@ -163,6 +163,7 @@ class Measuring(InFolder):
             (("measure", "in", "--threshold", "half"), 2, "invalid"),
             (("measure", "in", "--jobs", "0"), 2, "invalid"),
             (("measure", "in", "--rule", "thin"), 2, "invalid choice"),
+            (("measure", "in", "-o", "./in"), 2, "the folder of the images themselves"),
             (("measure",), 2, "required"),
             (("check", "empty"), 3, "empty: no report is in this folder"),
             (("check", "in/000.png"), 3, "not a folder"),
