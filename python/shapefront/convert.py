@@ -38,15 +38,15 @@ class Picture:
 
 def pictures_of(path: Path, name: str, settings: Settings) -> Iterator[Picture]:
     """The pictures that an image's file gives: one, or one for each of its labels. A Fault where it gives none."""
-    yield from _made(load(path), name, settings, SIDE_FLAT)
+    yield from _made(load(path, bool(settings.labels)), name, settings, SIDE_FLAT)
 
 
 def volumes_of(path: Path, name: str, settings: Settings) -> Iterator[Picture]:
     """The volumes that a folder of slices, a stack or an array gives. A Fault where it gives none."""
-    yield from _made(volume(path), name, settings, SIDE_SOLID)
+    yield from _made(volume(path, bool(settings.labels)), name, settings, SIDE_SOLID)
 
 
-def volume(path: Path) -> Grey:
+def volume(path: Path, labels: bool = False) -> Grey:
     """The grey values [z, y, x] of a folder of slices (in the order of the numbers in their names), of a stack or of an array."""
     if path.suffix.lower() == ".npy":
         values = array_of(path)
@@ -57,10 +57,10 @@ def volume(path: Path) -> Grey:
         files = sorted((p for p in path.iterdir() if p.is_file() and not p.name.startswith(".")), key=_numbered)
         if not files:
             raise Fault(path, "an empty folder", "it has to hold the slices, one image each")
-        return _stacked(path, [(file.name, load(file)) for file in files])
+        return _stacked(path, [(file.name, load(file, labels)) for file in files])
     if not path.is_file():
         raise Fault(path, "no such file or folder", "is the name right?")
-    slices = load_stack(path)
+    slices = load_stack(path, labels)
     if len(slices) < 2:
         raise Fault(path, "one image, not a stack", "give the folder of the slices, or `shapes measure` for a flat picture")
     return _stacked(path, [(f"page {k}", page) for k, page in enumerate(slices, 1)])
@@ -105,7 +105,7 @@ def _labelled(image: Grey, name: str, how: str, fit: int) -> Iterator[Picture]:
         raise Fault(image.name, "its values are no whole numbers, so no labels", "leave out --labels")
     if "colours made grey" in image.notes:
         raise Fault(image.name, "labels in colours", "save them as numbers: a grey image of 8 or 16 bits, 0 for the background")
-    notes = []
+    notes = list(image.notes)
     if fit > 1:
         notes.append(f"made smaller: 1 pixel for {fit}, each the label of its middle")
         values = values[(slice(fit // 2, None, fit),) * values.ndim]

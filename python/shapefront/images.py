@@ -1,6 +1,7 @@
 """Images as arrays of grey values: whatever Pillow and tifffile read, with what was done to it in words."""
 from __future__ import annotations
 
+from collections.abc import Iterator
 from dataclasses import dataclass
 from pathlib import Path
 
@@ -30,25 +31,28 @@ def pillow():
         from PIL import Image, ImageOps
     except ImportError as error:
         raise Missing("Pillow", "this Python package is not installed", "`apt install python3-pil`, or `pip install pillow`") from error
-    Image.MAX_IMAGE_PIXELS = None
+    Image.MAX_IMAGE_PIXELS = 1 << 29
     return Image, ImageOps
 
 
-def load(path: Path) -> Grey:
-    """The grey values of an image's file. A Fault where it is no image, a stack, or one of a kind that is not known."""
+def load(path: Path, labels: bool = False) -> Grey:
+    """The grey values of an image's file; of one with a palette the numbers of its colours where labels are wanted.
+
+    A Fault where it is no image, a stack, or one of a kind that is not known.
+    """
     if not path.is_file():
         raise Fault(path, "no such file" if not path.exists() else "not a file", "is the name right?")
     if path.suffix.lower() == ".npy":
         return _array(path)
-    frames = list(_frames(path, 2))
+    frames = list(_frames(path, 2, labels))
     if len(frames) > 1:
         raise Fault(path, "it has several pages or frames", "`shapes volume` takes a stack; else save the one page as a PNG")
     return frames[0]
 
 
-def load_stack(path: Path) -> list[Grey]:
+def load_stack(path: Path, labels: bool = False) -> list[Grey]:
     """All pages of an image's file, from the first on. A Fault as for `load`."""
-    return list(_frames(path, None))
+    return list(_frames(path, None, labels))
 
 
 def array_of(path: Path) -> np.ndarray:
@@ -69,12 +73,12 @@ def _array(path: Path) -> Grey:
     return Grey(str(path), values, (), "light" if values.dtype == bool else None)
 
 
-def _frames(path: Path, most: int | None):
+def _frames(path: Path, most: int | None, labels: bool) -> Iterator[Grey]:
     """The pages of a file, at most so many; tifffile is asked where Pillow does not know a TIFF."""
     image_of, _ = pillow()
     try:
         image = image_of.open(path)
-    except (OSError, SyntaxError, ValueError) as error:
+    except Exception as error:  # noqa: BLE001  Pillow raises errors of many kinds on files that are no images
         pages = _tiff_pages(path, most)
         if pages is None:
             raise Fault(path, "not an image that can be read", "open it in another program and save it as PNG or TIFF") from error
@@ -84,9 +88,12 @@ def _frames(path: Path, most: int | None):
         for k in range(min(getattr(image, "n_frames", 1), most or 1 << 30)):
             try:
                 image.seek(k)
-                yield _grey(path, image)
-            except (OSError, SyntaxError, ValueError, EOFError) as error:
+                page = _grey(path, image, labels)
+            except Fault:
+                raise
+            except Exception as error:  # noqa: BLE001  as above
                 raise Fault(path, f"a broken image ({error})", "is it a whole file? copy it again") from error
+            yield page
 
 
 def _tiff_pages(path: Path, most: int | None) -> list[Grey] | None:
@@ -109,10 +116,12 @@ def _of_channels(path: Path, values: np.ndarray) -> Grey:
     return Grey(str(path), values)
 
 
-def _grey(path: Path, image) -> Grey:
+def _grey(path: Path, image, labels: bool) -> Grey:
     """The grey values of the page that Pillow shows."""
     image_of, ops = pillow()
     notes = []
+    if labels and image.mode == "P":
+        return Grey(str(path), np.array(image), ("the numbers of its colours are the labels",))
     if (image.getexif() or {}).get(0x0112, 1) != 1:
         image = ops.exif_transpose(image)
         notes.append("turned upright as its camera says")

@@ -72,6 +72,10 @@ class Pictures(InFolder):
         self.assertEqual([picture.key for picture in each], ["cells.tif.label1", "cells.tif.label2", "cells.tif.label300"])
         for picture in each:
             np.testing.assert_array_equal(picture.mask, labels == picture.label)
+        indexed = Image.fromarray(np.minimum(labels, 3).astype(np.uint8))
+        indexed.putpalette([0, 0, 0, 255, 0, 0, 0, 200, 0, 0, 0, 90])
+        indexed.save("indexed.png")
+        self.assertEqual([picture.label for picture in pictures_of(Path("indexed.png"), "x", Settings(labels="each"))], [1, 2, 3])
         together = one("cells.tif", labels="all")
         np.testing.assert_array_equal(together.mask, labels > 0)
         self.assertIn("the 3 labels as one picture", together.notes[0])
