@@ -31,7 +31,9 @@ class Finding:
     why: str = ""
 
     def __str__(self) -> str:
-        return f"{self.name}: {'yes' if self.holds else 'no'}" + (f" ({self.why})" if self.why and self.holds else f", {self.why}" if self.why else "")
+        if self.holds:
+            return f"{self.name}: yes" + (f" ({self.why})" if self.why else "")
+        return f"{self.name}: no, {self.why}"
 
 
 def check_report(name: str, source: Source, report: Path) -> Finding:
@@ -86,7 +88,7 @@ def file_of(picture: Picture) -> Iterator[Source]:
 
 def check_folder(folder: Path) -> Iterator[Finding]:
     """Each report of a folder against its picture, with its table and its drawing, and at last the table of all."""
-    reports = sorted(path for path in folder.rglob("*") if path.name.endswith((".report", ".report.gz")) and "/." not in str(path.relative_to(folder.parent)))
+    reports = sorted(path for path in folder.rglob("*") if path.name.endswith((".report", ".report.gz")) and not _is_hidden(path, folder))
     if not reports:
         raise Fault(shown(folder), "no report is in this folder", "reports are files whose names end in .report or .report.gz")
     for report in reports:
@@ -97,6 +99,11 @@ def check_folder(folder: Path) -> Iterator[Finding]:
         except Fault as fault:
             yield Finding(name, False, f"{fault.reason}" + (f"; {fault.remedy}" if fault.remedy else ""))
     yield from _check_objects(folder)
+
+
+def _is_hidden(path: Path, folder: Path) -> bool:
+    """Whether a file's name or that of a folder above it begins with a point: what is being made just now does."""
+    return any(part.startswith(".") for part in path.relative_to(folder).parts)
 
 
 def _check_all(name: str, stem: str, report: Path) -> Finding:
@@ -124,11 +131,14 @@ def _is_written(program: str, report: Path, written: Path) -> bool:
 
 def picture_of(stem: str, report: Path) -> Source:
     """The picture beside a report: its name with .pbm, or with .XxYxZ.raw. A Fault where there is none, or more than one."""
-    beside = [path for path in report.parent.iterdir() if path.name.startswith(stem + ".") and path.suffix in (".pbm", ".raw")]
-    found = [source for source in map(Source.of, beside) if source.path.name in (stem + ".pbm", stem + ".%dx%dx%d.raw" % (source.sides or (0, 0, 0)))]
+    sides = {source.path.name: source for path in report.parent.iterdir() if path.suffix in (".pbm", ".raw") for source in [Source.of(path)]}
+    found = [source for name, source in sides.items() if name in (f"{stem}.pbm", stem + ".%dx%dx%d.raw" % (source.sides or (0, 0, 0)))]
     if len(found) != 1:
-        reason_ = "no picture lies beside its report" if not found else "several pictures lie beside its report"
-        raise Fault(shown(report), reason_, f"put {stem}.pbm or {stem}.XxYxZ.raw there, with the sides for X, Y and Z")
+        raise Fault(
+            shown(report),
+            f"{'several pictures lie' if found else 'no picture lies'} beside its report",
+            f"put {stem}.pbm or {stem}.XxYxZ.raw there, with the sides for X, Y and Z",
+        )
     return found[0]
 
 

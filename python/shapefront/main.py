@@ -8,12 +8,14 @@ from collections.abc import Iterable, Iterator
 from .batch import images_of, run
 from .checking import Finding, check_folder
 from .convert import pictures_of, volumes_of
+from .exports import dxf, ply
 from .faults import Fault
-from .files import shown
+from .files import shown, write
 from .folder import finish
 from .making import Plan, clear_aside
 from .original import check_original
 from .programs import find, has
+from .report import Analysis, read
 from .words import options_of, parser, pixel_of, settings_of
 
 DONE, FAILED, USAGE, NOTHING, STOPPED = 0, 1, 2, 3, 130
@@ -61,11 +63,20 @@ def _printed(findings: Iterable[Finding]) -> Iterator[Finding]:
         yield finding
 
 
+def export(words: argparse.Namespace) -> int:
+    """`shapes export`: what a report says, for another program."""
+    report = read(words.report)
+    if not isinstance(report, Analysis):
+        raise Fault(shown(words.report), "a report of another kind", "take one of `shape analyse`")
+    write(words.out, ply(report, words.pixel_size) if words.format == "ply" else dxf(report, words.pixel_size, words.long))
+    return DONE
+
+
 def main(words: list[str] | None = None) -> int:
     """Runs the command; its status."""
     given = parser().parse_args(words)
     try:
-        return check(given) if given.command == "check" else measure(given)
+        return {"check": check, "export": export}.get(given.command, measure)(given)
     except Fault as fault:
         print(f"shapes: {fault}", file=sys.stderr)
         return USAGE if fault.about.startswith("-") else NOTHING

@@ -23,6 +23,12 @@ def _threshold(word: str) -> str:
     return word
 
 
+def _size(word: str) -> float:
+    if not 0 < float(word) < float("inf"):
+        raise ValueError(word)
+    return float(word)
+
+
 def _jobs(word: str) -> int:
     if int(word) < 1:
         raise ValueError(word)
@@ -36,7 +42,7 @@ def _conversion(parser: argparse.ArgumentParser) -> None:
     cut.add_argument("--auto", action="store_true", help="choose a threshold for each image, by Otsu (where none is given)")
     side = parser.add_mutually_exclusive_group()
     side.add_argument("--dark", dest="objects", action="store_const", const="dark", help="the objects are dark")
-    side.add_argument("--light", dest="objects", action="store_const", const="light", help="the objects are light (else: not as the image's frame)")
+    side.add_argument("--light", dest="objects", action="store_const", const="light", help="the objects are light (else the side is chosen that the outermost pixels are not on)")
     labels = parser.add_mutually_exclusive_group()
     labels.add_argument("--labels", action="store_const", const="each", help="values are labels, 0 is background: each label is a picture of its own")
     labels.add_argument("--labels-together", dest="labels", action="store_const", const="all", help="the same, all labels as one picture: those that touch are one object")
@@ -71,6 +77,12 @@ def parser() -> argparse.ArgumentParser:
     check.add_argument("image", type=Path, metavar="FOLDER|IMAGE", help="a folder that `shapes measure` wrote; or the image of a report")
     check.add_argument("report", nargs="?", type=Path, metavar="REPORT")
     _conversion(check)
+    export = words.add_parser("export", help="straight sides and corners as DXF, or a volume's surface with its normals as PLY", epilog=_STATUS)
+    export.add_argument("format", choices=("dxf", "ply"))
+    export.add_argument("report", type=Path, metavar="REPORT")
+    export.add_argument("--pixel-size", type=_size, default=1.0, metavar="L", help="how wide a pixel or voxel is, in the unit of the file: mm for DXF (1)")
+    export.add_argument("--long", type=int, default=20, metavar="STEPS", help="a straight side has at least so many steps (20)")
+    export.add_argument("-o", dest="out", type=Path, required=True, metavar="FILE", help="the file to write")
     return top
 
 
