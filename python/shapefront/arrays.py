@@ -31,7 +31,7 @@ class Verdict:
 
 
 @contextmanager
-def stored(mask: np.ndarray) -> Iterator[Source]:
+def as_file(mask: np.ndarray) -> Iterator[Source]:
     """The picture in a file of its own, for as long as it is needed."""
     mask = checked_mask(mask)
     with tempfile.TemporaryDirectory(prefix="shapes-") as folder:
@@ -47,7 +47,7 @@ def analyse(mask: np.ndarray, rule: str = "none") -> Analysis:
     """
     if rule not in RULES:
         raise Fault(rule, "no rule of the thinning", f"the rules are {', '.join(RULES)}")
-    with stored(mask) as source:
+    with as_file(mask) as source:
         return read(report_of(source, rule))
 
 
@@ -67,7 +67,7 @@ def check(mask: np.ndarray, report: str | Path | bytes | Analysis) -> Verdict:
     A Fault where there is no report or the array is none.
     """
     text, _ = text_of(report.text if isinstance(report, Analysis) else report)
-    with stored(mask) as source:
+    with as_file(mask) as source:
         path = source.path.with_name("report")
         path.write_bytes(text)
         return verdict(source, path)

@@ -1,6 +1,7 @@
 """Checks reports against their pictures, and tables and drawings against their reports, all by the proved programs."""
 from __future__ import annotations
 
+import re
 import tempfile
 from collections.abc import Iterator
 from contextlib import contextmanager
@@ -8,15 +9,14 @@ from dataclasses import dataclass
 from pathlib import Path
 
 from .arrays import report_of, verdict
-from .convert import Picture
 from .faults import Fault
-from .files import shown
-from .folder import parts, stored
-from .pictures import Source, spelled, suffix_of
+from .files import read_json, shown
+from .folder import parts, pictures, run_of
+from .pictures import Source
 from .programs import call, explained, has
-from .report import text_of
+from .report import counts_of, text_of
 from .tables import objects, spelled_rows
-from .why import reason
+from .why import reason as reason_of
 
 # The words of `shape` that make and check each kind of report, by the report's first word.
 _COMMANDS = {"shape": ("analyse", "check"), "edges": ("edges", "checkedges"), "pieces": ("pieces", "checkpieces"), "balls": ("balls", "checkballs")}
@@ -50,7 +50,7 @@ def check_report(name: str, source: Source, report: Path) -> Finding:
         fresh = _fresh(source, make, rule)
     except Fault as fault:
         return Finding(name, False, f"line {answer.line}: no fresh report to compare with ({fault.reason})")
-    return Finding(name, False, f"line {answer.line}: {reason(text, fresh, answer.line or 1)}")
+    return Finding(name, False, f"line {answer.line}: {reason_of(text, fresh, answer.line or 1)}")
 
 
 def _fresh(source: Source, make: str, rule: str) -> bytes:
@@ -77,15 +77,6 @@ def _plain(text: bytes, report: Path) -> Iterator[Path]:
         yield Path(file.name)
 
 
-@contextmanager
-def file_of(picture: Picture) -> Iterator[Source]:
-    """The file of a picture that was converted just now, for as long as it is needed."""
-    with tempfile.TemporaryDirectory(prefix="shapes-") as folder:
-        path = Path(folder) / ("picture" + suffix_of(picture.mask))
-        path.write_bytes(spelled(picture.mask))
-        yield Source.of(path)
-
-
 def check_folder(folder: Path) -> Iterator[Finding]:
     """Each report of a folder against its picture, with its table and its drawing, and at last the table of all."""
     reports = sorted(path for path in folder.rglob("*") if path.name.endswith((".report", ".report.gz")) and not _is_hidden(path, folder))
@@ -98,7 +89,7 @@ def check_folder(folder: Path) -> Iterator[Finding]:
             yield _check_all(name, stem, report)
         except Fault as fault:
             yield Finding(name, False, f"{fault.reason}" + (f"; {fault.remedy}" if fault.remedy else ""))
-    yield from _check_objects(folder)
+    yield from _check_tables(folder)
 
 
 def _is_hidden(path: Path, folder: Path) -> bool:
@@ -107,16 +98,20 @@ def _is_hidden(path: Path, folder: Path) -> bool:
 
 
 def _check_all(name: str, stem: str, report: Path) -> Finding:
+    """A report against its picture; and where it holds its record, its table and its drawing against the report."""
     found = check_report(name, picture_of(stem, report), report)
-    left_out = []
-    if found.holds:
-        for program, suffix, word in (("shape_measure", ".csv", "table"), ("shape_draw", ".svg", "drawing")):
-            written = report.with_name(stem + suffix)
-            if written.exists() and not has(program):
-                left_out.append(f"its {word} was not checked: {program} is not found")
-            elif written.exists() and not _is_written(program, report, written):
-                return Finding(name, False, f"the report holds, but its {word} {shown(written)} is not what {program} makes of it")
-    return Finding(name, found.holds, found.why or ", ".join(left_out))
+    if not found.holds:
+        return found
+    record, left_out = read_json(report.with_name(stem + ".json")), []
+    if record is not None and (record.get("parts"), record.get("kept")) != counts_of(report):
+        return Finding(name, False, f"the report holds, but its record {stem}.json says other counts")
+    for program, suffix, word in (("shape_measure", ".csv", "table"), ("shape_draw", ".svg", "drawing")):
+        written = report.with_name(stem + suffix)
+        if written.exists() and not has(program):
+            left_out.append(f"its {word} was not checked: {program} is not found")
+        elif written.exists() and not _is_written(program, report, written):
+            return Finding(name, False, f"the report holds, but its {word} {shown(written)} is not what {program} makes of it")
+    return Finding(name, True, ", ".join(left_out))
 
 
 def _is_written(program: str, report: Path, written: Path) -> bool:
@@ -131,25 +126,28 @@ def _is_written(program: str, report: Path, written: Path) -> bool:
 
 def picture_of(stem: str, report: Path) -> Source:
     """The picture beside a report: its name with .pbm, or with .XxYxZ.raw. A Fault where there is none, or more than one."""
-    sides = {source.path.name: source for path in report.parent.iterdir() if path.suffix in (".pbm", ".raw") for source in [Source.of(path)]}
-    found = [source for name, source in sides.items() if name in (f"{stem}.pbm", stem + ".%dx%dx%d.raw" % (source.sides or (0, 0, 0)))]
+    name = re.compile(re.escape(stem) + r"(\.pbm|\.\d+x\d+x\d+\.raw)")
+    found = [path for path in report.parent.iterdir() if name.fullmatch(path.name)]
     if len(found) != 1:
-        raise Fault(
-            shown(report),
-            f"{'several pictures lie' if found else 'no picture lies'} beside its report",
-            f"put {stem}.pbm or {stem}.XxYxZ.raw there, with the sides for X, Y and Z",
-        )
-    return found[0]
+        reason = f"{'several pictures lie' if found else 'no picture lies'} beside its report"
+        raise Fault(shown(report), reason, f"put {stem}.pbm or {stem}.XxYxZ.raw there, with the sides for X, Y and Z")
+    return Source.of(found[0])
 
 
-def _check_objects(folder: Path) -> Iterator[Finding]:
-    """Whether `objects.csv` is what the tables of the pictures and the pixel's size give."""
-    run, table = stored(folder), folder / "objects.csv"
-    if run is None or not table.exists():
-        return
-    records, pixel = run
+def _check_tables(folder: Path) -> Iterator[Finding]:
+    """Whether the tables of a run are what the records and the tables of its pictures, and the pixel's size, give."""
     try:
-        holds = table.read_bytes() == spelled_rows(objects(parts(folder, records), pixel))
-        yield Finding(shown(table), holds, "" if holds else "it is not what the tables of the pictures say")
+        run = run_of(folder)
+        if run is None:
+            return
+        records, pixel = run
+        tables = {"pictures.csv": lambda: pictures(records), "objects.csv": lambda: objects(parts(folder, records), pixel)}
+        for name, rows in tables.items():
+            table = folder / name
+            if table.exists():
+                holds = table.read_bytes() == spelled_rows(rows())
+                yield Finding(shown(table), holds, "" if holds else "it is not what the records and tables of the pictures say")
     except Fault as fault:
-        yield Finding(shown(table), False, fault.reason)
+        yield Finding(shown(fault.about), False, fault.reason)
+    except (KeyError, TypeError, ValueError, AttributeError):
+        yield Finding(shown(folder / "made.json"), False, "it, or a record that it names, is none that `shapes` wrote")

@@ -80,9 +80,9 @@ def gzipped(data: bytes) -> bytes:
     return gzip.compress(data, mtime=0)
 
 
-def shown(path: Path) -> str:
+def shown(path: Path | str) -> str:
     """A file's name as a user sees it: below the current folder where it is there."""
     try:
-        return str(path.resolve().relative_to(Path.cwd()))
+        return str(Path(path).resolve().relative_to(Path.cwd()))
     except ValueError:
         return str(path)

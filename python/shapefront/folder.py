@@ -57,7 +57,7 @@ def parts(folder: Path, records: list[Record]) -> Iterator[Part]:
             raise Fault(path, "cannot be read", "measure again into an empty folder") from error
 
 
-def stored(folder: Path) -> tuple[list[Record], Pixel | None] | None:
+def run_of(folder: Path) -> tuple[list[Record], Pixel | None] | None:
     """The records and the pixel of the run that made a folder; None where no run did."""
     made = read_json(folder / "made.json")
     if not isinstance(made, dict):

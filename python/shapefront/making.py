@@ -19,6 +19,7 @@ from .faults import Fault
 from .files import gzipped, read_json, shown, sum_of, sum_of_bytes, write_json
 from .pictures import Source, sides_of, spelled, suffix_of
 from .programs import call, explained, has, made, sums
+from .report import counts_of
 
 _ASIDE = ".making-"
 Record = dict[str, Any]
@@ -106,7 +107,7 @@ def _products(picture: Picture, plan: Plan, work: Path) -> Record:
     _draw(report, work / (name + ".svg"), picture.key)
     for kind in plan.masks if has("shape_mask") else ():
         _mask(kind, report, work / f"{name}.{kind}", picture)
-    counts = {"parts": _numbers(report, 1), "kept": _numbers(report, -2)}
+    counts = dict(zip(("parts", "kept"), counts_of(report)))
     if plan.gzip:
         report.with_name(report.name + ".gz").write_bytes(gzipped(report.read_bytes()))
         report.unlink()
@@ -132,12 +133,3 @@ def _mask(kind: str, report: Path, path: Path, picture: Picture) -> None:
     with open(path, "rb") as file:
         suffix = {b"P1": ".pbm", b"P4": ".pbm", b"P2": ".pgm", b"P5": ".pgm"}.get(file.read(2)) if picture.mask.ndim == 2 else None
     os.replace(path, path.with_name(path.name + (suffix or suffix_of(picture.mask))))
-
-
-def _numbers(report: Path, line: int) -> list[int]:
-    """The numbers of the report's second line, `parts`, or of the last but one, `kept`, as it prints them."""
-    with open(report, "rb") as file:
-        if line < 0:
-            file.seek(max(0, report.stat().st_size - 400))
-            return [int(word) for word in file.read().splitlines()[line].split()[1:]]
-        return [int(word) for word in [file.readline() for _ in range(line + 1)][line].split()[1:]]

@@ -4,7 +4,8 @@ from __future__ import annotations
 import sys
 from pathlib import Path
 
-from .checking import Finding, check_report, file_of
+from .arrays import as_file
+from .checking import Finding, check_report
 from .convert import Picture, pictures_of, volumes_of
 from .faults import Fault
 from .files import read_json, shown
@@ -24,7 +25,7 @@ def check_original(image: Path, report: Path, settings: Settings) -> Finding:
         sides = tuple(int(word) for word in heading[3:6] if word.isdigit())
         return check_report(name, Source.of(image, sides if len(sides) == 3 else ()), report)
     picture = _picture_of(image, report, settings, "raw" in heading)
-    with file_of(picture) as source:
+    with as_file(picture.mask) as source:
         return check_report(name, source, report)
 
 

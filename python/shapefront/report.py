@@ -169,6 +169,18 @@ def text_of(report: str | Path | bytes) -> tuple[bytes, str]:
         raise Fault(report, f"cannot be read ({reason})", "is the name right?") from error
 
 
+def counts_of(path: Path) -> tuple[list[int], list[int]]:
+    """The numbers of a report's lines `parts` and `kept`, as it prints them, without reading all of it where it is not gzipped."""
+    if path.suffix == ".gz":
+        head = tail = text_of(path)[0]
+    else:
+        with open(path, "rb") as file:
+            head = file.read(400)
+            file.seek(max(0, path.stat().st_size - 400))
+            tail = file.read()
+    return [int(word) for word in head.split(b"\n", 2)[1].split()[1:]], [int(word) for word in tail.rsplit(b"\n", 3)[1].split()[1:]]
+
+
 def read(report: str | Path | bytes):
     """Reads a report, given by the name of its file (gzipped or not) or as its text.
 

@@ -87,12 +87,12 @@ class CheckingAFolder(InFolder):
         self.assertEqual(self.shapes("measure", "word.pbm", "cross.pbm", "--pixel-size", "3", "mm", "-o", "out")[0], 0)
 
     def test_it_is_right(self):
-        self.assertEqual(self.shapes("check", "out")[:2], (0, ["out/cross.pbm: yes", "out/word.pbm: yes", "out/objects.csv: yes"]))
+        self.assertEqual(self.shapes("check", "out")[:2], (0, ["out/cross.pbm: yes", "out/word.pbm: yes", "out/pictures.csv: yes", "out/objects.csv: yes"]))
 
     def test_changed_tables(self):
         path = Path("out/objects.csv")
         path.write_text(path.read_text().replace("word.pbm,1,", "word.pbm,9,", 1))
-        self.assertEqual(self.shapes("check", "out")[1][2], "out/objects.csv: no, it is not what the tables of the pictures say")
+        self.assertEqual(self.shapes("check", "out")[1][3], "out/objects.csv: no, it is not what the records and tables of the pictures say")
         path = Path("out/word.pbm.csv")
         path.write_text(path.read_text() + "9,9\n")
         status, out, _ = self.shapes("check", "out")
