@@ -4,6 +4,7 @@ from __future__ import annotations
 import re
 import tempfile
 from collections.abc import Iterator
+from concurrent.futures import ThreadPoolExecutor
 from contextlib import contextmanager
 from dataclasses import dataclass
 from pathlib import Path
@@ -77,24 +78,29 @@ def _plain(text: bytes, report: Path) -> Iterator[Path]:
         yield Path(file.name)
 
 
-def check_folder(folder: Path) -> Iterator[Finding]:
-    """Each report of a folder against its picture, with its table and its drawing, and at last the table of all."""
+def check_folder(folder: Path, jobs: int = 1) -> Iterator[Finding]:
+    """Each report of a folder against its picture, with its table and its drawing, `jobs` at once; at last the tables of all."""
     reports = sorted(path for path in folder.rglob("*") if path.name.endswith((".report", ".report.gz")) and not _is_hidden(path, folder))
     if not reports:
         raise Fault(shown(folder), "no report is in this folder", "reports are files whose names end in .report or .report.gz")
-    for report in reports:
-        stem = report.name.removesuffix(".gz").removesuffix(".report")
-        name = shown(report.with_name(stem))
-        try:
-            yield _check_all(name, stem, report)
-        except Fault as fault:
-            yield Finding(name, False, f"{fault.reason}" + (f"; {fault.remedy}" if fault.remedy else ""))
+    with ThreadPoolExecutor(jobs) as pool:
+        yield from pool.map(_check_beside, reports)
     yield from _check_tables(folder)
 
 
 def _is_hidden(path: Path, folder: Path) -> bool:
     """Whether a file's name or that of a folder above it begins with a point: what is being made just now does."""
     return any(part.startswith(".") for part in path.relative_to(folder).parts)
+
+
+def _check_beside(report: Path) -> Finding:
+    """The finding on a report and what lies beside it; where no check can be made, that is why."""
+    stem = report.name.removesuffix(".gz").removesuffix(".report")
+    name = shown(report.with_name(stem))
+    try:
+        return _check_all(name, stem, report)
+    except Fault as fault:
+        return Finding(name, False, f"{fault.reason}" + (f"; {fault.remedy}" if fault.remedy else ""))
 
 
 def _check_all(name: str, stem: str, report: Path) -> Finding:

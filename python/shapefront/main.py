@@ -51,7 +51,7 @@ def check(words: argparse.Namespace) -> int:
     if words.report is None:
         if not words.image.is_dir():
             raise Fault(shown(words.image), "not a folder", "give a folder, or an image and its report")
-        findings = list(_printed(check_folder(words.image)))
+        findings = list(_printed(check_folder(words.image, words.jobs)))
     else:
         findings = list(_printed([check_original(words.image, words.report, settings_of(words))]))
     return DONE if all(finding.holds for finding in findings) else FAILED

@@ -55,7 +55,6 @@ def _making(parser: argparse.ArgumentParser) -> None:
     size.add_argument("--pixel-size", nargs=2, metavar=("L", "UNIT"), help="how wide a pixel is: lengths and areas are told in this unit, too")
     size.add_argument("--dpi", metavar="N", help="the dots per inch of a scan: lengths and areas are told in mm, too")
     parser.add_argument("--rule", choices=RULES, default="curve", help="what the thinning keeps: ends of curves (curve), the first two (few), or none")
-    parser.add_argument("--jobs", type=_jobs, default=1, metavar="N", help="how many images at once")
     parser.add_argument("--gzip", action="store_true", help="gzip the reports: a fifth of their size")
     parser.add_argument("--masks", action="append", choices=MASKS, default=[], help="also write a picture of this; may be given again for another")
     parser.add_argument("-o", dest="folder", type=Path, default=Path("measured"), metavar="FOLDER", help="where all is written (measured)")
@@ -71,12 +70,13 @@ def parser() -> argparse.ArgumentParser:
     volume = words.add_parser("volume", help="the same for volumes", epilog=_STATUS)
     volume.add_argument("images", nargs="+", type=Path, metavar="VOLUME", help="a folder of slices, a TIFF of several pages, or a .npy file [z, y, x]")
     for part in (measure, volume):
-        _conversion(part)
         _making(part)
     check = words.add_parser("check", help="whether every number of a folder, or a report of an image, is right, and why not", epilog=_STATUS)
     check.add_argument("image", type=Path, metavar="FOLDER|IMAGE", help="a folder that `shapes measure` wrote; or the image of a report")
     check.add_argument("report", nargs="?", type=Path, metavar="REPORT")
-    _conversion(check)
+    for part in (measure, volume, check):
+        _conversion(part)
+        part.add_argument("--jobs", type=_jobs, default=1, metavar="N", help="how many images at once")
     export = words.add_parser("export", help="straight sides and corners as DXF, or a volume's surface with its normals as PLY", epilog=_STATUS)
     export.add_argument("format", choices=("dxf", "ply"))
     export.add_argument("report", type=Path, metavar="REPORT")

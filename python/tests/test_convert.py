@@ -1,5 +1,4 @@
 """Images to pictures of two values: what is object, and what is said of it."""
-import unittest
 from pathlib import Path
 
 import numpy as np
