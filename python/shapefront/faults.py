@@ -9,7 +9,7 @@ class Fault(Exception):
     """
 
     def __init__(self, about: object, reason: str, remedy: str = "") -> None:
-        self.about, self.reason, self.remedy = str(about), reason, remedy
+        self.about, self.reason, self.remedy = str(about).replace("\n", "\\n"), reason, remedy
         super().__init__(f"{self.about}: {reason}" + (f"; {remedy}" if remedy else ""))
 
 

@@ -49,14 +49,19 @@ def write(path: Path, data: bytes) -> None:
         out.write(data)
 
 
+def encoded(text: str) -> bytes:
+    """The bytes of a text; of file names in it those that the system has, though they be no UTF-8."""
+    return text.encode("utf-8", "surrogateescape")
+
+
 def write_json(path: Path, value: Any) -> None:
-    write(path, (json.dumps(value, indent=1, ensure_ascii=False) + "\n").encode())
+    write(path, encoded(json.dumps(value, indent=1, ensure_ascii=False) + "\n"))
 
 
 def read_json(path: Path) -> Any:
     """The value in a file, and None where there is no such file or something else in it."""
     try:
-        return json.loads(path.read_bytes())
+        return json.loads(path.read_text("utf-8", "surrogateescape"))
     except (OSError, ValueError):
         return None
 

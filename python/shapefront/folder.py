@@ -8,7 +8,7 @@ from typing import Any
 from . import __version__
 from .batch import Image
 from .faults import Fault
-from .files import read_json, write, write_json
+from .files import encoded, read_json, write, write_json
 from .making import Plan, Record
 from .pictures import told_sides
 from .programs import sums
@@ -22,7 +22,7 @@ def finish(images: list[Image], plan: Plan, pixel: Pixel | None, options: dict[s
     write(plan.folder / "pictures.csv", spelled_rows(pictures(records)))
     if any(has_table(record) for record in records):
         write(plan.folder / "objects.csv", spelled_rows(objects(parts(plan.folder, records), pixel)))
-    write(plan.folder / "summary.txt", "".join(line + "\n" for line in summary(images, plan, pixel)).encode())
+    write(plan.folder / "summary.txt", encoded("".join(line + "\n" for line in summary(images, plan, pixel))))
     made = {
         "shapefront": __version__,
         "programs": sums(),

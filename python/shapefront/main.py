@@ -2,6 +2,7 @@
 from __future__ import annotations
 
 import argparse
+import io
 import sys
 from collections.abc import Iterable, Iterator
 
@@ -74,6 +75,9 @@ def export(words: argparse.Namespace) -> int:
 
 def main(words: list[str] | None = None) -> int:
     """Runs the command; its status."""
+    for stream in (sys.stdout, sys.stderr):
+        if isinstance(stream, io.TextIOWrapper):
+            stream.reconfigure(errors="surrogateescape")
     given = parser().parse_args(words)
     try:
         return {"check": check, "export": export}.get(given.command, measure)(given)

@@ -37,19 +37,20 @@ class Plan:
 
 def make(picture: Picture, plan: Plan) -> Record:
     """Makes what a picture gives, but where its record says that it is there already. The record; a Fault where it fails."""
-    head = _head(picture, plan)
-    record = read_json(plan.folder / (picture.key + ".json"))
-    if record is not None and _is_made(record, head, plan.folder):
-        return record
-    place = (plan.folder / picture.key).parent
-    with _folder_aside(place) as work:
+    head, told = _head(picture, plan), plan.folder / (picture.key + ".json")
+    before = read_json(told) or {}
+    if _is_made(before, head, plan.folder):
+        return before
+    with _folder_aside(told.parent) as work:
         counts = _products(picture, plan, work)
-        files = {}
-        for path in sorted(work.iterdir()):
-            files[path.name] = sum_of(path)
-            os.replace(path, place / path.name)
+        files = {path.name: sum_of(path) for path in sorted(work.iterdir())}
+        for name in files:
+            os.replace(work / name, told.parent / name)
         record = {**head, **counts, "files": files}
-        write_json(plan.folder / (picture.key + ".json"), record)
+        write_json(told, record)
+        for name in before.get("files", {}):
+            if name not in files and name.startswith(Path(picture.key).name + ".") and "/" not in name:
+                (told.parent / name).unlink(missing_ok=True)
     return record
 
 

@@ -11,6 +11,7 @@ from collections.abc import Iterable, Iterator
 from dataclasses import dataclass
 
 from .faults import Fault
+from .files import encoded
 from .units import POWERS, Pixel
 
 Row = list[str]
@@ -33,7 +34,7 @@ def rows_of(table: str) -> list[Row]:
 def spelled_rows(rows: Iterable[Row]) -> bytes:
     out = io.StringIO()
     csv.writer(out, lineterminator="\n").writerows(rows)
-    return out.getvalue().encode()
+    return encoded(out.getvalue())
 
 
 def objects(parts: Iterable[Part], pixel: Pixel | None) -> Iterator[Row]:
