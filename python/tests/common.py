@@ -40,7 +40,7 @@ def random_mask(seed: int, *shape: int) -> np.ndarray:
 
 
 class InFolder(unittest.TestCase):
-    """A test in an empty folder of its own, with the stub of `shape_measure` where that is not built."""
+    """A test in an empty folder of its own, with the stubs of `shape_measure` and `shape_mask` where these are not built."""
 
     def setUp(self) -> None:
         holder = tempfile.TemporaryDirectory()
@@ -48,9 +48,8 @@ class InFolder(unittest.TestCase):
         self.folder = Path(holder.name).resolve()
         self.addCleanup(os.chdir, os.getcwd())
         os.chdir(self.folder)
-        if not programs.has("shape_measure"):
-            self.addCleanup(os.environ.__setitem__, "PATH", os.environ["PATH"])
-            os.environ["PATH"] += f":{HERE / 'stubs'}"
+        self.addCleanup(os.environ.__setitem__, "PATH", os.environ["PATH"])
+        os.environ["PATH"] += f":{HERE / 'stubs'}"
 
     def shapes(self, *words: object) -> tuple[int, list[str], list[str]]:
         """Runs the command: its status, and the lines on standard output and standard error."""

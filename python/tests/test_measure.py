@@ -15,7 +15,7 @@ import numpy as np
 
 from .common import HERE, InFolder, installed, needs_pillow, needs_shape, random_mask
 
-from shapefront import programs
+from shapefront import programs, read
 
 if installed("PIL"):
     from PIL import Image
@@ -137,6 +137,16 @@ class Measuring(InFolder):
         self.assertTrue(Path("out/cells.png.label2.report.gz").exists())
         self.assertEqual(self.shapes("check", "out")[0], 0)
         self.assertEqual(self.shapes("check", "cells.png", "out/cells.png.label2.report.gz")[:2], (0, ["out/cells.png.label2.report.gz: yes"]))
+
+    def test_masks(self):
+        self.save(1)
+        words = ("--masks", "skeleton", "--masks", "distances", "--masks", "object", "-o", "out")
+        self.assertEqual(self.shapes("measure", "in", *words)[0], 0)
+        report = read("out/000.png.report")
+        for kind, suffix, wanted in (("skeleton", "pbm", ~report.skeleton_mask), ("object", "pbm", ~report.mask), ("distances", "pgm", report.mask)):
+            values = np.array(Image.open(f"out/000.png.{kind}.{suffix}"))
+            np.testing.assert_array_equal(values > 0, wanted)
+        self.assertEqual(self.shapes("check", "out")[0], 0)
 
     def test_volumes(self):
         mask = random_mask(7, 8, 10, 12)
