@@ -20,7 +20,12 @@ from .tables import objects, spelled_rows
 from .why import reason as reason_of
 
 # The words of `shape` that make and check each kind of report, by the report's first word.
-_COMMANDS = {"shape": ("analyse", "check"), "edges": ("edges", "checkedges"), "pieces": ("pieces", "checkpieces"), "balls": ("balls", "checkballs")}
+_COMMANDS = {
+    "shape": ("analyse", "check"),
+    "edges": ("edges", "checkedges"),
+    "pieces": ("pieces", "checkpieces"),
+    "balls": ("balls", "checkballs"),
+}
 
 
 @dataclass(frozen=True)

@@ -86,7 +86,11 @@ def _made(image: Grey, name: str, settings: Settings, limit: int) -> Iterator[Pi
     sides, most = sides_of(image.values), max(image.values.shape)
     fit, notes = -(-most // limit), list(image.notes)
     if fit > 1 and not settings.fit:
-        raise Fault(image.name, f"too large: {told_sides(sides)}, and a side goes up to {limit}", f"cut it into parts, or give --fit: 1 pixel for {fit}")
+        raise Fault(
+            image.name,
+            f"too large: {told_sides(sides)}, and a side goes up to {limit}",
+            f"cut it into parts, or give --fit: 1 pixel for {fit}",
+        )
     if settings.labels:
         yield from _labelled(image, name, settings.labels, fit)
         return
@@ -113,7 +117,9 @@ def _labelled(image: Grey, name: str, how: str, fit: int) -> Iterator[Picture]:
     if not labels:
         raise Fault(image.name, "no labels: all its values are 0", "is it the right image?")
     if how == "all":
-        yield Picture(name, None, values != 0, fit, None, (f"the {len(labels)} labels as one picture: those that touch are one object", *notes))
+        yield Picture(
+            name, None, values != 0, fit, None, (f"the {len(labels)} labels as one picture: those that touch are one object", *notes)
+        )
         return
     for label in labels:
         yield Picture(name, label, values == label, fit, None, (f"label {label} of {len(labels)}, as a picture of its own", *notes))

@@ -31,7 +31,11 @@ def measure(words: argparse.Namespace) -> int:
         print(f"passed over, as their names are not those of images: {passed} of the files", file=sys.stderr)
     if not images:
         raise Fault(shown(words.images[0]), "no image is in this folder", "name the files themselves")
-    for program, made in (("shape_measure", "objects.csv"), ("shape_draw", "drawings"), *([("shape_mask", "masks")] if words.masks else [])):
+    for program, made in (
+        ("shape_measure", "objects.csv"),
+        ("shape_draw", "drawings"),
+        *([("shape_mask", "masks")] if words.masks else []),
+    ):
         if not has(program):
             print(f"{program}: this program is not found, so no {made}; all else goes on", file=sys.stderr)
     if any(path.is_dir() and path.resolve() == words.folder.resolve() for path in words.images):

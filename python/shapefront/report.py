@@ -191,7 +191,9 @@ def read(report: str | Path | bytes):
     heading = lines.words(0)
     further = {"edges": EdgeReport, "pieces": PieceReport, "balls": BallReport}.get(heading[0])
     if heading[0] != "shape" and further is None:
-        raise Fault(name, "not a report: its first line begins with none of `shape`, `edges`, `pieces` and `balls`", "is it the right file?")
+        raise Fault(
+            name, "not a report: its first line begins with none of `shape`, `edges`, `pieces` and `balls`", "is it the right file?"
+        )
     try:
         return further.of(lines, heading) if further else _analysis(lines, text, heading)
     except (ValueError, IndexError, OverflowError) as error:

@@ -47,7 +47,11 @@ def objects(parts: Iterable[Part], pixel: Pixel | None) -> Iterator[Row]:
             header = first
             yield ["image", *(["label"] if labels else []), *(["fit"] if fits else []), *header, *_converted_header(header, pixel)]
         if first != header:
-            raise Fault(part.image, "its table has other columns than the others have", "was it made by another version? measure again into an empty folder")
+            raise Fault(
+                part.image,
+                "its table has other columns than the others have",
+                "was it made by another version? measure again into an empty folder",
+            )
         own = [part.image, *([str(part.label)] if labels else []), *([str(part.fit)] if fits else [])]
         for row in rest:
             yield [*own, *row, *_converted(header, row, pixel, part.fit)]

@@ -99,7 +99,10 @@ def _difference(line: bytes, truth: bytes | None) -> str:
     """What is true in place of the line, in words that fit its kind."""
     kind = line.split(b" ", 1)[0].decode("ascii", "replace")
     if truth is None:
-        return _CHOICES.get(kind, "it does not come next") + "; a fresh report made other choices before it, so no line of it answers to this one"
+        return (
+            _CHOICES.get(kind, "it does not come next")
+            + "; a fresh report made other choices before it, so no line of it answers to this one"
+        )
     if _kind(truth) != _kind(line):
         return f"here comes a line `{_kind(truth).decode()}`: `{_shown(truth)}`"
     if kind == "near":

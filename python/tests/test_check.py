@@ -69,7 +69,9 @@ class Checking(InFolder):
         Path("word.pbm").unlink()
         status, out = self.found(".")
         self.assertEqual(status, 1)
-        self.assertEqual(out[1], "word: no, no picture lies beside its report; put word.pbm or word.XxYxZ.raw there, with the sides for X, Y and Z")
+        self.assertEqual(
+            out[1], "word: no, no picture lies beside its report; put word.pbm or word.XxYxZ.raw there, with the sides for X, Y and Z"
+        )
 
     def test_a_broken_picture_is_told_by_its_name(self):
         Path("word.pbm").write_bytes(b"P5 3 3 255\n123456789")
@@ -87,16 +89,24 @@ class CheckingAFolder(InFolder):
         self.assertEqual(self.shapes("measure", "word.pbm", "cross.pbm", "--pixel-size", "3", "mm", "-o", "out")[0], 0)
 
     def test_it_is_right(self):
-        self.assertEqual(self.shapes("check", "out")[:2], (0, ["out/cross.pbm: yes", "out/word.pbm: yes", "out/pictures.csv: yes", "out/objects.csv: yes"]))
+        self.assertEqual(
+            self.shapes("check", "out")[:2],
+            (0, ["out/cross.pbm: yes", "out/word.pbm: yes", "out/pictures.csv: yes", "out/objects.csv: yes"]),
+        )
 
     def test_changed_tables(self):
         path = Path("out/objects.csv")
         path.write_text(path.read_text().replace("word.pbm,1,", "word.pbm,9,", 1))
-        self.assertEqual(self.shapes("check", "out")[1][3], "out/objects.csv: no, it is not what the records and tables of the pictures say")
+        self.assertEqual(
+            self.shapes("check", "out")[1][3], "out/objects.csv: no, it is not what the records and tables of the pictures say"
+        )
         path = Path("out/word.pbm.csv")
         path.write_text(path.read_text() + "9,9\n")
         status, out, _ = self.shapes("check", "out")
-        self.assertEqual((status, out[1]), (1, "out/word.pbm: no, the report holds, but its table out/word.pbm.csv is not what shape_measure makes of it"))
+        self.assertEqual(
+            (status, out[1]),
+            (1, "out/word.pbm: no, the report holds, but its table out/word.pbm.csv is not what shape_measure makes of it"),
+        )
 
     @needs_draw
     def test_a_changed_drawing(self):

@@ -42,7 +42,7 @@ class Pictures(InFolder):
             picture = one("ramp.png", threshold=given, objects="dark")
             self.assertEqual(picture.cut.threshold, value)
             np.testing.assert_array_equal(picture.mask, ramp < value)
-        wide = (ramp.astype(np.uint16) * 257)
+        wide = ramp.astype(np.uint16) * 257
         Image.fromarray(wide).save("wide.tif")
         np.testing.assert_array_equal(one("wide.tif", threshold="50%", objects="light").mask, wide >= 32767.5)
         self.assertEqual(otsu(np.repeat([10, 20, 200, 210], 5)), 21)

@@ -41,7 +41,9 @@ class KnownShapes(InFolder):
         for degrees in (0, 10, 30, 40):
             text = shape("bar", 100, 100, degrees)
             Path("square.pbm").write_bytes(text)
-            true = [tuple(map(float, pair)) for pair in re.findall(r"\(([\d.]+), ([\d.]+)\)", text.decode().split("corners")[1].split("\n")[0])]
+            true = [
+                tuple(map(float, pair)) for pair in re.findall(r"\(([\d.]+), ([\d.]+)\)", text.decode().split("corners")[1].split("\n")[0])
+            ]
             (picture,) = pictures_of(Path("square.pbm"), "square", Settings())
             report = analyse(picture.mask)
             sides = sides_of(report.contours[0])
@@ -54,7 +56,11 @@ class KnownShapes(InFolder):
         self.assertEqual(self.shapes("measure", "square.pbm", "-o", "out")[0], 0)
         self.assertEqual(self.shapes("export", "dxf", "out/square.pbm.report", "--pixel-size", "0.1", "-o", "square.dxf")[0], 0)
         pairs = Path("square.dxf").read_text().split("\n")
-        lines = [dict(zip(pairs[k : k + 16 : 2], pairs[k + 1 : k + 16 : 2])) for k in range(len(pairs)) if pairs[k] == "0" and pairs[k + 1 : k + 2] == ["LINE"]]
+        lines = [
+            dict(zip(pairs[k : k + 16 : 2], pairs[k + 1 : k + 16 : 2]))
+            for k in range(len(pairs))
+            if pairs[k] == "0" and pairs[k + 1 : k + 2] == ["LINE"]
+        ]
         self.assertEqual(len(lines), 4)
         for line in lines:
             length = np.hypot(float(line["11"]) - float(line["10"]), float(line["21"]) - float(line["20"]))
@@ -74,5 +80,9 @@ class KnownShapes(InFolder):
         turn = np.radians(25)
         cos, sin = np.cos(turn), np.sin(turn)
         axes = np.array([[cos, -sin, 0], [sin, cos, 0], [0, 0, 1]]), np.array([[1, 0, 0], [0, cos, -sin], [0, sin, cos]])
-        best = max(np.abs(m @ n).max() for m in (axes[0] @ axes[1], axes[1] @ axes[0], (axes[0] @ axes[1]).T, (axes[1] @ axes[0]).T) for n in [normal])
+        best = max(
+            np.abs(m @ n).max()
+            for m in (axes[0] @ axes[1], axes[1] @ axes[0], (axes[0] @ axes[1]).T, (axes[1] @ axes[0]).T)
+            for n in [normal]
+        )
         self.assertGreater(best, np.cos(np.radians(2)))

@@ -133,17 +133,25 @@ class Measuring(InFolder):
         labels[2:8, 2:8], labels[8:12, 2:8] = 1, 2
         Image.fromarray(labels).save("cells.png")
         self.assertEqual(self.shapes("measure", "cells.png", "--labels", "--gzip", "-o", "out")[0], 0)
-        self.assertEqual([(row["label"], row["points"], row["pieces"]) for row in table("out/pictures.csv")], [("1", "36", "1"), ("2", "24", "1")])
+        self.assertEqual(
+            [(row["label"], row["points"], row["pieces"]) for row in table("out/pictures.csv")], [("1", "36", "1"), ("2", "24", "1")]
+        )
         self.assertTrue(Path("out/cells.png.label2.report.gz").exists())
         self.assertEqual(self.shapes("check", "out")[0], 0)
-        self.assertEqual(self.shapes("check", "cells.png", "out/cells.png.label2.report.gz")[:2], (0, ["out/cells.png.label2.report.gz: yes"]))
+        self.assertEqual(
+            self.shapes("check", "cells.png", "out/cells.png.label2.report.gz")[:2], (0, ["out/cells.png.label2.report.gz: yes"])
+        )
 
     def test_masks(self):
         self.save(1)
         words = ("--masks", "skeleton", "--masks", "distances", "--masks", "object", "-o", "out")
         self.assertEqual(self.shapes("measure", "in", *words)[0], 0)
         report = read("out/000.png.report")
-        for kind, suffix, wanted in (("skeleton", "pbm", ~report.skeleton_mask), ("object", "pbm", ~report.mask), ("distances", "pgm", report.mask)):
+        for kind, suffix, wanted in (
+            ("skeleton", "pbm", ~report.skeleton_mask),
+            ("object", "pbm", ~report.mask),
+            ("distances", "pgm", report.mask),
+        ):
             values = np.array(Image.open(f"out/000.png.{kind}.{suffix}"))
             np.testing.assert_array_equal(values > 0, wanted)
         self.assertEqual(self.shapes("check", "out")[0], 0)

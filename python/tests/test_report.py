@@ -14,7 +14,11 @@ from shapefront import Fault, read
 
 class StoredReports(unittest.TestCase):
     def test_counts_and_sizes(self):
-        for name, sides, parts, kept in (("word", (59, 29), (95, 5, 5), 32), ("granite", (64, 64), (644, 175, 2), 178), ("pores", (16, 16, 16), (1638, 2, 2), 121)):
+        for name, sides, parts, kept in (
+            ("word", (59, 29), (95, 5, 5), 32),
+            ("granite", (64, 64), (644, 175, 2), 178),
+            ("pores", (16, 16, 16), (1638, 2, 2), 121),
+        ):
             report = read(STORED / f"{name}.report")
             self.assertEqual(report.sides, sides)
             self.assertEqual((report.parts.points, report.parts.pieces, report.parts.background), parts)

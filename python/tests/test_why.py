@@ -37,7 +37,9 @@ class Reasons(unittest.TestCase):
         self.assertIn("these places show no turn of the gap; `turn", self.why(number, b"turn x 9 9"))
 
     def test_ends(self):
-        self.assertIn("the report ends before this line; here a fresh report says `end`", reason(self.fresh[:-4], self.fresh, len(self.lines) - 1))
+        self.assertIn(
+            "the report ends before this line; here a fresh report says `end`", reason(self.fresh[:-4], self.fresh, len(self.lines) - 1)
+        )
         self.assertIn("CR LF", reason(self.fresh.replace(b"\n", b"\r\n"), self.fresh, 1))
         self.assertIn("something stands behind", reason(self.fresh + b"\n", self.fresh, len(self.lines)))
         self.assertIn("something stands behind", reason(self.fresh + b"x\n", self.fresh, len(self.lines)))
