@@ -21,7 +21,6 @@ def aside(path: Path) -> Iterator[IO[bytes]]:
     A Fault where the system refuses it.
     """
     try:
-        path.parent.mkdir(parents=True, exist_ok=True)
         handle, name = tempfile.mkstemp(prefix="." + path.name[:80] + ".", dir=path.parent)
     except OSError as error:
         raise Fault(path, f"cannot be written ({error.strerror})", "choose another folder with -o") from error
@@ -41,6 +40,14 @@ def _umask() -> int:
     mask = os.umask(0o022)
     os.umask(mask)
     return mask
+
+
+def make_folder(path: Path) -> None:
+    """Makes a folder where there is none. A Fault where that cannot be."""
+    try:
+        path.mkdir(parents=True, exist_ok=True)
+    except OSError as error:
+        raise Fault(path, f"cannot be made ({error.strerror})", "choose another folder with -o") from error
 
 
 def write(path: Path, data: bytes) -> None:

@@ -11,7 +11,7 @@ from .checking import Finding, check_folder
 from .convert import pictures_of, volumes_of
 from .exports import dxf, ply
 from .faults import Fault
-from .files import shown, write
+from .files import make_folder, shown, write
 from .folder import finish
 from .making import Plan, clear_aside
 from .original import check_original
@@ -40,6 +40,7 @@ def measure(words: argparse.Namespace) -> int:
             print(f"{program}: this program is not found, so no {made}; all else goes on", file=sys.stderr)
     if any(path.is_dir() and path.resolve() == words.folder.resolve() for path in words.images):
         raise Fault("-o", "the folder of the images themselves", "choose another one for what is written")
+    make_folder(words.folder)
     clear_aside(words.folder)
     plan = Plan(words.folder, words.rule, words.gzip, tuple(dict.fromkeys(words.masks)))
     convert = volumes_of if is_volume else pictures_of

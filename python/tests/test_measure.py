@@ -186,7 +186,7 @@ class Measuring(InFolder):
             (("check", "empty"), 3, "empty: no report is in this folder"),
             (("check", "in/000.png"), 3, "not a folder"),
             (("check", "in/000.png", "nowhere.report"), 3, "nowhere.report: cannot be read"),
-            (("measure", "in", "-o", "file/below"), 1, "cannot be written"),
+            (("measure", "in", "-o", "file/below"), 3, "file/below: cannot be made .Not a directory.; choose another folder"),
         ):  # fmt: skip
             found, _, error = self.shapes(*words)
             self.assertEqual((found, bool(re.search(reason, "\n".join(error)))), (status, True), (words, error))
