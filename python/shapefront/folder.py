@@ -84,7 +84,7 @@ def pictures(records: list[Record]) -> Iterator[Row]:
 def summary(images: list[Image], plan: Plan, pixel: Pixel | None) -> Iterator[str]:
     """The lines of `summary.txt`: what was made of each image, how, and what failed."""
     failed = [image for image in images if image.failure]
-    yield f"{len(images)} images: {len(images) - len(failed)} measured, {len(failed)} failed"
+    yield f"{len(images)} image{'s' if len(images) != 1 else ''}: {len(images) - len(failed)} measured, {len(failed)} failed"
     yield f"thinned by the rule {plan.rule}; " + (f"a pixel is {pixel} wide" if pixel else "lengths in pixels")
     yield from _warnings(images)
     for image in images:
