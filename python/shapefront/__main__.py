@@ -1,0 +1,6 @@
+"""`python -m shapefront`."""
+import sys
+
+from .main import main
+
+sys.exit(main())

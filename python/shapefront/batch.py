@@ -1,0 +1,107 @@
+"""Many images: each made in turn or several at once, its failures told in one line, and the tables and sums of all at the end."""
+from __future__ import annotations
+
+import os
+import sys
+from collections.abc import Callable, Iterable, Iterator
+from concurrent.futures import Future, ThreadPoolExecutor, as_completed
+from dataclasses import dataclass, field
+from pathlib import Path
+
+from .convert import Picture
+from .faults import Fault
+from .files import shown, sum_of, sum_of_bytes
+from .images import SUFFIXES
+from .making import Plan, Record, make
+
+Convert = Callable[[Path, str], Iterator[Picture]]
+
+
+@dataclass
+class Image:
+    """An image of a run: its file, the name it has in tables, and what became of it: records of its pictures, or a failure."""
+
+    path: Path
+    name: str
+    records: list[Record] = field(default_factory=list)
+    failure: str | None = None
+    source: str | None = None
+
+
+def images_of(paths: Iterable[Path], is_volume: bool) -> tuple[list[Image], int]:
+    """The images of a run, by their order on the command line, and how many files of folders were passed over as no images.
+
+    For flat pictures a folder stands for the images in it. Names are those below the deepest folder that holds all.
+    """
+    files, passed = [], 0
+    for path in paths:
+        if path.is_dir() and not is_volume:
+            inside = sorted(p for p in path.iterdir() if p.is_file() and not p.name.startswith("."))
+            taken = [p for p in inside if p.suffix.lower() in SUFFIXES]
+            files, passed = files + taken, passed + len(inside) - len(taken)
+        else:
+            files.append(path)
+    absolute = {Path(os.path.abspath(path)): path for path in files}
+    if not absolute:
+        return [], passed
+    base = os.path.commonpath([path.parent for path in absolute])
+    return [Image(shown_path, str(path.relative_to(base))) for path, shown_path in absolute.items()], passed
+
+
+def run(images: list[Image], plan: Plan, convert: Convert, jobs: int) -> None:
+    """Makes all that the images give, `jobs` of them at once. What became of each is told in it, and a failure on standard error."""
+    pool = ThreadPoolExecutor(jobs)
+    futures: dict[Future[None], Image] = {pool.submit(_one, image, plan, convert): image for image in images}
+    try:
+        for future in _progress(as_completed(futures), len(images)):
+            future.result()
+            if futures[future].failure:
+                say(futures[future].failure)
+    except BaseException:
+        pool.shutdown(cancel_futures=True)
+        raise
+    pool.shutdown()
+
+
+def _one(image: Image, plan: Plan, convert: Convert) -> None:
+    try:
+        image.source = source_sum(image.path)
+        for picture in convert(image.path, image.name):
+            image.records.append(make(picture, plan))
+    except Fault as fault:
+        image.failure = f"{shown(image.path)}: {fault.reason}" + (f"; {fault.remedy}" if fault.remedy else "")
+    except MemoryError:
+        image.failure = f"{shown(image.path)}: not enough memory; give fewer --jobs"
+
+
+def source_sum(path: Path) -> str | None:
+    """The SHA-256 sum of an image's file, or of the names and sums of a folder's files."""
+    if path.is_dir():
+        told = "".join(f"{sum_of(p)}  {p.name}\n" for p in sorted(path.iterdir()) if p.is_file())
+        return sum_of_bytes(told.encode())
+    return sum_of(path)
+
+
+def say(line: str) -> None:
+    """Tells one line on standard error, above a progress bar where there is one."""
+    if "tqdm" in sys.modules and sys.stderr.isatty():
+        sys.modules["tqdm"].tqdm.write(line, file=sys.stderr)
+    else:
+        print(line, file=sys.stderr, flush=True)
+
+
+def _progress(done: Iterable[Future[None]], count: int) -> Iterable[Future[None]]:
+    """The same, with a bar on a terminal where tqdm is installed, or a count where not."""
+    if not sys.stderr.isatty() or count < 2:
+        return done
+    try:
+        from tqdm import tqdm
+    except ImportError:
+        return _counted(done, count)
+    return tqdm(done, total=count, unit="image", file=sys.stderr)
+
+
+def _counted(done: Iterable[Future[None]], count: int) -> Iterator[Future[None]]:
+    for k, future in enumerate(done, 1):
+        print(f"\r{k} of {count}", end="\n" if k == count else "", file=sys.stderr, flush=True)
+        yield future

@@ -1,0 +1,138 @@
+"""From images to pictures of two values: what `shapes measure` and `shapes volume` hand to the proved programs."""
+from __future__ import annotations
+
+import re
+from collections.abc import Iterator
+from dataclasses import dataclass, replace
+from pathlib import Path
+
+import numpy as np
+
+from .faults import Fault
+from .images import Grey, array_of, load, load_stack
+from .pictures import sides_of, told_sides
+from .programs import SIDE_FLAT, SIDE_SOLID
+from .thresholds import Cut, Settings, cut_of, looks_like_labels
+
+
+@dataclass(frozen=True)
+class Picture:
+    """A picture or volume of two values: its image's name, its label where it is one of several, and how it was made, in words.
+
+    `fit` is how many of the image's pixels one of its pixels is wide: 1 where the image was not made smaller. `cut` is None where
+    the image's values were taken as labels.
+    """
+
+    image: str
+    label: int | None
+    mask: np.ndarray
+    fit: int
+    cut: Cut | None
+    notes: tuple[str, ...]
+
+    @property
+    def key(self) -> str:
+        """What the names of its files begin with."""
+        return self.image if self.label is None else f"{self.image}.label{self.label}"
+
+
+def pictures_of(path: Path, name: str, settings: Settings) -> Iterator[Picture]:
+    """The pictures that an image's file gives: one, or one for each of its labels. A Fault where it gives none."""
+    yield from _made(load(path, bool(settings.labels)), name, settings, SIDE_FLAT)
+
+
+def volumes_of(path: Path, name: str, settings: Settings) -> Iterator[Picture]:
+    """The volumes that a folder of slices, a stack or an array gives. A Fault where it gives none."""
+    yield from _made(volume(path, bool(settings.labels)), name, settings, SIDE_SOLID)
+
+
+def volume(path: Path, labels: bool = False) -> Grey:
+    """The grey values [z, y, x] of a folder of slices (in the order of the numbers in their names), of a stack or of an array."""
+    if path.suffix.lower() == ".npy":
+        values = array_of(path)
+        if values.ndim != 3:
+            raise Fault(path, f"an array of {values.ndim} axes", "a volume has three: z, y, x")
+        return Grey(str(path), values, ("its axes are taken as z, y, x",), "light" if values.dtype == bool else None)
+    if path.is_dir():
+        files = sorted((p for p in path.iterdir() if p.is_file() and not p.name.startswith(".")), key=_numbered)
+        if not files:
+            raise Fault(path, "an empty folder", "it has to hold the slices, one image each")
+        return _stacked(path, [(file.name, load(file, labels)) for file in files])
+    if not path.is_file():
+        raise Fault(path, "no such file or folder", "is the name right?")
+    slices = load_stack(path, labels)
+    if len(slices) < 2:
+        raise Fault(path, "one image, not a stack", "give the folder of the slices, or `shapes measure` for a flat picture")
+    return _stacked(path, [(f"page {k}", page) for k, page in enumerate(slices, 1)])
+
+
+def _numbered(path: Path) -> list[tuple[int, int, str]]:
+    """The order of names with numbers in them: slice2 comes before slice10."""
+    parts = re.split(r"(\d+)", path.name)
+    return [(0, int(part), "") if part.isdigit() else (1, 0, part) for part in parts if part]
+
+
+def _stacked(path: Path, slices: list[tuple[str, Grey]]) -> Grey:
+    (first, one), notes = slices[0], {}
+    for name, grey in slices:
+        if grey.values.shape != one.values.shape:
+            told = f"{name} has {told_sides(sides_of(grey.values))}, {first} has {told_sides(sides_of(one.values))}"
+            raise Fault(path, f"slices of different sizes: {told}", "take out those that do not belong to the stack")
+        notes.update(dict.fromkeys(grey.notes))
+    return Grey(str(path), np.stack([grey.values for _, grey in slices]), tuple(notes), one.objects)
+
+
+def _made(image: Grey, name: str, settings: Settings, limit: int) -> Iterator[Picture]:
+    sides, most = sides_of(image.values), max(image.values.shape)
+    fit, notes = -(-most // limit), list(image.notes)
+    if fit > 1 and not settings.fit:
+        raise Fault(
+            image.name,
+            f"too large: {told_sides(sides)}, and a side goes up to {limit}",
+            f"cut it into parts, or give --fit: 1 pixel for {fit}",
+        )
+    if settings.labels:
+        yield from _labelled(image, name, settings.labels, fit)
+        return
+    if fit > 1:
+        notes.append(f"made smaller: 1 pixel for {fit}")
+        image = replace(image, values=_smaller(image.values, fit))
+    cut = cut_of(image, settings)
+    if looks_like_labels(image.values):
+        notes.append(f"its values are 0 to {image.values.max()}: if these are labels, give --labels")
+    yield Picture(name, None, cut.mask(image.values), fit, cut, (str(cut), *notes))
+
+
+def _labelled(image: Grey, name: str, how: str, fit: int) -> Iterator[Picture]:
+    values = image.values
+    if not (values.dtype == bool or np.issubdtype(values.dtype, np.integer)):
+        raise Fault(image.name, "its values are no whole numbers, so no labels", "leave out --labels")
+    if "colours made grey" in image.notes:
+        raise Fault(image.name, "labels in colours", "save them as numbers: a grey image of 8 or 16 bits, 0 for the background")
+    notes = list(image.notes)
+    if fit > 1:
+        notes.append(f"made smaller: 1 pixel for {fit}, each the label of its middle")
+        values = values[(slice(fit // 2, None, fit),) * values.ndim]
+    labels = [int(label) for label in np.unique(values) if label != 0]
+    if not labels:
+        raise Fault(image.name, "no labels: all its values are 0", "is it the right image?")
+    if how == "all":
+        yield Picture(
+            name, None, values != 0, fit, None, (f"the {len(labels)} labels as one picture: those that touch are one object", *notes)
+        )
+        return
+    for label in labels:
+        yield Picture(name, label, values == label, fit, None, (f"label {label} of {len(labels)}, as a picture of its own", *notes))
+
+
+def _smaller(values: np.ndarray, fit: int) -> np.ndarray:
+    """The means of blocks of `fit` pixels along each side; the last blocks of a side are as large as they are."""
+    sums = values.astype(np.float64)
+    counts = np.ones((1,) * values.ndim)
+    for axis, side in enumerate(values.shape):
+        starts = np.arange(0, side, fit)
+        sums = np.add.reduceat(sums, starts, axis)
+        sizes = np.diff(np.append(starts, side)).reshape([-1 if k == axis else 1 for k in range(values.ndim)])
+        counts = counts * sizes
+    means = sums / counts
+    return means if np.issubdtype(values.dtype, np.floating) else np.rint(means).astype(values.dtype)

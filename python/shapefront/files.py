@@ -1,0 +1,100 @@
+"""Files written aside and renamed, their sums, and their names in messages."""
+from __future__ import annotations
+
+import gzip
+import hashlib
+import json
+import os
+import tempfile
+from collections.abc import Iterator
+from contextlib import contextmanager
+from pathlib import Path
+from typing import IO, Any
+
+from .faults import Fault
+
+
+@contextmanager
+def aside(path: Path) -> Iterator[IO[bytes]]:
+    """A file beside `path` to write into; it takes the name of `path` when all went well, and is gone when not.
+
+    A Fault where the system refuses it.
+    """
+    try:
+        handle, name = tempfile.mkstemp(prefix="." + path.name[:80] + ".", dir=path.parent)
+    except OSError as error:
+        raise Fault(path, f"cannot be written ({error.strerror})", "choose another folder with -o") from error
+    try:
+        with os.fdopen(handle, "wb") as out:
+            yield out
+        os.chmod(name, 0o666 & ~_umask())
+        os.replace(name, path)
+    except OSError as error:
+        raise Fault(path, f"cannot be written ({error.strerror})", "is the disk full?") from error
+    finally:
+        if os.path.exists(name):
+            os.unlink(name)
+
+
+def _umask() -> int:
+    mask = os.umask(0o022)
+    os.umask(mask)
+    return mask
+
+
+def make_folder(path: Path) -> None:
+    """Makes a folder where there is none. A Fault where that cannot be."""
+    try:
+        path.mkdir(parents=True, exist_ok=True)
+    except OSError as error:
+        raise Fault(path, f"cannot be made ({error.strerror})", "choose another folder with -o") from error
+
+
+def write(path: Path, data: bytes) -> None:
+    """Writes a file as a whole, or not at all."""
+    with aside(path) as out:
+        out.write(data)
+
+
+def encoded(text: str) -> bytes:
+    """The bytes of a text; of file names in it those that the system has, though they be no UTF-8."""
+    return text.encode("utf-8", "surrogateescape")
+
+
+def write_json(path: Path, value: Any) -> None:
+    write(path, encoded(json.dumps(value, indent=1, ensure_ascii=False) + "\n"))
+
+
+def read_json(path: Path) -> Any:
+    """The value in a file, and None where there is no such file or something else in it."""
+    try:
+        return json.loads(path.read_text("utf-8", "surrogateescape"))
+    except (OSError, ValueError):
+        return None
+
+
+def sum_of(path: Path) -> str | None:
+    """The SHA-256 sum of a file, and None where it cannot be read."""
+    try:
+        with open(path, "rb") as file:
+            return hashlib.file_digest(file, "sha256").hexdigest()
+    except OSError:
+        return None
+
+
+def sum_of_bytes(data: bytes) -> str:
+    """The SHA-256 sum of some bytes."""
+    return hashlib.sha256(data).hexdigest()
+
+
+def gzipped(data: bytes) -> bytes:
+    """The same bytes for the same data: without a time."""
+    return gzip.compress(data, mtime=0)
+
+
+def shown(path: Path | str) -> str:
+    """A file's name as a user sees it: below the current folder where it is there."""
+    try:
+        return str(Path(path).resolve().relative_to(Path.cwd()))
+    except ValueError:
+        return str(path)

@@ -1,0 +1,97 @@
+"""The command `shapes`: measure, volume and check, for people who do not live in a shell."""
+from __future__ import annotations
+
+import argparse
+import io
+import sys
+from collections.abc import Iterable, Iterator
+
+from .batch import images_of, run
+from .checking import Finding, check_folder
+from .convert import pictures_of, volumes_of
+from .exports import dxf, ply
+from .faults import Fault
+from .files import make_folder, shown, write
+from .folder import finish
+from .making import Plan, clear_aside
+from .original import check_original
+from .programs import find, has
+from .report import Analysis, read
+from .words import options_of, parser, pixel_of, settings_of
+
+DONE, FAILED, USAGE, NOTHING, STOPPED = 0, 1, 2, 3, 130
+
+
+def measure(words: argparse.Namespace) -> int:
+    """`shapes measure` and `shapes volume`: all that the images give, in one folder."""
+    pixel, is_volume, settings = pixel_of(words), words.command == "volume", settings_of(words)
+    find("shape")
+    images, passed = images_of(words.images, is_volume)
+    if passed:
+        print(f"passed over, as their names are not those of images: {passed} of the files", file=sys.stderr)
+    if not images:
+        raise Fault(shown(words.images[0]), "no image is in this folder", "name the files themselves")
+    for program, made in (
+        ("shape_measure", "objects.csv"),
+        ("shape_draw", "drawings"),
+        *([("shape_mask", "masks")] if words.masks else []),
+    ):
+        if not has(program):
+            print(f"{program}: this program is not found, so no {made}; all else goes on", file=sys.stderr)
+    if any(path.is_dir() and path.resolve() == words.folder.resolve() for path in words.images):
+        raise Fault("-o", "the folder of the images themselves", "choose another one for what is written")
+    make_folder(words.folder)
+    clear_aside(words.folder)
+    plan = Plan(words.folder, words.rule, words.gzip, tuple(dict.fromkeys(words.masks)))
+    convert = volumes_of if is_volume else pictures_of
+    run(images, plan, lambda path, name: convert(path, name, settings), words.jobs)
+    finish(images, plan, pixel, options_of(words))
+    failed = sum(image.failure is not None for image in images)
+    print(f"{len(images) - failed} of {len(images)} measured, in {words.folder}: summary.txt tells how")
+    return FAILED if failed else DONE
+
+
+def check(words: argparse.Namespace) -> int:
+    """`shapes check`: one line a file, and one status."""
+    find("shape")
+    if words.report is None:
+        if not words.image.is_dir():
+            raise Fault(shown(words.image), "not a folder", "give a folder, or an image and its report")
+        findings = list(_printed(check_folder(words.image, words.jobs)))
+    else:
+        findings = list(_printed([check_original(words.image, words.report, settings_of(words))]))
+    return DONE if all(finding.holds for finding in findings) else FAILED
+
+
+def _printed(findings: Iterable[Finding]) -> Iterator[Finding]:
+    for finding in findings:
+        print(finding, flush=True)
+        yield finding
+
+
+def export(words: argparse.Namespace) -> int:
+    """`shapes export`: what a report says, for another program."""
+    report = read(words.report)
+    if not isinstance(report, Analysis):
+        raise Fault(shown(words.report), "a report of another kind", "take one of `shape analyse`")
+    write(words.out, ply(report, words.pixel_size) if words.format == "ply" else dxf(report, words.pixel_size, words.long))
+    return DONE
+
+
+def main(words: list[str] | None = None) -> int:
+    """Runs the command; its status."""
+    for stream in (sys.stdout, sys.stderr):
+        if isinstance(stream, io.TextIOWrapper):
+            stream.reconfigure(errors="surrogateescape")
+    given = parser().parse_args(words)
+    try:
+        return {"check": check, "export": export}.get(given.command, measure)(given)
+    except Fault as fault:
+        print(f"shapes: {fault}", file=sys.stderr)
+        return USAGE if fault.about.startswith("-") else NOTHING
+    except KeyboardInterrupt:
+        print("\nshapes: stopped; the same command goes on where it was", file=sys.stderr)
+        return STOPPED
+    except BrokenPipeError:
+        sys.stderr.close()
+        return FAILED

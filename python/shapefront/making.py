@@ -1,0 +1,136 @@
+"""Makes all that one picture gives: its file, its report, checked, its table and its drawing; and a record of how.
+
+Everything is made in a folder aside and then renamed, the record last. So what has a record is whole, and a second run with the
+same picture, rule and programs leaves it as it is.
+"""
+from __future__ import annotations
+
+import os
+import tempfile
+from collections.abc import Iterator
+from contextlib import contextmanager
+from dataclasses import asdict, dataclass
+from pathlib import Path
+from typing import Any
+
+from .arrays import verdict
+from .convert import Picture
+from .faults import Fault
+from .files import gzipped, read_json, shown, sum_of, sum_of_bytes, write_json
+from .pictures import Source, sides_of, spelled, suffix_of
+from .programs import call, explained, has, made, sums
+from .report import counts_of
+
+_ASIDE = ".making-"
+Record = dict[str, Any]
+
+
+@dataclass(frozen=True)
+class Plan:
+    """Where the files go, the rule of the thinning, whether reports are gzipped, and the masks that are wanted beside them."""
+
+    folder: Path
+    rule: str
+    gzip: bool = False
+    masks: tuple[str, ...] = ()
+
+
+def make(picture: Picture, plan: Plan) -> Record:
+    """Makes what a picture gives, but where its record says that it is there already. The record; a Fault where it fails."""
+    head, told = _head(picture, plan), plan.folder / (picture.key + ".json")
+    before = read_json(told) or {}
+    if _is_made(before, head, plan.folder):
+        return before
+    with _folder_aside(told.parent) as work:
+        counts = _products(picture, plan, work)
+        files = {path.name: sum_of(path) for path in sorted(work.iterdir())}
+        for name in files:
+            os.replace(work / name, told.parent / name)
+        record = {**head, **counts, "files": files}
+        write_json(told, record)
+        for name in before.get("files", {}):
+            if name not in files and name.startswith(Path(picture.key).name + ".") and "/" not in name:
+                (told.parent / name).unlink(missing_ok=True)
+    return record
+
+
+def _head(picture: Picture, plan: Plan) -> Record:
+    """What says how a picture's files are made: equal heads, equal files."""
+    return {
+        "image": picture.image, "label": picture.label, "sides": list(sides_of(picture.mask)), "fit": picture.fit,
+        "cut": asdict(picture.cut) if picture.cut else None, "notes": list(picture.notes), "rule": plan.rule, "gzip": plan.gzip, "masks": list(plan.masks),
+        "picture": sum_of_bytes(spelled(picture.mask)), "programs": sums(),
+    }  # fmt: skip
+
+
+def _is_made(record: Record, head: Record, folder: Path) -> bool:
+    """Whether a record has this head, and its files are there as they were written."""
+    if any(record.get(key) != value for key, value in head.items()) or not record.get("files"):
+        return False
+    place = (folder / record["image"]).parent
+    return all(sum_of(place / name) == told for name, told in record["files"].items())
+
+
+@contextmanager
+def _folder_aside(place: Path) -> Iterator[Path]:
+    try:
+        place.mkdir(parents=True, exist_ok=True)
+        with tempfile.TemporaryDirectory(prefix=f"{_ASIDE}{os.getpid()}-", dir=place) as work:
+            yield Path(work)
+    except OSError as error:
+        raise Fault(shown(place), f"cannot be written ({error.strerror})", "is the disk full, or may you not write there?") from error
+
+
+def clear_aside(folder: Path) -> None:
+    """Takes away what a run left in the folder that was ended in the middle and is no more."""
+    for work in folder.rglob(_ASIDE + "*"):
+        process = work.name.removeprefix(_ASIDE).split("-")[0]
+        if work.is_dir() and process.isdigit() and not Path("/proc", process).exists():
+            for path in work.iterdir():
+                path.unlink()
+            work.rmdir()
+
+
+def _products(picture: Picture, plan: Plan, work: Path) -> Record:
+    """Writes the files of a picture into the folder `work`; what the record says of them."""
+    name = Path(picture.key).name
+    image, report = work / (name + suffix_of(picture.mask)), work / (name + ".report")
+    image.write_bytes(spelled(picture.mask))
+    source = Source.of(image)
+    with open(report, "wb") as out:
+        made("shape", "analyse", *source.words, plan.rule, out=out, about=picture.key)
+    answer = verdict(source, report)
+    if not answer:
+        raise Fault(picture.key, f"its fresh report does not hold ({answer})", "this must never be: is the disk or the memory broken?")
+    if has("shape_measure"):
+        with open(work / (name + ".csv"), "wb") as out:
+            made("shape_measure", report, out=out, about=picture.key)
+    _draw(report, work / (name + ".svg"), picture.key)
+    for kind in plan.masks if has("shape_mask") else ():
+        _mask(kind, report, work / f"{name}.{kind}", picture)
+    counts = dict(zip(("parts", "kept"), counts_of(report)))
+    if plan.gzip:
+        report.with_name(report.name + ".gz").write_bytes(gzipped(report.read_bytes()))
+        report.unlink()
+    return counts
+
+
+def _draw(report: Path, drawing: Path, about: str) -> None:
+    """Draws a report, where the program is there and draws reports of this kind."""
+    if not has("shape_draw"):
+        return
+    with open(drawing, "wb") as out:
+        answer = call("shape_draw", report, out=out)
+    if answer.status:
+        drawing.unlink()
+        if answer.message != "a report of a volume":
+            raise explained(about, answer)
+
+
+def _mask(kind: str, report: Path, path: Path, picture: Picture) -> None:
+    """Writes a picture of what a report says: a PBM or a PGM, or of a volume raw bytes, whose sides its name tells."""
+    with open(path, "wb") as out:
+        made("shape_mask", kind, report, out=out, about=picture.key)
+    with open(path, "rb") as file:
+        suffix = {b"P1": ".pbm", b"P4": ".pbm", b"P2": ".pgm", b"P5": ".pgm"}.get(file.read(2)) if picture.mask.ndim == 2 else None
+    os.replace(path, path.with_name(path.name + (suffix or suffix_of(picture.mask))))

@@ -1,0 +1,68 @@
+"""Pictures and volumes of two values, as the proved programs read them: a raw PBM, or a file of one byte a voxel."""
+from __future__ import annotations
+
+import re
+from dataclasses import dataclass
+from pathlib import Path
+
+import numpy as np
+
+from .faults import Fault
+from .programs import SIDE_FLAT, SIDE_SOLID
+
+_SIDES_IN_NAME = re.compile(r"\.(\d+)x(\d+)x(\d+)\.raw$")
+
+
+def sides_of(mask: np.ndarray) -> tuple[int, ...]:
+    """The sides of an image, x first: of an array indexed [y, x] or [z, y, x]."""
+    return tuple(reversed(mask.shape))
+
+
+def told_sides(sides: tuple[int, ...]) -> str:
+    """The sides as a user is shown them: `x 512, y 512, z 96`."""
+    return ", ".join(f"{axis} {side}" for axis, side in zip("xyz", sides))
+
+
+def suffix_of(mask: np.ndarray) -> str:
+    """What a file of this picture ends in: `.pbm`, or `.16x16x16.raw` with the sides of a volume."""
+    return ".pbm" if mask.ndim == 2 else ".%dx%dx%d.raw" % sides_of(mask)
+
+
+def spelled(mask: np.ndarray) -> bytes:
+    """The bytes of the picture's file: 1 where the mask is true."""
+    if mask.ndim == 2:
+        return b"P4\n%d %d\n" % sides_of(mask) + np.packbits(mask, axis=1).tobytes()
+    return mask.astype(np.uint8).tobytes()
+
+
+def checked_mask(mask: np.ndarray, name: str = "the array") -> np.ndarray:
+    """The array as booleans. A Fault where it is none of two or three axes with sides that the programs take."""
+    mask = np.asarray(mask)
+    if mask.dtype != bool:
+        raise Fault(name, f"an array of {mask.dtype}, not of booleans", "compare it with a threshold: `image > t`")
+    if mask.ndim not in (2, 3):
+        raise Fault(name, f"an array of {mask.ndim} axes", "give one of two (y, x) or three (z, y, x)")
+    limit = SIDE_FLAT if mask.ndim == 2 else SIDE_SOLID
+    if min(mask.shape) < 1 or max(mask.shape) > limit:
+        raise Fault(name, f"sides of {told_sides(sides_of(mask))}", f"each has to be from 1 to {limit}")
+    return mask
+
+
+@dataclass(frozen=True)
+class Source:
+    """A picture's file with the words that name it to the proved programs: `pbm FILE`, or `raw X Y Z FILE`."""
+
+    path: Path
+    sides: tuple[int, ...] = ()
+
+    @property
+    def words(self) -> list[str]:
+        return ["raw", *map(str, self.sides), str(self.path)] if self.sides else ["pbm", str(self.path)]
+
+    @classmethod
+    def of(cls, path: Path, sides: tuple[int, ...] = ()) -> Source:
+        """The source of a file: a volume where its name ends in `.XxYxZ.raw`, or has the sides that are given."""
+        told = _SIDES_IN_NAME.search(path.name)
+        if told:
+            return cls(path, tuple(map(int, told.groups())))
+        return cls(path, sides if path.suffix == ".raw" else ())

@@ -1,0 +1,259 @@
+"""Reads a report of `shape` into arrays of numpy. It judges no claim: `shape check` does.
+
+Points are rows (x, y) or (x, y, z) as reports write them; pictures of them, such as `Analysis.mask`, are indexed [y, x] or
+[z, y, x] as images are. Lengths are in pixels, and `squares` are squared distances, whole numbers and exact.
+"""
+from __future__ import annotations
+
+import gzip
+from collections.abc import Iterator, Sequence
+from dataclasses import dataclass
+from functools import cached_property
+from pathlib import Path
+
+import numpy as np
+
+from .faults import Fault
+from .further import BallReport, EdgeReport, PieceReport
+from .lines import REMEDY, Lines
+from .runs import Runs, offsets
+
+Report = "Analysis | EdgeReport | PieceReport | BallReport"
+
+_FLAT = ("parts", "near", "contour", "at", "seg", "least", "turn", "cut", "del", "tip", "kept", "end")
+_SOLID = ("parts", "near", "face", "patch", "on", "off", "del", "tip", "kept", "end")
+
+
+@dataclass(frozen=True)
+class Counts:
+    """The numbers of a `parts` or a `kept` line: points, their connected pieces, and pieces of the background with the outside."""
+
+    points: int
+    pieces: int
+    background: int
+
+    @property
+    def holes(self) -> int:
+        """The pieces of the background but the outside: holes, or in a volume closed pores."""
+        return self.background - 1
+
+
+@dataclass(frozen=True)
+class Contour:
+    """A border: its points in order, with the object on the right hand, and its maximal segments."""
+
+    points: np.ndarray
+    side: int
+    segments: Runs
+
+    @property
+    def is_hole(self) -> bool:
+        """Whether it is the border of a hole, not an outer one."""
+        return self.side == 2
+
+
+class Contours(Sequence[Contour]):
+    """The contours of a flat picture, in the report's order; each is made when it is asked for."""
+
+    def __init__(self, heads: np.ndarray, points: np.ndarray, segments: Runs) -> None:
+        self.heads, self.points, self.segments = heads, points, segments
+        self._points, self._segments = offsets(heads[:, 3]), offsets(heads[:, 4])
+
+    def __len__(self) -> int:
+        return len(self.heads)
+
+    def __getitem__(self, k: int) -> Contour:
+        k = range(len(self))[k]
+        points = self.points[self._points[k] : self._points[k + 1]]
+        return Contour(points, int(self.heads[k, 2]), self.segments[self._segments[k] : self._segments[k + 1]])
+
+
+@dataclass(frozen=True)
+class Patch:
+    """A facet of a volume's surface, seen along an axis (0, 1, 2) against or with it (sense -1 or 1).
+
+    Its voxels (x, y, z) lie on the plane (a, b, c, mu): `mu <= a x + b y + c z < mu + main`, with the coefficient of the axis.
+    """
+
+    axis: int
+    sense: int
+    plane: tuple[int, int, int, int]
+    points: np.ndarray
+
+
+class Patches(Sequence[Patch]):
+    """The patches of a volume, in the report's order; each is made when it is asked for."""
+
+    def __init__(self, axes: np.ndarray, senses: np.ndarray, heads: np.ndarray, points: np.ndarray) -> None:
+        self.axes, self.senses, self.planes, self.points = axes, senses, heads[:, 1:], points
+        self._points = offsets(heads[:, 0])
+
+    def __len__(self) -> int:
+        return len(self.planes)
+
+    def __getitem__(self, k: int) -> Patch:
+        k = range(len(self))[k]
+        a, b, c, mu = map(int, self.planes[k])
+        return Patch(int(self.axes[k]), int(self.senses[k]), (a, b, c, mu), self.points[self._points[k] : self._points[k + 1]])
+
+
+@dataclass(frozen=True)
+class Analysis:
+    """A report of `shape analyse`: of a flat picture (two sides) or of a volume (three)."""
+
+    name: str
+    text: bytes
+    version: int
+    sides: tuple[int, ...]
+    rule: str
+    parts: Counts
+    kept: Counts
+    points: np.ndarray
+    nearest: np.ndarray
+    squares: np.ndarray
+    contours: Contours
+    patches: Patches
+    events: np.ndarray
+    marked: np.ndarray
+
+    @cached_property
+    def distances(self) -> np.ndarray:
+        """For each of `points` the distance to its nearest background point in pixels: the roots of `squares`."""
+        return np.sqrt(self.squares)
+
+    @cached_property
+    def mask(self) -> np.ndarray:
+        """The object as an image of booleans."""
+        return self._image(self.points, np.ones(len(self.points), bool))
+
+    @cached_property
+    def distance_image(self) -> np.ndarray:
+        """The distances as an image, with 0 at background points."""
+        return self._image(self.points, self.distances)
+
+    @cached_property
+    def skeleton_mask(self) -> np.ndarray:
+        """The skeleton as an image of booleans: the object points that no `del` line takes away."""
+        left = self.mask.copy()
+        left[self._index(self.events[~self.marked])] = False
+        return left
+
+    @cached_property
+    def skeleton(self) -> np.ndarray:
+        """The points of the skeleton, in raster order."""
+        return self.points[self.skeleton_mask[self._index(self.points)]]
+
+    @property
+    def tips(self) -> np.ndarray:
+        """The points that the rule marked as ends, in the order of the thinning."""
+        return self.events[self.marked]
+
+    def _index(self, points: np.ndarray) -> tuple[np.ndarray, ...]:
+        return tuple(points[:, k] for k in reversed(range(len(self.sides))))
+
+    def _image(self, points: np.ndarray, values: np.ndarray) -> np.ndarray:
+        image = np.zeros(self.sides[::-1], values.dtype)
+        image[self._index(points)] = values
+        return image
+
+
+def text_of(report: str | Path | bytes) -> tuple[bytes, str]:
+    """The text of a report and its name: of a file, gzipped or not, or of the bytes themselves. A Fault where it cannot be read."""
+    if isinstance(report, bytes):
+        return report, "the report"
+    try:
+        data = Path(report).read_bytes()
+        return (gzip.decompress(data) if data[:2] == b"\x1f\x8b" else data), str(report)
+    except (OSError, EOFError, gzip.BadGzipFile) as error:
+        reason = getattr(error, "strerror", None) or str(error)
+        raise Fault(report, f"cannot be read ({reason})", "is the name right?") from error
+
+
+def counts_of(path: Path) -> tuple[list[int], list[int]]:
+    """The numbers of a report's lines `parts` and `kept`, as it prints them, without reading all of it where it is not gzipped."""
+    if path.suffix == ".gz":
+        head = tail = text_of(path)[0]
+    else:
+        with open(path, "rb") as file:
+            head = file.read(400)
+            file.seek(max(0, path.stat().st_size - 400))
+            tail = file.read()
+    return [int(word) for word in head.split(b"\n", 2)[1].split()[1:]], [int(word) for word in tail.rsplit(b"\n", 3)[1].split()[1:]]
+
+
+def read(report: str | Path | bytes):
+    """Reads a report, given by the name of its file (gzipped or not) or as its text.
+
+    An `Analysis`, or an `EdgeReport`, a `PieceReport` or a `BallReport` by its first word. A Fault where it is no report.
+    """
+    text, name = text_of(report)
+    lines = Lines.of(text, name)
+    heading = lines.words(0)
+    further = {"edges": EdgeReport, "pieces": PieceReport, "balls": BallReport}.get(heading[0])
+    if heading[0] != "shape" and further is None:
+        raise Fault(
+            name, "not a report: its first line begins with none of `shape`, `edges`, `pieces` and `balls`", "is it the right file?"
+        )
+    try:
+        return further.of(lines, heading) if further else _analysis(lines, text, heading)
+    except (ValueError, IndexError, OverflowError) as error:
+        raise Fault(name, "not a report: its lines do not fit together", REMEDY) from error
+
+
+def _analysis(lines: Lines, text: bytes, heading: list[str]) -> Analysis:
+    axes = {"pbm": 2, "raw": 3}[heading[2]] if len(heading) > 2 and heading[2] in ("pbm", "raw") else 0
+    if not axes or len(heading) != axes + 4:
+        raise Fault(lines.name, "not a report: its first line names no picture and no volume", REMEDY)
+    lines.only(_FLAT if axes == 2 else _SOLID)
+    if lines.words(len(lines) - 1) != ["end"]:
+        raise Fault(lines.name, "not a whole report: its last line is not `end`", "was it cut on the way?")
+    sides = tuple(map(int, heading[3:-1]))
+    near = lines.numbers("near", 2 * axes + 1)
+    points, nearest, squares = near[:, :axes], near[:, axes:-1], near[:, -1]
+    happened = np.union1d(lines.where("del"), lines.where("tip"))
+    events = lines.numbers_at(happened, axes)
+    for where in (points, events):
+        if ((where < 0) | (where >= sides)).any():
+            raise Fault(lines.name, "not a report: a point lies outside the picture", REMEDY)
+    return Analysis(
+        lines.name, text, int(heading[1]), sides, heading[-1], _counts(lines, "parts"), _counts(lines, "kept"),
+        points, nearest, squares, _contours(lines), _patches(lines), events, np.isin(happened, lines.where("tip")),
+    )  # fmt: skip
+
+
+def _counts(lines: Lines, word: str) -> Counts:
+    rows = lines.numbers(word, 3)
+    if len(rows) != 1:
+        raise Fault(lines.name, f"not a report: it has {len(rows)} lines `{word}`, not one", REMEDY)
+    return Counts(*map(int, rows[0]))
+
+
+def _contours(lines: Lines) -> Contours:
+    heads = lines.numbers("contour", 5)
+    for word, told in (("at", heads[:, 3]), ("seg", heads[:, 4])):
+        lines_follow(lines, "contour", word, told)
+    segments, least = lines.numbers("seg", 6), lines.numbers("least", 4)
+    return Contours(heads, lines.numbers("at", 2), Runs(segments, least if len(least) else None))
+
+
+def _patches(lines: Lines) -> Patches:
+    heads = lines.numbers("patch", 5)
+    lines_follow(lines, "patch", "on", heads[:, 0])
+    faces = lines.numbers("face", 3)
+    of = np.searchsorted(lines.where("face"), lines.where("patch")) - 1
+    return Patches(faces[of, 0], faces[of, 1], heads, lines.numbers("on", 3))
+
+
+def lines_follow(lines: Lines, head: str, word: str, told: np.ndarray) -> None:
+    """A Fault where behind a line `head` there are not as many lines `word` as it tells, before the next of its kind."""
+    starts = np.append(lines.where(head), len(lines))
+    wrong = np.diff(np.searchsorted(lines.where(word), starts)) != told
+    if wrong.any():
+        line = int(starts[int(np.argmax(wrong))]) + 1
+        raise Fault(lines.name, f"not a report: line {line} tells another number of lines `{word}` than follow", REMEDY)
+
+
+def contours_of(report: Analysis) -> Iterator[np.ndarray]:
+    """The contours as closed arrays of points (x, y), the first one again at the end, as drawing programs take them."""
+    for contour in report.contours:
+        yield np.vstack([contour.points, contour.points[:1]])

@@ -1,0 +1,67 @@
+"""The tables of a folder: `objects.csv` with a row for each object of all images, `pictures.csv` with a row for each picture.
+
+The rows come out of the tables that `shape_measure` wrote and out of lines of reports. Nothing is computed but products with
+the pixel's size.
+"""
+from __future__ import annotations
+
+import csv
+import io
+from collections.abc import Iterable, Iterator
+from dataclasses import dataclass
+
+from .faults import Fault
+from .files import encoded
+from .units import POWERS, Pixel
+
+Row = list[str]
+
+
+@dataclass(frozen=True)
+class Part:
+    """One picture's table, with what the rows of `objects.csv` say of the picture."""
+
+    image: str
+    label: int | None
+    fit: int
+    table: str
+
+
+def rows_of(table: str) -> list[Row]:
+    return list(csv.reader(io.StringIO(table)))
+
+
+def spelled_rows(rows: Iterable[Row]) -> bytes:
+    out = io.StringIO()
+    csv.writer(out, lineterminator="\n").writerows(rows)
+    return encoded(out.getvalue())
+
+
+def objects(parts: Iterable[Part], pixel: Pixel | None) -> Iterator[Row]:
+    """The rows of `objects.csv`, the header first. A Fault where a picture's table has another header than the first one's."""
+    parts, header = list(parts), None
+    labels, fits = any(part.label is not None for part in parts), any(part.fit > 1 for part in parts)
+    for part in parts:
+        first, *rest = rows_of(part.table) or [[]]
+        if header is None:
+            header = first
+            yield ["image", *(["label"] if labels else []), *(["fit"] if fits else []), *header, *_converted_header(header, pixel)]
+        if first != header:
+            raise Fault(
+                part.image,
+                "its table has other columns than the others have",
+                "was it made by another version? measure again into an empty folder",
+            )
+        own = [part.image, *([str(part.label)] if labels else []), *([str(part.fit)] if fits else [])]
+        for row in rest:
+            yield [*own, *row, *_converted(header, row, pixel, part.fit)]
+
+
+def _converted_header(header: Row, pixel: Pixel | None) -> Row:
+    return [name for column in header if pixel and (name := pixel.column(column))]
+
+
+def _converted(header: Row, row: Row, pixel: Pixel | None, fit: int) -> Row:
+    if pixel is None:
+        return []
+    return [pixel.times(value, POWERS[column], fit) for column, value in zip(header, row) if column in POWERS]

@@ -1,0 +1,48 @@
+"""The size of a pixel, and the columns of a table in its unit."""
+from __future__ import annotations
+
+from dataclasses import dataclass
+from decimal import Context, Decimal, InvalidOperation
+
+from .faults import Fault
+
+# The power of the pixel's size that a column of `shape_measure` is in. A column that is not here has no unit, or is a place.
+POWERS = {"area": 2, "border": 1, "hole_border": 1, "feret": 1, "radius": 1, "voxels": 3, "sides": 2}
+_DIGITS = Context(prec=9)
+
+
+@dataclass(frozen=True)
+class Pixel:
+    """How wide a pixel is, in a unit of length."""
+
+    size: Decimal
+    unit: str
+
+    @classmethod
+    def given(cls, size: str, unit: str) -> Pixel:
+        """The size that a user gave. A Fault where it is no length."""
+        try:
+            value = Decimal(size)
+        except InvalidOperation:
+            value = Decimal(0)
+        if not value.is_finite() or value <= 0 or not unit.isidentifier():
+            raise Fault("--pixel-size", f"`{size} {unit}` is no length", "give a number above 0 and a unit, as in `--pixel-size 0.65 um`")
+        return cls(value, unit)
+
+    @classmethod
+    def of_dpi(cls, dpi: str) -> Pixel:
+        """The size of a pixel of a scan, in millimetres, by its dots per inch. A Fault where that is no number."""
+        return cls(Decimal("25.4") / cls.given(dpi, "dpi").size, "mm")
+
+    def times(self, number: str, power: int, fit: int = 1) -> str:
+        """A number of pixels in the unit, with nine digits; a pixel is `fit` of the image's wide."""
+        value = Decimal(number) * (self.size * fit) ** power
+        return f"{_DIGITS.plus(value).normalize():f}"
+
+    def column(self, name: str) -> str | None:
+        """The name of the column in the unit: `area_mm2` for `area`. None where a column has no unit."""
+        power = POWERS.get(name)
+        return None if power is None else f"{name}_{self.unit}" + ("" if power == 1 else str(power))
+
+    def __str__(self) -> str:
+        return f"{_DIGITS.plus(self.size).normalize():f} {self.unit}"

@@ -1,0 +1,134 @@
+"""The words of the command `shapes`."""
+from __future__ import annotations
+
+import argparse
+from pathlib import Path
+
+from . import __version__
+from .arrays import RULES
+from .thresholds import Settings
+from .units import Pixel
+
+MASKS = ("object", "skeleton", "distances")
+_STATUS = """
+status: 0 all is well; 1 an image failed, or a report does not hold; 2 the words are no command; 3 nothing could be done;
+130 stopped: the same command goes on where it was.
+"""
+
+
+def _threshold(word: str) -> str:
+    number = float(word.removesuffix("%"))
+    if number != number or word.endswith("%") and not 0 <= number <= 100:
+        raise ValueError(word)
+    return word
+
+
+def _size(word: str) -> float:
+    if not 0 < float(word) < float("inf"):
+        raise ValueError(word)
+    return float(word)
+
+
+def _jobs(word: str) -> int:
+    if int(word) < 1:
+        raise ValueError(word)
+    return int(word)
+
+
+def _conversion(parser: argparse.ArgumentParser) -> None:
+    """The words that say how an image is made black and white."""
+    cut = parser.add_mutually_exclusive_group()
+    cut.add_argument(
+        "--threshold", type=_threshold, metavar="T", help="values below T are dark: a value of the image, or a percentage such as 50%%"
+    )
+    cut.add_argument("--auto", action="store_true", help="choose a threshold for each image, by Otsu (where none is given)")
+    side = parser.add_mutually_exclusive_group()
+    side.add_argument("--dark", dest="objects", action="store_const", const="dark", help="the objects are dark")
+    side.add_argument(
+        "--light",
+        dest="objects",
+        action="store_const",
+        const="light",
+        help="the objects are light (else the side is chosen that the outermost pixels are not on)",
+    )
+    labels = parser.add_mutually_exclusive_group()
+    labels.add_argument(
+        "--labels", action="store_const", const="each", help="values are labels, 0 is background: each label is a picture of its own"
+    )
+    labels.add_argument(
+        "--labels-together",
+        dest="labels",
+        action="store_const",
+        const="all",
+        help="the same, all labels as one picture: those that touch are one object",
+    )
+    parser.add_argument("--fit", action="store_true", help="make images that are too large smaller, by whole numbers of pixels")
+
+
+def _making(parser: argparse.ArgumentParser) -> None:
+    """The words that say what is made of the pictures."""
+    size = parser.add_mutually_exclusive_group()
+    size.add_argument(
+        "--pixel-size", nargs=2, metavar=("L", "UNIT"), help="how wide a pixel is: lengths and areas are told in this unit, too"
+    )
+    size.add_argument("--dpi", metavar="N", help="the dots per inch of a scan: lengths and areas are told in mm, too")
+    parser.add_argument(
+        "--rule", choices=RULES, default="curve", help="what the thinning keeps: ends of curves (curve), the first two (few), or none"
+    )
+    parser.add_argument("--gzip", action="store_true", help="gzip the reports: a fifth of their size")
+    parser.add_argument(
+        "--masks", action="append", choices=MASKS, default=[], help="also write a picture of this; may be given again for another"
+    )
+    parser.add_argument("-o", dest="folder", type=Path, default=Path("measured"), metavar="FOLDER", help="where all is written (measured)")
+
+
+def parser() -> argparse.ArgumentParser:
+    """The words of the command."""
+    top = argparse.ArgumentParser(
+        prog="shapes", description="Images in; tables, drawings and reports that can be checked out.", epilog=_STATUS
+    )
+    top.add_argument("--version", action="version", version=f"shapes {__version__}")
+    words = top.add_subparsers(dest="command", required=True, metavar="COMMAND")
+    measure = words.add_parser("measure", help="images to tables, drawings and reports", epilog=_STATUS)
+    measure.add_argument("images", nargs="+", type=Path, metavar="IMAGE", help="an image, or a folder of images")
+    volume = words.add_parser("volume", help="the same for volumes", epilog=_STATUS)
+    volume.add_argument(
+        "images", nargs="+", type=Path, metavar="VOLUME", help="a folder of slices, a TIFF of several pages, or a .npy file [z, y, x]"
+    )
+    for part in (measure, volume):
+        _making(part)
+    check = words.add_parser(
+        "check", help="whether every number of a folder, or a report of an image, is right, and why not", epilog=_STATUS
+    )
+    check.add_argument("image", type=Path, metavar="FOLDER|IMAGE", help="a folder that `shapes measure` wrote; or the image of a report")
+    check.add_argument("report", nargs="?", type=Path, metavar="REPORT")
+    for part in (measure, volume, check):
+        _conversion(part)
+        part.add_argument("--jobs", type=_jobs, default=1, metavar="N", help="how many images at once")
+    export = words.add_parser(
+        "export", help="straight sides and corners as DXF, or a volume's surface with its normals as PLY", epilog=_STATUS
+    )
+    export.add_argument("format", choices=("dxf", "ply"))
+    export.add_argument("report", type=Path, metavar="REPORT")
+    export.add_argument(
+        "--pixel-size", type=_size, default=1.0, metavar="L", help="how wide a pixel or voxel is, in the unit of the file: mm for DXF (1)"
+    )
+    export.add_argument("--long", type=int, default=20, metavar="STEPS", help="a straight side has at least so many steps (20)")
+    export.add_argument("-o", dest="out", type=Path, required=True, metavar="FILE", help="the file to write")
+    return top
+
+
+def settings_of(words: argparse.Namespace) -> Settings:
+    return Settings(words.threshold, words.objects, words.labels, words.fit)
+
+
+def pixel_of(words: argparse.Namespace) -> Pixel | None:
+    if words.pixel_size:
+        return Pixel.given(*words.pixel_size)
+    return Pixel.of_dpi(words.dpi) if words.dpi else None
+
+
+def options_of(words: argparse.Namespace) -> dict[str, object]:
+    """The options for the record of a run, but those that change no number."""
+    left_out = ("command", "images", "jobs", "folder")
+    return {"command": words.command, **{name: value for name, value in vars(words).items() if name not in left_out}}

@@ -1,0 +1,122 @@
+"""`shapes check`: reports, tables and drawings that were changed, and why they are wrong."""
+import shutil
+import subprocess
+from pathlib import Path
+
+from .common import STORED, InFolder, needs_draw, needs_pillow, needs_shape
+
+from shapefront import programs
+
+
+@needs_shape
+class Checking(InFolder):
+    def setUp(self):
+        super().setUp()
+        for name in ("word.pbm", "word.report", "pores.report", "pores.16x16x16.raw"):
+            shutil.copy(STORED / name, name)
+
+    def change(self, report, old, new):
+        path = Path(report)
+        self.assertIn(old, path.read_bytes())
+        path.write_bytes(path.read_bytes().replace(old, new, 1))
+
+    def found(self, *words):
+        status, out, error = self.shapes("check", *words)
+        self.assertEqual(error, [])
+        return status, out
+
+    def test_stored_reports(self):
+        self.assertEqual(self.found("."), (0, ["pores: yes", "word: yes"]))
+        self.assertEqual(self.found("word.pbm", "word.report"), (0, ["word.report: yes"]))
+        self.assertEqual(self.found("pores.16x16x16.raw", "pores.report"), (0, ["pores.report: yes"]))
+
+    def test_why_not(self):
+        for old, new, why in (
+            (b"near 15 10 15 11 1", b"near 15 10 15 11 4", "line 3: it says `near 15 10 15 11 4`; the squared distance is 1, not 4"),
+            (b"parts 95 5 5", b"parts 95 4 5", "line 2: it says `parts 95 4 5`; true is `parts 95 5 5`"),
+            (b"pbm 59 29 none", b"pbm 59 28 none", "the report is of another one"),
+            (b"pbm 59 29 none", b"pbm 59 29 curv", "curv"),
+            (b"kept 32 5 5", b"kept 31 5 5", "true is `kept 32 5 5`"),
+            (b"\nend\n", b"\n", "the report ends before this line; here a fresh report says `end`"),
+            (b"\nend\n", b"\nend\nmore\n", "something stands behind `end`"),
+        ):  # fmt: skip
+            shutil.copy(STORED / "word.report", "word.report")
+            self.change("word.report", old, new)
+            status, out = self.found("word.pbm", "word.report")
+            self.assertEqual((status, len(out)), (1, 1))
+            self.assertTrue(out[0].startswith("word.report: no, line ") and why in out[0], (out, why))
+
+    def test_every_changed_line_has_a_reason(self):
+        for source, report, step in (("word.pbm", "word.report", 23), ("pores.16x16x16.raw", "pores.report", 401)):
+            lines = (STORED / report).read_bytes().split(b"\n")
+            for k in range(0, len(lines) - 1, step):
+                Path(report).write_bytes(b"\n".join([*lines[:k], lines[k] + b"7", *lines[k + 1 :]]))
+                status, out = self.found(source, report)
+                self.assertEqual(status, 1)
+                if not lines[k].startswith(b"patch"):
+                    self.assertIn(f"no, line {k + 1}: it says `{lines[k].decode()}7`", out[0])
+
+    def test_further_kinds(self):
+        for kind in ("edges", "pieces", "balls"):
+            text = subprocess.run([programs.find("shape"), kind, "pbm", "word.pbm"], stdout=subprocess.PIPE).stdout
+            Path(f"word.{kind}").write_bytes(text)
+            self.assertEqual(self.found("word.pbm", f"word.{kind}"), (0, [f"word.{kind}: yes"]))
+            lines = text.split(b"\n")
+            for k in (0, 1, len(lines) // 2, len(lines) - 3):
+                Path(f"word.{kind}").write_bytes(b"\n".join([*lines[:k], lines[k] + b"7", *lines[k + 1 :]]))
+                status, out = self.found("word.pbm", f"word.{kind}")
+                self.assertTrue(status == 1 and f"no, line {k + 1}: it says" in out[0], out)
+
+    def test_a_report_without_its_picture(self):
+        Path("word.pbm").unlink()
+        status, out = self.found(".")
+        self.assertEqual(status, 1)
+        self.assertEqual(
+            out[1], "word: no, no picture lies beside its report; put word.pbm or word.XxYxZ.raw there, with the sides for X, Y and Z"
+        )
+
+    def test_a_broken_picture_is_told_by_its_name(self):
+        Path("word.pbm").write_bytes(b"P5 3 3 255\n123456789")
+        status, out = self.found(".")
+        self.assertEqual((status, out[1]), (1, "word: no, not a PBM; its first two bytes are not P1 or P4"))
+
+
+@needs_shape
+@needs_pillow
+class CheckingAFolder(InFolder):
+    def setUp(self):
+        super().setUp()
+        shutil.copy(STORED / "word.pbm", "word.pbm")
+        shutil.copy(STORED / "cross.pbm", "cross.pbm")
+        self.assertEqual(self.shapes("measure", "word.pbm", "cross.pbm", "--pixel-size", "3", "mm", "-o", "out")[0], 0)
+
+    def test_it_is_right(self):
+        self.assertEqual(
+            self.shapes("check", "out")[:2],
+            (0, ["out/cross.pbm: yes", "out/word.pbm: yes", "out/pictures.csv: yes", "out/objects.csv: yes"]),
+        )
+
+    def test_changed_tables(self):
+        path = Path("out/objects.csv")
+        path.write_text(path.read_text().replace("word.pbm,1,", "word.pbm,9,", 1))
+        self.assertEqual(
+            self.shapes("check", "out")[1][3], "out/objects.csv: no, it is not what the records and tables of the pictures say"
+        )
+        path = Path("out/word.pbm.csv")
+        path.write_text(path.read_text() + "9,9\n")
+        status, out, _ = self.shapes("check", "out")
+        self.assertEqual(
+            (status, out[1]),
+            (1, "out/word.pbm: no, the report holds, but its table out/word.pbm.csv is not what shape_measure makes of it"),
+        )
+
+    @needs_draw
+    def test_a_changed_drawing(self):
+        path = Path("out/word.pbm.svg")
+        path.write_text(path.read_text().replace("svg", "gvs"))
+        self.assertIn("its drawing out/word.pbm.svg is not what shape_draw makes of it", self.shapes("check", "out")[1][1])
+
+    def test_the_original_image(self):
+        self.assertEqual(self.shapes("check", "word.pbm", "out/word.pbm.report")[:2], (0, ["out/word.pbm.report: yes"]))
+        status, out, _ = self.shapes("check", "cross.pbm", "out/word.pbm.report")
+        self.assertTrue(status == 1 and "the report is of another one" in out[0], out)

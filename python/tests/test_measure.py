@@ -1,0 +1,207 @@
+"""`shapes measure` and `shapes volume`: folders of good and bad images, stopped and begun again."""
+import csv
+import json
+import os
+import re
+import signal
+import subprocess
+import sys
+import time
+import unittest
+from decimal import Decimal
+from pathlib import Path
+
+import numpy as np
+
+from .common import HERE, InFolder, installed, needs_pillow, needs_shape, random_mask
+
+from shapefront import programs, read
+
+if installed("PIL"):
+    from PIL import Image
+
+
+def contents(folder):
+    return {str(path.relative_to(folder)): path.read_bytes() for path in sorted(Path(folder).rglob("*")) if path.is_file()}
+
+
+def table(path):
+    with open(path, newline="") as file:
+        return list(csv.DictReader(file))
+
+
+@needs_shape
+@needs_pillow
+class Measuring(InFolder):
+    def save(self, count, side=30):
+        Path("in").mkdir()
+        for k in range(count):
+            Image.fromarray(np.where(random_mask(k + 1, side, side), 0, 255).astype(np.uint8)).save(f"in/{k:03}.png")
+
+    def test_a_folder(self):
+        self.save(3)
+        Path("in/notes.txt").write_text("not an image")
+        status, out, error = self.shapes("measure", "in", "--pixel-size", "0.5", "mm", "-o", "out")
+        self.assertEqual((status, out), (0, ["3 of 3 measured, in out: summary.txt tells how"]), error)
+        self.assertIn("passed over, as their names are not those of images: 1 of the files", error)
+        wanted = [f"{k:03}.png{suffix}" for k in range(3) for suffix in (".csv", ".json", ".pbm", ".report")]
+        self.assertLessEqual({*wanted, "made.json", "objects.csv", "pictures.csv", "summary.txt"}, set(contents("out")))
+        self.assertEqual([row["image"] for row in table("out/pictures.csv")], ["000.png", "001.png", "002.png"])
+
+    def test_every_number_was_printed_by_a_program_or_is_a_power_of_the_pixel_times_one(self):
+        self.save(3)
+        self.shapes("measure", "in", "--pixel-size", "0.125", "um", "-o", "out")
+        rows = table("out/objects.csv")
+        own = [row for k in range(3) for row in table(f"out/{k:03}.png.csv")]
+        self.assertEqual(len(rows), len(own))
+        powers = {"um": 1, "um2": 2, "um3": 3}
+        for row, told in zip(rows, own):
+            for name, value in row.items():
+                base, _, unit = name.rpartition("_")
+                if unit in powers:
+                    self.assertEqual(Decimal(value), Decimal(told[base]) * Decimal("0.125") ** powers[unit])
+                elif name != "image":
+                    self.assertEqual(value, told[name])
+        for row in table("out/pictures.csv"):
+            lines = Path(f"out/{row['image']}.report").read_text().splitlines()
+            self.assertEqual(lines[1], f"parts {row['points']} {row['pieces']} {row['background']}")
+            self.assertEqual(lines[-2].split()[1], row["skeleton"])
+
+    def test_a_second_run_changes_nothing(self):
+        self.save(4)
+        self.shapes("measure", "in", "-o", "out")
+        before, times = contents("out"), {path: path.stat().st_mtime_ns for path in Path("out").glob("*.report")}
+        self.shapes("measure", "in", "-o", "out", "--jobs", "2")
+        self.assertEqual(contents("out"), before)
+        self.assertEqual({path: path.stat().st_mtime_ns for path in Path("out").glob("*.report")}, times)
+        Path("out/002.png.report").write_text("changed")
+        self.shapes("measure", "in", "-o", "out")
+        self.assertEqual(contents("out"), before)
+
+    def test_one_broken_among_many(self):
+        self.save(12, 12)
+        Path("in/005.png").write_bytes(Path("in/005.png").read_bytes()[:-40])
+        status, out, error = self.shapes("measure", "in", "-o", "out", "--jobs", "2")
+        self.assertEqual((status, out), (1, ["11 of 12 measured, in out: summary.txt tells how"]))
+        self.assertEqual(sum("005.png: a broken image" in line for line in error), 1)
+        self.assertEqual(len(list(Path("out").glob("*.report"))), 11)
+        self.assertIn("in/005.png", json.loads(Path("out/made.json").read_text())["images"][5]["failure"])
+
+    def test_stopped_and_begun_again(self):
+        self.save(30, 80)
+        command = [sys.executable, str(HERE.parent / "shapes"), "measure", "in", "-o", "out"]
+        run = subprocess.Popen(command, stdout=subprocess.DEVNULL, stderr=subprocess.PIPE, start_new_session=True)
+        for _ in range(2000):
+            if len(list(Path("out").glob("*.json"))) > 3:
+                break
+            time.sleep(0.005)
+        os.killpg(run.pid, signal.SIGINT)
+        _, error = run.communicate()
+        self.assertEqual(run.returncode, 130, error)
+        self.assertIn(b"stopped; the same command goes on where it was", error)
+        self.assertFalse(Path("out/made.json").exists())
+        self.assertEqual(subprocess.run(command, stdout=subprocess.DEVNULL, stderr=subprocess.DEVNULL).returncode, 0)
+        self.shapes("measure", "in", "-o", "other")
+        self.assertEqual(contents("out"), contents("other"))
+
+    def test_killed_and_begun_again(self):
+        self.save(2)
+        Path("out/.making-999999999-x").mkdir(parents=True)
+        Path("out/.making-999999999-x/000.png.pbm").write_bytes(b"half")
+        self.assertEqual(self.shapes("measure", "in", "-o", "out")[0], 0)
+        self.assertFalse(list(Path("out").glob(".making*")))
+
+    def test_the_same_name_in_two_folders(self):
+        for folder in ("a", "b"):
+            Path(folder).mkdir()
+            Image.fromarray(np.where(random_mask(len(folder) + ord(folder), 9, 9), 0, 255).astype(np.uint8)).save(f"{folder}/x.png")
+        self.assertEqual(self.shapes("measure", "a/x.png", "b/x.png", "a/x.png", "-o", "out")[0], 0)
+        self.assertEqual([row["image"] for row in table("out/pictures.csv")], ["a/x.png", "b/x.png"])
+        self.assertTrue(Path("out/b/x.png.report").exists())
+        status, out, _ = self.shapes("check", "out")
+        self.assertEqual((status, out[:2]), (0, ["out/a/x.png: yes", "out/b/x.png: yes"]))
+
+    def test_odd_names(self):
+        for name in ("-minus.png", "two words.png", "ümlaut [1].png", "a.b.c.png"):
+            Image.fromarray(np.where(random_mask(5, 9, 9), 0, 255).astype(np.uint8)).save(name)
+        self.assertEqual(self.shapes("measure", "-o", "out", "./-minus.png", "two words.png", "ümlaut [1].png", "a.b.c.png")[0], 0)
+        status, out, _ = self.shapes("check", "out")
+        self.assertEqual((status, len(out), {line.rpartition(": ")[2] for line in out}), (0, 6, {"yes"}))
+
+    def test_labels_and_gzip(self):
+        labels = np.zeros((20, 20), np.uint8)
+        labels[2:8, 2:8], labels[8:12, 2:8] = 1, 2
+        Image.fromarray(labels).save("cells.png")
+        self.assertEqual(self.shapes("measure", "cells.png", "--labels", "--gzip", "-o", "out")[0], 0)
+        self.assertEqual(
+            [(row["label"], row["points"], row["pieces"]) for row in table("out/pictures.csv")], [("1", "36", "1"), ("2", "24", "1")]
+        )
+        self.assertTrue(Path("out/cells.png.label2.report.gz").exists())
+        self.assertEqual(self.shapes("check", "out")[0], 0)
+        self.assertEqual(
+            self.shapes("check", "cells.png", "out/cells.png.label2.report.gz")[:2], (0, ["out/cells.png.label2.report.gz: yes"])
+        )
+
+    def test_masks(self):
+        self.save(1)
+        words = ("--masks", "skeleton", "--masks", "distances", "--masks", "object", "-o", "out")
+        self.assertEqual(self.shapes("measure", "in", *words)[0], 0)
+        report = read("out/000.png.report")
+        for kind, suffix, wanted in (
+            ("skeleton", "pbm", ~report.skeleton_mask),
+            ("object", "pbm", ~report.mask),
+            ("distances", "pgm", report.mask),
+        ):
+            values = np.array(Image.open(f"out/000.png.{kind}.{suffix}"))
+            np.testing.assert_array_equal(values > 0, wanted)
+        self.assertEqual(self.shapes("check", "out")[0], 0)
+
+    def test_volumes(self):
+        mask = random_mask(7, 8, 10, 12)
+        np.save("v.npy", mask)
+        Path("slices").mkdir()
+        for k, page in enumerate(mask):
+            Image.fromarray(page.astype(np.uint8) * 255).save(f"slices/s{k}.png")
+        status, out, error = self.shapes("volume", "v.npy", "slices", "--light", "--pixel-size", "2", "mm", "-o", "out")
+        self.assertEqual((status, out), (0, ["2 of 2 measured, in out: summary.txt tells how"]), error)
+        self.assertIn("v.npy: x 12, y 10, z 8", Path("out/summary.txt").read_text())
+        self.assertEqual(Path("out/v.npy.report").read_bytes(), Path("out/slices.report").read_bytes())
+        self.assertEqual(self.shapes("check", "out")[0], 0)
+        self.assertEqual(self.shapes("check", "slices", "out/slices.report")[0], 0)
+        self.assertEqual(self.shapes("check", "v.npy", "out/v.npy.report")[0], 0)
+
+    def test_nothing_can_be_done(self):
+        self.save(1)
+        Path("empty").mkdir()
+        Path("file").write_text("")
+        for words, status, reason in (
+            (("measure", "empty"), 3, "empty: no image is in this folder"),
+            (("measure", "in", "--pixel-size", "0", "mm"), 2, "`0 mm` is no length"),
+            (("measure", "in", "--dpi", "many"), 2, "is no length"),
+            (("measure", "in", "--threshold", "half"), 2, "invalid"),
+            (("measure", "in", "--jobs", "0"), 2, "invalid"),
+            (("measure", "in", "--rule", "thin"), 2, "invalid choice"),
+            (("measure", "in", "-o", "./in"), 2, "the folder of the images themselves"),
+            (("measure",), 2, "required"),
+            (("check", "empty"), 3, "empty: no report is in this folder"),
+            (("check", "in/000.png"), 3, "not a folder"),
+            (("check", "in/000.png", "nowhere.report"), 3, "nowhere.report: cannot be read"),
+            (("measure", "in", "-o", "file/below"), 3, "file/below: cannot be made .Not a directory.; choose another folder"),
+        ):  # fmt: skip
+            found, _, error = self.shapes(*words)
+            self.assertEqual((found, bool(re.search(reason, "\n".join(error)))), (status, True), (words, error))
+
+    def test_a_program_is_missing(self):
+        self.save(1)
+        places, programs._places = programs._places, lambda name: []
+        path, os.environ["PATH"] = os.environ["PATH"], ""
+        try:
+            status, _, error = self.shapes("measure", "in")
+        finally:
+            programs._places, os.environ["PATH"] = places, path
+        self.assertEqual((status, len(error)), (3, 1))
+        self.assertIn("shape: this program is not found; build it by `rt run` in crates/shape", error[0])
+
+
+if __name__ == "__main__":
+    unittest.main()

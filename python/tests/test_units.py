@@ -1,0 +1,39 @@
+"""Lengths and areas in a unit, and the table of all objects."""
+import unittest
+
+from .common import ROOT  # noqa: F401  (puts the package on the path)
+
+from shapefront import Fault
+from shapefront.tables import Part, objects
+from shapefront.units import Pixel
+
+
+class Units(unittest.TestCase):
+    def test_powers_of_the_pixel(self):
+        pixel = Pixel.given("0.65", "um")
+        self.assertEqual((pixel.times("100", 1), pixel.times("100", 2), pixel.times("1000", 3)), ("65", "42.25", "274.625"))
+        self.assertEqual(pixel.times("100", 2, fit=2), "169")
+        self.assertEqual(pixel.times("628.319", 1), "408.40735")
+        self.assertEqual(str(Pixel.of_dpi("300")), "0.0846666667 mm")
+        self.assertEqual(Pixel.of_dpi("254").times("1234567", 2), "12345.67")
+
+    def test_what_is_no_length(self):
+        for size, unit in (("0", "mm"), ("-1", "mm"), ("wide", "mm"), ("nan", "mm"), ("inf", "mm"), ("1", "m m"), ("1", "")):
+            with self.assertRaisesRegex(Fault, "is no length"):
+                Pixel.given(size, unit)
+
+    def test_the_table_of_all(self):
+        table = "object,area,left,border\n1,100,3,40.000\n2,7,9,11.500\n"
+        rows = list(objects([Part("a.png", None, 1, table), Part("b.png", None, 2, table)], Pixel.given("0.5", "mm")))
+        self.assertEqual(rows[0], ["image", "fit", "object", "area", "left", "border", "area_mm2", "border_mm"])
+        self.assertEqual(rows[1], ["a.png", "1", "1", "100", "3", "40.000", "25", "20"])
+        self.assertEqual(rows[4], ["b.png", "2", "2", "7", "9", "11.500", "7", "11.5"])
+        self.assertEqual(len(rows), 5)
+
+    def test_labels_and_no_unit(self):
+        rows = list(objects([Part("a.png", 3, 1, "object,area\n1,5\n")], None))
+        self.assertEqual(rows, [["image", "label", "object", "area"], ["a.png", "3", "1", "5"]])
+
+    def test_other_columns_are_refused(self):
+        with self.assertRaisesRegex(Fault, "b.png: its table has other columns"):
+            list(objects([Part("a.png", None, 1, "object,area\n"), Part("b.png", None, 1, "object,voxels\n")], None))
