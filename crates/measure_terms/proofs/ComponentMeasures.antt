@@ -1,19 +1,18 @@
 -- The measures of the facts of a component are those of its points: bounds that are reached, sums and counts.
 -- Laws of lists alone.
-use Rattle.std.proofs.Common.{◌≡◌, ◌⊎◌, inl, inr, ◌+◌, ◌<◌, ◌≤◌, ℕ, zero, suc, Bool, true, false, List, [], ◌∷◌, length, map, get_or, refl, sym, ap, ◌∙◌, arith, subst}
-use Rattle.std.specs.Prelude.{◌==◌, ◌&&◌, ◌||◌, cond, not, nat_le, min, max, nat_abs, Option, Some, None, count_by, sum, sum_by}
+use Rattle.std.proofs.Common.{◌≡◌, ◌⊎◌, inl, inr, ◌+◌, ◌<◌, ◌≤◌, ℕ, zero, suc, Bool, true, false, List, [], ◌∷◌, map, get_or, refl, sym, ap, ◌∙◌, arith, subst}
+use Rattle.std.specs.Prelude.{◌==◌, ◌&&◌, ◌||◌, cond, nat_le, min, nat_abs, Some, None, count_by, sum}
 use Rattle.std.specs.List.{Contains, fold, find, list_any}
 use Rattle.std.specs.Option.{option_map, is_some}
 use Rattle.std.proofs.lemmas.Bool.{cond-true, cond-false, cases_Bool}
-use Rattle.std.proofs.lemmas.Bool.Decides.{nat_tests}
 use Rattle.std.proofs.lemmas.List.{length-map}
 use Rattle.std.proofs.lemmas.List.Sums.{sum-map}
 use Rattle.std.proofs.lemmas.List.Folds.{fold-map}
 use Rattle.shape_terms.specs.Points.{Point, coordinate, raster_number}
 use Rattle.shape_terms.specs.Pictures.{Picture, at}
 use Rattle.shape_terms.proofs.Members.{Contains-later}
-use Rattle.measure_terms.specs.Facts.{Fact, neighbours, near_count, at_rim}
-use Rattle.measure_terms.specs.Measures.{Span, Measures, measures_of, least, greatest, span, coordinates, depth, is_left, is_end, is_junction}
+use Rattle.measure_terms.specs.Facts.{Fact, near_count}
+use Rattle.measure_terms.specs.Measures.{measures_of, least, greatest, span, coordinates, depth, is_left, is_end, is_junction}
 use Rattle.measure_terms.specs.Components.{IsLeastOf, IsGreatestOf, IsSpanOf, AreMeasuresOf}
 use Rattle.measure_terms.proofs.ComponentPoints.{fact}
 
@@ -30,9 +29,9 @@ cases_of x xs y (suc k, l, e) = inr (k, omega arith, e)
 greatest_bound : (f : Point → ℕ) (ps : List Point) (p : Point) → Contains ps p → f p ≤ greatest (map f ps)
 greatest_bound f [] p c = absurd (omega (arith, c.1))
 greatest_bound f (q ∷ ps) p c = elim (cases_of q ps p c) [
-    | inl e ↦ (let h = ap f e in omega (arith, h))
-    | inr d ↦ (let r = greatest_bound f ps p d in omega (arith, r))
-  ]
+  | inl e ↦ (let h = ap f e in omega (arith, h))
+  | inr d ↦ (let r = greatest_bound f ps p d in omega (arith, r))
+]
 
 reached_more : (f : Point → ℕ) (p q : Point) (ps : List Point) → (r : Point) × Contains (q ∷ ps) r × (f r ≡ greatest (map f (q ∷ ps))) → (r : Point) × Contains (p ∷ q ∷ ps) r × (f r ≡ greatest (map f (p ∷ q ∷ ps)))
 reached_more f p q ps r =
@@ -57,9 +56,9 @@ fold_bound a (x ∷ xs) = let r = fold_bound (min a x) xs in omega (arith, r)
 rest_bound : (a : ℕ) (f : Point → ℕ) (ps : List Point) (p : Point) → Contains ps p → fold min a (map f ps) ≤ f p
 rest_bound a f [] p c = absurd (omega (arith, c.1))
 rest_bound a f (q ∷ ps) p c = elim (cases_of q ps p c) [
-    | inl e ↦ (let h = ap f e in let r = fold_bound (min a (f q)) (map f ps) in omega (arith, h, r))
-    | inr d ↦ rest_bound (min a (f q)) f ps p d
-  ]
+  | inl e ↦ (let h = ap f e in let r = fold_bound (min a (f q)) (map f ps) in omega (arith, h, r))
+  | inr d ↦ rest_bound (min a (f q)) f ps p d
+]
 
 rest_reached : (a : ℕ) (f : Point → ℕ) (ps : List Point) → (fold min a (map f ps) ≡ a) ⊎ ((q : Point) × Contains ps q × (f q ≡ fold min a (map f ps)))
 rest_reached a f [] = inl refl
@@ -113,9 +112,9 @@ any_is q h (x ∷ xs) = ap (λ b. q (h x) || b) (any_is q h xs)
 found_is : (q : Fact → Bool) (r : Point → Bool) (h : Point → Fact) (xs : List Point) → ((x : Point) → q (h x) ≡ r x) → ((x : Point) → (h x).point ≡ x) → option_map (λ f. f.point) (find q (map h xs)) ≡ find r xs
 found_is q r h [] e p = refl
 found_is q r h (x ∷ xs) e p = elim (cases_Bool (r x)) [
-    | inl t ↦ ap (option_map (λ f. f.point)) (cond-true (q (h x)) (Some (h x)) (find q (map h xs)) (e x ∙ t)) ∙ ap Some (p x) ∙ sym (cond-true (r x) (Some x) (find r xs) t)
-    | inr n ↦ ap (option_map (λ f. f.point)) (cond-false (q (h x)) (Some (h x)) (find q (map h xs)) (e x ∙ n)) ∙ found_is q r h xs e p ∙ sym (cond-false (r x) (Some x) (find r xs) n)
-  ]
+  | inl t ↦ ap (option_map (λ f. f.point)) (cond-true (q (h x)) (Some (h x)) (find q (map h xs)) (e x ∙ t)) ∙ ap Some (p x) ∙ sym (cond-true (r x) (Some x) (find r xs) t)
+  | inr n ↦ ap (option_map (λ f. f.point)) (cond-false (q (h x)) (Some (h x)) (find q (map h xs)) (e x ∙ n)) ∙ found_is q r h xs e p ∙ sym (cond-false (r x) (Some x) (find r xs) n)
+]
 
 left_is : (b : Bool) (n : ℕ) → is_some (cond b (Some n) None) ≡ b
 left_is true n = refl

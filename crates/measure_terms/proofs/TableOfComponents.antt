@@ -1,9 +1,8 @@
 -- The table of a picture has a row for each component, and each row has the measures of its component.
 -- Labels and lists of points alone stand here.
 use Rattle.std.proofs.Common.{◌≡◌, ◌⊎◌, inl, inr, ◌+◌, ◌<◌, ◌≤◌, ℕ, zero, suc, Bool, true, false, List, [], ◌∷◌, length, map, get_or, refl, sym, ap, ◌∙◌, arith, subst}
-use Rattle.std.specs.Prelude.{◌==◌, ◌&&◌, IsTrue, max}
+use Rattle.std.specs.Prelude.{◌==◌, ◌&&◌}
 use Rattle.std.specs.List.{Contains}
-use Rattle.std.proofs.lemmas.Bool.{cases_Bool}
 use Rattle.std.proofs.lemmas.Bool.Decides.{nat_tests}
 use Rattle.shape_terms.specs.Points.{Point, in_box, box_points, box_count, raster_number, raster_point}
 use Rattle.shape_terms.specs.Pictures.{Picture, at, object_points}
@@ -12,9 +11,9 @@ use Rattle.shape_terms.specs.Adjacency.{Near}
 use Rattle.shape_terms.proofs.Boxes.{raster_number-raster_point, raster_point-raster_number, raster_below}
 use Rattle.shape_terms.proofs.BoxLists.{get_or-box_points, length-box_points}
 use Rattle.shape_terms.proofs.Members.{Contains-filter}
-use Rattle.measure_terms.specs.Facts.{Fact, facts, facts_of}
+use Rattle.measure_terms.specs.Facts.{facts}
 use Rattle.measure_terms.specs.Measures.{Measures, measures_of, greatest}
-use Rattle.measure_terms.specs.Tables.{rows, IsTable}
+use Rattle.measure_terms.specs.Tables.{IsTable}
 use Rattle.measure_terms.specs.Components.{component, AreMeasuresOf, MeasuresComponents}
 use Rattle.measure_terms.proofs.OneMore.{below_greatest}
 use Rattle.measure_terms.proofs.TableRows.{length-rows, row_is}
@@ -102,9 +101,9 @@ table_measures X left squares table s h =
       named = h.named;
       all = subst (λ (m : ℕ). NamesParts Near (Object X) m (label_of X labels)) same names;
       each = λ k d l.
-        let some = some_point X labels n k names (omega (arith, same, l)) in
-        let row = ap (λ ms. get_or ms k d) h.rows ∙ row_is (greatest labels) fs k d (omega (arith, len, l)) ∙ ap measures_of (facts_are squares left X labels (k + 1) s (omega arith) h.named) in
-        let m = some_measures squares left labels (component X labels (k + 1)) some.0 some.1 in
-        let m2 = subst (λ (sides : List ℕ). AreMeasuresOf (λ q. get_or squares (raster_number sides q) 0) left (component X labels (k + 1)) (measures_of (map (fact squares left labels) (component X labels (k + 1))))) s m in
-        subst (λ (x : Measures). AreMeasuresOf (λ q. get_or squares (raster_number X.sides q) 0) left (component X labels (k + 1)) x) (sym row) m2;
+          let some = some_point X labels n k names (omega (arith, same, l)) in
+          let row = ap (λ ms. get_or ms k d) h.rows ∙ row_is (greatest labels) fs k d (omega (arith, len, l)) ∙ ap measures_of (facts_are squares left X labels (k + 1) s (omega arith) h.named) in
+          let m = some_measures squares left labels (component X labels (k + 1)) some.0 some.1 in
+          let m2 = subst (λ (sides : List ℕ). AreMeasuresOf (λ q. get_or squares (raster_number sides q) 0) left (component X labels (k + 1)) (measures_of (map (fact squares left labels) (component X labels (k + 1))))) s m in
+          subst (λ (x : Measures). AreMeasuresOf (λ q. get_or squares (raster_number X.sides q) 0) left (component X labels (k + 1)) x) (sym row) m2;
     }
