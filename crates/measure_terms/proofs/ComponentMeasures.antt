@@ -1,19 +1,18 @@
 -- The measures of the facts of a component are those of its points: bounds that are reached, sums and counts.
 -- Laws of lists alone.
-use Rattle.std.proofs.Common.{◌≡◌, ◌⊎◌, inl, inr, ◌+◌, ◌<◌, ◌≤◌, ℕ, zero, suc, Bool, true, false, List, [], ◌∷◌, length, map, get_or, refl, sym, ap, ◌∙◌, arith, subst}
-use Rattle.std.specs.Prelude.{◌==◌, ◌&&◌, ◌||◌, cond, not, nat_le, min, max, nat_abs, Option, Some, None, count_by, sum, sum_by}
+use Rattle.std.proofs.Common.{◌≡◌, ◌⊎◌, inl, inr, ◌+◌, ◌<◌, ◌≤◌, ℕ, zero, suc, Bool, true, false, List, [], ◌∷◌, map, get_or, refl, sym, ap, ◌∙◌, arith, subst}
+use Rattle.std.specs.Prelude.{◌==◌, ◌&&◌, ◌||◌, cond, nat_le, min, nat_abs, Some, None, count_by, sum}
 use Rattle.std.specs.List.{Contains, fold, find, list_any}
 use Rattle.std.specs.Option.{option_map, is_some}
 use Rattle.std.proofs.lemmas.Bool.{cond-true, cond-false, cases_Bool}
-use Rattle.std.proofs.lemmas.Bool.Decides.{nat_tests}
 use Rattle.std.proofs.lemmas.List.{length-map}
 use Rattle.std.proofs.lemmas.List.Sums.{sum-map}
 use Rattle.std.proofs.lemmas.List.Folds.{fold-map}
 use Rattle.shape_terms.specs.Points.{Point, coordinate, raster_number}
 use Rattle.shape_terms.specs.Pictures.{Picture, at}
 use Rattle.shape_terms.proofs.Members.{Contains-later}
-use Rattle.measure_terms.specs.Facts.{Fact, neighbours, near_count, at_rim}
-use Rattle.measure_terms.specs.Measures.{Span, Measures, measures_of, least, greatest, span, coordinates, depth, is_left, is_end, is_junction}
+use Rattle.measure_terms.specs.Facts.{Fact, near_count}
+use Rattle.measure_terms.specs.Measures.{measures_of, least, greatest, span, coordinates, depth, is_left, is_end, is_junction}
 use Rattle.measure_terms.specs.Components.{IsLeastOf, IsGreatestOf, IsSpanOf, AreMeasuresOf}
 use Rattle.measure_terms.proofs.ComponentPoints.{fact}
 

@@ -1,19 +1,16 @@
 -- The points of the facts of an object are those of its component, in raster order.
 -- Laws of lists, and of the labels of a picture.
-use Rattle.std.proofs.Common.{◌≡◌, ◌≢◌, ◌⊎◌, inl, inr, ◌+◌, ◌<◌, ◌≤◌, ℕ, zero, suc, Bool, true, false, List, [], ◌∷◌, ◌++◌, length, map, get_or, refl, sym, ap, ◌∙◌, arith, subst}
-use Rattle.std.specs.Prelude.{◌==◌, IsTrue, filter, cond, ◌&&◌}
-use Rattle.std.specs.List.{range_with_len, Contains}
+use Rattle.std.proofs.Common.{◌≡◌, inl, inr, ◌+◌, ◌<◌, ◌≤◌, ℕ, zero, suc, Bool, true, false, List, ◌∷◌, map, get_or, refl, sym, ap, ◌∙◌, arith}
+use Rattle.std.specs.Prelude.{◌==◌, filter}
+use Rattle.std.specs.List.{range_with_len}
 use Rattle.std.proofs.lemmas.Bool.{cond-true, cond-false, cases_Bool}
 use Rattle.std.proofs.lemmas.Bool.Decides.{nat_tests}
-use Rattle.std.proofs.lemmas.List.{length-map}
-use Rattle.shape_terms.specs.Points.{Point, in_box, box_points, box_count, raster_number, raster_point}
-use Rattle.shape_terms.specs.Pictures.{Picture, at, object_points}
-use Rattle.shape_terms.specs.Parts.{Object, NamesParts, LabelsObject}
-use Rattle.shape_terms.specs.Adjacency.{Near}
+use Rattle.shape_terms.specs.Points.{Point, box_count, raster_number, raster_point}
+use Rattle.shape_terms.specs.Pictures.{Picture, at}
+use Rattle.shape_terms.specs.Parts.{LabelsObject}
 use Rattle.shape_terms.proofs.Boxes.{raster_number-raster_point}
 use Rattle.shape_terms.proofs.BoxLists.{box_points_are}
 use Rattle.measure_terms.specs.Facts.{Fact, fact_at, fact_of, facts, facts_of, facts_below}
-use Rattle.measure_terms.specs.Measures.{greatest}
 use Rattle.measure_terms.specs.Components.{component}
 
 -- ---- filters of ranges

@@ -1,16 +1,16 @@
 -- The measures of an object with one point more, and the bounds of what is counted and summed.
 -- Laws of lists alone.
-use Rattle.std.proofs.Common.{◌≡◌, ◌⊎◌, inl, inr, ◌+◌, ◌*◌, ◌<◌, ◌≤◌, ℕ, zero, suc, Bool, true, false, List, [], ◌∷◌, ◌++◌, length, map, get_or, refl, sym, ap, ◌∙◌, arith, length-append}
-use Rattle.std.specs.Prelude.{◌==◌, min, max, Option, Some, None, cond, nat_abs, sum, sum_by, count_by, ◌||◌, ◌&&◌, nat_le, nat_eq}
+use Rattle.std.proofs.Common.{◌≡◌, inl, inr, ◌+◌, ◌<◌, ◌≤◌, ℕ, zero, suc, Bool, true, false, List, [], ◌∷◌, ◌++◌, length, map, get_or, refl, sym, ap, ◌∙◌, arith, length-append}
+use Rattle.std.specs.Prelude.{◌==◌, min, max, Option, Some, None, cond, nat_abs, sum, count_by, ◌||◌, ◌&&◌, nat_le, nat_eq}
 use Rattle.std.specs.List.{fold, find, list_any}
 use Rattle.std.specs.Option.{option_map, is_some, option_or}
 use Rattle.std.proofs.lemmas.Bool.{cond-true, cond-false, cases_Bool}
 use Rattle.std.proofs.lemmas.List.{map-append, length-map}
-use Rattle.std.proofs.lemmas.List.Sums.{fold-append, sum_by-append}
+use Rattle.std.proofs.lemmas.List.Sums.{fold-append}
 use Rattle.std.proofs.lemmas.List.Folds.{find-append, list_any-append}
 use Rattle.shape_terms.specs.Points.{coordinate}
 use Rattle.measure_terms.specs.Facts.{Fact}
-use Rattle.measure_terms.specs.Measures.{Span, Measures, measures_of, least, greatest, span, coordinates, depth, deepest, is_left, is_end, is_junction}
+use Rattle.measure_terms.specs.Measures.{measures_of, least, greatest, span, coordinates, depth, deepest, is_left, is_end, is_junction}
 use Rattle.measure_terms.specs.OneMore.{span_with, measures_with}
 use Rattle.std.proofs.lemmas.Bool.Decides.{nat_tests}
 

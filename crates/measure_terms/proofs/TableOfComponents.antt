@@ -1,9 +1,8 @@
 -- The table of a picture has a row for each component, and each row has the measures of its component.
 -- Labels and lists of points alone stand here.
 use Rattle.std.proofs.Common.{◌≡◌, ◌⊎◌, inl, inr, ◌+◌, ◌<◌, ◌≤◌, ℕ, zero, suc, Bool, true, false, List, [], ◌∷◌, length, map, get_or, refl, sym, ap, ◌∙◌, arith, subst}
-use Rattle.std.specs.Prelude.{◌==◌, ◌&&◌, IsTrue, max}
+use Rattle.std.specs.Prelude.{◌==◌, ◌&&◌}
 use Rattle.std.specs.List.{Contains}
-use Rattle.std.proofs.lemmas.Bool.{cases_Bool}
 use Rattle.std.proofs.lemmas.Bool.Decides.{nat_tests}
 use Rattle.shape_terms.specs.Points.{Point, in_box, box_points, box_count, raster_number, raster_point}
 use Rattle.shape_terms.specs.Pictures.{Picture, at, object_points}
@@ -12,9 +11,9 @@ use Rattle.shape_terms.specs.Adjacency.{Near}
 use Rattle.shape_terms.proofs.Boxes.{raster_number-raster_point, raster_point-raster_number, raster_below}
 use Rattle.shape_terms.proofs.BoxLists.{get_or-box_points, length-box_points}
 use Rattle.shape_terms.proofs.Members.{Contains-filter}
-use Rattle.measure_terms.specs.Facts.{Fact, facts, facts_of}
+use Rattle.measure_terms.specs.Facts.{facts}
 use Rattle.measure_terms.specs.Measures.{Measures, measures_of, greatest}
-use Rattle.measure_terms.specs.Tables.{rows, IsTable}
+use Rattle.measure_terms.specs.Tables.{IsTable}
 use Rattle.measure_terms.specs.Components.{component, AreMeasuresOf, MeasuresComponents}
 use Rattle.measure_terms.proofs.OneMore.{below_greatest}
 use Rattle.measure_terms.proofs.TableRows.{length-rows, row_is}

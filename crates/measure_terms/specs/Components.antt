@@ -1,6 +1,6 @@
 -- The measures of a component as those of a set of points, which its points in raster order list.
 -- Sets, bounds and sums alone; no fact of a point is spoken of here.
-use Rattle.std.specs.Prelude.{◌≡◌, ℕ, ◌+◌, ◌<◌, ◌≤◌, ◌==◌, ◌&&◌, nat_le, List, [], ◌∷◌, Option, Some, length, slice_index, slice_index_or, nat_abs, filter, count_by, sum_by}
+use Rattle.std.specs.Prelude.{◌≡◌, ℕ, ◌+◌, ◌<◌, ◌≤◌, ◌==◌, ◌&&◌, nat_le, List, length, slice_index, slice_index_or, nat_abs, filter, count_by, sum_by}
 use Rattle.std.specs.List.{Contains, list_any, find}
 use Rattle.shape_terms.specs.Points.{Point, coordinate, raster_number}
 use Rattle.shape_terms.specs.Pictures.{Picture, at, object_points}

@@ -1,6 +1,6 @@
 -- What is known of the points of a box: one fact for each, in raster order, and the facts of each object.
 -- A further column of the table may want one more field here; nothing here measures.
-use Rattle.std.specs.Prelude.{ℕ, ◌+◌, ◌==◌, ◌||◌, Bool, true, false, Option, Some, None, if◌then◌else◌, List, map, length, slice_index, nat_abs, filter, count_by}
+use Rattle.std.specs.Prelude.{ℕ, ◌+◌, ◌==◌, ◌||◌, Bool, Option, Some, None, if◌then◌else◌, List, map, length, slice_index, nat_abs, filter, count_by}
 use Rattle.std.specs.List.{range_with_len, list_any}
 use Rattle.shape_terms.specs.Points.{Point, coordinate, box_count, raster_point}
 use Rattle.shape_terms.specs.Pictures.{Picture, at}

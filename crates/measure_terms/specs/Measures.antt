@@ -1,6 +1,6 @@
 -- The measures of one object, each off the list of the facts of its points.
 -- A further measure is one more field of `Measures`, and one more definition.
-use Rattle.std.specs.Prelude.{ℕ, ◌+◌, ◌==◌, ◌≤◌, nat_le, min, max, Bool, true, false, Option, Some, None, List, [], ◌∷◌, map, length, nat_abs, count_by, sum}
+use Rattle.std.specs.Prelude.{ℕ, ◌==◌, nat_le, min, max, Bool, false, Option, Some, None, List, [], ◌∷◌, map, length, nat_abs, count_by, sum}
 use Rattle.std.specs.List.{fold, find, list_any}
 use Rattle.std.specs.Option.{option_map, is_some}
 use Rattle.shape_terms.specs.Points.{Point, coordinate}

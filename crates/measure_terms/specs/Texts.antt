@@ -1,10 +1,10 @@
 -- The spelling of a table: a header, and a line for each object, its cells with commas between.
 -- A further column is one more piece of `header` and of `cells`, in the same place.
-use Rattle.std.specs.Prelude.{ℕ, ◌+◌, ◌/◌, ◌%◌, Bool, true, false, Option, Some, None, List, [], ◌∷◌, ◌++◌, codes, map, take, nat_abs, if◌then◌else◌, cond, nat_eq}
+use Rattle.std.specs.Prelude.{ℕ, ◌+◌, ◌/◌, ◌%◌, Bool, true, false, Option, Some, None, List, [], ◌∷◌, ◌++◌, codes, take, nat_abs, cond, nat_eq}
 use Rattle.std.specs.List.{flat_map}
 use Rattle.std.specs.Fmt.{decimal}
 use Rattle.shape_terms.specs.Points.{Point, coordinate}
-use Rattle.measure_terms.specs.Measures.{Span, Measures}
+use Rattle.measure_terms.specs.Measures.{Measures}
 use Rattle.measure_terms.specs.Rounding.{mean, root}
 
 -- ---- cells

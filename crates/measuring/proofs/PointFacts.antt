@@ -1,6 +1,6 @@
 -- What is counted round a point, and where it lies in the box: one neighbour more, one axis more.
 -- Plain points and pictures alone stand here.
-use Rattle.std.proofs.Common.{◌≡◌, ◌+◌, ◌<◌, ◌≤◌, ℕ, Bool, true, false, ℤ, pos, ◌≤ℤ◌, List, [], ◌∷◌, ◌++◌, length, map, get_or, take, refl, sym, ap, ◌∙◌, arith}
+use Rattle.std.proofs.Common.{◌≡◌, ◌+◌, ◌<◌, ℕ, Bool, true, false, ℤ, pos, ◌≤ℤ◌, [], ◌∷◌, ◌++◌, length, get_or, take, refl, sym, ap, ◌∙◌, arith}
 use Rattle.std.specs.Prelude.{IsTrue, nat_abs, count_by, ◌||◌}
 use Rattle.std.specs.List.{range_with_len, list_any}
 use Rattle.std.proofs.Math.ListN as ListN
@@ -13,7 +13,6 @@ use Rattle.shape_terms.specs.Points.{Point, coordinate, AreSides, sides_of, in_b
 use Rattle.shape_terms.specs.Pictures.{Picture, at}
 use Rattle.shape_terms.specs.Adjacency.{moved, near_steps, near_point, near_points}
 use Rattle.shape_terms.proofs.Boxes.{in_box_coordinate, abs_is}
-use Rattle.measure_terms.specs.Facts.{at_end, near_count}
 
 -- a coordinate of a point of the box is a small natural
 pub place_small : (greatest : ℤ) (ns p : Point) (k : ℕ) (r : ℤ) → AreSides greatest ns → greatest ≤ℤ pos 2048 → IsTrue (in_box (sides_of ns) p) → k < length ns → r ≡ coordinate p k → (pos 0 ≤ℤ r) × (nat_abs r < 4096)

@@ -1,6 +1,6 @@
 -- The rows as the program keeps them, and those of the definitions: one point more, and the bounds that this needs.
 -- Lists of rows and of facts alone stand here.
-use Rattle.std.proofs.Common.{◌≡◌, ◌+◌, ◌<◌, ◌≤◌, ℕ, zero, suc, List, [], ◌∷◌, ◌++◌, length, map, get_or, set, take, refl, sym, ap, ◌∙◌, arith}
+use Rattle.std.proofs.Common.{◌≡◌, ◌+◌, ◌<◌, ◌≤◌, ℕ, List, [], ◌∷◌, ◌++◌, length, map, get_or, set, take, sym, ap, ◌∙◌, arith}
 use Rattle.std.specs.Prelude.{max}
 use Rattle.std.proofs.lemmas.List.{take_more, map-set, map-append, length-map, get_or-map}
 use Rattle.std.proofs.lemmas.List.FromFn.{map-range_with_len_more}
@@ -10,7 +10,7 @@ use Rattle.measure_terms.specs.Measures.{Measures, measures_of, greatest}
 use Rattle.measure_terms.specs.OneMore.{measures_with}
 use Rattle.measure_terms.specs.Tables.{rows}
 use Rattle.measure_terms.proofs.OneMore.{greatest_more}
-use Rattle.measure_terms.proofs.TableRows.{facts_more, length-facts, few_facts, length-rows, row_is, background_row, object_row}
+use Rattle.measure_terms.proofs.TableRows.{facts_more, few_facts, length-rows, row_is, background_row, object_row}
 
 pub greatest_so_far : (xs : List ℕ) (i x r most : ℕ) → i < length xs → most ≡ greatest (take i xs) → x ≡ get_or xs i 0 → r ≡ max x most → r ≡ greatest (take (i + 1) xs)
 greatest_so_far xs i x r most l h e m =

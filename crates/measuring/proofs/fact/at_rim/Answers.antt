@@ -1,10 +1,10 @@
-use Rattle.std.proofs.Common.{◌≡◌, ◌+◌, ℕ, Bool, true, false, ap, sym, ◌∙◌, arith, length, rules, FitsSigned, w32, get_or}
-use Rattle.std.specs.Prelude.{nat_abs, ◌||◌, map}
+use Rattle.std.proofs.Common.{◌≡◌, ℕ, ap, sym, ◌∙◌, arith, length, rules, FitsSigned, w32, get_or}
+use Rattle.std.specs.Prelude.{nat_abs, ◌||◌}
 use Rattle.std.specs.List.{list_any, range_with_len}
-use Rattle.std.proofs.lemmas.Int.{to_z-of_z, ints}
+use Rattle.std.proofs.lemmas.Int.{to_z-of_z}
 use Rattle.std.proofs.lemmas.List.{length-map}
 use Rattle.shape_terms.specs.Points.{sides_of, coordinate}
-use Rattle.measure_terms.specs.Facts.{at_end, at_rim}
+use Rattle.measure_terms.specs.Facts.{at_end}
 use Rattle.measuring.proofs.PointFacts.{axis_more, side_is}
 use Rattle.measuring.proofs.fact.at_rim.Goals as goal
 use Rattle.measuring.proofs.fact.at_rim.Goals.{then-rim, else-rim}

@@ -1,4 +1,4 @@
-use Rattle.std.proofs.Common.{◌≡◌, length}
+use Rattle.std.proofs.Common.{◌≡◌}
 use Rattle.std.specs.Prelude.{slice_index, nat_abs}
 use Rattle.std.specs.List.{list_any, range_with_len}
 use Rattle.shape_terms.specs.Points.{sides_of, coordinate}

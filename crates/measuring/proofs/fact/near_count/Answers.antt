@@ -1,4 +1,4 @@
-use Rattle.std.proofs.Common.{◌≡◌, ◌<◌, arith, sym, ◌∙◌, ap, length}
+use Rattle.std.proofs.Common.{◌<◌, arith, sym, ◌∙◌, ap, length}
 use Rattle.shape_terms.specs.Adjacency.{near_steps}
 use Rattle.measuring.proofs.PointFacts.{one_neighbour_more, no_neighbour_more}
 use Rattle.measuring.proofs.fact.near_count.Goals as goal

@@ -1,5 +1,4 @@
-use Rattle.std.proofs.Common.{arith, rules, ℕ, FitsSigned, w32, ◌<◌}
-use Rattle.std.specs.Prelude.{nat_abs, ◌^◌}
+use Rattle.std.proofs.Common.{arith, rules, FitsSigned, w32}
 use Rattle.std.proofs.lemmas.Int.{to_z-of_z}
 use Rattle.measuring.proofs.PointFacts.{place_small}
 use Rattle.measuring.proofs.fact.place.Goals as goal

@@ -1,4 +1,4 @@
-use Rattle.std.proofs.Common.{arith, length, ◌≡◌, ◌<◌, ◌≤◌, ap, ◌∙◌, sym, get_or, ℕ, List, ◌+◌, ◌-◌, map, refl, subst}
+use Rattle.std.proofs.Common.{arith, length, ◌≡◌, ◌<◌, ap, get_or, ℕ, List, ◌+◌, ◌-◌, refl, subst}
 use Rattle.shape_terms.specs.Points.{box_count}
 use Rattle.measure_terms.specs.Facts.{facts_below}
 use Rattle.measure_terms.specs.OneMore.{measures_with}

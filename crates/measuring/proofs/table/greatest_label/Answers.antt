@@ -1,6 +1,4 @@
-use Rattle.std.proofs.Common.{arith, length, ◌≡◌, ◌<◌, ap, ◌∙◌}
-use Rattle.std.proofs.Math.Seq.{take-length}
-use Rattle.measure_terms.specs.Measures.{greatest}
+use Rattle.std.proofs.Common.{arith, length, ◌<◌}
 use Rattle.measuring.proofs.TableSteps.{greatest_so_far}
 use Rattle.measuring.proofs.table.greatest_label.Goals as goal
 

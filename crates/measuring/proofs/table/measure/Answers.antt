@@ -1,7 +1,6 @@
-use Rattle.std.proofs.Common.{arith, ℕ, List, [], ◌++◌, length, take, drop, ◌≡◌, ◌≤◌, ap, ◌∙◌, sym, map}
+use Rattle.std.proofs.Common.{arith, ℕ, List, [], ◌++◌, length, take, drop, ◌≡◌, ap, ◌∙◌, sym, map}
 use Rattle.std.proofs.Math.Seq.{take-append_seam}
 use Rattle.measure_terms.specs.Facts.{facts}
-use Rattle.measure_terms.specs.Measures.{greatest}
 use Rattle.measure_terms.specs.Tables.{rows}
 use Rattle.measuring.specs.Told.{measures_told}
 use Rattle.measuring.proofs.TableSteps.{rows_count, rows_whole}

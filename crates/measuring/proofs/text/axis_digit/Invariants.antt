@@ -1,4 +1,4 @@
-use Rattle.std.proofs.Common.{◌≡◌, ◌≤◌, ◌-◌, drop}
+use Rattle.std.proofs.Common.{◌≡◌, ◌-◌, drop}
 use Rattle.shape_terms.specs.Points.{sides_of, coordinate, raster_point}
 use Rattle.measuring.proofs.text.axis_digit.Given as goal
 
