@@ -2,7 +2,6 @@
 -- A further mask is one more line of each table.
 use Rattle.std.specs.Prelude.{ℕ, ◌==◌, if◌then◌else◌, List}
 use Rattle.shape_terms.specs.Pictures.{Picture}
-use Rattle.report_lines.specs.Said.{Said}
 use Rattle.report_making.specs.Made.{Maker}
 use Rattle.masking.specs.Pictures.{pbm, voxels, pgm, depths}
 use Rattle.masking.specs.declared.mask.Mask.{Mask}
