@@ -1,10 +1,9 @@
 -- What a run did, from what its parts did.
 -- Laws of desks and texts; no report is read here.
-use Rattle.std.proofs.Common.{◌≡◌, ℕ, ◌≤◌, inl, sym, ap, arith, List, [], ◌∷◌, length, get_or, Option, None, Some}
-use Rattle.std.specs.Prelude.{◌+◌, ◌-◌, ◌^◌, min, Result, Ok, Err}
+use Rattle.std.proofs.Common.{◌≡◌, ℕ, ◌≤◌, inl, sym, ap, arith, List, [], ◌∷◌, length, get_or, Option}
+use Rattle.std.specs.Prelude.{◌-◌, ◌^◌, Result, Ok, Err}
 use Rattle.std.specs.declared.vec.Vec.{Vec}
-use Rattle.shape_desk.specs.Desk.{Files, DeskState, IsAtFront, Rose}
-use Rattle.shape_desk.specs.Line.{IfTold}
+use Rattle.shape_desk.specs.Desk.{DeskState, IsAtFront, Rose}
 use Rattle.drawing.specs.declared.fault.DrawFault.{DrawFault}
 use Rattle.drawing.specs.declared.fault.DrawFault.TheVariants.{NotReport, Volume, ReadFault, NoMemory}
 use Rattle.report_making.specs.Files.{texts}

@@ -1,11 +1,10 @@
 -- A sketch of no line is one of a heading, which draws nothing.
 -- Laws of lines alone.
-use Rattle.std.proofs.Common.{◌≡◌, ℕ, List, [], ◌∷◌, length, ap, arith}
+use Rattle.std.proofs.Common.{◌≡◌, [], ◌∷◌, length, ap, arith}
 use Rattle.shape_terms.specs.Points.{sides_of}
 use Rattle.report_terms.specs.Lines.{Line}
 use Rattle.report_lines.specs.Said.{given_sides}
 use Rattle.drawing.specs.Seen.{flat, all_pixels}
-use Rattle.drawing.specs.Object.{pixels}
 use Rattle.drawing.specs.Standing.{HasOutlines, HasDeleted, IsSketchOf}
 use Rattle.drawing.specs.declared.sketch.FlatSketch.{FlatSketch}
 

@@ -1,13 +1,13 @@
 -- From the heading of a report and the lines behind it to its drawing, or why there is none.
 -- Laws over texts and lines; a sketch is only what it is said to be.
-use Rattle.std.proofs.Common.{◌≡◌, ℕ, ◌<◌, ◌≤◌, refl, sym, ap, ◌∙◌, subst, arith, List, [], ◌∷◌, ◌++◌, length, Option, None, Some}
+use Rattle.std.proofs.Common.{◌≡◌, ℕ, ◌≤◌, refl, sym, subst, arith, List, [], ◌∷◌, ◌++◌, Option, None, Some}
 use Rattle.shape_desk.specs.Line.{IfTold}
 use Rattle.text_terms.specs.Going.{IsTextOf}
 use Rattle.text_terms.proofs.Checking.{begins_none, begins_next, first_bad}
 use Rattle.report_text.proofs.Told.{if_told}
 use Rattle.report_terms.specs.Lines.{Line}
 use Rattle.report_terms.proofs.Spelled.{are_spelled}
-use Rattle.report_lines.specs.Reports.{flat, solid, in_order, FirstBad, IsOfVolume, IsHeading}
+use Rattle.report_lines.specs.Reports.{flat, solid, in_order, FirstBad, IsOfVolume}
 use Rattle.report_lines.specs.Headings.{TakesHeading, IsNoOpening}
 use Rattle.report_lines.proofs.Order.{comes_first}
 use Rattle.report_lines.proofs.Headings.{any_heading}

@@ -1,7 +1,7 @@
 -- What drawing a report answers, and what a run of the program does.
 -- Clauses on the bytes of files hold where the desk tells its files.
-use Rattle.std.specs.Prelude.{◌≡◌, ◌⊎◌, ℕ, ◌≤◌, ⊤, List, Option, None, Some, Result, Ok, Err, MatchOption, map}
-use Rattle.shape_desk.specs.Desk.{Files, DeskState, Rose, IsMissing, Puts, PutsFront}
+use Rattle.std.specs.Prelude.{◌≡◌, ◌⊎◌, ℕ, ⊤, List, Option, Result, Ok, Err}
+use Rattle.shape_desk.specs.Desk.{DeskState, Rose, IsMissing, Puts, PutsFront}
 use Rattle.shape_desk.specs.Line.{IfTold}
 use Rattle.report_terms.specs.Lines.{Line}
 use Rattle.text_terms.specs.Going.{IsTextOf}

@@ -1,6 +1,6 @@
 -- What the program keeps of the lines so far.
 -- Each part stands for the same lines; which texts these are lines of is told in `report_lines`.
-use Rattle.std.specs.Prelude.{◌≡◌, ◌≤◌, ℕ, Bool, false, IsTrue, if◌then◌else◌, List, [], ◌∷◌, ◌++◌, filter, filter_map, flat_map, All}
+use Rattle.std.specs.Prelude.{◌≡◌, ℕ, Bool, false, IsTrue, if◌then◌else◌, List, [], ◌∷◌, ◌++◌, filter, filter_map, flat_map}
 use Rattle.shape_terms.specs.Points.{Point, in_box, sides_of}
 use Rattle.shape_terms.specs.Pictures.{Picture, IsPicture, at}
 use Rattle.report_terms.specs.Lines.{Line}

@@ -1,9 +1,9 @@
 -- The drawing of a report: an SVG, layer upon layer.
 -- The centre of the pixel (x, y) is the point (x, y) of the SVG. Another look is a change of texts here and of the same texts in `layers`.
-use Rattle.std.specs.Prelude.{ℕ, ◌+◌, ◌*◌, ◌/◌, max, Bool, true, false, not, if◌then◌else◌, List, [], ◌∷◌, ◌++◌, codes, filter, flat_map, slice_index}
+use Rattle.std.specs.Prelude.{ℕ, ◌+◌, ◌*◌, ◌/◌, max, Bool, true, false, not, if◌then◌else◌, List, ◌++◌, codes, filter, flat_map, slice_index}
 use Rattle.std.specs.List.{range_with_len}
 use Rattle.std.specs.Fmt.{decimal, signed_decimal}
-use Rattle.shape_terms.specs.Points.{Point, coordinate, sides_of}
+use Rattle.shape_terms.specs.Points.{Point, coordinate}
 use Rattle.report_terms.specs.Lines.{Line}
 use Rattle.report_lines.specs.Said.{given_sides}
 use Rattle.drawing.specs.Runs.{Run, runs}

@@ -1,6 +1,6 @@
 -- The two words of a command line, as the bytes of each.
 -- Laws of lists alone.
-use Rattle.std.proofs.Common.{◌≡◌, ℕ, ◌≤◌, ap, sym, arith, List, [], ◌∷◌, length, get_or}
+use Rattle.std.proofs.Common.{◌≡◌, ℕ, ◌≤◌, sym, arith, List, [], ◌∷◌, length, get_or}
 use Rattle.std.specs.declared.vec.Vec.{Vec}
 use Rattle.report_making.specs.Files.{texts}
 

@@ -1,6 +1,6 @@
 -- Values of the points of a box, in raster order: each one, all of them, and one that is changed.
 -- Laws of lists and points; pictures are such values that are true or false.
-use Rattle.std.proofs.Common.{◌≡◌, ◌≢◌, ◌<◌, ℕ, Bool, false, List, [], length, get_or, set, map, replicate, refl, sym, ap, ◌∙◌, arith}
+use Rattle.std.proofs.Common.{◌≡◌, ◌≢◌, ◌<◌, ℕ, Bool, false, List, [], length, get_or, set, replicate, sym, ap, ◌∙◌, arith}
 use Rattle.std.specs.Prelude.{IsTrue}
 use Rattle.std.proofs.lemmas.List.{get_or-set_same, get_or-set_other, length-set, same_lists, length-map, get_or-map, length-replicate, get_or-replicate}
 use native.Mathlib.Decide.{ℕ_discrete}

@@ -1,10 +1,9 @@
 -- What the first line of a text tells: a heading, or that the text has none.
 -- Laws of lines, and of the bytes left where they are told.
 use Rattle.std.proofs.Common.{◌≡◌, ℕ, ◌≤◌, refl, sym, ap, ◌∙◌, subst, arith, List, [], ◌∷◌, ◌++◌, length, Option, None, Some, IsSome}
-use Rattle.std.specs.Prelude.{◌↔◌, ℤ, Result, Ok, Err, IfSome, MatchOption, true, false, Bool}
+use Rattle.std.specs.Prelude.{◌↔◌, ℤ, Result, Ok, Err, IfSome}
 use Rattle.std.proofs.lemmas.List.{append_assoc}
 use Rattle.std.proofs.lemmas.List.Elements.{All-from_get_or, recursion_from_All}
-use Rattle.shape_terms.specs.Points.{Point, AreSides}
 use Rattle.shape_desk.specs.Line.{HasNoLf, IfTold, IsTooLong, IsCutShort, TakesLine}
 use Rattle.report_terms.specs.Lines.{Line, spelling, IsLineOf, spelled}
 use Rattle.report_terms.specs.Progress.{StartsWithLine, StartsWithNoLine}
@@ -12,7 +11,7 @@ use Rattle.report_terms.proofs.Spelled.{spelling_injective, are_spelled}
 use Rattle.text_terms.proofs.Checking.{same_front, no_line_without_lf, no_line_too_long}
 use Rattle.report_lines.specs.Reports.{Space, flat, solid, IsHeading, IsOfVolume}
 use Rattle.report_lines.specs.Seen.{flat_line, solid_line}
-use Rattle.report_lines.specs.Headings.{Spells, IsAnyHeading, IsHeadingLine, HeadingOf, IsNoBoxLine, TakesHeading, LacksHeading, IsOfNoBox, IsNoOpening}
+use Rattle.report_lines.specs.Headings.{Spells, IsAnyHeading, IsHeadingLine, HeadingOf, TakesHeading, LacksHeading, IsNoOpening}
 use Rattle.report_lines.specs.Answers.{OpeningOf, OpeningAnswer}
 use Rattle.report_lines.specs.declared.fault.ReportFault.{ReportFault}
 use Rattle.report_lines.specs.declared.fault.ReportFault.TheVariants.{NotReport, ReadFault, NoMemory}

@@ -1,6 +1,6 @@
 -- What `del` lines tell that are the events of a thinning: the points that it leaves.
 -- Laws of events and pictures; which rule thins does not matter.
-use Rattle.std.proofs.Common.{◌≡◌, ◌≢◌, inl, inr, ℕ, Bool, true, false, cond, List, [], ◌∷◌, length, refl, ap, sym, ◌∙◌, subst, Option, Some, None}
+use Rattle.std.proofs.Common.{◌≡◌, inl, inr, Bool, true, false, cond, List, [], ◌∷◌, length, refl, ap, sym, ◌∙◌, subst, Option, Some, None}
 use Rattle.std.specs.Prelude.{IsTrue, not, ◌&&◌, ◌||◌, filter_map}
 use Rattle.std.specs.List.{list_any, FoldsTo}
 use Rattle.std.proofs.lemmas.Bool.{cases_Bool}
@@ -12,7 +12,7 @@ use Rattle.thin_terms.specs.Thinning.{Rule, Event, Stage, ThinStep, stage_after}
 use Rattle.thin_terms.proofs.OneValue.{value_there, value_elsewhere}
 use Rattle.thin_terms.proofs.PointTests.{same_point}
 use Rattle.report_terms.specs.Lines.{Line}
-use Rattle.report_terms.specs.ThinningLines.{event_of, events_of}
+use Rattle.report_terms.specs.ThinningLines.{events_of}
 use Rattle.report_lines.specs.Said.{is_same_point, deleted_point, is_deleted}
 use Rattle.report_lines.proofs.SamePoints.{same_yes, same_not}
 

@@ -1,6 +1,6 @@
 -- What is said with one more line: a `near` line, a `del` line, or one that says nothing of a point.
 -- Laws of lines and pictures; the program stands in none.
-use Rattle.std.proofs.Common.{◌≡◌, ◌≢◌, inl, inr, ℕ, ◌<◌, Bool, true, false, List, [], ◌∷◌, ◌++◌, length, refl, ap, sym, ◌∙◌, arith, Option, Some, None}
+use Rattle.std.proofs.Common.{◌≡◌, ◌≢◌, inl, inr, ℕ, ◌<◌, Bool, true, false, List, [], ◌∷◌, ◌++◌, length, refl, ap, sym, ◌∙◌, arith, Some, None}
 use Rattle.std.specs.Prelude.{IsTrue, not, ◌&&◌, if◌then◌else◌, filter_map}
 use Rattle.std.specs.List.{list_any, cons_option}
 use Rattle.std.proofs.lemmas.Bool.{cases_Bool, cond-true, cond-false}
@@ -8,7 +8,7 @@ use Rattle.text_terms.proofs.ListPushes.{filter_map-same, filter_map-push}
 use Rattle.shape_terms.specs.Points.{Point, in_box}
 use Rattle.shape_terms.specs.Pictures.{at, with_value}
 use Rattle.report_terms.specs.Lines.{Line}
-use Rattle.report_lines.specs.Said.{given_sides, is_same_point, near_point, square_for, deleted_point, is_near, is_deleted, is_left, last_or, square_of, values_of, picture_of, Said, said_in, said}
+use Rattle.report_lines.specs.Said.{given_sides, is_same_point, near_point, square_for, deleted_point, is_near, is_deleted, is_left, last_or, square_of, picture_of, said_in, said}
 use Rattle.report_lines.specs.Kept.{now_near, with_near, now_deleted, with_deleted}
 use Rattle.thin_terms.proofs.PointTests.{same_point}
 use Rattle.report_lines.proofs.SamePoints.{same_yes, same_not, any_there, any_other}

@@ -1,7 +1,7 @@
 -- What the lines of a report that holds tell of the picture.
 -- The laws of its parts stand in `Holding`, `ObjectTold` and `LeftTold`.
-use Rattle.std.proofs.Common.{◌≡◌, ℕ, refl, ap, sym, ◌∙◌, subst, List, [], ◌∷◌, ◌++◌, length}
-use Rattle.std.specs.Prelude.{IsTrue, not, ◌&&◌, filter_map}
+use Rattle.std.proofs.Common.{◌≡◌, ℕ, ap, sym, ◌∙◌, subst, List, [], ◌∷◌, ◌++◌, length}
+use Rattle.std.specs.Prelude.{IsTrue, not, ◌&&◌}
 use Rattle.std.proofs.lemmas.List.{append-nil}
 use Rattle.std.proofs.lemmas.List.Elements.{recursion_from_All}
 use Rattle.shape_terms.specs.Points.{in_box}

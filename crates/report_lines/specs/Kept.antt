@@ -1,8 +1,8 @@
 -- What is kept of the points of a box while the lines come, and what a line changes of it.
 -- That it is what all lines say is a law.
-use Rattle.std.specs.Prelude.{◌≡◌, ℕ, Bool, true, false, not, if◌then◌else◌, List, length, slice_set}
+use Rattle.std.specs.Prelude.{◌≡◌, ℕ, true, false, not, if◌then◌else◌, List, length, slice_set}
 use Rattle.shape_terms.specs.Points.{Point, in_box, box_count, raster_number}
-use Rattle.shape_terms.specs.Pictures.{Picture, at, with_value}
+use Rattle.shape_terms.specs.Pictures.{at, with_value}
 use Rattle.report_lines.specs.Said.{Said}
 
 -- pictures and numbers of a box with these sides

@@ -1,6 +1,6 @@
 -- What the lines of the program mean, for each space, as those of the definitions.
 -- A point is the list of its coordinates.
-use Rattle.std.specs.Prelude.{List, [], ◌∷◌}
+use Rattle.std.specs.Prelude.{[], ◌∷◌}
 use Rattle.shape_space.specs.declared.point.P2.{P2}
 use Rattle.shape_space.specs.declared.solid.P3.{P3}
 use Rattle.report_terms.specs.Lines as Terms

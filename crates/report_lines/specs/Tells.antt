@@ -1,7 +1,7 @@
 -- What the lines of a report that holds tell of the points of its box.
 -- Geometry alone: the picture, least distances and the stage in which the thinning ends.
-use Rattle.std.specs.Prelude.{◌≡◌, ◌<◌, ℕ, IsTrue, false, List, map, length, pos, slice_get, Some}
-use Rattle.shape_terms.specs.Points.{Point, AreSides, box_count, raster_point}
+use Rattle.std.specs.Prelude.{◌≡◌, ℕ, IsTrue, false, List, map, length, pos, slice_get, Some}
+use Rattle.shape_terms.specs.Points.{AreSides, box_count, raster_point}
 use Rattle.shape_terms.specs.Pictures.{Picture, IsPicture, at}
 use Rattle.thin_terms.specs.Thinning.{Rule, Stage, HasDistance, IsThinning}
 use Rattle.report_terms.specs.Subjects.{Subject}

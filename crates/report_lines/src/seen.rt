@@ -1,7 +1,7 @@
 //! What a report says of the points of its box, as a sketch of its lines.
-//! It is the part that drawings, masks and tables have in common.
-ghost use Rattle.std.specs.Prelude.{◌≡◌, [], ◌∷◌, ℕ, List, IfOk};
-ghost use Rattle.shape_terms.specs.Points.{sides_of};
+//! It is the part that masks and tables have in common.
+ghost use Rattle.std.specs.Prelude.{◌≡◌, [], ◌∷◌, IfOk, length};
+ghost use Rattle.shape_terms.specs.Points.{sides_of, box_count};
 ghost use Rattle.shape_report.specs.LineOf.{line_of};
 ghost use Rattle.report_lines.specs.Said.{said};
 ghost use Rattle.report_lines.specs.Kept.{AreOf, with_near, with_deleted};
@@ -94,14 +94,16 @@ impl<P: Point> Seen<P> {
     /// The squared distance of each point of the box in raster order, as the last line about it gives it, and 0 where no line
     /// does.
     pub fn squares(&self) -> &[u64]
-        ensures { result.now ≡ self.now.squares }
+        ensures value { result.now ≡ self.now.squares }
+        ensures count { length result.now ≡ box_count self.now.object.sides }
     {
         self.squares.as_slice()
     }
 
     /// The object points that no line deletes.
     pub fn left(&self) -> &Grid<P>
-        ensures { result.now ≡ self.now.left }
+        ensures value { result.now ≡ self.now.left }
+        ensures sides { result.now.sides ≡ self.now.object.sides }
     {
         &self.left
     }

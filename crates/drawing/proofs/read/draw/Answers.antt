@@ -1,9 +1,7 @@
-use Rattle.std.proofs.Common.{sym, subst}
 use Rattle.std.proofs.lemmas.Result.{err_from_is_err_and}
 use Rattle.shape_desk.specs.declared.desk.Place.TheVariants.{Report}
-use Rattle.shape_desk.specs.Line.{IfTold, ahead_of}
+use Rattle.shape_desk.specs.Line.{ahead_of}
 use Rattle.report_text.proofs.Told.{none_ahead}
-use Rattle.report_lines.specs.Seen.{flat_line}
 use Rattle.drawing.proofs.Sketched.{refused_heading, refused_later, drawn_so}
 use Rattle.drawing.proofs.read.draw.Goals as goal
 

@@ -1,6 +1,5 @@
 use Rattle.shape_desk.specs.declared.desk.Place.TheVariants.{Report}
 use Rattle.shape_desk.specs.Line.{ahead_of}
-use Rattle.report_lines.specs.Seen.{solid_line}
 use Rattle.report_text.proofs.Told.{if_told}
 use Rattle.drawing.proofs.Sketched.{of_volume}
 use Rattle.drawing.proofs.read.read_heading.Goals as goal

@@ -1,6 +1,6 @@
 use Rattle.std.proofs.Common.{◌≡◌, ◌++◌, take}
 use Rattle.std.specs.List.{flat_map}
-use Rattle.masking.specs.Pictures.{level, high_first, low_first}
+use Rattle.masking.specs.Pictures.{level, high_first}
 use Rattle.masking.proofs.distances.put_levels.Given as goal
 
 abbrev pub invariant-loop-s : goal.invariant-loop-s

@@ -1,4 +1,4 @@
-use Rattle.std.proofs.Common.{[], ◌∷◌, refl, ap, sym, subst}
+use Rattle.std.proofs.Common.{[], refl, ap, sym, subst}
 use Rattle.shape_terms.specs.Points.{sides_of}
 use Rattle.report_lines.specs.Seen.{flat_line}
 use Rattle.drawing.specs.Seen.{flat, all_pixels}

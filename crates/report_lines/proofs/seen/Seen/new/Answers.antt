@@ -1,10 +1,9 @@
-use Rattle.std.proofs.Common.{◌≡◌, false, [], ◌∷◌, ap, sym, ◌∙◌, refl, ℕ, ◌<◌, length, arith, inl, inr, replicate}
+use Rattle.std.proofs.Common.{◌≡◌, [], ◌∷◌, ap, sym, ◌∙◌, refl, ℕ, ◌<◌, length, arith, inl, inr, replicate}
 use Rattle.std.specs.Prelude.{◌⊎◌, nat_abs}
 use Rattle.std.proofs.lemmas.List.{length-map}
 use Rattle.shape_terms.specs.Points.{sides_of}
-use Rattle.shape_terms.specs.Pictures.{blank}
 use Rattle.shape_report.specs.LineOf.{line_of}
-use Rattle.report_lines.specs.Said.{given_sides, said, said_in, is_near, is_deleted, is_left, square_of}
+use Rattle.report_lines.specs.Said.{given_sides, is_near, is_deleted, is_left, square_of}
 use Rattle.report_lines.proofs.BoxValues.{values_equal, picture_blank}
 use Rattle.report_lines.proofs.Saying.{said_first, heading_quiet}
 use Rattle.report_lines.proofs.seen.Seen.new.Goals as goal

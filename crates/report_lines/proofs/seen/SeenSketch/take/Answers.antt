@@ -1,8 +1,7 @@
 use Rattle.std.proofs.Common.{◌≡◌, ◌<◌, ℕ, inl, inr, [], ◌∷◌, ◌++◌, length, ap, sym, ◌∙◌, arith}
 use Rattle.std.specs.Prelude.{◌⊎◌}
-use Rattle.report_terms.specs.Lines as Terms
 use Rattle.shape_report.specs.LineOf.{line_of}
-use Rattle.report_lines.specs.Said.{given_sides, said, said_in}
+use Rattle.report_lines.specs.Said.{given_sides, said_in}
 use Rattle.report_lines.specs.Kept.{with_near, with_deleted}
 use Rattle.report_lines.proofs.Saying.{says_near, says_del, says_nothing, some_lines, said_more}
 use Rattle.report_lines.proofs.Quiet.{is_quiet}
