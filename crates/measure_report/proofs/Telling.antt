@@ -1,6 +1,6 @@
 -- The table of a report that holds has the measures of the picture's components.
 -- Put together from the laws of reports and of tables.
-use Rattle.std.proofs.Common.{◌≡◌, ℕ, List, refl, sym, ap, ◌∙◌, subst}
+use Rattle.std.proofs.Common.{ℕ, List, refl, subst}
 use Rattle.shape_terms.specs.Pictures.{Picture}
 use Rattle.report_terms.specs.Subjects.{Subject}
 use Rattle.report_terms.specs.Holds.{Holds}
@@ -8,7 +8,6 @@ use Rattle.report_lines.specs.Reports.{Space}
 use Rattle.report_lines.specs.Said.{said}
 use Rattle.report_lines.specs.Tells.{StandsIn, Tells}
 use Rattle.report_lines.proofs.Telling as Lines
-use Rattle.measure_terms.specs.Measures.{Measures}
 use Rattle.measure_terms.specs.Components.{MeasuresComponents}
 use Rattle.measure_terms.proofs.TableOfComponents.{table_measures}
 use Rattle.measure_report.specs.TableTexts.{IsTableText}
