@@ -6,7 +6,7 @@ ghost use Rattle.masking.specs.Words.{mask_word};
 use crate::bits::bits;
 use crate::distances::{depths, greys};
 use crate::voxels::voxels;
-use report_lines::Seen;
+use report_lines::{Heading, Seen};
 use report_making::Making;
 use shape_space::{NoMemory, P2, P3};
 use std::alloc::Global;
@@ -43,9 +43,17 @@ impl Making for Mask {
     ghost use Rattle.report_making.specs.Made.{exactly};
     ghost use Rattle.masking.specs.Masks.{mask_bytes};
 
+    type Flat = Seen<P2>;
+
+    type Solid = Seen<P3>;
+
     ghost makes = { λ mask. exactly (mask_bytes mask) };
 
-    fn make_flat(&self, alloc: Global, seen: &Seen<P2>) -> Result<Vec<u8>, NoMemory> {
+    fn begin_flat(&self, alloc: Global, heading: &Heading<P2>) -> Result<Seen<P2>, NoMemory> {
+        Seen::new(alloc, heading)
+    }
+
+    fn make_flat(&self, alloc: Global, seen: Seen<P2>) -> Result<Vec<u8>, NoMemory> {
         match self {
             Mask::Skeleton => bits(alloc, seen.left()),
             Mask::Object => bits(alloc, seen.object()),
@@ -53,7 +61,11 @@ impl Making for Mask {
         }
     }
 
-    fn make_solid(&self, alloc: Global, seen: &Seen<P3>) -> Result<Vec<u8>, NoMemory> {
+    fn begin_solid(&self, alloc: Global, heading: &Heading<P3>) -> Result<Seen<P3>, NoMemory> {
+        Seen::new(alloc, heading)
+    }
+
+    fn make_solid(&self, alloc: Global, seen: Seen<P3>) -> Result<Vec<u8>, NoMemory> {
         match self {
             Mask::Skeleton => voxels(alloc, seen.left()),
             Mask::Object => voxels(alloc, seen.object()),

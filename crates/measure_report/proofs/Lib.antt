@@ -1,2 +1,3 @@
 mod Words
+mod TableMade
 mod Telling

@@ -1,25 +1,55 @@
--- The table of a report that holds has the measures of the picture's components.
--- Put together from the laws of reports and of tables.
-use Rattle.std.proofs.Common.{ℕ, List, refl, subst}
+-- The table of a report that holds has the measures and borders of the picture's components.
+-- Put together from the laws of reports, of tables and of borders.
+use Rattle.std.proofs.Common.{◌≡◌, ℕ, List, refl, sym, ◌∙◌, subst, length}
+use Rattle.std.specs.Prelude.{All}
+use Rattle.std.proofs.lemmas.List.{append-nil}
+use Rattle.std.proofs.lemmas.List.Elements.{recursion_from_All}
 use Rattle.shape_terms.specs.Pictures.{Picture}
 use Rattle.report_terms.specs.Subjects.{Subject}
+use Rattle.report_terms.specs.Lines.{Line, IsLineOf, text_of}
 use Rattle.report_terms.specs.Holds.{Holds}
+use Rattle.report_terms.specs.Shows.{content_of}
+use Rattle.report_terms.proofs.HoldsShows.{holds_shows}
 use Rattle.report_lines.specs.Reports.{Space}
 use Rattle.report_lines.specs.Said.{said}
 use Rattle.report_lines.specs.Tells.{StandsIn, Tells}
 use Rattle.report_lines.proofs.Telling as Lines
+use Rattle.report_lines.proofs.TextLines.{one_list}
+use Rattle.measure_terms.specs.Measures.{Measures}
+use Rattle.measure_terms.specs.Texts.{table_text}
 use Rattle.measure_terms.specs.Components.{MeasuresComponents}
-use Rattle.measure_terms.proofs.TableOfComponents.{table_measures}
+use Rattle.measure_terms.proofs.TableOfComponents.{table_measures, labels_kept}
+use Rattle.border_terms.specs.Borders.{borders}
+use Rattle.border_terms.specs.Shown.{BordersShow}
+use Rattle.border_terms.proofs.BordersShown.{borders_shown}
+use Rattle.measure_report.specs.BorderColumns.{further_columns}
 use Rattle.measure_report.specs.TableTexts.{IsTableText}
 use Rattle.measure_report.specs.Holding.{SpellsMeasures, TableTells}
 
-spelled_so : (s : Space) (X : Subject) (text bytes : List ℕ) (t : Tells s X text) → IsTableText s.axes (said t.lines) bytes → SpellsMeasures s.axes X t.lines bytes
-spelled_so s X text bytes t h =
+-- the measures of components, with these labels
+WithLabels : Picture → List ℕ → Picture → List Measures → List ℕ → Type 0
+WithLabels X squares left rows labels = (m : MeasuresComponents X squares left rows) × (m.labels ≡ labels)
+
+-- the borders that the lines of a report tell are those of the contours
+borders_so : (s : Space) (X : Subject) (text : List ℕ) (t : Tells s X text) → Holds X text → StandsIn s X.picture → s.axes ≡ 2 → BordersShow (content_of t.lines).number X.picture (borders t.lines)
+borders_so s X text t h i e =
+    let u = holds_shows X text h in
+    let axes : length X.picture.sides ≡ s.axes = i.picture.axes in
+    let mine = subst (λ n. All (IsLineOf n) u.lines) axes u.fields in
+    let same : u.lines ≡ t.lines = one_list s.axes u.lines t.lines (recursion_from_All (IsLineOf s.axes) u.lines mine) (recursion_from_All (IsLineOf s.axes) t.lines t.report.whole.fields) (sym u.text_is ∙ t.report.whole.split ∙ append-nil (text_of t.lines)) in
+    subst (λ ls. BordersShow (content_of ls).number X.picture (borders ls)) same (borders_shown (content_of u.lines).number X.picture u.lines (u.shows.contours (axes ∙ e)))
+
+spelled_so : (s : Space) (X : Subject) (text bytes : List ℕ) (t : Tells s X text) → Holds X text → StandsIn s X.picture → IsTableText s.axes t.lines bytes → SpellsMeasures s.axes X t.lines bytes
+unfolding WithLabels
+spelled_so s X text bytes t holds i h =
     let said_left = (said t.lines).left in
     let said_object = (said t.lines).object in
     let squares = (said t.lines).squares in
-    let m = table_measures said_object said_left squares h.rows refl h.table in
-    let m2 = subst (λ (Y : Picture). MeasuresComponents Y squares said_left h.rows) t.object m in
+    let labels = h.table.labels in
+    let m : WithLabels said_object squares said_left h.rows labels = (table_measures said_object said_left squares h.rows refl h.table, labels_kept said_object said_left squares h.rows refl h.table) in
+    let m2 : WithLabels X.picture squares said_left h.rows labels = subst (λ (Y : Picture). WithLabels Y squares said_left h.rows labels) t.object m in
+    let m3 : WithLabels X.picture squares t.stage.left h.rows labels = subst (λ (Y : Picture). WithLabels X.picture squares Y h.rows labels) t.left m2 in
+    let same = sym m3.1 in
     record {
       squares = squares;
       least = t.squares;
@@ -28,11 +58,14 @@ spelled_so s X text bytes t h =
       stage = t.stage;
       thinning = t.thinning;
       rows = h.rows;
-      measures = subst (λ (Y : Picture). MeasuresComponents X.picture squares Y h.rows) t.left m2;
-      text = h.text;
+      measures = m3.0;
+      number = (content_of t.lines).number;
+      borders = borders t.lines;
+      shows = borders_so s X text t holds i;
+      text = h.text ∙ (λ j. table_text s.axes (further_columns s.axes (t.object j).sides (same j) (borders t.lines)) h.rows);
     }
 
 pub table_tells : (s : Space) (X : Subject) (text bytes : List ℕ) → Holds X text → StandsIn s X.picture → TableTells s X text bytes
 table_tells s X text bytes h i =
     let t = Lines.holding_tells s X text h i in
-    record { lines = t.lines; report = t.report; told = spelled_so s X text bytes t }
+    record { lines = t.lines; report = t.report; told = spelled_so s X text bytes t h i }

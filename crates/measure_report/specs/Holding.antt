@@ -1,5 +1,5 @@
 -- What the table of a report tells that holds of a picture.
--- Geometry alone: components, least distances and the stage in which the thinning ends.
+-- Geometry alone: components, least distances, contours and the stage in which the thinning ends.
 use Rattle.std.specs.Prelude.{◌≡◌, ℕ, List}
 use Rattle.thin_terms.specs.Thinning.{Rule, Stage, IsThinning}
 use Rattle.report_terms.specs.Subjects.{Subject}
@@ -7,14 +7,16 @@ use Rattle.report_terms.specs.Lines.{Line}
 use Rattle.report_terms.specs.ThinningLines.{events_of}
 use Rattle.report_terms.specs.Sections.{Section, lines_of, NamesRule}
 use Rattle.report_lines.specs.Reports.{Space, IsReport}
-use Rattle.report_lines.specs.Said.{said}
 use Rattle.report_lines.specs.Tells.{AreSquares}
 use Rattle.measure_terms.specs.Measures.{Measures}
 use Rattle.measure_terms.specs.Components.{MeasuresComponents}
 use Rattle.measure_terms.specs.Texts.{table_text}
+use Rattle.border_terms.specs.Borders.{Border}
+use Rattle.border_terms.specs.Shown.{BordersShow}
+use Rattle.measure_report.specs.BorderColumns.{further_columns}
 use Rattle.measure_report.specs.TableTexts.{IsTableText}
 
--- the bytes spell a table that has a row for each component of the picture, with its measures, where `squares` has the least squared distances and `left` the points that a thinning leaves
+-- the bytes spell a table that has a row for each component of the picture, with its measures, where `squares` has the least squared distances `left` the points that a thinning leaves, and in the plane the borders are those of the contours, each with its tangential cover
 pub record SpellsMeasures (d : ℕ) (X : Subject) (lines : List Line) (bytes : List ℕ) : Type 0 where
   pub squares : List ℕ
   pub least : AreSquares X.picture squares
@@ -24,10 +26,13 @@ pub record SpellsMeasures (d : ℕ) (X : Subject) (lines : List Line) (bytes : L
   pub thinning : IsThinning rule X.picture (events_of lines) stage
   pub rows : List Measures
   pub measures : MeasuresComponents X.picture squares stage.left rows
-  pub text : bytes ≡ table_text d rows
+  pub number : ℕ
+  pub borders : List Border
+  pub shows : d ≡ 2 → BordersShow number X.picture borders
+  pub text : bytes ≡ table_text d (further_columns d X.picture.sides measures.labels borders) rows
 
--- the text is a report in order, and where the bytes are the table of what its lines say, they spell the measures of the picture's components
+-- the text is a report in order, and where the bytes are the table of its lines, they spell the measures of the picture's components
 pub record TableTells (s : Space) (X : Subject) (text bytes : List ℕ) : Type 0 where
   pub lines : List Line
   pub report : IsReport s text lines
-  pub told : IsTableText s.axes (said lines) bytes → SpellsMeasures s.axes X lines bytes
+  pub told : IsTableText s.axes lines bytes → SpellsMeasures s.axes X lines bytes

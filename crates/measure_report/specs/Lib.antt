@@ -1,2 +1,4 @@
+pub mod Outlined
+pub mod BorderColumns
 pub mod TableTexts
 pub mod Holding

@@ -1,13 +1,16 @@
--- The bytes of the table of what a report says of the points of its box.
--- Rows and their spelling stand in `measure_terms`.
+-- The bytes of the table of a report.
+-- Rows and their spelling stand in `measure_terms`, borders in `border_terms`.
 use Rattle.std.specs.Prelude.{◌≡◌, ℕ, List}
-use Rattle.report_lines.specs.Said.{Said}
+use Rattle.report_terms.specs.Lines.{Line}
+use Rattle.report_lines.specs.Said.{said}
 use Rattle.measure_terms.specs.Measures.{Measures}
 use Rattle.measure_terms.specs.Tables.{IsTable}
 use Rattle.measure_terms.specs.Texts.{table_text}
+use Rattle.border_terms.specs.Borders.{borders}
+use Rattle.measure_report.specs.BorderColumns.{further_columns}
 
--- the bytes spell the table of what is said of the points of a box with d axes
-pub record IsTableText (d : ℕ) (s : Said) (bytes : List ℕ) : Type 0 where
+-- the bytes spell the table of what the lines say of the points of a box with d axes, with the borders that they tell
+pub record IsTableText (d : ℕ) (lines : List Line) (bytes : List ℕ) : Type 0 where
   pub rows : List Measures
-  pub table : IsTable s.object s.squares s.left rows
-  pub text : bytes ≡ table_text d rows
+  pub table : IsTable (said lines).object (said lines).squares (said lines).left rows
+  pub text : bytes ≡ table_text d (further_columns d (said lines).object.sides table.labels (borders lines)) rows

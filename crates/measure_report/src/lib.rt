@@ -1,12 +1,16 @@
-//! The table of the objects that a report speaks of: what `measuring` makes of what the report says of the points of its box.
+//! The table of the objects that a report speaks of: what `measuring` makes of what it says of the points of its box, and
+//! `bordering` of its contours.
 //! No claim of the report is judged.
 #![tactic(auto)]
 
+mod borders;
 mod law;
+mod outlined;
 mod tables;
 mod top;
 
 pub use law::holding_measures;
+pub use outlined::Outlined;
 pub use report_making::Outcome;
 pub use tables::Tables;
 pub use top::run;

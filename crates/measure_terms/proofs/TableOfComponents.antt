@@ -107,3 +107,8 @@ table_measures X left squares table s h =
           let m2 = subst (λ (sides : List ℕ). AreMeasuresOf (λ q. get_or squares (raster_number sides q) 0) left (component X labels (k + 1)) (measures_of (map (fact squares left labels) (component X labels (k + 1))))) s m in
           subst (λ (x : Measures). AreMeasuresOf (λ q. get_or squares (raster_number X.sides q) 0) left (component X labels (k + 1)) x) (sym row) m2;
     }
+
+-- the measures are told with the labels of the table
+pub labels_kept : (X left : Picture) (squares : List ℕ) (table : List Measures) (s : left.sides ≡ X.sides) (h : IsTable X squares left table) → (table_measures X left squares table s h).labels ≡ h.labels
+unfolding table_measures
+labels_kept X left squares table s h = refl

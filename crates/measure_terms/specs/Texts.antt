@@ -63,22 +63,34 @@ form_text d m = depth_text d m ++ (skeleton_text m ++ touches_text m)
 abbrev pub cells : ℕ → Measures → List ℕ
 cells d m = size_text d m ++ form_text d m
 
--- the row of the object with a number
-abbrev pub row_text : (d number : ℕ) → Measures → List ℕ
-row_text d number m = decimal number ++ (cells d m ++ codes "\n")
+-- further columns of a table: their names, each behind a comma, and their cells in the row with a place, from 0 on
+pub record Columns : Type 0 where
+  pub names : List ℕ
+  pub cells : ℕ → List ℕ
 
--- the rows of the objects from a number on
-abbrev pub rows_text : (d number : ℕ) → List Measures → List ℕ
-rows_text d number [] = []
-rows_text d number (m ∷ ms) = row_text d number m ++ rows_text d (number + 1) ms
+abbrev pub no_columns : Columns
+no_columns = record { names = []; cells = λ i. [] }
+
+-- the row with a place, from 0 on: the number of its object, from 1 on, and all cells
+abbrev pub row_text : (d : ℕ) → Columns → (i : ℕ) → Measures → List ℕ
+row_text d more i m = decimal (i + 1) ++ (cells d m ++ (more.cells i ++ codes "\n"))
+
+-- the rows from a place on
+abbrev pub rows_text : (d : ℕ) → Columns → (i : ℕ) → List Measures → List ℕ
+rows_text d more i [] = []
+rows_text d more i (m ∷ ms) = row_text d more i m ++ rows_text d more (i + 1) ms
 
 -- ---- the whole
 
 -- the names of the columns, in the plane and in space
 abbrev pub header : Bool → List ℕ
-header true = codes "object,area,left,top,right,bottom,x,y,radius,cx,cy,skeleton,ends,junctions,touches\n"
-header false = codes "object,voxels,x0,y0,z0,x1,y1,z1,x,y,z,radius,cx,cy,cz,skeleton,ends,junctions,touches\n"
+header true = codes "object,area,left,top,right,bottom,x,y,radius,cx,cy,skeleton,ends,junctions,touches"
+header false = codes "object,voxels,x0,y0,z0,x1,y1,z1,x,y,z,radius,cx,cy,cz,skeleton,ends,junctions,touches"
 
--- the table of a picture of d axes with these measures
-abbrev pub table_text : ℕ → List Measures → List ℕ
-table_text d ms = header (nat_eq d 2) ++ rows_text d 1 ms
+-- the names of all columns
+abbrev pub header_line : ℕ → Columns → List ℕ
+header_line d more = header (nat_eq d 2) ++ (more.names ++ codes "\n")
+
+-- the table of a picture of d axes with these measures and further columns
+abbrev pub table_text : ℕ → Columns → List Measures → List ℕ
+table_text d more ms = header_line d more ++ rows_text d more 0 ms

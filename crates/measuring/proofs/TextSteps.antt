@@ -4,23 +4,23 @@ use Rattle.std.proofs.Common.{◌≡◌, ◌+◌, ◌-◌, ◌<◌, ◌≤◌, �
 use Rattle.std.proofs.lemmas.List.{drop_more, drop_all, append-nil, get_or_past}
 use Rattle.shape_terms.specs.Points.{coordinate, raster_point}
 use Rattle.measure_terms.specs.Measures.{Measures}
-use Rattle.measure_terms.specs.Texts.{row_text, rows_text, header}
+use Rattle.measure_terms.specs.Texts.{Columns, row_text, rows_text}
 
 -- ---- rows
 
-pub row_step : {M : Type 0} (told : M → Measures) (all : List M) (d i : ℕ) (e : M) (old new whole : List ℕ) → i < length all → e ≡ get_or all i e
-    → new ≡ old ++ row_text d (i + 1) (told e) → old ++ rows_text d (i + 1) (map told (drop i all)) ≡ whole
-    → new ++ rows_text d (i + 1 + 1) (map told (drop (i + 1) all)) ≡ whole
-row_step told all d i e old new whole l is g w =
-    let h = g ∙ ap (λ m. old ++ row_text d (i + 1) (told m)) is in
-    let row = row_text d (i + 1) (told (get_or all i e)) in
-    let rest = rows_text d (i + 1 + 1) (map told (drop (i + 1) all)) in
-    ap (λ t. t ++ rest) h ∙ append_assoc old row rest ∙ sym (ap (λ ms. old ++ rows_text d (i + 1) (map told ms)) (drop_more all i e l)) ∙ w
+pub row_step : {M : Type 0} (told : M → Measures) (all : List M) (d : ℕ) (more : Columns) (i : ℕ) (e : M) (old new whole : List ℕ) → i < length all → e ≡ get_or all i e
+    → new ≡ old ++ row_text d more i (told e) → old ++ rows_text d more i (map told (drop i all)) ≡ whole
+    → new ++ rows_text d more (i + 1) (map told (drop (i + 1) all)) ≡ whole
+row_step told all d more i e old new whole l is g w =
+    let h = g ∙ ap (λ m. old ++ row_text d more i (told m)) is in
+    let row = row_text d more i (told (get_or all i e)) in
+    let rest = rows_text d more (i + 1) (map told (drop (i + 1) all)) in
+    ap (λ t. t ++ rest) h ∙ append_assoc old row rest ∙ sym (ap (λ ms. old ++ rows_text d more i (map told ms)) (drop_more all i e l)) ∙ w
 
-pub row_last : {M : Type 0} (told : M → Measures) (all : List M) (d i : ℕ) (old whole : List ℕ) → length all ≤ i
-    → old ++ rows_text d (i + 1) (map told (drop i all)) ≡ whole → old ≡ whole
-row_last told all d i old whole l w =
-    sym (ap (λ ms. old ++ rows_text d (i + 1) (map told ms)) (drop_all i all l) ∙ append-nil old) ∙ w
+pub row_last : {M : Type 0} (told : M → Measures) (all : List M) (d : ℕ) (more : Columns) (i : ℕ) (old whole : List ℕ) → length all ≤ i
+    → old ++ rows_text d more i (map told (drop i all)) ≡ whole → old ≡ whole
+row_last told all d more i old whole l w =
+    sym (ap (λ ms. old ++ rows_text d more i (map told ms)) (drop_all i all l) ∙ append-nil old) ∙ w
 
 -- ---- digits
 
@@ -51,7 +51,9 @@ two s₀ s₁ s₂ a b p q = q ∙ ap (λ t. t ++ b) p ∙ append_assoc s₀ a b
 pub three : (s₀ s₁ s₂ s₃ a b c : List ℕ) → s₁ ≡ s₀ ++ a → s₂ ≡ s₁ ++ b → s₃ ≡ s₂ ++ c → s₃ ≡ s₀ ++ (a ++ (b ++ c))
 three s₀ s₁ s₂ s₃ a b c p q r = two s₀ s₁ s₃ a (b ++ c) p (two s₁ s₂ s₃ b c q r)
 
--- a header behind no text
-pub head_first : (rest none start text : List ℕ) (d : ℕ) (flat : Bool) → none ≡ [] → start ≡ none ++ text → text ≡ header flat → flat ≡ nat_eq d 2 → start ++ rest ≡ header (nat_eq d 2) ++ rest
-head_first rest none start text d flat n s t f =
-    ap (λ x. x ++ rest) (s ∙ ap (λ x. x ++ text) n ∙ t ∙ ap header f)
+pub four : (s₀ s₁ s₂ s₃ s₄ a b c d : List ℕ) → s₁ ≡ s₀ ++ a → s₂ ≡ s₁ ++ b → s₃ ≡ s₂ ++ c → s₄ ≡ s₃ ++ d → s₄ ≡ s₀ ++ (a ++ (b ++ (c ++ d)))
+four s₀ s₁ s₂ s₃ s₄ a b c d p q r t = two s₀ s₁ s₄ a (b ++ (c ++ d)) p (three s₁ s₂ s₃ s₄ b c d q r t)
+
+-- a text behind none
+pub first : (rest none start text : List ℕ) → none ≡ [] → start ≡ none ++ text → start ++ rest ≡ text ++ rest
+first rest none start text n s = ap (λ x. x ++ rest) (s ∙ ap (λ x. x ++ text) n)

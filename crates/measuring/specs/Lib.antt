@@ -1,2 +1,3 @@
 pub mod Told
 pub mod Fitting
+pub mod TellsTable

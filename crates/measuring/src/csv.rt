@@ -11,7 +11,7 @@ use std::marker::Model;
 
 /// A text, seen as its bytes. After a failed call nothing is said of it, and it is only dropped.
 #[derive(Drop)]
-pub(crate) struct Csv {
+pub struct Csv {
     text: Vec<u8>,
 }
 
@@ -45,7 +45,7 @@ impl Csv {
     }
 
     /// Puts bytes last.
-    pub(crate) fn put(&mut self, bytes: &[u8]) -> Result<(), NoMemory>
+    pub fn put(&mut self, bytes: &[u8]) -> Result<(), NoMemory>
         ensures { OnOk result (self.new ≡ self.old ++ bytes.now) }
     {
         self.text.extend_from_slice(bytes)?;
@@ -61,7 +61,7 @@ impl Csv {
     }
 
     /// Puts a cell with a whole number.
-    pub(crate) fn whole(&mut self, n: u128) -> Result<(), NoMemory>
+    pub fn whole(&mut self, n: u128) -> Result<(), NoMemory>
         ensures { OnOk result (self.new ≡ self.old ++ whole n) }
     {
         self.put(b",")?;
@@ -69,7 +69,7 @@ impl Csv {
     }
 
     /// Puts a cell with a number of thousandths.
-    pub(crate) fn thousandths(&mut self, n: u128) -> Result<(), NoMemory>
+    pub fn thousandths(&mut self, n: u128) -> Result<(), NoMemory>
         ensures { OnOk result (self.new ≡ self.old ++ thousandths n) }
     {
         self.put(b",")?;

@@ -2,6 +2,7 @@
 //! It finds no component and no distance: labels come from `shape_adj`, distances and the points left from the caller.
 #![tactic(auto)]
 
+mod columns;
 mod count;
 mod csv;
 mod fact;
@@ -12,9 +13,11 @@ mod span;
 mod table;
 mod text;
 
+pub use columns::{Columns, NoColumns};
+pub use csv::Csv;
 pub use fact::Fact;
 pub use law::table_measures_components;
 pub use row::Measures;
 pub use span::Span;
-pub use table::measure;
+pub use table::{Table, measure};
 pub use text::table_text;

@@ -4,8 +4,9 @@ ghost use Rattle.std.specs.Prelude.{◌≡◌, ◌<◌, ◌≤◌, ◌+◌, [], 
 ghost use Rattle.shape_terms.specs.Points.{box_count};
 ghost use Rattle.measure_terms.specs.Facts.{facts, facts_below};
 ghost use Rattle.measure_terms.specs.Measures.{greatest};
-ghost use Rattle.measure_terms.specs.Tables.{rows, IsTable};
+ghost use Rattle.measure_terms.specs.Tables.{rows};
 ghost use Rattle.measuring.specs.Told.{measures_told};
+ghost use Rattle.measuring.specs.TellsTable.{TellsTable};
 
 use crate::fact::fact_of;
 use crate::row::Measures;
@@ -13,6 +14,17 @@ use shape_adj::{Labels, Pairing, labels};
 use shape_grid::Grid;
 use shape_space::NoMemory;
 use std::alloc::Global;
+
+/// The table of a picture's objects.
+#[derive(Drop)]
+pub struct Table {
+    /// The label of each point: the number of its object, from 1 on, or 0 for background.
+    pub labels: Labels,
+    /// How many objects there are.
+    pub count: u32,
+    /// The measures of each object.
+    pub rows: Vec<Measures>,
+}
 
 // The greatest label: the number of the objects.
 fn greatest_label(labels: &Labels, count: u32) -> u32
@@ -85,15 +97,18 @@ pub fn measure<P: Pairing>(
     object: &Grid<P>,
     squares: &[u64],
     left: &Grid<P>,
-) -> Result<Vec<Measures>, NoMemory>
+) -> Result<Table, NoMemory>
     requires sides { left.now.sides ≡ object.now.sides }
     requires squares { length squares.now ≡ box_count object.now.sides }
-    ensures { IfOk result (λ all. IsTable object.now squares.now left.now
-        (map (measures_told object.now.sides) all.items)) }
+    ensures { IfOk result (TellsTable object.now squares.now left.now) }
 {
     let labels = labels(alloc, object)?;
     let count = greatest_label(&labels, object.sides().count());
     let mut all = empty_rows(alloc, count)?;
     add_points(all.as_mut_slice(), squares, left, &labels);
-    Ok(all)
+    Ok(Table {
+        labels,
+        count,
+        rows: all,
+    })
 }

@@ -3,9 +3,10 @@
 ghost use Rattle.std.specs.Prelude.{◌≡◌, ◌<◌, ◌≤◌, ◌++◌, ℕ, List, map, nat_abs, IfOk, OnOk};
 ghost use Rattle.std.specs.Option.{option_map};
 ghost use Rattle.shape_terms.specs.Points.{coordinate, sides_of, raster_point};
-ghost use Rattle.measure_terms.specs.Texts.{place, box_text, centre_text, depth_text, skeleton_text, touches_text, size_text, form_text, cells, row_text, header, table_text};
+ghost use Rattle.measure_terms.specs.Texts.{place, box_text, centre_text, depth_text, skeleton_text, touches_text, size_text, form_text, cells, row_text, header, header_line, table_text};
 ghost use Rattle.measuring.specs.Told.{measures_told};
 
+use crate::columns::Columns;
 use crate::csv::Csv;
 use crate::round::{mean, root};
 use crate::row::Measures;
@@ -132,18 +133,20 @@ fn put_cells<P: Point>(sides: Sides<P>, m: &Measures, csv: &mut Csv) -> Result<(
     Ok(())
 }
 
-// Puts the row of the object with a number.
-fn put_row<P: Point>(
+// Puts the row with a place.
+fn put_row<P: Point, C: Columns>(
     sides: Sides<P>,
-    number: u128,
+    i: usize,
     m: &Measures,
+    more: &C,
     csv: &mut Csv,
 ) -> Result<(), NoMemory>
-    ensures { OnOk result (csv.new ≡ csv.old
-        ++ row_text P.DIM number (measures_told (sides_of (P.coords sides.lengths)) m.now)) }
+    ensures { OnOk result (csv.new ≡ csv.old ++ row_text P.DIM (C.columns more.now) i
+        (measures_told (sides_of (P.coords sides.lengths)) m.now)) }
 {
-    csv.number(number)?;
+    csv.number(i as u128 + 1)?;
     put_cells(sides, m, csv)?;
+    more.put_cells(i, csv)?;
     csv.put(b"\n")?;
     Ok(())
 }
@@ -153,27 +156,39 @@ fn header(flat: bool) -> &'static [u8]
     ensures { result.now ≡ header flat }
 {
     if flat {
-        b"object,area,left,top,right,bottom,x,y,radius,cx,cy,skeleton,ends,junctions,touches\n"
+        b"object,area,left,top,right,bottom,x,y,radius,cx,cy,skeleton,ends,junctions,touches"
     } else {
-        b"object,voxels,x0,y0,z0,x1,y1,z1,x,y,z,radius,cx,cy,cz,skeleton,ends,junctions,touches\n"
+        b"object,voxels,x0,y0,z0,x1,y1,z1,x,y,z,radius,cx,cy,cz,skeleton,ends,junctions,touches"
     }
 }
 
-/// The text of the table of a picture's objects: a header, and a row for each of them, numbered from 1 on.
+// Puts the names of all columns.
+fn put_header<P: Point, C: Columns>(more: &C, csv: &mut Csv) -> Result<(), NoMemory>
+    ensures { OnOk result (csv.new ≡ csv.old ++ header_line P.DIM (C.columns more.now)) }
+{
+    csv.put(header(P::DIM == 2))?;
+    more.put_names(csv)?;
+    csv.put(b"\n")?;
+    Ok(())
+}
+
+/// The text of the table of a picture's objects: a header, and a row for each of them, numbered from 1 on, with further columns
+/// behind.
 ///
 /// `NoMemory` comes where memory is wanted and there is none.
-pub fn table_text<P: Point>(
+pub fn table_text<P: Point, C: Columns>(
     alloc: Global,
     sides: Sides<P>,
     all: &[Measures],
+    more: &C,
 ) -> Result<Vec<u8>, NoMemory>
-    ensures { IfOk result (λ text. text.items ≡ table_text P.DIM
+    ensures { IfOk result (λ text. text.items ≡ table_text P.DIM (C.columns more.now)
         (map (measures_told (sides_of (P.coords sides.lengths))) all.now)) }
 {
     let mut csv = Csv::new(alloc);
-    csv.put(header(P::DIM == 2))?;
+    put_header::<P, C>(more, &mut csv)?;
     for i in 0..all.len() {
-        put_row(sides, i as u128 + 1, &all[i], &mut csv)?;
+        put_row(sides, i, &all[i], more, &mut csv)?;
     }
     Ok(csv.into_text())
 }

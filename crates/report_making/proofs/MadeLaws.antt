@@ -10,7 +10,6 @@ use Rattle.report_terms.specs.Lines.{Line}
 use Rattle.report_terms.proofs.Spelled.{are_spelled}
 use Rattle.report_lines.specs.Reports.{Space, flat, solid, in_order, FirstBad, IsOfVolume}
 use Rattle.report_lines.specs.Headings.{TakesHeading, LacksHeading, IsOfNoBox, IsNoOpening}
-use Rattle.report_lines.specs.Said.{Said, said}
 use Rattle.report_lines.specs.Answers as Lines
 use Rattle.report_lines.specs.declared.fault.ReportFault.{ReportFault}
 use Rattle.report_lines.specs.declared.fault.ReportFault.TheVariants.{NotReport, ReadFault, NoMemory}
@@ -20,13 +19,13 @@ use Rattle.report_making.specs.Made.{Maker, IsSpace, IsMadeOf, IsNoReport, Refus
 
 -- ---- what is made
 
-pub made_so : (make : Maker) (s : Space) (known : IsSpace s) (seen : Said) (text : Option (List ℕ)) (bytes : List ℕ) → IfTold text (IsTextOf (in_order s) (λ lines. seen ≡ said lines)) → make s.axes seen bytes → IfTold text (λ t. IsMadeOf make t bytes)
-made_so make s known seen text bytes h e = if_told text (λ t k. record {
+pub made_so : {S : Type 0} (make : Maker) (s : Space) (known : IsSpace s) (IsOf : List Line → S → Type 0) (kept : S) (text : Option (List ℕ)) (bytes : List ℕ) → IfTold text (IsTextOf (in_order s) (λ lines. IsOf lines kept)) → ((lines : List Line) → IsOf lines kept → make s.axes lines bytes) → IfTold text (λ t. IsMadeOf make t bytes)
+made_so make s known IsOf kept text bytes h e = if_told text (λ t k. record {
   space = s;
   known = known;
   lines = k.front ++ Line.End ∷ [];
   report = record { whole = k.whole; ends = record { front = k.front; is = refl } };
-  made = subst (λ z. make s.axes z bytes) k.follows e;
+  made = e (k.front ++ Line.End ∷ []) k.follows;
 }) h
 
 -- ---- no heading

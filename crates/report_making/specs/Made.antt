@@ -1,5 +1,5 @@
 -- What is made of a report, and why nothing is.
--- What is made is told by what the lines say of the points of their box, and of the number of axes.
+-- What is made is told by the lines and the number of axes.
 use Rattle.std.specs.Prelude.{◌≡◌, ◌⊎◌, ℕ, ⊤, List, Option, Result, Ok, Err}
 use Rattle.shape_desk.specs.Desk.{Rose}
 use Rattle.shape_desk.specs.Line.{IfTold}
@@ -9,25 +9,25 @@ use Rattle.report_lines.specs.Said.{Said, said}
 use Rattle.report_lines.specs.declared.fault.ReportFault.{ReportFault}
 use Rattle.report_lines.specs.declared.fault.ReportFault.TheVariants.{NotReport, ReadFault, NoMemory}
 
--- which bytes are made of what is said of the points of a box with so many axes
+-- which bytes are made of the lines of a report about a picture with so many axes
 abbrev pub Maker : Type 1
-Maker = ℕ → Said → List ℕ → Type 0
+Maker = ℕ → List Line → List ℕ → Type 0
 
--- just the bytes of a function
+-- just the bytes of a function of what the lines say of the points of their box
 abbrev pub exactly : (ℕ → Said → List ℕ) → Maker
-exactly f d s bytes = bytes ≡ f d s
+exactly f d lines bytes = bytes ≡ f d (said lines)
 
 -- the space is that of flat pictures or of volumes
 abbrev pub IsSpace : Space → Type 0
 IsSpace s = (s ≡ flat) ⊎ (s ≡ solid)
 
--- the text is a report of a flat picture or of a volume, and the bytes are made of what its lines say
+-- the text is a report of a flat picture or of a volume, and the bytes are made of its lines
 pub record IsMadeOf (make : Maker) (text bytes : List ℕ) : Type 0 where
   pub space : Space
   pub known : IsSpace space
   pub lines : List Line
   pub report : IsReport space text lines
-  pub made : make space.axes (said lines) bytes
+  pub made : make space.axes lines bytes
 
 -- line k of the text is the first bad one: where it is the first of all, it is a heading of neither space
 pub record IsNoReport (text : List ℕ) (k : ℕ) : Type 0 where

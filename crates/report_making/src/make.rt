@@ -1,41 +1,39 @@
-//! Making bytes of a report: its heading, each of its lines in turn, and what they say at the end.
+//! Making bytes of a report: its heading, each of its lines in turn, and what is kept of them at the end.
 //! Nothing is made before the whole report was read.
-ghost use Rattle.std.specs.Prelude.{◌≡◌, ℕ, List, Option, true};
+ghost use Rattle.std.specs.Prelude.{◌≡◌, [], ◌∷◌, ℕ, List, Option, IfOk, true};
 ghost use Rattle.shape_desk.specs.Desk.{OnlyReadsAt};
 ghost use Rattle.shape_desk.specs.Line.{ahead_of, IfTold};
 ghost use Rattle.shape_desk.specs.declared.desk.Place.TheVariants.{Report};
-ghost use Rattle.shape_report.specs.LineOf.{line_of};
+ghost use Rattle.report_terms.specs.Lines.{Line};
 ghost use Rattle.report_lines.specs.Reports.{space, flat, solid};
 ghost use Rattle.report_lines.specs.Headings.{TakesHeading};
 ghost use Rattle.report_lines.specs.Seen.{flat_line, solid_line};
-ghost use Rattle.report_lines.specs.Said.{said};
 ghost use Rattle.report_lines.specs.Answers.{Reads};
 ghost use Rattle.report_making.specs.Made.{Makes};
 
 use crate::making::Making;
-use report_lines::{Heading, Opening, ReportFault, Seen, read_lines, read_opening};
+use report_lines::{Heading, Opening, ReportFault, Sketch, read_lines, read_opening};
 use shape_desk::{Desk, LineReader};
-use shape_space::{P2, P3, Point};
+use shape_space::{NoMemory, P2, P3, Point};
 use std::alloc::Global;
 
-// What the lines of a report say, where its heading was taken.
-fn read_seen<P: Point, D: Desk>(
-    alloc: Global,
-    heading: &Heading<P>,
+// What is kept of a report's lines, where its heading was taken and kept.
+fn read_kept<P: Point, S: Sketch<P>, D: Desk>(
+    begun: Result<S, NoMemory>,
     reader: &mut LineReader,
     desk: &mut D,
-) -> Result<Seen<P>, ReportFault>
+) -> Result<S, ReportFault>
     requires { (D.state desk.old).begun Report ≡ true }
-    ensures answer { (text : Option (List ℕ)) → IfTold text (λ bytes.
+    ensures answer { (text : Option (List ℕ)) (heading : Line) → IfTold text (λ bytes.
         TakesHeading (space P.DIM P.MAX_SIDE) bytes
-        (ahead_of reader.old.ahead ((D.state desk.old).left Report))
-        (line_of P.coords heading.now.line))
-        → Reads (space P.DIM P.MAX_SIDE) (λ lines s. s ≡ said lines) text
+        (ahead_of reader.old.ahead ((D.state desk.old).left Report)) heading)
+        → IfOk begun (S.IsOf (heading ∷ []))
+        → Reads (space P.DIM P.MAX_SIDE) S.IsOf text
         (D.state desk.old).read_faults (D.state desk.new).read_faults result }
     ensures reads { OnlyReadsAt Report (D.state desk.old) (D.state desk.new) }
 {
-    match Seen::new(alloc, heading) {
-        Ok(seen) => read_lines::<P, Seen<P>, D>(seen, reader, desk),
+    match begun {
+        Ok(kept) => read_lines::<P, S, D>(kept, reader, desk),
         Err(_) => Err(ReportFault::NoMemory),
     }
 }
@@ -56,8 +54,9 @@ fn make_flat<M: Making, D: Desk>(
         (D.state desk.old).read_faults (D.state desk.new).read_faults result }
     ensures reads { OnlyReadsAt Report (D.state desk.old) (D.state desk.new) }
 {
-    let seen = read_seen(alloc, heading, reader, desk)?;
-    match making.make_flat(alloc, &seen) {
+    let begun = making.begin_flat(alloc, heading);
+    let kept = read_kept::<P2, M::Flat, D>(begun, reader, desk)?;
+    match making.make_flat(alloc, kept) {
         Ok(bytes) => Ok(bytes),
         Err(_) => Err(ReportFault::NoMemory),
     }
@@ -79,8 +78,9 @@ fn make_solid<M: Making, D: Desk>(
         (D.state desk.old).read_faults (D.state desk.new).read_faults result }
     ensures reads { OnlyReadsAt Report (D.state desk.old) (D.state desk.new) }
 {
-    let seen = read_seen(alloc, heading, reader, desk)?;
-    match making.make_solid(alloc, &seen) {
+    let begun = making.begin_solid(alloc, heading);
+    let kept = read_kept::<P3, M::Solid, D>(begun, reader, desk)?;
+    match making.make_solid(alloc, kept) {
         Ok(bytes) => Ok(bytes),
         Err(_) => Err(ReportFault::NoMemory),
     }

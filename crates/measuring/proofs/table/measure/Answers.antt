@@ -30,9 +30,8 @@ returns g c =
     let len : c.in_ok-all.all.len ≡ length new = omega (arith, kept, c.as_mut_slice.ensures.len) in
     let rest = drop (length new) c.in_ok-all.all.items in
     let whole : take c.in_ok-all.all.len (new ++ rest) ≡ new = ap (λ n. take n (new ++ rest)) len ∙ take-append_seam new rest in
-    let n = rows_count told old c.greatest_label-count.result [] (ap (map told) c.as_mut_slice.ensures.value ∙ c.in_ok-all.ensures left.sides) ∙ c.greatest_label-count.ensures in
     record {
-      labels = labels;
-      named = c.in_ok-labels.ensures;
-      rows = ap (map (measures_told object.sides)) whole ∙ ap (λ (s : List ℕ). map (measures_told s) new) (sym c.requires.sides) ∙ c.add_points.ensures ∙ ap (λ n. rows n (facts c.args.squares.now left labels)) n;
+      labels = c.in_ok-labels.ensures;
+      count = c.greatest_label-count.ensures;
+      rows = ap (map (measures_told object.sides)) whole ∙ ap (λ (s : List ℕ). map (measures_told s) new) (sym c.requires.sides) ∙ c.add_points.ensures ∙ ap (λ n. rows n (facts c.args.squares.now left labels)) (rows_count told old c.greatest_label-count.result [] (ap (map told) c.as_mut_slice.ensures.value ∙ c.in_ok-all.ensures left.sides));
     }

@@ -7,4 +7,5 @@ use Rattle.measuring.proofs.text.table_text.Given as goal
 abbrev pub invariant-loop-i : goal.invariant-loop-i
 invariant-loop-i g l =
     let told = measures_told (sides_of (g.P.Point.coords l.sides.lengths)) in
-    l.csv ++ rows_text g.P.Point.DIM (l.i + 1) (map told (drop l.i l.all)) ≡ table_text g.P.Point.DIM (map told l.all)
+    let more = g.C.Columns.columns l.more in
+    l.csv ++ rows_text g.P.Point.DIM more l.i (map told (drop l.i l.all)) ≡ table_text g.P.Point.DIM more (map told l.all)

@@ -1,0 +1,56 @@
+//! The columns of borders: how many holes an object has, and how long its borders are.
+//! A further column is one more piece in both methods, in the same place as in `specs/BorderColumns.antt`.
+ghost use Rattle.std.specs.Prelude.{◌≡◌, ◌++◌, OnOk, slice_index_or};
+ghost use Rattle.bordering.specs.Told.{bounds_told, all_bounds};
+ghost use Rattle.bordering.specs.OneMore.{no_bounds};
+ghost use Rattle.measure_report.specs.BorderColumns.{border_cells};
+
+use bordering::{Bounds, thousandths};
+use measuring::{Columns, Csv};
+use shape_space::NoMemory;
+
+/// The columns of what the borders of each object add up to.
+#[derive(Drop)]
+pub(crate) struct BorderColumns {
+    pub(crate) bounds: Vec<Bounds>,
+}
+
+// The borders of the object in a row with a place, and none where there is no such object.
+fn bounds_at(all: &[Bounds], i: usize) -> Bounds
+    ensures { bounds_told result ≡ slice_index_or (all_bounds all.now) i no_bounds }
+{
+    if i < all.len() {
+        all[i]
+    } else {
+        Bounds {
+            border: 0,
+            hole_border: 0,
+            holes: 0,
+        }
+    }
+}
+
+// Puts the cells of an object's borders.
+fn put_bounds(b: Bounds, csv: &mut Csv) -> Result<(), NoMemory>
+    ensures { OnOk result (csv.new ≡ csv.old ++ border_cells (bounds_told b)) }
+{
+    csv.whole(b.holes as u128)?;
+    csv.thousandths(thousandths(b.border) as u128)?;
+    csv.thousandths(thousandths(b.hole_border) as u128)?;
+    Ok(())
+}
+
+impl Columns for BorderColumns {
+    ghost use Rattle.bordering.specs.Told.{all_bounds};
+    ghost use Rattle.measure_report.specs.BorderColumns.{border_columns};
+
+    ghost columns = { λ c. border_columns (all_bounds c.bounds.items) };
+
+    fn put_names(&self, csv: &mut Csv) -> Result<(), NoMemory> {
+        csv.put(b",holes,border,hole_border")
+    }
+
+    fn put_cells(&self, i: usize, csv: &mut Csv) -> Result<(), NoMemory> {
+        put_bounds(bounds_at(self.bounds.as_slice(), i), csv)
+    }
+}
