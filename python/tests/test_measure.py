@@ -88,11 +88,11 @@ class Measuring(InFolder):
         self.assertIn("in/005.png", json.loads(Path("out/made.json").read_text())["images"][5]["failure"])
 
     def test_stopped_and_begun_again(self):
-        self.save(30, 80)
+        self.save(12, 80)
         command = [sys.executable, str(HERE.parent / "shapes"), "measure", "in", "-o", "out"]
         run = subprocess.Popen(command, stdout=subprocess.DEVNULL, stderr=subprocess.PIPE, start_new_session=True)
         for _ in range(2000):
-            if len(list(Path("out").glob("*.json"))) > 3:
+            if len(list(Path("out").glob("*.json"))) > 1:
                 break
             time.sleep(0.005)
         os.killpg(run.pid, signal.SIGINT)
