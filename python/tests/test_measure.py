@@ -8,6 +8,7 @@ import subprocess
 import sys
 import time
 import unittest
+import unittest.mock
 from decimal import Decimal
 from pathlib import Path
 
@@ -201,6 +202,15 @@ class Measuring(InFolder):
             programs._places, os.environ["PATH"] = places, path
         self.assertEqual((status, len(error)), (3, 1))
         self.assertIn("shape: this program is not found; build it by `rt run` in crates/shape", error[0])
+
+    def test_a_package_is_missing(self):
+        self.save(2)
+        with unittest.mock.patch.dict(sys.modules, {"PIL": None}):
+            status, _, error = self.shapes("measure", "in")
+        self.assertEqual(
+            (status, error[-1]),
+            (3, "shapes: Pillow: this Python package is not installed; `apt install python3-pil`, or `pip install pillow`"),
+        )
 
 
 if __name__ == "__main__":
