@@ -156,6 +156,8 @@ class Measuring(InFolder):
             values = np.array(Image.open(f"out/000.png.{kind}.{suffix}"))
             np.testing.assert_array_equal(values > 0, wanted)
         self.assertEqual(self.shapes("check", "out")[0], 0)
+        Path("out/000.png.skeleton.pbm").write_text("P1 1 1 1")
+        self.assertIn("but out/000.png.skeleton.pbm is not what shape_mask makes of it", self.shapes("check", "out")[1][0])
 
     def test_volumes(self):
         mask = random_mask(7, 8, 10, 12)
