@@ -9,7 +9,7 @@ from dataclasses import dataclass, field
 from pathlib import Path
 
 from .convert import Picture
-from .faults import Fault
+from .faults import Fault, Missing
 from .files import shown, sum_of, sum_of_bytes
 from .images import SUFFIXES
 from .making import Plan, Record, make
@@ -68,6 +68,8 @@ def _one(image: Image, plan: Plan, convert: Convert) -> None:
         image.source = source_sum(image.path)
         for picture in convert(image.path, image.name):
             image.records.append(make(picture, plan))
+    except Missing:
+        raise
     except Fault as fault:
         image.failure = f"{shown(image.path)}: {fault.reason}" + (f"; {fault.remedy}" if fault.remedy else "")
     except MemoryError:

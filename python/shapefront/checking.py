@@ -109,27 +109,36 @@ def _check_beside(report: Path) -> Finding:
 
 
 def _check_all(name: str, stem: str, report: Path) -> Finding:
-    """A report against its picture; and where it holds its record, its table and its drawing against the report."""
+    """A report against its picture; and where it holds its record, its table, its drawing and its masks against the report."""
     found = check_report(name, picture_of(stem, report), report)
     if not found.holds:
         return found
     record, left_out = read_json(report.with_name(stem + ".json")), []
     if record is not None and (record.get("parts"), record.get("kept")) != counts_of(report):
         return Finding(name, False, f"the report holds, but its record {stem}.json says other counts")
-    for program, suffix, word in (("shape_measure", ".csv", "table"), ("shape_draw", ".svg", "drawing")):
-        written = report.with_name(stem + suffix)
-        if written.exists() and not has(program):
-            left_out.append(f"its {word} was not checked: {program} is not found")
-        elif written.exists() and not _is_written(program, report, written):
-            return Finding(name, False, f"the report holds, but its {word} {shown(written)} is not what {program} makes of it")
+    for words, written in _made_of(report, stem, record or {}):
+        if written.exists() and not has(words[0]):
+            left_out.append(f"{shown(written)} was not checked: {words[0]} is not found")
+        elif written.exists() and not _is_written(words, report, written):
+            return Finding(name, False, f"the report holds, but {shown(written)} is not what {words[0]} makes of it")
     return Finding(name, True, ", ".join(left_out))
 
 
-def _is_written(program: str, report: Path, written: Path) -> bool:
-    """Whether a file is exactly what the program makes of the report."""
+def _made_of(report: Path, stem: str, record: dict) -> Iterator[tuple[tuple[str, ...], Path]]:
+    """The files that are made of a report, there or not, each with the program and its words."""
+    yield ("shape_measure",), report.with_name(stem + ".csv")
+    yield ("shape_draw",), report.with_name(stem + ".svg")
+    for kind in record.get("masks", []):
+        for name in record.get("files", {}):
+            if name.startswith(f"{stem}.{kind}.") and "/" not in name:
+                yield ("shape_mask", kind), report.with_name(name)
+
+
+def _is_written(words: tuple[str, ...], report: Path, written: Path) -> bool:
+    """Whether a file is exactly what a program with these words makes of the report."""
     text, _ = text_of(report)
     with _plain(text, report) as plain, tempfile.TemporaryFile() as out:
-        if call(program, plain, out=out).status:
+        if call(*words, plain, out=out).status:
             return False
         out.seek(0)
         return out.read() == written.read_bytes()

@@ -132,5 +132,7 @@ def _mask(kind: str, report: Path, path: Path, picture: Picture) -> None:
     with open(path, "wb") as out:
         made("shape_mask", kind, report, out=out, about=picture.key)
     with open(path, "rb") as file:
-        suffix = {b"P1": ".pbm", b"P4": ".pbm", b"P2": ".pgm", b"P5": ".pgm"}.get(file.read(2)) if picture.mask.ndim == 2 else None
-    os.replace(path, path.with_name(path.name + (suffix or suffix_of(picture.mask))))
+        suffix = {b"P1": ".pbm", b"P4": ".pbm", b"P2": ".pgm", b"P5": ".pgm"}.get(file.read(2), "")
+    if picture.mask.ndim == 3:
+        suffix = suffix_of(picture.mask) if kind != "distances" else suffix_of(picture.mask).removesuffix("raw") + "16bit.raw"
+    os.replace(path, path.with_name(path.name + suffix))

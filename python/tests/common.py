@@ -49,7 +49,7 @@ class InFolder(unittest.TestCase):
         self.addCleanup(os.chdir, os.getcwd())
         os.chdir(self.folder)
         self.addCleanup(os.environ.__setitem__, "PATH", os.environ["PATH"])
-        os.environ["PATH"] += f":{HERE / 'stubs'}"
+        os.environ["PATH"] = f"{Path(sys.executable).parent}:{os.environ['PATH']}:{HERE / 'stubs'}"
 
     def shapes(self, *words: object) -> tuple[int, list[str], list[str]]:
         """Runs the command: its status, and the lines on standard output and standard error."""

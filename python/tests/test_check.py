@@ -107,14 +107,14 @@ class CheckingAFolder(InFolder):
         status, out, _ = self.shapes("check", "out")
         self.assertEqual(
             (status, out[1]),
-            (1, "out/word.pbm: no, the report holds, but its table out/word.pbm.csv is not what shape_measure makes of it"),
+            (1, "out/word.pbm: no, the report holds, but out/word.pbm.csv is not what shape_measure makes of it"),
         )
 
     @needs_draw
     def test_a_changed_drawing(self):
         path = Path("out/word.pbm.svg")
         path.write_text(path.read_text().replace("svg", "gvs"))
-        self.assertIn("its drawing out/word.pbm.svg is not what shape_draw makes of it", self.shapes("check", "out")[1][1])
+        self.assertIn("but out/word.pbm.svg is not what shape_draw makes of it", self.shapes("check", "out")[1][1])
 
     def test_the_original_image(self):
         self.assertEqual(self.shapes("check", "word.pbm", "out/word.pbm.report")[:2], (0, ["out/word.pbm.report: yes"]))

@@ -8,6 +8,7 @@ import subprocess
 import sys
 import time
 import unittest
+import unittest.mock
 from decimal import Decimal
 from pathlib import Path
 
@@ -88,11 +89,11 @@ class Measuring(InFolder):
         self.assertIn("in/005.png", json.loads(Path("out/made.json").read_text())["images"][5]["failure"])
 
     def test_stopped_and_begun_again(self):
-        self.save(30, 80)
+        self.save(12, 80)
         command = [sys.executable, str(HERE.parent / "shapes"), "measure", "in", "-o", "out"]
         run = subprocess.Popen(command, stdout=subprocess.DEVNULL, stderr=subprocess.PIPE, start_new_session=True)
         for _ in range(2000):
-            if len(list(Path("out").glob("*.json"))) > 3:
+            if len(list(Path("out").glob("*.json"))) > 1:
                 break
             time.sleep(0.005)
         os.killpg(run.pid, signal.SIGINT)
@@ -155,6 +156,8 @@ class Measuring(InFolder):
             values = np.array(Image.open(f"out/000.png.{kind}.{suffix}"))
             np.testing.assert_array_equal(values > 0, wanted)
         self.assertEqual(self.shapes("check", "out")[0], 0)
+        Path("out/000.png.skeleton.pbm").write_text("P1 1 1 1")
+        self.assertIn("but out/000.png.skeleton.pbm is not what shape_mask makes of it", self.shapes("check", "out")[1][0])
 
     def test_volumes(self):
         mask = random_mask(7, 8, 10, 12)
@@ -201,6 +204,15 @@ class Measuring(InFolder):
             programs._places, os.environ["PATH"] = places, path
         self.assertEqual((status, len(error)), (3, 1))
         self.assertIn("shape: this program is not found; build it by `rt run` in crates/shape", error[0])
+
+    def test_a_package_is_missing(self):
+        self.save(2)
+        with unittest.mock.patch.dict(sys.modules, {"PIL": None}):
+            status, _, error = self.shapes("measure", "in")
+        self.assertEqual(
+            (status, error[-1]),
+            (3, "shapes: Pillow: this Python package is not installed; `apt install python3-pil`, or `pip install pillow`"),
+        )
 
 
 if __name__ == "__main__":
