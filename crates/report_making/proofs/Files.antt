@@ -1,6 +1,6 @@
 -- What a run did, from what its parts did.
 -- Laws of desks and texts; no report is read here.
-use Rattle.std.proofs.Common.{◌≡◌, ℕ, ◌≤◌, inl, sym, arith, List, Option, None, Some}
+use Rattle.std.proofs.Common.{ℕ, ◌≤◌, inl, sym, arith, List, Option, None, Some}
 use Rattle.std.specs.Prelude.{◌+◌, ◌-◌, ◌^◌, min, Result, Ok, Err}
 use Rattle.shape_desk.specs.Desk.{Files, DeskState, IsAtFront, Rose}
 use Rattle.shape_desk.specs.Line.{IfTold}

@@ -1,6 +1,6 @@
 -- From the heading of a report and the lines behind it to what is made of it, or why nothing is.
 -- Laws over texts and lines; what is made is only what it is said to be.
-use Rattle.std.proofs.Common.{◌≡◌, inl, inr, ℕ, ◌≤◌, refl, sym, ap, ◌∙◌, subst, arith, List, [], ◌∷◌, ◌++◌, Option, None, Some}
+use Rattle.std.proofs.Common.{◌≡◌, inl, ℕ, ◌≤◌, refl, sym, subst, arith, List, [], ◌∷◌, ◌++◌, Option, None, Some}
 use Rattle.std.specs.Prelude.{Err}
 use Rattle.shape_desk.specs.Line.{IfTold}
 use Rattle.text_terms.specs.Going.{IsTextOf}
@@ -8,7 +8,7 @@ use Rattle.text_terms.proofs.Checking.{begins_none, begins_next, first_bad}
 use Rattle.report_text.proofs.Told.{if_told}
 use Rattle.report_terms.specs.Lines.{Line}
 use Rattle.report_terms.proofs.Spelled.{are_spelled}
-use Rattle.report_lines.specs.Reports.{Space, flat, solid, in_order, FirstBad, IsOfVolume, IsHeading}
+use Rattle.report_lines.specs.Reports.{Space, flat, solid, in_order, FirstBad, IsOfVolume}
 use Rattle.report_lines.specs.Headings.{TakesHeading, LacksHeading, IsOfNoBox, IsNoOpening}
 use Rattle.report_lines.specs.Answers as Lines
 use Rattle.report_lines.specs.declared.fault.ReportFault.{ReportFault}
