@@ -1,6 +1,6 @@
 -- The table that is made is that of the lines whose sketch was kept.
 -- Lists alone; nothing is read here.
-use Rattle.std.proofs.Common.{◌≡◌, ℕ, List, ap, sym, ◌∙◌, subst}
+use Rattle.std.proofs.Common.{◌≡◌, ℕ, List, ap, ◌∙◌, subst}
 use Rattle.shape_terms.specs.Pictures.{Picture}
 use Rattle.shape_terms.specs.Parts.{LabelsObject}
 use Rattle.report_terms.specs.Lines.{Line}
@@ -8,7 +8,7 @@ use Rattle.report_lines.specs.Said.{Said, said}
 use Rattle.measure_terms.specs.Facts.{facts}
 use Rattle.measure_terms.specs.Measures.{Measures, greatest}
 use Rattle.measure_terms.specs.Tables.{rows, IsTable}
-use Rattle.measure_terms.specs.Texts.{Columns, no_columns, table_text}
+use Rattle.measure_terms.specs.Texts.{no_columns, table_text}
 use Rattle.border_terms.specs.Borders.{Border, borders}
 use Rattle.border_terms.specs.Objects.{Bounds, object_bounds}
 use Rattle.measure_report.specs.BorderColumns.{border_columns}

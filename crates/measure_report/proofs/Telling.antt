@@ -6,7 +6,7 @@ use Rattle.std.proofs.lemmas.List.{append-nil}
 use Rattle.std.proofs.lemmas.List.Elements.{recursion_from_All}
 use Rattle.shape_terms.specs.Pictures.{Picture}
 use Rattle.report_terms.specs.Subjects.{Subject}
-use Rattle.report_terms.specs.Lines.{Line, IsLineOf, text_of}
+use Rattle.report_terms.specs.Lines.{IsLineOf, text_of}
 use Rattle.report_terms.specs.Holds.{Holds}
 use Rattle.report_terms.specs.Shows.{content_of}
 use Rattle.report_terms.proofs.HoldsShows.{holds_shows}

@@ -1,4 +1,4 @@
-//! Bytes that are made of what a report says of the points of its box: the one run that masks and tables share.
+//! Bytes that are made of a report, by way of what is kept of its lines: the one run that masks and tables share.
 //! A further program is one more `impl` of `Making`; what it makes is its own.
 #![tactic(auto)]
 
