@@ -18,7 +18,7 @@ use Rattle.measure_report.specs.TableTexts.{IsTableText}
 pub record HasRows (object : Picture) (squares : List ℕ) (left : Picture) (labels : List ℕ) (count : ℕ) (ms : List Measures) : Type 0 where
   pub named : LabelsObject object labels
   pub count_is : count ≡ greatest labels
-  pub rows_are : ms ≡ rows count (facts squares left labels)
+  pub rows_are : ms ≡ rows count (facts object squares left labels)
 
 -- pictures and numbers are what the lines say
 pub record AreSaid (lines : List Line) (object : Picture) (squares : List ℕ) (left : Picture) : Type 0 where
@@ -36,12 +36,13 @@ are_said lines s object squares left e o q l = record {
 table_of : (lines : List Line) (object : Picture) (squares : List ℕ) (left : Picture) (labels : List ℕ) (count : ℕ) (ms : List Measures) → AreSaid lines object squares left → HasRows object squares left labels count ms → IsTable (said lines).object (said lines).squares (said lines).left ms
 table_of lines object squares left labels count ms e h =
     let many = h.count_is in
+    let o = e.object_is in
     let q = e.squares_are in
     let l = e.left_is in
     record {
       labels = labels;
-      named = subst (λ (z : Picture). LabelsObject z labels) e.object_is h.named;
-      rows = h.rows_are ∙ (λ i. rows (many i) (facts (q i) (l i) labels));
+      named = subst (λ (z : Picture). LabelsObject z labels) o h.named;
+      rows = h.rows_are ∙ (λ i. rows (many i) (facts (o i) (q i) (l i) labels));
     }
 
 pub solid_made : (lines : List Line) (object : Picture) (squares : List ℕ) (left : Picture) (labels : List ℕ) (count : ℕ) (ms : List Measures) (bytes : List ℕ) → AreSaid lines object squares left → HasRows object squares left labels count ms → bytes ≡ table_text 3 no_columns ms → IsTableText 3 lines bytes

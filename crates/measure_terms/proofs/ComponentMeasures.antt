@@ -1,7 +1,7 @@
 -- The measures of the facts of a component are those of its points: bounds that are reached, sums and counts.
 -- Laws of lists alone.
 use Rattle.std.proofs.Common.{◌≡◌, ◌⊎◌, inl, inr, ◌+◌, ◌<◌, ◌≤◌, ℕ, zero, suc, Bool, true, false, List, [], ◌∷◌, map, get_or, refl, sym, ap, ◌∙◌, arith, subst}
-use Rattle.std.specs.Prelude.{◌==◌, ◌&&◌, ◌||◌, cond, nat_le, min, nat_abs, Some, None, count_by, sum}
+use Rattle.std.specs.Prelude.{sum_by, ◌==◌, ◌&&◌, ◌||◌, cond, nat_le, min, nat_abs, Some, None, count_by, sum}
 use Rattle.std.specs.List.{Contains, fold, find, list_any}
 use Rattle.std.specs.Option.{option_map, is_some}
 use Rattle.std.proofs.lemmas.Bool.{cond-true, cond-false, cases_Bool}
@@ -90,10 +90,10 @@ map_twice : {A B C : Type 0} (g : B → C) (h : A → B) (xs : List A) → map g
 map_twice g h [] = refl
 map_twice g h (x ∷ xs) = λ i. g (h x) ∷ map_twice g h xs i
 
-span_is : (squares : List ℕ) (left : Picture) (labels : List ℕ) (k : ℕ) (p : Point) (ps : List Point) → IsSpanOf k (p ∷ ps) (span k (map (fact squares left labels) (p ∷ ps)))
-span_is squares left labels k p ps =
+span_is : (object : Picture) (squares : List ℕ) (left : Picture) (labels : List ℕ) (k : ℕ) (p : Point) (ps : List Point) → IsSpanOf k (p ∷ ps) (span k (map (fact object squares left labels) (p ∷ ps)))
+span_is object squares left labels k p ps =
     let f = λ (q : Point). nat_abs (coordinate q k) in
-    let e : coordinates k (map (fact squares left labels) (p ∷ ps)) ≡ map f (p ∷ ps) = map_twice (λ g. nat_abs (coordinate g.point k)) (fact squares left labels) (p ∷ ps) in
+    let e : coordinates k (map (fact object squares left labels) (p ∷ ps)) ≡ map f (p ∷ ps) = map_twice (λ g. nat_abs (coordinate g.point k)) (fact object squares left labels) (p ∷ ps) in
     record {
       least = subst (λ (xs : List ℕ). IsLeastOf f (p ∷ ps) (least xs)) (sym e) (is_least f p ps);
       greatest = subst (λ (xs : List ℕ). IsGreatestOf f (p ∷ ps) (greatest xs)) (sym e) (is_greatest f p ps);
@@ -104,6 +104,9 @@ span_is squares left labels k p ps =
 
 counts_are : {A B : Type 0} (q : B → Bool) (r : A → Bool) (h : A → B) (xs : List A) → ((x : A) → q (h x) ≡ r x) → count_by q (map h xs) ≡ count_by r xs
 counts_are q r h xs e = fold-map (λ a y. a + cond (q y) 1 0) h 0 xs ∙ (λ i. fold (λ a x. a + cond (e x i) 1 0) 0 xs)
+
+sums_are : {A B : Type 0} (q : B → ℕ) (h : A → B) (xs : List A) → sum_by q (map h xs) ≡ sum_by (λ x. q (h x)) xs
+sums_are q h xs = sym (sum-map q (map h xs)) ∙ ap sum (map_twice q h xs) ∙ sum-map (λ x. q (h x)) xs
 
 any_is : {A B : Type 0} (q : B → Bool) (h : A → B) (xs : List A) → list_any q (map h xs) ≡ list_any (λ x. q (h x)) xs
 any_is q h [] = refl
@@ -131,21 +134,22 @@ junction_is false n = refl
 -- ---- all measures
 
 -- the measures of the facts of some points are those of the points
-pub measures_are : (squares : List ℕ) (left : Picture) (labels : List ℕ) (p : Point) (ps : List Point)
-    → AreMeasuresOf (λ q. get_or squares (raster_number left.sides q) 0) left (p ∷ ps) (measures_of (map (fact squares left labels) (p ∷ ps)))
-measures_are squares left labels p ps =
-    let h = fact squares left labels in
+pub measures_are : (object : Picture) (squares : List ℕ) (left : Picture) (labels : List ℕ) (p : Point) (ps : List Point)
+    → AreMeasuresOf object (λ q. get_or squares (raster_number left.sides q) 0) left (p ∷ ps) (measures_of (map (fact object squares left labels) (p ∷ ps)))
+measures_are object squares left labels p ps =
+    let h = fact object squares left labels in
     let square = λ (q : Point). get_or squares (raster_number left.sides q) 0 in
     let e : map (λ (f : Fact). f.square) (map h (p ∷ ps)) ≡ map square (p ∷ ps) = map_twice (λ f. f.square) h (p ∷ ps) in
     record {
       area = length-map (p ∷ ps) h;
-      x = span_is squares left labels 0 p ps;
-      y = span_is squares left labels 1 p ps;
-      z = span_is squares left labels 2 p ps;
+      x = span_is object squares left labels 0 p ps;
+      y = span_is object squares left labels 1 p ps;
+      z = span_is object squares left labels 2 p ps;
       depth = subst (λ (xs : List ℕ). IsGreatestOf square (p ∷ ps) (greatest xs)) (sym e) (is_greatest square p ps);
       deepest = found_is (λ f. f.square == depth (map h (p ∷ ps))) (λ q. square q == depth (map h (p ∷ ps))) h (p ∷ ps) (λ q. refl) (λ q. refl);
       skeleton = counts_are is_left (at left) h (p ∷ ps) (λ q. left_is (at left q) (near_count left q));
       ends = counts_are (λ f. is_end f.left) (λ q. at left q && near_count left q == 1) h (p ∷ ps) (λ q. end_is (at left q) (near_count left q));
       junctions = counts_are (λ f. is_junction f.left) (λ q. at left q && nat_le 3 (near_count left q)) h (p ∷ ps) (λ q. junction_is (at left q) (near_count left q));
+      exposed = sums_are (λ f. f.exposed) h (p ∷ ps);
       touches = any_is (λ f. f.rim) h (p ∷ ps);
     }

@@ -16,8 +16,8 @@ use Rattle.measure_terms.specs.Components.{component}
 -- ---- filters of ranges
 
 -- the fact of a point of the box, by the point
-abbrev pub fact : (squares : List ℕ) (left : Picture) (labels : List ℕ) → Point → Fact
-fact squares left labels p = fact_of squares left labels (raster_number left.sides p) p
+abbrev pub fact : (object : Picture) (squares : List ℕ) (left : Picture) (labels : List ℕ) → Point → Fact
+fact object squares left labels p = fact_of object squares left labels (raster_number left.sides p) p
 
 -- a label that is not 0 is that of an object point
 pub seen : (X : Picture) (labels : List ℕ) (k i : ℕ) → 0 < k → (get_or labels i 0 == k) ≡ true → (at X (raster_point X.sides i) ≡ false → get_or labels i 0 ≡ 0) → at X (raster_point X.sides i) ≡ true
@@ -34,37 +34,37 @@ passed p q x xs f = elim (cases_Bool (p x)) [
 ]
 
 -- the facts of an object as those of its points, found one after the other in a part of the box
-part_of_box : (squares : List ℕ) (left X : Picture) (labels : List ℕ) (k a n : ℕ) → left.sides ≡ X.sides → 0 < k → a + n ≤ box_count X.sides
+part_of_box : (object : Picture) (squares : List ℕ) (left X : Picture) (labels : List ℕ) (k a n : ℕ) → left.sides ≡ X.sides → 0 < k → a + n ≤ box_count X.sides
     → ((i : ℕ) → i < box_count X.sides → at X (raster_point X.sides i) ≡ false → get_or labels i 0 ≡ 0)
-    → facts_of k (map (fact_at squares left labels) (range_with_len a n)) ≡ map (fact squares left labels) (filter (λ p. get_or labels (raster_number X.sides p) 0 == k) (filter (at X) (map (raster_point X.sides) (range_with_len a n))))
-part_of_box squares left X labels k a zero s some l back = refl
-part_of_box squares left X labels k a (suc n) s some l back =
-    let r = part_of_box squares left X labels k (a + 1) n s some (omega arith) back in
+    → facts_of k (map (fact_at object squares left labels) (range_with_len a n)) ≡ map (fact object squares left labels) (filter (λ p. get_or labels (raster_number X.sides p) 0 == k) (filter (at X) (map (raster_point X.sides) (range_with_len a n))))
+part_of_box object squares left X labels k a zero s some l back = refl
+part_of_box object squares left X labels k a (suc n) s some l back =
+    let r = part_of_box object squares left X labels k (a + 1) n s some (omega arith) back in
     let p = raster_point X.sides a in
     let rest = map (raster_point X.sides) (range_with_len (a + 1) n) in
     let test = λ (q : Point). get_or labels (raster_number X.sides q) 0 == k in
-    let facts_rest = map (fact_at squares left labels) (range_with_len (a + 1) n) in
+    let facts_rest = map (fact_at object squares left labels) (range_with_len (a + 1) n) in
     let here : raster_number X.sides p ≡ a = raster_number-raster_point X.sides a (omega arith) in
     let number : raster_number left.sides (raster_point left.sides a) ≡ a = ap (λ t. raster_number t (raster_point t a)) s ∙ here in
     let point : raster_point left.sides a ≡ p = ap (λ t. raster_point t a) s in
-    let one : fact_at squares left labels a ≡ fact squares left labels p =
-    ap (λ i. fact_of squares left labels i (raster_point left.sides a)) (sym number) ∙ ap (fact squares left labels) point in
+    let one : fact_at object squares left labels a ≡ fact object squares left labels p =
+    ap (λ i. fact_of object squares left labels i (raster_point left.sides a)) (sym number) ∙ ap (fact object squares left labels) point in
     let same : test p ≡ (get_or labels a 0 == k) = ap (λ i. get_or labels i 0 == k) here in
     elim (cases_Bool (get_or labels a 0 == k)) [
       | inl t ↦ (
-          let object : at X p ≡ true = seen X labels k a some t (back a (omega arith)) in
-          cond-true (get_or labels a 0 == k) (fact_at squares left labels a ∷ facts_of k facts_rest) (facts_of k facts_rest) t
+          let filled : at X p ≡ true = seen X labels k a some t (back a (omega arith)) in
+          cond-true (get_or labels a 0 == k) (fact_at object squares left labels a ∷ facts_of k facts_rest) (facts_of k facts_rest) t
           ∙ (λ i. one i ∷ r i)
-          ∙ sym (ap (λ l. map (fact squares left labels) (filter test l)) (cond-true (at X p) (p ∷ filter (at X) rest) (filter (at X) rest) object)
-          ∙ ap (map (fact squares left labels)) (cond-true (test p) (p ∷ filter test (filter (at X) rest)) (filter test (filter (at X) rest)) (same ∙ t))))
-      | inr f ↦ cond-false (get_or labels a 0 == k) (fact_at squares left labels a ∷ facts_of k facts_rest) (facts_of k facts_rest) f
-          ∙ r ∙ sym (ap (map (fact squares left labels)) (passed (at X) test p rest (same ∙ f)))
+          ∙ sym (ap (λ l. map (fact object squares left labels) (filter test l)) (cond-true (at X p) (p ∷ filter (at X) rest) (filter (at X) rest) filled)
+          ∙ ap (map (fact object squares left labels)) (cond-true (test p) (p ∷ filter test (filter (at X) rest)) (filter test (filter (at X) rest)) (same ∙ t))))
+      | inr f ↦ cond-false (get_or labels a 0 == k) (fact_at object squares left labels a ∷ facts_of k facts_rest) (facts_of k facts_rest) f
+          ∙ r ∙ sym (ap (map (fact object squares left labels)) (passed (at X) test p rest (same ∙ f)))
     ]
 
 -- the facts of an object are those of the points of its component
-pub facts_are : (squares : List ℕ) (left X : Picture) (labels : List ℕ) (k : ℕ) → left.sides ≡ X.sides → 0 < k → LabelsObject X labels
-    → facts_of k (facts squares left labels) ≡ map (fact squares left labels) (component X labels k)
-facts_are squares left X labels k s some named =
-    ap (λ n. facts_of k (facts_below squares left labels (box_count n))) s
-    ∙ part_of_box squares left X labels k 0 (box_count X.sides) s some (omega arith) named.background
-    ∙ ap (λ ps. map (fact squares left labels) (filter (λ p. get_or labels (raster_number X.sides p) 0 == k) (filter (at X) ps))) (sym (box_points_are X.sides))
+pub facts_are : (object : Picture) (squares : List ℕ) (left X : Picture) (labels : List ℕ) (k : ℕ) → left.sides ≡ X.sides → 0 < k → LabelsObject X labels
+    → facts_of k (facts object squares left labels) ≡ map (fact object squares left labels) (component X labels k)
+facts_are object squares left X labels k s some named =
+    ap (λ n. facts_of k (facts_below object squares left labels (box_count n))) s
+    ∙ part_of_box object squares left X labels k 0 (box_count X.sides) s some (omega arith) named.background
+    ∙ ap (λ ps. map (fact object squares left labels) (filter (λ p. get_or labels (raster_number X.sides p) 0 == k) (filter (at X) ps))) (sym (box_points_are X.sides))

@@ -1,12 +1,12 @@
 -- The measures of an object with one point more, and the bounds of what is counted and summed.
 -- Laws of lists alone.
 use Rattle.std.proofs.Common.{◌≡◌, inl, inr, ◌+◌, ◌<◌, ◌≤◌, ℕ, zero, suc, Bool, true, false, List, [], ◌∷◌, ◌++◌, length, map, get_or, refl, sym, ap, ◌∙◌, arith, length-append}
-use Rattle.std.specs.Prelude.{◌==◌, min, max, Option, Some, None, cond, nat_abs, sum, count_by, ◌||◌, ◌&&◌, nat_le, nat_eq}
+use Rattle.std.specs.Prelude.{sum_by, ◌==◌, min, max, Option, Some, None, cond, nat_abs, sum, count_by, ◌||◌, ◌&&◌, nat_le, nat_eq}
 use Rattle.std.specs.List.{fold, find, list_any}
 use Rattle.std.specs.Option.{option_map, is_some, option_or}
 use Rattle.std.proofs.lemmas.Bool.{cond-true, cond-false, cases_Bool}
 use Rattle.std.proofs.lemmas.List.{map-append, length-map}
-use Rattle.std.proofs.lemmas.List.Sums.{fold-append}
+use Rattle.std.proofs.lemmas.List.Sums.{fold-append, sum_by-append}
 use Rattle.std.proofs.lemmas.List.Folds.{find-append, list_any-append}
 use Rattle.shape_terms.specs.Points.{coordinate}
 use Rattle.measure_terms.specs.Facts.{Fact}
@@ -35,6 +35,12 @@ below_greatest (x ∷ xs) (suc i) = let h = below_greatest xs i in omega arith
 
 sum_more : (xs : List ℕ) (x : ℕ) → sum (xs ++ x ∷ []) ≡ sum xs + x
 sum_more xs x = fold-append (λ a y. a + y) 0 xs (x ∷ [])
+
+one_summed : {X : Type 0} (h : X → ℕ) (x : X) → sum_by h (x ∷ []) ≡ h x
+one_summed h x = omega arith
+
+sums_more : {X : Type 0} (h : X → ℕ) (xs : List X) (x : X) → sum_by h (xs ++ x ∷ []) ≡ sum_by h xs + h x
+sums_more h xs x = sum_by-append h xs (x ∷ []) ∙ ap (λ n. sum_by h xs + n) (one_summed h x)
 
 counts_more : {X : Type 0} (p : X → Bool) (xs : List X) (x : X) → count_by p (xs ++ x ∷ []) ≡ count_by p xs + cond (p x) 1 0
 counts_more p xs x = fold-append (λ a y. a + cond (p y) 1 0) 0 xs (x ∷ [])
@@ -140,8 +146,9 @@ measures_more fs f =
     let s = counts_more is_left fs f in
     let e = counts_more (λ g. is_end g.left) fs f in
     let j = counts_more (λ g. is_junction g.left) fs f in
+    let o : sum_by (λ (g : Fact). g.exposed) (fs ++ f ∷ []) ≡ sum_by (λ (g : Fact). g.exposed) fs + f.exposed = sums_more (λ g. g.exposed) fs f in
     let t : list_any (λ g. g.rim) (fs ++ f ∷ []) ≡ (list_any (λ g. g.rim) fs || f.rim) = list_any-append (λ g. g.rim) fs (f ∷ []) ∙ ap (λ b. list_any (λ g. g.rim) fs || b) (or_false f.rim) in
-    λ i. record { area = n i; x = x i; y = y i; z = z i; depth = d i; deepest = p i; skeleton = s i; ends = e i; junctions = j i; touches = t i }
+    λ i. record { area = n i; x = x i; y = y i; z = z i; depth = d i; deepest = p i; skeleton = s i; ends = e i; junctions = j i; exposed = o i; touches = t i }
   where
     or_false : (b : Bool) → (b || false) ≡ b
     or_false true = refl

@@ -81,17 +81,17 @@ some_point X labels n k names l =
     let t : (label_of X labels u.0 == k + 1) ≡ true = grind (arith, nat_tests) in
     (u.0, Contains-filter (λ p. label_of X labels p == k + 1) (object_points X) u.0 (Contains-filter (at X) (box_points X.sides) u.0 (box_has X u.0 u.1) u.1) t)
 
-some_measures : (squares : List ℕ) (left : Picture) (labels : List ℕ) (ps : List Point) (p : Point) → Contains ps p
-    → AreMeasuresOf (λ q. get_or squares (raster_number left.sides q) 0) left ps (measures_of (map (fact squares left labels) ps))
-some_measures squares left labels [] p c = absurd (omega (arith, c.1))
-some_measures squares left labels (q ∷ ps) p c = measures_are squares left labels q ps
+some_measures : (object : Picture) (squares : List ℕ) (left : Picture) (labels : List ℕ) (ps : List Point) (p : Point) → Contains ps p
+    → AreMeasuresOf object (λ q. get_or squares (raster_number left.sides q) 0) left ps (measures_of (map (fact object squares left labels) ps))
+some_measures object squares left labels [] p c = absurd (omega (arith, c.1))
+some_measures object squares left labels (q ∷ ps) p c = measures_are object squares left labels q ps
 
 -- ---- the table
 
 pub table_measures : (X left : Picture) (squares : List ℕ) (table : List Measures) → left.sides ≡ X.sides → IsTable X squares left table → MeasuresComponents X squares left table
 table_measures X left squares table s h =
     let labels = h.labels in
-    let fs = facts squares left labels in
+    let fs = facts X squares left labels in
     let n = h.named.parts.0 in
     let names = h.named.parts.1 in
     let len : length table ≡ greatest labels = ap length h.rows ∙ length-rows (greatest labels) fs in
@@ -102,10 +102,10 @@ table_measures X left squares table s h =
       all = subst (λ (m : ℕ). NamesParts Near (Object X) m (label_of X labels)) same names;
       each = λ k d l.
           let some = some_point X labels n k names (omega (arith, same, l)) in
-          let row = ap (λ ms. get_or ms k d) h.rows ∙ row_is (greatest labels) fs k d (omega (arith, len, l)) ∙ ap measures_of (facts_are squares left X labels (k + 1) s (omega arith) h.named) in
-          let m = some_measures squares left labels (component X labels (k + 1)) some.0 some.1 in
-          let m2 = subst (λ (sides : List ℕ). AreMeasuresOf (λ q. get_or squares (raster_number sides q) 0) left (component X labels (k + 1)) (measures_of (map (fact squares left labels) (component X labels (k + 1))))) s m in
-          subst (λ (x : Measures). AreMeasuresOf (λ q. get_or squares (raster_number X.sides q) 0) left (component X labels (k + 1)) x) (sym row) m2;
+          let row = ap (λ ms. get_or ms k d) h.rows ∙ row_is (greatest labels) fs k d (omega (arith, len, l)) ∙ ap measures_of (facts_are X squares left X labels (k + 1) s (omega arith) h.named) in
+          let m = some_measures X squares left labels (component X labels (k + 1)) some.0 some.1 in
+          let m2 = subst (λ (sides : List ℕ). AreMeasuresOf X (λ q. get_or squares (raster_number sides q) 0) left (component X labels (k + 1)) (measures_of (map (fact X squares left labels) (component X labels (k + 1))))) s m in
+          subst (λ (x : Measures). AreMeasuresOf X (λ q. get_or squares (raster_number X.sides q) 0) left (component X labels (k + 1)) x) (sym row) m2;
     }
 
 -- the measures are told with the labels of the table

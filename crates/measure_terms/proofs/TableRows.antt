@@ -16,11 +16,11 @@ use Rattle.measure_terms.specs.Tables.{rows}
 use Rattle.measure_terms.proofs.OneMore.{measures_more}
 
 -- the facts of one point more
-pub facts_more : (squares : List ℕ) (left : Picture) (labels : List ℕ) (i : ℕ) → facts_below squares left labels (i + 1) ≡ facts_below squares left labels i ++ fact_at squares left labels i ∷ []
-facts_more squares left labels i = map-range_with_len_more (fact_at squares left labels) 0 i i (omega arith)
+pub facts_more : (object : Picture) (squares : List ℕ) (left : Picture) (labels : List ℕ) (i : ℕ) → facts_below object squares left labels (i + 1) ≡ facts_below object squares left labels i ++ fact_at object squares left labels i ∷ []
+facts_more object squares left labels i = map-range_with_len_more (fact_at object squares left labels) 0 i i (omega arith)
 
-pub length-facts : (squares : List ℕ) (left : Picture) (labels : List ℕ) (i : ℕ) → length (facts_below squares left labels i) ≡ i
-length-facts squares left labels i = length-map-range_with_len (fact_at squares left labels) 0 i
+pub length-facts : (object : Picture) (squares : List ℕ) (left : Picture) (labels : List ℕ) (i : ℕ) → length (facts_below object squares left labels i) ≡ i
+length-facts object squares left labels i = length-map-range_with_len (fact_at object squares left labels) 0 i
 
 -- the facts of an object, where the last point belongs to it, and where it does not
 own_more : (k : ℕ) (fs : List Fact) (f : Fact) → f.part ≡ k → facts_of k (fs ++ f ∷ []) ≡ facts_of k fs ++ f ∷ []

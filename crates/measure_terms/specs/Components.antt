@@ -6,7 +6,7 @@ use Rattle.shape_terms.specs.Points.{Point, coordinate, raster_number}
 use Rattle.shape_terms.specs.Pictures.{Picture, at, object_points}
 use Rattle.shape_terms.specs.Parts.{Object, NamesParts, LabelsObject}
 use Rattle.shape_terms.specs.Adjacency.{Near}
-use Rattle.measure_terms.specs.Facts.{near_count, at_rim}
+use Rattle.measure_terms.specs.Facts.{near_count, exposed, at_rim}
 use Rattle.measure_terms.specs.Measures.{Span, Measures}
 
 -- the points of the component with a number, in raster order
@@ -29,8 +29,8 @@ pub record IsSpanOf (k : ℕ) (ps : List Point) (s : Span) : Type 0 where
   pub greatest : IsGreatestOf (λ p. nat_abs (coordinate p k)) ps s.greatest
   pub sum : s.sum ≡ sum_by (λ p. nat_abs (coordinate p k)) ps
 
--- the measures of these points of a box, where `square` gives the squared distance of each, and `left` is the picture of the points left
-pub record AreMeasuresOf (square : Point → ℕ) (left : Picture) (ps : List Point) (m : Measures) : Type 0 where
+-- the measures of these points of the object of a picture, where `square` gives the squared distance of each, and `left` is the picture of the points left
+pub record AreMeasuresOf (object : Picture) (square : Point → ℕ) (left : Picture) (ps : List Point) (m : Measures) : Type 0 where
   pub area : m.area ≡ length ps
   pub x : IsSpanOf 0 ps m.x
   pub y : IsSpanOf 1 ps m.y
@@ -40,6 +40,7 @@ pub record AreMeasuresOf (square : Point → ℕ) (left : Picture) (ps : List Po
   pub skeleton : m.skeleton ≡ count_by (at left) ps
   pub ends : m.ends ≡ count_by (λ p. at left p && near_count left p == 1) ps
   pub junctions : m.junctions ≡ count_by (λ p. at left p && nat_le 3 (near_count left p)) ps
+  pub exposed : m.exposed ≡ sum_by (exposed object) ps
   pub touches : m.touches ≡ list_any (at_rim left.sides) ps
 
 -- a row for each component of the object, in the order of their first points, and each row has the measures of its component
@@ -48,4 +49,4 @@ pub record MeasuresComponents (X : Picture) (squares : List ℕ) (left : Picture
   pub named : LabelsObject X labels
   pub all : NamesParts Near (Object X) (length table) (λ p. slice_index labels (raster_number X.sides p))
   pub each : (k : ℕ) (d : Measures) → k < length table
-      → AreMeasuresOf (λ p. slice_index squares (raster_number X.sides p)) left (component X labels (k + 1)) (slice_index_or table k d)
+      → AreMeasuresOf X (λ p. slice_index squares (raster_number X.sides p)) left (component X labels (k + 1)) (slice_index_or table k d)

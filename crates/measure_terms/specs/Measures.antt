@@ -1,6 +1,6 @@
 -- The measures of one object, each off the list of the facts of its points.
 -- A further measure is one more field of `Measures`, and one more definition.
-use Rattle.std.specs.Prelude.{ℕ, ◌==◌, nat_le, min, max, Bool, false, Option, Some, None, List, [], ◌∷◌, map, length, nat_abs, count_by, sum}
+use Rattle.std.specs.Prelude.{ℕ, ◌==◌, nat_le, min, max, Bool, false, Option, Some, None, List, [], ◌∷◌, map, length, nat_abs, count_by, sum, sum_by}
 use Rattle.std.specs.List.{fold, find, list_any}
 use Rattle.std.specs.Option.{option_map, is_some}
 use Rattle.shape_terms.specs.Points.{Point, coordinate}
@@ -69,6 +69,8 @@ pub record Measures : Type 0 where
   pub skeleton : ℕ
   pub ends : ℕ
   pub junctions : ℕ
+  -- how many sides of its points are exposed: the side neighbours there are not object
+  pub exposed : ℕ
   -- whether it reaches the border of the box
   pub touches : Bool
 
@@ -83,5 +85,6 @@ measures_of fs = record {
   skeleton = count_by is_left fs;
   ends = count_by (λ f. is_end f.left) fs;
   junctions = count_by (λ f. is_junction f.left) fs;
+  exposed = sum_by (λ f. f.exposed) fs;
   touches = list_any (λ f. f.rim) fs;
 }

@@ -33,5 +33,6 @@ measures_with m f = record {
   skeleton = counted (is_left f) m.skeleton;
   ends = counted (is_end f.left) m.ends;
   junctions = counted (is_junction f.left) m.junctions;
+  exposed = m.exposed + f.exposed;
   touches = m.touches || f.rim;
 }

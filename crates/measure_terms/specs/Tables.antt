@@ -15,4 +15,4 @@ rows n fs = map (λ k. measures_of (facts_of (k + 1) fs)) (range_with_len 0 n)
 pub record IsTable (object : Picture) (squares : List ℕ) (left : Picture) (table : List Measures) : Type 0 where
   pub labels : List ℕ
   pub named : LabelsObject object labels
-  pub rows : table ≡ rows (greatest labels) (facts squares left labels)
+  pub rows : table ≡ rows (greatest labels) (facts object squares left labels)

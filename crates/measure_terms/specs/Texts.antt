@@ -1,6 +1,6 @@
 -- The spelling of a table: a header, and a line for each object, its cells with commas between.
 -- A further column is one more piece of `header` and of `cells`, in the same place.
-use Rattle.std.specs.Prelude.{ℕ, ◌+◌, ◌/◌, ◌%◌, Bool, true, false, Option, Some, None, List, [], ◌∷◌, ◌++◌, codes, take, nat_abs, cond, nat_eq}
+use Rattle.std.specs.Prelude.{if◌then◌else◌, ℕ, ◌+◌, ◌/◌, ◌%◌, Bool, true, false, Option, Some, None, List, [], ◌∷◌, ◌++◌, codes, take, nat_abs, cond, nat_eq}
 use Rattle.std.specs.List.{flat_map}
 use Rattle.std.specs.Fmt.{decimal}
 use Rattle.shape_terms.specs.Points.{Point, coordinate}
@@ -52,13 +52,17 @@ skeleton_text m = whole m.skeleton ++ (whole m.ends ++ whole m.junctions)
 abbrev pub touches_text : Measures → List ℕ
 touches_text m = whole (cond m.touches 1 0)
 
+-- in space the exposed sides
+abbrev pub sides_text : ℕ → Measures → List ℕ
+sides_text d m = if nat_eq d 3 then whole m.exposed else []
+
 -- how large the object is, and where it lies
 abbrev pub size_text : ℕ → Measures → List ℕ
 size_text d m = whole m.area ++ (box_text d m ++ centre_text d m)
 
 -- how deep it is, what is left of it, and whether it may go on outside the box
 abbrev pub form_text : ℕ → Measures → List ℕ
-form_text d m = depth_text d m ++ (skeleton_text m ++ touches_text m)
+form_text d m = depth_text d m ++ (skeleton_text m ++ (touches_text m ++ sides_text d m))
 
 abbrev pub cells : ℕ → Measures → List ℕ
 cells d m = size_text d m ++ form_text d m
@@ -85,7 +89,7 @@ rows_text d more i (m ∷ ms) = row_text d more i m ++ rows_text d more (i + 1) 
 -- the names of the columns, in the plane and in space
 abbrev pub header : Bool → List ℕ
 header true = codes "object,area,left,top,right,bottom,x,y,radius,cx,cy,skeleton,ends,junctions,touches"
-header false = codes "object,voxels,x0,y0,z0,x1,y1,z1,x,y,z,radius,cx,cy,cz,skeleton,ends,junctions,touches"
+header false = codes "object,voxels,x0,y0,z0,x1,y1,z1,x,y,z,radius,cx,cy,cz,skeleton,ends,junctions,touches,sides"
 
 -- the names of all columns
 abbrev pub header_line : ℕ → Columns → List ℕ

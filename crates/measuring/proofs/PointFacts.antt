@@ -1,7 +1,7 @@
 -- What is counted round a point, and where it lies in the box: one neighbour more, one axis more.
 -- Plain points and pictures alone stand here.
 use Rattle.std.proofs.Common.{◌≡◌, ◌+◌, ◌<◌, ℕ, Bool, true, false, ℤ, pos, ◌≤ℤ◌, [], ◌∷◌, ◌++◌, length, get_or, take, refl, sym, ap, ◌∙◌, arith}
-use Rattle.std.specs.Prelude.{IsTrue, nat_abs, count_by, ◌||◌}
+use Rattle.std.specs.Prelude.{not, IsTrue, nat_abs, count_by, ◌||◌}
 use Rattle.std.specs.List.{range_with_len, list_any}
 use Rattle.std.proofs.Math.ListN as ListN
 use Rattle.std.proofs.lemmas.Int.{ints}
@@ -11,7 +11,7 @@ use Rattle.std.proofs.lemmas.List.Folds.{list_any-append}
 use Rattle.std.proofs.lemmas.List.FromFn.{map-range_with_len_more}
 use Rattle.shape_terms.specs.Points.{Point, coordinate, AreSides, sides_of, in_box}
 use Rattle.shape_terms.specs.Pictures.{Picture, at}
-use Rattle.shape_terms.specs.Adjacency.{moved, near_steps, near_point, near_points}
+use Rattle.shape_terms.specs.Adjacency.{moved, near_steps, near_point, near_points, side_steps, side_point, side_points}
 use Rattle.shape_terms.proofs.Boxes.{in_box_coordinate, abs_is}
 
 -- a coordinate of a point of the box is a small natural
@@ -41,6 +41,24 @@ no_neighbour_more X p q k n l e t h =
     let m : k < length (near_points p) = omega (arith, length-map (near_steps (length p)) (moved p)) in
     let u : at X (get_or (near_points p) k []) ≡ false = ap (at X) (neighbour_is p k l ∙ sym e) ∙ t in
     omega (arith, h, count_by_more_no (at X) (near_points p) k [] m u)
+
+beside_is : (p : Point) (k : ℕ) → k < length (side_steps (length p)) → get_or (side_points p) k [] ≡ side_point p k
+beside_is p k l = get_or-map (moved p) (side_steps (length p)) k [] [] l
+
+-- one side neighbour more, which counts where it is not object
+pub one_side_more : (X : Picture) (p q : Point) (k n : ℕ) → k < length (side_steps (length p)) → q ≡ side_point p k → at X q ≡ false
+    → n ≡ count_by (λ r. not (at X r)) (take k (side_points p)) → n + 1 ≡ count_by (λ r. not (at X r)) (take (k + 1) (side_points p))
+one_side_more X p q k n l e t h =
+    let m : k < length (side_points p) = omega (arith, length-map (side_steps (length p)) (moved p)) in
+    let u : not (at X (get_or (side_points p) k [])) ≡ true = ap (λ r. not (at X r)) (beside_is p k l ∙ sym e) ∙ ap not t in
+    omega (arith, h, count_by_more_yes (λ r. not (at X r)) (side_points p) k [] m u)
+
+pub no_side_more : (X : Picture) (p q : Point) (k n : ℕ) → k < length (side_steps (length p)) → q ≡ side_point p k → at X q ≡ true
+    → n ≡ count_by (λ r. not (at X r)) (take k (side_points p)) → n ≡ count_by (λ r. not (at X r)) (take (k + 1) (side_points p))
+no_side_more X p q k n l e t h =
+    let m : k < length (side_points p) = omega (arith, length-map (side_steps (length p)) (moved p)) in
+    let u : not (at X (get_or (side_points p) k [])) ≡ false = ap (λ r. not (at X r)) (beside_is p k l ∙ sym e) ∙ ap not t in
+    omega (arith, h, count_by_more_no (λ r. not (at X r)) (side_points p) k [] m u)
 
 -- ---- the border of the box
 

@@ -25,22 +25,22 @@ few_points told all fs k d e l =
     omega (arith, a, few_facts (k + 1) fs)
 
 -- a point of the background
-pub one_passed : {M : Type 0} (told : M → Measures) (all : List M) (squares : List ℕ) (left : Picture) (labels : List ℕ) (i : ℕ)
-    → map told all ≡ rows (length all) (facts_below squares left labels i) → get_or labels i 0 ≡ 0
-    → map told all ≡ rows (length all) (facts_below squares left labels (i + 1))
-one_passed told all squares left labels i e z =
-    e ∙ sym (ap (rows (length all)) (facts_more squares left labels i) ∙ background_row (length all) (facts_below squares left labels i) (fact_at squares left labels i) z)
+pub one_passed : {M : Type 0} (told : M → Measures) (all : List M) (object : Picture) (squares : List ℕ) (left : Picture) (labels : List ℕ) (i : ℕ)
+    → map told all ≡ rows (length all) (facts_below object squares left labels i) → get_or labels i 0 ≡ 0
+    → map told all ≡ rows (length all) (facts_below object squares left labels (i + 1))
+one_passed told all object squares left labels i e z =
+    e ∙ sym (ap (rows (length all)) (facts_more object squares left labels i) ∙ background_row (length all) (facts_below object squares left labels i) (fact_at object squares left labels i) z)
 
 -- a point of the object k + 1
-pub one_added : {M : Type 0} (told : M → Measures) (all : List M) (squares : List ℕ) (left : Picture) (labels : List ℕ) (i k : ℕ) (d m : M) (f : Fact)
-    → map told all ≡ rows (length all) (facts_below squares left labels i) → get_or labels i 0 ≡ k + 1 → k < length all
-    → f ≡ fact_at squares left labels i → told m ≡ measures_with (told (get_or all k d)) f
-    → map told (set all k m) ≡ rows (length all) (facts_below squares left labels (i + 1))
-one_added told all squares left labels i k d m f e p l same h =
-    let fs = facts_below squares left labels i in
+pub one_added : {M : Type 0} (told : M → Measures) (all : List M) (object : Picture) (squares : List ℕ) (left : Picture) (labels : List ℕ) (i k : ℕ) (d m : M) (f : Fact)
+    → map told all ≡ rows (length all) (facts_below object squares left labels i) → get_or labels i 0 ≡ k + 1 → k < length all
+    → f ≡ fact_at object squares left labels i → told m ≡ measures_with (told (get_or all k d)) f
+    → map told (set all k m) ≡ rows (length all) (facts_below object squares left labels (i + 1))
+one_added told all object squares left labels i k d m f e p l same h =
+    let fs = facts_below object squares left labels i in
     let row = ap (λ ms. get_or ms k (told d)) (sym e) ∙ get_or-map told all k d (told d) l in
-    map-set told all k m ∙ ap (λ ms. set ms k (told m)) e ∙ ap (λ n. set (rows (length all) fs) k n) (h ∙ ap (measures_with (told (get_or all k d))) same ∙ ap (λ n. measures_with n (fact_at squares left labels i)) (sym row))
-    ∙ sym (ap (rows (length all)) (facts_more squares left labels i) ∙ object_row (length all) fs (fact_at squares left labels i) k (told d) p l)
+    map-set told all k m ∙ ap (λ ms. set ms k (told m)) e ∙ ap (λ n. set (rows (length all) fs) k n) (h ∙ ap (measures_with (told (get_or all k d))) same ∙ ap (λ n. measures_with n (fact_at object squares left labels i)) (sym row))
+    ∙ sym (ap (rows (length all)) (facts_more object squares left labels i) ∙ object_row (length all) fs (fact_at object squares left labels i) k (told d) p l)
 
 -- one more row without a point
 pub one_empty_more : {M : Type 0} (told : M → Measures) (all more : List M) (i : ℕ) (m : M) → map told all ≡ rows i [] → told m ≡ measures_of [] → more ≡ all ++ m ∷ [] → map told more ≡ rows (i + 1) []

@@ -3,7 +3,7 @@
 use Rattle.std.specs.Prelude.{ℕ, ◌≤◌, ◌*◌, ◌^◌}
 use Rattle.measuring.specs.declared.span.Span.{Span}
 
-pub record Fitting (area : ℕ) (x y z : Span) (skeleton ends junctions : ℕ) : Type 0 where
+pub record Fitting (area : ℕ) (x y z : Span) (skeleton ends junctions exposed : ℕ) : Type 0 where
   pub points : area ≤ 2 ^ 23
   pub along_x : x.sum ≤ 2 ^ 12 * area
   pub along_y : y.sum ≤ 2 ^ 12 * area
@@ -11,3 +11,4 @@ pub record Fitting (area : ℕ) (x y z : Span) (skeleton ends junctions : ℕ) :
   pub few_left : skeleton ≤ area
   pub few_ends : ends ≤ area
   pub few_junctions : junctions ≤ area
+  pub few_exposed : exposed ≤ 6 * area

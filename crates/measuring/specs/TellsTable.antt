@@ -13,4 +13,4 @@ use Rattle.measuring.specs.declared.table.Table.{Table}
 pub record TellsTable (object : Picture) (squares : List ℕ) (left : Picture) (t : Table) : Type 0 where
   pub labels : LabelsObject object t.labels
   pub count : t.count ≡ greatest t.labels
-  pub rows : map (measures_told object.sides) t.rows.items ≡ rows t.count (facts squares left t.labels)
+  pub rows : map (measures_told object.sides) t.rows.items ≡ rows t.count (facts object squares left t.labels)

@@ -13,7 +13,7 @@ abbrev pub span_told : Span → Terms.Span
 span_told s = record { least = s.least; greatest = s.greatest; sum = s.sum }
 
 abbrev pub fact_told : {P : Type 0} → (P → Point) → Fact P → Facts.Fact
-fact_told coords f = record { part = f.part; point = coords f.point; square = f.square; left = f.left; rim = f.rim }
+fact_told coords f = record { part = f.part; point = coords f.point; square = f.square; left = f.left; exposed = f.exposed; rim = f.rim }
 
 -- of an object in a box with these sides
 abbrev pub measures_told : (sides : List ℕ) → Measures → Terms.Measures
@@ -27,5 +27,6 @@ measures_told sides m = record {
   skeleton = m.skeleton;
   ends = m.ends;
   junctions = m.junctions;
+  exposed = m.exposed;
   touches = m.touches;
 }

@@ -72,6 +72,7 @@ impl Measures {
             skeleton: 0,
             ends: 0,
             junctions: 0,
+            exposed: 0,
             touches: false,
         }
     }
@@ -79,6 +80,7 @@ impl Measures {
     // The measures with one more point, of a box with these sides.
     pub(crate) fn with<P: Point>(&self, sides: Sides<P>, f: &Fact<P>) -> Measures
         requires few { self.now.area < 2 ^ 23 }
+        requires exposed { f.now.exposed ≤ 6 }
         requires inside { IsTrue (in_box (sides_of (P.coords sides.lengths))
             (P.coords f.now.point)) }
         requires number { P.coords f.now.point
@@ -97,6 +99,7 @@ impl Measures {
             skeleton: counted(f.left.is_some(), self.skeleton),
             ends: counted(is_end(f.left), self.ends),
             junctions: counted(is_junction(f.left), self.junctions),
+            exposed: self.exposed + f.exposed,
             touches: self.touches || f.rim,
         }
     }

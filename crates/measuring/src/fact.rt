@@ -4,7 +4,7 @@ ghost use Rattle.std.specs.Prelude.{◌≡◌, ◌<◌, ◌≤◌, ◌+◌, ◌^
 ghost use Rattle.shape_terms.specs.Points.{coordinate, sides_of, in_box, box_count, raster_point};
 ghost use Rattle.shape_terms.specs.Pictures.{at};
 ghost use Rattle.shape_terms.specs.FramedBox.{IsWithin};
-ghost use Rattle.measure_terms.specs.Facts.{at_end, at_rim, near_count, neighbours, fact_at};
+ghost use Rattle.measure_terms.specs.Facts.{at_end, at_rim, near_count, exposed, neighbours, fact_at};
 ghost use Rattle.measuring.specs.Told.{fact_told};
 
 use shape_adj::Pairing;
@@ -24,6 +24,8 @@ pub struct Fact<P: Point> {
     pub square: u64,
     /// Where it is left: how many of its near neighbours are left.
     pub left: Option<u32>,
+    /// How many of its side neighbours are not object.
+    pub exposed: u32,
     /// Whether it lies at the border of the box.
     pub rim: bool,
 }
@@ -72,6 +74,21 @@ fn near_count<P: Pairing>(left: &Grid<P>, p: P) -> u32
     count
 }
 
+// How many of a point's side neighbours are not object.
+fn exposed<P: Pairing>(object: &Grid<P>, p: P) -> u32
+    requires { IsWithin (negsuc 1) (pos 4096) (P.coords p) }
+    ensures value { result ≡ exposed object.now (P.coords p) }
+    ensures few { result ≤ 6 }
+{
+    let mut count = 0;
+    for k in 0..P::SIDE_COUNT {
+        if !object.has(p.side(k)) {
+            count += 1;
+        }
+    }
+    count
+}
+
 // Where a point is left: how many of its near neighbours are left.
 fn neighbours<P: Pairing>(left: &Grid<P>, p: P) -> Option<u32>
     requires { IsWithin (negsuc 1) (pos 4096) (P.coords p) }
@@ -85,10 +102,17 @@ fn neighbours<P: Pairing>(left: &Grid<P>, p: P) -> Option<u32>
 }
 
 // The fact of the point with a raster number, of an object with a number.
-pub(crate) fn fact_of<P: Pairing>(left: &Grid<P>, part: u32, square: u64, i: u32) -> Fact<P>
+pub(crate) fn fact_of<P: Pairing>(
+    object: &Grid<P>,
+    left: &Grid<P>,
+    part: u32,
+    square: u64,
+    i: u32,
+) -> Fact<P>
     requires { i < box_count left.now.sides }
-    ensures told { (squares labels : List ℕ) → part ≡ slice_index labels i → square ≡ slice_index squares i → fact_told P.coords result ≡ fact_at squares left.now labels i }
+    ensures told { (squares labels : List ℕ) → part ≡ slice_index labels i → square ≡ slice_index squares i → fact_told P.coords result ≡ fact_at object.now squares left.now labels i }
     ensures inside { IsTrue (in_box left.now.sides (P.coords result.point)) }
+    ensures exposed { result.exposed ≤ 6 }
     ensures number { P.coords result.point ≡ raster_point left.now.sides result.number }
 {
     let sides = left.sides();
@@ -99,6 +123,7 @@ pub(crate) fn fact_of<P: Pairing>(left: &Grid<P>, part: u32, square: u64, i: u32
         point,
         square,
         left: neighbours(left, point),
+        exposed: exposed(object, point),
         rim: at_rim(sides, point),
     }
 }

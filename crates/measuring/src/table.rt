@@ -52,6 +52,7 @@ fn empty_rows(alloc: Global, count: u32) -> Result<Vec<Measures>, NoMemory>
 // Adds the point with a raster number to the row of its object, where it has one.
 fn add_point<P: Pairing>(
     all: &mut [Measures],
+    object: &Grid<P>,
     squares: &[u64],
     left: &Grid<P>,
     labels: &Labels,
@@ -62,29 +63,35 @@ fn add_point<P: Pairing>(
     requires labels { length labels.now ≡ box_count left.now.sides }
     requires enough { greatest labels.now ≤ length all.old }
     requires so_far { map (measures_told left.now.sides) all.old
-        ≡ rows (length all.old) (facts_below squares.now left.now labels.now i) }
+        ≡ rows (length all.old) (facts_below object.now squares.now left.now labels.now i) }
     ensures { map (measures_told left.now.sides) all.new
-        ≡ rows (length all.old) (facts_below squares.now left.now labels.now (i + 1)) }
+        ≡ rows (length all.old) (facts_below object.now squares.now left.now labels.now (i + 1)) }
 {
     let part = labels.label(i);
     if part != 0 {
-        let fact = fact_of(left, part, squares[i as usize], i);
+        let fact = fact_of(object, left, part, squares[i as usize], i);
         let row = part as usize - 1;
         all[row] = all[row].with(left.sides(), &fact);
     }
 }
 
 // Adds all points of the box to the rows of their objects.
-fn add_points<P: Pairing>(all: &mut [Measures], squares: &[u64], left: &Grid<P>, labels: &Labels)
+fn add_points<P: Pairing>(
+    all: &mut [Measures],
+    object: &Grid<P>,
+    squares: &[u64],
+    left: &Grid<P>,
+    labels: &Labels,
+)
     requires squares { length squares.now ≡ box_count left.now.sides }
     requires labels { length labels.now ≡ box_count left.now.sides }
     requires enough { greatest labels.now ≤ length all.old }
     requires empty { map (measures_told left.now.sides) all.old ≡ rows (length all.old) [] }
     ensures { map (measures_told left.now.sides) all.new
-        ≡ rows (length all.old) (facts squares.now left.now labels.now) }
+        ≡ rows (length all.old) (facts object.now squares.now left.now labels.now) }
 {
     for i in 0..left.sides().count() {
-        add_point(all, squares, left, labels, i);
+        add_point(all, object, squares, left, labels, i);
     }
 }
 
@@ -105,7 +112,7 @@ pub fn measure<P: Pairing>(
     let labels = labels(alloc, object)?;
     let count = greatest_label(&labels, object.sides().count());
     let mut all = empty_rows(alloc, count)?;
-    add_points(all.as_mut_slice(), squares, left, &labels);
+    add_points(all.as_mut_slice(), object, squares, left, &labels);
     Ok(Table {
         labels,
         count,

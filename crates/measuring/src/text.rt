@@ -3,7 +3,7 @@
 ghost use Rattle.std.specs.Prelude.{◌≡◌, ◌<◌, ◌≤◌, ◌++◌, ℕ, List, map, nat_abs, IfOk, OnOk};
 ghost use Rattle.std.specs.Option.{option_map};
 ghost use Rattle.shape_terms.specs.Points.{coordinate, sides_of, raster_point};
-ghost use Rattle.measure_terms.specs.Texts.{place, box_text, centre_text, depth_text, skeleton_text, touches_text, size_text, form_text, cells, row_text, header, header_line, table_text};
+ghost use Rattle.measure_terms.specs.Texts.{place, box_text, centre_text, depth_text, skeleton_text, touches_text, sides_text, size_text, form_text, cells, row_text, header, header_line, table_text};
 ghost use Rattle.measuring.specs.Told.{measures_told};
 
 use crate::columns::Columns;
@@ -101,6 +101,17 @@ fn put_touches(m: &Measures, csv: &mut Csv) -> Result<(), NoMemory>
     csv.whole(if m.touches { 1 } else { 0 })
 }
 
+// Puts in space how many sides are exposed.
+fn put_sides<P: Point>(m: &Measures, csv: &mut Csv) -> Result<(), NoMemory>
+    ensures { (sides : List ℕ) → OnOk result
+        (csv.new ≡ csv.old ++ sides_text P.DIM (measures_told sides m.now)) }
+{
+    if P::DIM == 3 {
+        csv.whole(m.exposed as u128)?;
+    }
+    Ok(())
+}
+
 // Puts how large an object is, and where it lies.
 fn put_size<P: Point>(m: &Measures, csv: &mut Csv) -> Result<(), NoMemory>
     ensures { (sides : List ℕ) → OnOk result
@@ -120,6 +131,7 @@ fn put_form<P: Point>(sides: Sides<P>, m: &Measures, csv: &mut Csv) -> Result<()
     put_depth(sides, m, csv)?;
     put_skeleton(m, csv)?;
     put_touches(m, csv)?;
+    put_sides::<P>(m, csv)?;
     Ok(())
 }
 
@@ -158,7 +170,7 @@ fn header(flat: bool) -> &'static [u8]
     if flat {
         b"object,area,left,top,right,bottom,x,y,radius,cx,cy,skeleton,ends,junctions,touches"
     } else {
-        b"object,voxels,x0,y0,z0,x1,y1,z1,x,y,z,radius,cx,cy,cz,skeleton,ends,junctions,touches"
+        b"object,voxels,x0,y0,z0,x1,y1,z1,x,y,z,radius,cx,cy,cz,skeleton,ends,junctions,touches,sides"
     }
 }
 

@@ -17,8 +17,8 @@ del 1 0 1\n\
 end\n";
 
 const VOLUME_TABLE: &str =
-    "object,voxels,x0,y0,z0,x1,y1,z1,x,y,z,radius,cx,cy,cz,skeleton,ends,junctions,touches\n\
-1,3,0,0,0,1,0,1,0.333,0.000,0.667,707.107,1,0,1,2,2,0,1\n";
+    "object,voxels,x0,y0,z0,x1,y1,z1,x,y,z,radius,cx,cy,cz,skeleton,ends,junctions,touches,sides\n\
+1,3,0,0,0,1,0,1,0.333,0.000,0.667,707.107,1,0,1,2,2,0,1,14\n";
 
 // Two objects, of which the one with the last line comes second.
 const TWO: &str = "shape 2 pbm 6 4 none\n\

@@ -5,4 +5,4 @@ use Rattle.measuring.specs.Told.{measures_told}
 use Rattle.measuring.proofs.table.add_points.Given as goal
 
 abbrev pub invariant-loop-i : goal.invariant-loop-i
-invariant-loop-i g l = map (measures_told l.left.sides) l.all ≡ rows (length l.fn.all) (facts_below l.squares l.left l.labels l.i)
+invariant-loop-i g l = map (measures_told l.left.sides) l.all ≡ rows (length l.fn.all) (facts_below l.object l.squares l.left l.labels l.i)

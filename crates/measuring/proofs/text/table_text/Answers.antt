@@ -1,4 +1,4 @@
-use Rattle.std.proofs.Common.{◌≡◌, ◌<◌, ◌≤◌, ◌+◌, ◌∙◌, length, map, arith}
+use Rattle.std.proofs.Common.{◌∙◌, map, arith}
 use Rattle.shape_terms.specs.Points.{sides_of}
 use Rattle.measure_terms.specs.Texts.{rows_text, table_text}
 use Rattle.measuring.specs.Told.{measures_told}
