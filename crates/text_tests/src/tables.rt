@@ -5,7 +5,7 @@ use measure_report::{Outcome, run};
 use std::test::Fail;
 
 const FLAT: &str =
-    "object,area,left,top,right,bottom,x,y,radius,cx,cy,skeleton,ends,junctions,touches\n";
+    "object,area,left,top,right,bottom,x,y,radius,cx,cy,skeleton,ends,junctions,touches,holes,border,hole_border\n";
 
 // A report of a volume, in which one point is deleted, and one line is about a point outside.
 const VOLUME: &str = "shape 1 raw 2 1 2 none\n\
@@ -33,11 +33,15 @@ end\n";
 
 // Reports, and the rows of their tables.
 const TABLES: [(&str, &str, &str); 4] = [
-    (RING, FLAT, "1,8,0,0,2,2,1.000,1.000,1.000,0,0,4,0,0,1\n"),
+    (
+        RING,
+        FLAT,
+        "1,8,0,0,2,2,1.000,1.000,1.000,0,0,4,0,0,1,1,10.828,2.828\n",
+    ),
     (
         TWO,
         FLAT,
-        "1,2,4,0,4,1,4.000,0.500,1.000,4,0,1,0,0,1\n2,4,1,1,3,3,1.750,2.000,1.414,1,1,4,1,1,1\n",
+        "1,2,4,0,4,1,4.000,0.500,1.000,4,0,1,0,0,1,0,0.000,0.000\n2,4,1,1,3,3,1.750,2.000,1.414,1,1,4,1,1,1,0,0.000,0.000\n",
     ),
     ("shape 1 pbm 2 2 none\nend\n", FLAT, ""),
     (VOLUME, VOLUME_TABLE, ""),

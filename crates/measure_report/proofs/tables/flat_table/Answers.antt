@@ -27,7 +27,7 @@ returns c = λ lines e.
     let border = ap all_borders c.as_slice.ensures.value ∙ c.in_ok-borders.ensures lines e.contours in
     IfOk-weaker c.table_text.result (λ t. t.items ≡ table_text 2 columns (map (measures_told sides) c.as_slice-2.result.now)) (λ t. IsTableText 2 lines t.items)
     (λ t h. flat_made lines object squares left table.labels table.count ms (sides_of (flat c.sides.result.lengths)) (all_borders c.as_slice.result.now) (all_bounds c.in_ok-bounds.bounds.items) t.items
-    (are_said lines c.args.kept.seen object squares left e.seen c.object.ensures c.squares.ensures c.left.ensures)
+    (are_said lines c.args.kept.seen object squares left e.seen c.object.ensures c.squares.ensures.value c.left.ensures.value)
     (record { named = tells.labels; count_is = tells.count; rows_are = tells.rows })
     (c.sides.ensures ∙ to_object) border c.in_ok-bounds.ensures (h ∙ ap (table_text 2 columns) same))
     c.table_text.ensures
