@@ -31,9 +31,12 @@ pub(crate) fn words(alloc: Global, line: &str) -> Result<Vec<Vec<u8>>, Fail> {
 
 // The rules of the program.
 pub(crate) fn rules(alloc: Global) -> Result<Shelf, Fail> {
-    let none = Box::new(alloc, NoEnds)?;
-    let curve = Box::new(alloc, CurveEnds)?;
-    let few = Box::new(alloc, FewEnds::new(2))?;
+    let none = Box::new(alloc, NoEnds);
+    let curve = Box::new(alloc, CurveEnds);
+    let few = Box::new(alloc, FewEnds::new(2));
+    let (Ok(none), Ok(curve), Ok(few)) = (none, curve, few) else {
+        return Err(Fail::from(AllocError));
+    };
     Ok(shelf(alloc, none, curve, few)?)
 }
 
