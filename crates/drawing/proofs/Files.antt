@@ -6,8 +6,8 @@ use Rattle.std.specs.declared.vec.Vec.{Vec}
 use Rattle.shape_desk.specs.Desk.{DeskState, IsAtFront, Rose}
 use Rattle.drawing.specs.declared.fault.DrawFault.{DrawFault}
 use Rattle.drawing.specs.declared.fault.DrawFault.TheVariants.{NotReport, Volume, ReadFault, NoMemory}
-use Rattle.report_making.specs.Files.{texts}
-use Rattle.report_making.proofs.Files.{of_file, rose_under}
+use Rattle.shape_desk.specs.Files.{texts}
+use Rattle.shape_desk.proofs.Begun.{of_file, rose_earlier}
 use Rattle.drawing.specs.Answers.{IsDrawingOf, IsNoReport, Refused, Draws, FileRefused, FileDrawn}
 
 -- why a report is not drawn, of the file that it is in
@@ -20,7 +20,7 @@ file_refused name old mid new left NoMemory a rose h = tt
 -- what drawing a report answers, of the file that it is in
 pub file_drawn : {V : Type 0} (bytes : V → List ℕ) (name : List ℕ) (old mid new : DeskState) (left : Option (List ℕ)) (r : Result V DrawFault) → IsAtFront old.files name left → old.read_faults ≤ mid.read_faults → Draws bytes left mid.read_faults new.read_faults r → FileDrawn bytes name old new r
 file_drawn bytes name old mid new left (Ok svg) a l h = of_file old.files name left (λ t. IsDrawingOf t (bytes svg)) a h
-file_drawn bytes name old mid new left (Err fault) a l h = file_refused name old mid new left fault a (λ r. rose_under (2 ^ 64 - 1) old.read_faults mid.read_faults new.read_faults l r) h
+file_drawn bytes name old mid new left (Err fault) a l h = file_refused name old mid new left fault a (rose_earlier old.read_faults mid.read_faults new.read_faults l) h
 
 -- the one word of a command line
 pub one_word : {Z : Type 0} (words : List (Vec ℕ Z)) (w : Vec ℕ Z) → 1 ≤ length words → length words ≤ 1 → w ≡ get_or words 0 w → texts words ≡ w.items ∷ []

@@ -7,7 +7,7 @@ use Rattle.report_terms.specs.Lines.{Line}
 use Rattle.text_terms.specs.Going.{IsTextOf}
 use Rattle.report_lines.specs.Reports.{flat, in_order, IsReport, FirstBad, IsOfVolume}
 use Rattle.report_lines.specs.Headings.{TakesHeading, IsNoOpening}
-use Rattle.report_making.specs.Files.{OfFile, IsSilent}
+use Rattle.shape_desk.specs.Files.{OfFile, IsSilent}
 use Rattle.drawing.specs.Standing.{IsSketchOf}
 use Rattle.drawing.specs.Svg.{drawing}
 use Rattle.drawing.specs.declared.fault.DrawFault.{DrawFault}

@@ -61,7 +61,7 @@ fn side(sides: Sides<P2>, axis: usize) -> usize
 }
 
 /// Puts the front of the drawing.
-pub(crate) fn put_head(sides: Sides<P2>, svg: &mut Svg) -> Result<(), NoMemory>
+pub fn put_head(sides: Sides<P2>, svg: &mut Svg) -> Result<(), NoMemory>
     ensures { OnOk result (svg.new
         ≡ svg.old ++ head (nat_abs sides.lengths.x) (nat_abs sides.lengths.y)) }
 {
@@ -97,7 +97,7 @@ fn put_depth(alloc: Global, found: &[Pixel], depth: u8, svg: &mut Svg) -> Result
 }
 
 /// Puts the object.
-pub(crate) fn put_object(alloc: Global, found: &[Pixel], svg: &mut Svg) -> Result<(), NoMemory>
+pub fn put_object(alloc: Global, found: &[Pixel], svg: &mut Svg) -> Result<(), NoMemory>
     ensures { OnOk result (svg.new ≡ svg.old ++ object_layer (all_pixels found.now)) }
 {
     svg.put(b"<g transform=\"translate(-.5)\" stroke=\"#666\" shape-rendering=\"crispEdges\">\n")?;

@@ -16,5 +16,11 @@ mod svg;
 mod top;
 
 pub use law::holding_is_drawn;
+pub use layers::{put_head, put_object};
 pub use outcome::Outcome;
+pub use outlines::Stroke;
+pub use pixels::{Pixel, take_pixel};
+pub use runs::put_runs;
+pub use sketch::FlatSketch;
+pub use svg::Svg;
 pub use top::run;

@@ -39,7 +39,7 @@ fn depth(square: u64) -> u8
 }
 
 /// Takes of a line the pixel that it gives.
-pub(crate) fn take_pixel(
+pub fn take_pixel(
     found: &mut Vec<Pixel>,
     sides: Sides<P2>,
     line: &Line<P2>,

@@ -30,7 +30,7 @@ fn run_len(points: &[P2]) -> usize
 }
 
 /// Puts the runs of the points.
-pub(crate) fn put_runs(points: &[P2], svg: &mut Svg) -> Result<(), NoMemory>
+pub fn put_runs(points: &[P2], svg: &mut Svg) -> Result<(), NoMemory>
     ensures { OnOk result (svg.new ≡ svg.old ++ runs_text (flats points.now)) }
 {
     let mut at = 0;

@@ -19,7 +19,7 @@ use std::alloc::Global;
 
 /// What is known of a report: its sides, its object, its contours, and the points that it deletes.
 #[derive(Drop)]
-pub(crate) struct FlatSketch {
+pub struct FlatSketch {
     pub(crate) sides: Sides<P2>,
     pub(crate) pixels: Vec<Pixel>,
     pub(crate) outlines: Outlines,
@@ -28,7 +28,7 @@ pub(crate) struct FlatSketch {
 
 impl FlatSketch {
     /// A report of which its heading has come.
-    pub(crate) fn new(alloc: Global, heading: &Heading<P2>) -> Result<FlatSketch, NoMemory>
+    pub fn new(alloc: Global, heading: &Heading<P2>) -> Result<FlatSketch, NoMemory>
         ensures { IfOk result (IsSketchOf (Lines.flat_line heading.now.line ∷ [])) }
     {
         let deleted = Grid::new(alloc, heading.sides)?;
@@ -41,7 +41,7 @@ impl FlatSketch {
     }
 
     /// The drawing.
-    pub(crate) fn draw(self, alloc: Global) -> Result<Vec<u8>, NoMemory>
+    pub fn draw(self, alloc: Global) -> Result<Vec<u8>, NoMemory>
         ensures { (lines : List Terms.Line) → IsSketchOf lines self
             → IfOk result (λ svg. svg.items ≡ drawing lines) }
     {

@@ -2,7 +2,7 @@
 //! What each outcome means for the desk stands in `specs/Answers.antt`.
 ghost use Rattle.std.specs.Prelude.{◌≡◌, ◌≢◌, ◌↔◌, ◌∷◌, [], ℕ, List};
 ghost use Rattle.shape_desk.specs.Desk.{OnlyReads};
-ghost use Rattle.report_making.specs.Files.{texts, KeepsFiles};
+ghost use Rattle.shape_desk.specs.Files.{texts, KeepsFiles};
 ghost use Rattle.drawing.specs.Answers.{FileDrawn, Ran};
 
 use crate::fault::DrawFault;

@@ -2,7 +2,7 @@
 -- Laws of lists alone.
 use Rattle.std.proofs.Common.{◌≡◌, ℕ, ◌≤◌, sym, ap, arith, List, [], ◌∷◌, length, get_or}
 use Rattle.std.specs.declared.vec.Vec.{Vec}
-use Rattle.report_making.specs.Files.{texts}
+use Rattle.shape_desk.specs.Files.{texts}
 
 -- the one word of a command line
 pub one_word : {Z : Type 0} (words : List (Vec ℕ Z)) (w : Vec ℕ Z) → 1 ≤ length words → length words ≤ 1 → w ≡ get_or words 0 w → texts words ≡ w.items ∷ []

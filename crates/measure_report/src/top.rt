@@ -1,7 +1,7 @@
 //! The top call: the table of the objects of the report that a word names is written.
 //! What each outcome means for the desk stands in `report_making`.
 ghost use Rattle.std.specs.Prelude.{◌≡◌, ◌≢◌, ◌↔◌, ◌∷◌, [], ℕ, List};
-ghost use Rattle.report_making.specs.Files.{KeepsFiles, texts};
+ghost use Rattle.shape_desk.specs.Files.{KeepsFiles, texts};
 ghost use Rattle.report_making.specs.Runs.{Ran};
 ghost use Rattle.measure_report.specs.TableTexts.{IsTableText};
 

@@ -1,4 +1,3 @@
 pub mod Made
-pub mod Files
 pub mod Runs
 pub mod Outcomes

@@ -4,7 +4,7 @@ use Rattle.std.specs.Prelude.{◌⊎◌, ℕ, ⊤, List, Result, Ok, Err}
 use Rattle.shape_desk.specs.Desk.{DeskState, Rose, IsMissing, Puts, PutsFront}
 use Rattle.report_lines.specs.declared.fault.ReportFault.{ReportFault}
 use Rattle.report_lines.specs.declared.fault.ReportFault.TheVariants.{NotReport, ReadFault, NoMemory}
-use Rattle.report_making.specs.Files.{OfFile, IsSilent}
+use Rattle.shape_desk.specs.Files.{OfFile, IsSilent}
 use Rattle.report_making.specs.Made.{Maker, IsMadeOf, IsNoReport}
 use Rattle.report_making.specs.declared.outcome.Outcome.{Outcome}
 use Rattle.report_making.specs.declared.outcome.Outcome.TheVariants as outcome

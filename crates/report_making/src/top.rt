@@ -2,7 +2,7 @@
 //! What each outcome means for the desk stands in `specs/Runs.antt`.
 ghost use Rattle.std.specs.Prelude.{◌≡◌, ℕ, List};
 ghost use Rattle.shape_desk.specs.Desk.{OnlyReads};
-ghost use Rattle.report_making.specs.Files.{KeepsFiles};
+ghost use Rattle.shape_desk.specs.Files.{KeepsFiles};
 ghost use Rattle.report_making.specs.Runs.{FileMade, Ran};
 
 use crate::make::make;

@@ -15,7 +15,8 @@ use Rattle.shape_cli.specs.Kinds.{ReportKind, Wanted, kind_of, report_of, Makes}
 use Rattle.shape_cli.specs.Commands.{Asked}
 use Rattle.shape_cli.specs.Outcomes.{outcome_of}
 use Rattle.shape_cli.specs.Parts.{IsRight, verdict_text}
-use Rattle.shape_cli.specs.Runs.{OfFile, IsPictureOf, Answers, Answered, CutShort, TookFew}
+use Rattle.shape_desk.specs.Files.{OfFile}
+use Rattle.shape_cli.specs.Runs.{IsPictureOf, Answers, Answered, CutShort, TookFew}
 use Rattle.shape_cli.specs.declared.outcome.Outcome.{Outcome}
 use Rattle.shape_cli.specs.declared.outcome.Outcome.TheVariants as outcome
 

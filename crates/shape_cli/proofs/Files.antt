@@ -1,7 +1,7 @@
 -- What is left at a place that was begun is the file with the name.
 -- Laws of what a desk tells, over plain values; a further kind of report is a line of `shows`.
-use Rattle.std.proofs.Common.{◌≡◌, inl, ◌≤◌, ℕ, List, arith, sym, subst}
-use Rattle.std.specs.Prelude.{Option, None, Some, IsSome, MatchOption, Result, Ok, Err}
+use Rattle.std.proofs.Common.{◌≡◌, inl, ◌≤◌, ℕ, List, sym, subst}
+use Rattle.std.specs.Prelude.{Option, None, Some, Result, Ok, Err}
 use Rattle.shape_terms.specs.Pictures.{Picture}
 use Rattle.thin_terms.specs.Thinning.{Rule}
 use Rattle.thin_terms.specs.Shelves.{Named}
@@ -11,7 +11,7 @@ use Rattle.report_terms.proofs.HoldsShows as analysis
 use Rattle.edge_terms.proofs.EdgesShown as edges
 use Rattle.piece_terms.proofs.HoldsShows as pieces
 use Rattle.ball_terms.proofs.HoldsShows as balls
-use Rattle.shape_desk.specs.Desk.{Files, DeskState, Rose, IsAtFront}
+use Rattle.shape_desk.specs.Desk.{DeskState, IsAtFront}
 use Rattle.shape_desk.specs.declared.desk.Place.TheVariants.{Report}
 use Rattle.shape_desk.specs.Line.{IfTold}
 use Rattle.report_text.specs.Checks.{HasChecked}
@@ -21,20 +21,8 @@ use Rattle.report_text.specs.declared.answer.CheckFault.{CheckFault}
 use Rattle.report_text.specs.declared.answer.CheckFault.TheVariants as check
 use Rattle.shape_cli.specs.Kinds.{ReportKind, report_of, ShowsOf, read_report_kind}
 use Rattle.shape_cli.specs.declared.kind.ReportKind.{ReportKind as ProgramReportKind}
-use Rattle.shape_cli.specs.Runs.{OfFile}
+use Rattle.shape_desk.proofs.Begun.{of_file, rose_earlier}
 use Rattle.shape_cli.specs.Parts.{Judged}
-
--- what holds of the bytes left where they are told holds of the file
-pub of_file : (files : Option Files) (name : List ℕ) (left : Option (List ℕ)) (P : List ℕ → Type 0) → IsAtFront files name left → IfTold left P → OfFile files name P
-of_file None name left P a h = tt
-of_file (Some files) name None P a h = absurd (none a.1)
-  where
-    none : IsSome {T = List ℕ} None → ⊥
-    none s = cc
-of_file (Some files) name (Some bytes) P a h = subst (λ (o : Option (List ℕ)). MatchOption o ⊥ P) a.0 h
-
-pub rose_earlier : (before middle now : ℕ) → before ≤ middle → Rose middle now → Rose before now
-rose_earlier before middle now l h = omega arith
 
 -- what is left at a place holds more weakly
 pub weaker : (left : Option (List ℕ)) (P Q : List ℕ → Type 0) → ((bytes : List ℕ) → P bytes → Q bytes) → IfTold left P → IfTold left Q

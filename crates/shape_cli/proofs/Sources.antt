@@ -7,7 +7,8 @@ use Rattle.shape_desk.specs.Desk.{Files, IsMissing}
 use Rattle.shape_picture.specs.declared.fault.PictureFault.{PictureFault}
 use Rattle.shape_cli.specs.Sources.{Source, file_of}
 use Rattle.shape_cli.specs.Kinds.{ReportKind}
-use Rattle.shape_cli.specs.Runs.{OfFile, Spells, HasFault, IsPictureOf, IsFaultOf}
+use Rattle.shape_desk.specs.Files.{OfFile}
+use Rattle.shape_cli.specs.Runs.{Spells, HasFault, IsPictureOf, IsFaultOf}
 use Rattle.shape_cli.specs.Complete.{FileIs, FindsPicture, FindsSome, FindsFault}
 use Rattle.shape_cli.proofs.Formats.{format_is}
 

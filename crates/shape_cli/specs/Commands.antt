@@ -2,7 +2,6 @@
 -- A further kind of report is one more line of the tables of `Kinds`; there are three commands for ever.
 use Rattle.std.specs.Prelude.{◌≡◌, ◌++◌, ◌<◌, ◌≤◌, ◌^◌, ℕ, List, [], ◌∷◌, codes, map, Option, ⊤}
 use Rattle.std.specs.Fmt.{decimal}
-use Rattle.std.specs.declared.vec.Vec.{Vec}
 use Rattle.text_terms.specs.Tables.{kind_among}
 use Rattle.shape_cli.specs.Sources.{Kind, Source, kind_at, kind_word, HasSides, source_words, most_side_of, read_kind, read_source}
 use Rattle.shape_cli.specs.Kinds.{ReportKind, Wanted, kind_of, report_kinds, make_word, check_word, last_words, IsNamed, Takes, read_report_kind, read_wanted, IsFound}
@@ -94,10 +93,6 @@ pub record Asks (names words : List (List ℕ)) (P : Asked → Type 0) : Type 0 
   pub holds : P command
 
 -- ---- the program's own
-
--- the bytes of the words of a command line
-abbrev pub texts : {Z : Type 0} → List (Vec ℕ Z) → List (List ℕ)
-texts words = map (λ w. w.items) words
 
 -- how words may begin
 abbrev pub firsts : List First

@@ -9,7 +9,8 @@ use Rattle.shape_picture.specs.declared.fault.PictureFault.{PictureFault}
 use Rattle.shape_cli.specs.Sources.{Source, file_of}
 use Rattle.shape_cli.specs.Kinds.{ReportKind}
 use Rattle.shape_cli.specs.Commands.{Asked, IsNoForm, Asks}
-use Rattle.shape_cli.specs.Runs.{Spells, HasFault, Ran, KeepsFiles}
+use Rattle.shape_desk.specs.Files.{KeepsFiles}
+use Rattle.shape_cli.specs.Runs.{Spells, HasFault, Ran}
 use Rattle.shape_cli.specs.declared.outcome.Outcome.{Outcome}
 use Rattle.shape_cli.specs.declared.outcome.Outcome.TheVariants as outcome
 

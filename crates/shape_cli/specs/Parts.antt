@@ -24,7 +24,8 @@ use Rattle.shape_cli.specs.declared.making.Made.{Made}
 use Rattle.shape_cli.specs.declared.making.Made.TheVariants as made
 use Rattle.shape_cli.specs.Sources.{Kind, IsFlat}
 use Rattle.shape_cli.specs.Kinds.{ReportKind, report_of}
-use Rattle.shape_cli.specs.Runs.{OfFile, IsRightReport, yes_text, no_text}
+use Rattle.shape_desk.specs.Files.{OfFile}
+use Rattle.shape_cli.specs.Runs.{IsRightReport, yes_text, no_text}
 
 -- the picture that was read, flat or solid
 abbrev pub picture_of : Image → Picture

@@ -1,6 +1,6 @@
 -- What a run of a command has done to the desk, outcome by outcome.
 -- Clauses on the bytes of files hold where the desk tells its files; a further kind of report changes nothing here.
-use Rattle.std.specs.Prelude.{◌≡◌, ◌⊎◌, ◌≤◌, ℕ, List, ◌++◌, codes, ⊤, Option, None, Some, MatchOption}
+use Rattle.std.specs.Prelude.{◌≡◌, ◌⊎◌, ℕ, List, ◌++◌, codes, ⊤, Option}
 use Rattle.std.specs.Fmt.{decimal}
 use Rattle.shape_terms.specs.Pictures.{Picture}
 use Rattle.thin_terms.specs.Thinning.{Rule}
@@ -8,6 +8,7 @@ use Rattle.thin_terms.specs.Shelves.{Named}
 use Rattle.text_terms.specs.Reports.{Holds, FirstBad}
 use Rattle.text_terms.specs.Going.{TakesFew}
 use Rattle.shape_desk.specs.Desk.{Files, DeskState, Rose, IsMissing, Puts, PutsFront}
+use Rattle.shape_desk.specs.Files.{OfFile, IsSilent}
 use Rattle.shape_desk.specs.declared.desk.Place.{Place}
 use Rattle.shape_desk.specs.declared.desk.Place.TheVariants.{Report}
 use Rattle.shape_picture.specs.declared.fault.PictureFault.{PictureFault}
@@ -19,11 +20,6 @@ use Rattle.shape_cli.specs.declared.outcome.Outcome.{Outcome}
 use Rattle.shape_cli.specs.declared.outcome.Outcome.TheVariants as outcome
 
 -- ---- files
-
--- where the desk tells its files, there is one with the name, and its bytes are so
-abbrev pub OfFile : Option Files → List ℕ → (List ℕ → Type 0) → Type 0
-OfFile None name P = ⊤
-OfFile (Some files) name P = MatchOption (files name) ⊥ P
 
 -- the bytes of a source's file spell the picture, for a report of the kind
 abbrev pub Spells : ReportKind → Source → Picture → List ℕ → Type 0
@@ -100,10 +96,6 @@ pub record CutShort (shelf : List (Named Rule)) (c : Asked) (old new : DeskState
   pub cause : Rose old.write_faults new.write_faults
   pub taken : TookFew shelf c old new
 
--- nothing was written
-abbrev pub IsSilent : DeskState → DeskState → Type 0
-IsSilent old new = new.written ≡ old.written
-
 -- what a run of the command did, outcome by outcome, where these rules are on the shelf
 abbrev pub Ran : List (Named Rule) → Asked → DeskState → DeskState → Outcome → Type 0
 Ran shelf c old new outcome.Usage = ⊥
@@ -114,9 +106,3 @@ Ran shelf c old new outcome.WriteFault = CutShort shelf c old new
 Ran shelf c old new outcome.Done = Answered shelf c old new outcome.Done
 Ran shelf c old new outcome.Yes = Answered shelf c old new outcome.Yes
 Ran shelf c old new (outcome.No k) = Answered shelf c old new (outcome.No k)
-
--- no file changed, and no count fell
-pub record KeepsFiles (old new : DeskState) : Type 0 where
-  pub files : new.files ≡ old.files
-  pub read_later : old.read_faults ≤ new.read_faults
-  pub write_later : old.write_faults ≤ new.write_faults

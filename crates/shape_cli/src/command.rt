@@ -4,7 +4,8 @@ ghost use Rattle.std.specs.Prelude.{◌≡◌, ℕ, List, MatchOption, None, Som
 ghost use Rattle.thin_terms.specs.Shelves.{names_of};
 ghost use Rattle.shape_cli.specs.Sources.{source_words, kind_at, read_kind, read_source};
 ghost use Rattle.shape_cli.specs.Kinds.{ReportKind as AskedKind, Takes, IsFound, kind_of, last_words, read_report_kind, read_wanted};
-ghost use Rattle.shape_cli.specs.Commands.{First as AskedFirst, AreTrial, IsNoForm, IsNoRest, IsNoSourceFor, IsRead, IsAtHand, begin_with, first_word, texts, trial_words, words_of, read_command, read_first};
+ghost use Rattle.shape_desk.specs.Files.{texts};
+ghost use Rattle.shape_cli.specs.Commands.{First as AskedFirst, AreTrial, IsNoForm, IsNoRest, IsNoSourceFor, IsRead, IsAtHand, begin_with, first_word, trial_words, words_of, read_command, read_first};
 
 use crate::kind::{ReportKind, Wanted};
 use crate::numbers::number_in;

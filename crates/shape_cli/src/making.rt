@@ -11,7 +11,8 @@ ghost use Rattle.shape_cli.specs.Sources.{kind_at, read_source};
 ghost use Rattle.shape_cli.specs.Kinds.{Makes, Takes, IsFound, kind_of, read_wanted};
 ghost use Rattle.shape_cli.specs.Commands.{Asked};
 ghost use Rattle.shape_cli.specs.Parts.{Suits, picture_of, made_text};
-ghost use Rattle.shape_cli.specs.Runs.{Ran, KeepsFiles};
+ghost use Rattle.shape_desk.specs.Files.{KeepsFiles};
+ghost use Rattle.shape_cli.specs.Runs.{Ran};
 
 use crate::kind::Wanted;
 use crate::outcome::{Outcome, refused};

@@ -2,7 +2,7 @@
 //! A further source is a variant, and an arm of each `match`.
 ghost use Rattle.std.specs.Prelude.{◌≡◌, ◌≢◌, ◌↔◌, ◌∷◌, [], MatchOption, IsTrue, nat_abs};
 ghost use Rattle.shape_cli.specs.Sources.{Kind as AskedKind, IsFlat, IsNoSides, IsNoSource, most_side_of, kind_word, kind_at, file_of, side_words, source_words, read_kind, read_source};
-ghost use Rattle.shape_cli.specs.Commands.{texts};
+ghost use Rattle.shape_desk.specs.Files.{texts};
 
 use crate::numbers::coordinate;
 use shape_space::{P2, P3, Point, Sides};

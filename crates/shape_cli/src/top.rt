@@ -3,8 +3,9 @@
 ghost use Rattle.std.specs.Prelude.{◌≡◌, ◌↔◌, ◌⊎◌};
 ghost use Rattle.thin_terms.specs.Shelves.{names_of};
 ghost use Rattle.shape_rules.specs.Ruled.{rules_on};
-ghost use Rattle.shape_cli.specs.Commands.{texts, IsNoForm, Asks};
-ghost use Rattle.shape_cli.specs.Runs.{Ran, KeepsFiles};
+ghost use Rattle.shape_desk.specs.Files.{texts, KeepsFiles};
+ghost use Rattle.shape_cli.specs.Commands.{IsNoForm, Asks};
+ghost use Rattle.shape_cli.specs.Runs.{Ran};
 
 use crate::command::{Command, read_words};
 use crate::making::make_file;

@@ -8,7 +8,8 @@ ghost use Rattle.shape_rules.specs.Ruled.{rules_on};
 ghost use Rattle.shape_cli.specs.Sources.{read_kind};
 ghost use Rattle.shape_cli.specs.Commands.{Asked, AreTrial};
 ghost use Rattle.shape_cli.specs.Parts.{picture_of};
-ghost use Rattle.shape_cli.specs.Runs.{Ran, KeepsFiles};
+ghost use Rattle.shape_desk.specs.Files.{KeepsFiles};
+ghost use Rattle.shape_cli.specs.Runs.{Ran};
 ghost use Rattle.shape_cli.specs.Trials.{IsTriedBy, trial_picture, counted_text, thinned_text, trial_text};
 
 use crate::making::analysis_of;

@@ -13,7 +13,8 @@ ghost use Rattle.shape_cli.specs.Kinds.{Takes, report_of, read_report_kind};
 ghost use Rattle.shape_cli.specs.Commands.{Asked};
 ghost use Rattle.shape_cli.specs.Outcomes.{outcome_of};
 ghost use Rattle.shape_cli.specs.Parts.{Suits, Judged, IsCounted, picture_of, verdict_text};
-ghost use Rattle.shape_cli.specs.Runs.{Ran, KeepsFiles};
+ghost use Rattle.shape_desk.specs.Files.{KeepsFiles};
+ghost use Rattle.shape_cli.specs.Runs.{Ran};
 
 use crate::kind::ReportKind;
 use crate::outcome::{Outcome, refused};

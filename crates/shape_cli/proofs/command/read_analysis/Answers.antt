@@ -1,7 +1,7 @@
 use Rattle.std.proofs.Common.{subst}
 use Rattle.std.specs.Prelude.{Contains}
 use Rattle.thin_terms.specs.Shelves.{names_of}
-use Rattle.shape_cli.specs.Commands.{texts}
+use Rattle.shape_desk.specs.Files.{texts}
 use Rattle.shape_cli.proofs.WordLists.{made_to_last}
 use Rattle.shape_cli.proofs.Reading.{analysis_by_none}
 use Rattle.shape_cli.proofs.command.read_analysis.Goals as goal

@@ -1,7 +1,8 @@
 use Rattle.std.proofs.Common.{◌∙◌, ap, sym}
 use Rattle.thin_terms.specs.Shelves.{names_of}
 use Rattle.shape_cli.specs.Kinds.{read_report_kind}
-use Rattle.shape_cli.specs.Commands.{First, first_word, read_first, texts}
+use Rattle.shape_desk.specs.Files.{texts}
+use Rattle.shape_cli.specs.Commands.{First, first_word, read_first}
 use Rattle.shape_cli.proofs.Reading.{begun}
 use Rattle.shape_cli.proofs.command.read_words.Goals as goal
 

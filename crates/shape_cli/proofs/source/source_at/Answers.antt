@@ -1,5 +1,5 @@
 use Rattle.std.proofs.Common.{ap}
-use Rattle.shape_cli.specs.Commands.{texts}
+use Rattle.shape_desk.specs.Files.{texts}
 use Rattle.shape_cli.proofs.SideWords.{no_volume}
 use Rattle.shape_cli.proofs.WordLists.{four_items}
 use Rattle.shape_cli.proofs.source.source_at.Goals as goal

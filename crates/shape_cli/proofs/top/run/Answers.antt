@@ -1,6 +1,7 @@
 use Rattle.std.proofs.Common.{inl, inr, refl, sym, subst}
 use Rattle.shape_rules.proofs.Ruled.{names_on}
-use Rattle.shape_cli.specs.Commands.{texts, IsNoForm}
+use Rattle.shape_desk.specs.Files.{texts}
+use Rattle.shape_cli.specs.Commands.{IsNoForm}
 use Rattle.shape_cli.specs.declared.command.Command.TheVariants as command
 use Rattle.shape_cli.proofs.OneCommand.{form_run}
 use Rattle.shape_cli.proofs.Reading.{asked}
