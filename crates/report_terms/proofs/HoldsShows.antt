@@ -23,7 +23,7 @@ use Rattle.report_terms.proofs.SectionLines.{stood}
 use Rattle.report_terms.proofs.ContoursShown.{lines_contours}
 use Rattle.report_terms.proofs.FacesShown.{lines_faces}
 use Rattle.text_terms.proofs.ListPushes.{get_last, take_front}
-use Rattle.report_terms.proofs.ThinningShown.{thinning_shown}
+use Rattle.report_terms.proofs.ThinningShown.{thinning_shown, left_tells_parts}
 use Rattle.report_terms.proofs.SectionLaws.{complete_kept, facts_of_section, claims_of_section}
 
 -- ---- counts
@@ -144,6 +144,7 @@ holds_shows X text (lines, b) =
     let come : HasCome X Section.End lines = subst (HasCome X Section.End) (take_front lines (Line.End ∷ [])) (b.good (length lines) Line.End (get_last lines Line.End)).come in
     let complete : (s : Section) → rank s < rank Section.End → IsComplete X s all = λ s h. complete_kept X lines Line.End s h (come.complete s h) in
     let one = complete Section.Heading (omega arith) in
+    let parts = lines_parts X all b.good one (complete Section.Counted (omega arith)) in
     let thinned = lines_thinned X all b.good one (complete Section.Thinned (omega arith)) in
     record {
       lines = all;
@@ -152,10 +153,11 @@ holds_shows X text (lines, b) =
       rule = thinned.0;
       names = thinned.1;
       shows = record {
-        parts = lines_parts X all b.good one (complete Section.Counted (omega arith));
+        parts = parts;
         nears = lines_field X all b.good one (complete Section.Nearest (omega arith));
         contours = λ flat. lines_contours (number_of (lines_of Section.Heading all)) X.picture (length X.picture.sides) (lines_of Section.Contours all) (contours_good X all b.fields b.good one) ((complete Section.Contours (omega arith)).flat flat);
         faces = λ solid. lines_faces X.picture (lines_of Section.Faces all) (faces_good X all b.good one) ((complete Section.Faces (omega arith)).solid solid);
         thinning = thinned.2;
+        same = left_tells_parts thinned.0 X.picture _ _ _ thinned.2 parts;
       };
     }

@@ -15,7 +15,7 @@ use Rattle.report_terms.specs.Subjects.{Subject}
 use Rattle.report_terms.specs.Lines.{Line}
 use Rattle.report_terms.specs.ThinningLines.{PartsFact, event_of, events_of, kept_fact, kept_facts, IsKeptLine, ThinningClaim, ThinningComplete}
 use Rattle.report_terms.specs.Sections.{Section, NamesRule, SectionClaim}
-use Rattle.report_terms.specs.Shows.{IsSimpleThen, ThinningShows}
+use Rattle.report_terms.specs.Shows.{IsSimpleThen, ShowsParts, ThinningShows, TellSameParts}
 use Rattle.text_terms.proofs.ListPushes.{get_last, take_front, with_last, filter_map-same, filter_map-push}
 
 -- ---- deleted points
@@ -42,10 +42,16 @@ simple_then rule X events u t k p e =
     let r = step_at rule X (opening_stage rule X) u events k (Event.Del p) t e in
     (r.0, r.2, deleted_simple rule X r.0 r.1 p r.3)
 
--- ---- the lines
+-- ---- the components
 
-same_parts : (Y : Picture) {n o b m p r : ℕ} → Counts Y m p r → Counts Y n o b → (o ≡ p) × (b ≡ r)
-same_parts Y {n} {o} {b} {m} {p} {r} a c = (one_count Near (Object Y) o p c.object a.object, one_count Side (FramedBackground Y) b r c.background a.background)
+same_parts : (Y : Picture) {n o b m p r : ℕ} → Counts Y n o b → Counts Y m p r → (o ≡ p) × (b ≡ r)
+same_parts Y {n} {o} {b} {m} {p} {r} a c = (one_count Near (Object Y) o p a.object c.object, one_count Side (FramedBackground Y) b r a.background c.background)
+
+-- the counts of what is left tell the numbers of components of the picture
+pub left_tells_parts : (rule : Rule) (X : Picture) (events : List Event) (kept parts : List PartsFact) → (t : ThinningShows X rule events kept) → (s : ShowsParts X parts) → TellSameParts t.left s.fact
+left_tells_parts rule X events kept parts t s = same_parts t.stage.left t.counts (thinning_keeps rule X events t.stage s.fact.points s.fact.object s.fact.background t.thinning.0 s.counts)
+
+-- ---- the lines
 
 -- lines whose last is the `kept` line
 kept_shows : (rule : Rule) (X : Picture) (before : List Line) (n o b : ℕ) → IsKeptLine rule X before n o b → ThinningShows X rule (events_of (before ++ Line.Kept n o b ∷ [])) (kept_facts (before ++ Line.Kept n o b ∷ []))
@@ -60,7 +66,6 @@ kept_shows rule X before n o b c =
       left = left;
       once = filter_map-push kept_fact before l left refl ∙ ap (λ fs. fs ++ left ∷ []) c.early;
       counts = c.counts;
-      same = λ filled m p r counts. same_parts c.stage.left (thinning_keeps rule X (events_of before) c.stage m p r filled c.thins counts) c.counts;
     })
 
 by_last : (rule : Rule) (X : Picture) (before : List Line) (l : Line) → ThinningClaim rule X before l → ThinningComplete (before ++ l ∷ []) → ThinningShows X rule (events_of (before ++ l ∷ [])) (kept_facts (before ++ l ∷ []))

@@ -1,7 +1,7 @@
 -- What a report says of a picture, in geometry alone.
 -- No line, spelling or judge stands in what is shown, only in how it is read off the lines.
 use Rattle.std.specs.Prelude.{◌≡◌, ℕ, List, [], ◌∷◌, length, map, filter_map, take, slice_get, Option, Some, None, All}
-use Rattle.shape_terms.specs.Points.{Point, box_count}
+use Rattle.shape_terms.specs.Points.{Point}
 use Rattle.shape_terms.specs.Pictures.{Picture}
 use Rattle.shape_terms.specs.Parts.{Counts}
 use Rattle.shape_terms.specs.Distances.{NearFact, IsField}
@@ -83,7 +83,7 @@ abbrev pub IsSimpleThen : Rule → Picture → List Event → Point → Type 0
 IsSimpleThen rule X events p = (s : Stage) × ThinsTo rule X events s × IsSimple s.left p
 
 -- the events are those of the ordered thinning by the rule: each deleted point was simple when it was deleted, and no unmarked simple point is left.
--- The points left are counted, and object and background have as many components as in the picture
+-- The points left and their components are counted, said once
 pub record ThinningShows (X : Picture) (rule : Rule) (events : List Event) (kept : List PartsFact) : Type 0 where
   pub stage : Stage
   pub thinning : IsThinning rule X events stage
@@ -91,15 +91,19 @@ pub record ThinningShows (X : Picture) (rule : Rule) (events : List Event) (kept
   pub left : PartsFact
   pub once : kept ≡ left ∷ []
   pub counts : Counts stage.left left.points left.object left.background
-  pub same : length X.values ≡ box_count X.sides → (n o b : ℕ) → Counts X n o b → (left.object ≡ o) × (left.background ≡ b)
 
--- the counts of the picture; each object point once, in raster order, with a nearest background point of the whole space; the contours of a flat picture, each from its least crack and with its points and its cover, of lines that are least where the number is 2; the six faces of a volume, each with its partition into patches; and the thinning by the rule
+-- two counts tell the same numbers of components, of object and of background
+abbrev pub TellSameParts : PartsFact → PartsFact → Type 0
+TellSameParts a b = (a.object ≡ b.object) × (a.background ≡ b.background)
+
+-- the counts of the picture; each object point once, in raster order, with a nearest background point of the whole space; the contours of a flat picture, each from its least crack and with its points and its cover, of lines that are least where the number is 2; the six faces of a volume, each with its partition into patches; and the thinning by the rule, of which as many components are left as the picture has
 pub record Shows (X : Picture) (rule : Rule) (content : Content) : Type 0 where
   pub parts : ShowsParts X content.parts
   pub nears : IsField X content.nears
   pub contours : length X.sides ≡ 2 → ContoursShow content.number X content.contours
   pub faces : length X.sides ≡ 3 → FacesShow X content.faces
   pub thinning : ThinningShows X rule content.events content.kept
+  pub same : TellSameParts thinning.left parts.fact
 
 -- the text is made of lines that show of the picture what they say, and of its thinning by the rule that they name
 pub record TextShows (X : Subject) (text : List ℕ) : Type 0 where

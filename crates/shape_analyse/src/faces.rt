@@ -19,9 +19,9 @@ use std::alloc::Global;
 // Adds the `patch` line.
 fn add_head(patch: &Patch<P3>, report: &mut Report) -> Result<(), NoMemory>
     ensures { (X : Aim) (f : ℕ) (found : List FoundPatch) (k : ℕ)
-        → AreFound X f found → slice_get found k ≡ Some patch.now
+        → AreFound X f found → slice_get found k ≡ Some patch.now.found
         → IsTextOf (HasPatches X f found k) report.old → OnOk result
-        (IsTextOf (IsFacing X (at_patch f (points_before found k) patch.now 0 0)) report.new) }
+        (IsTextOf (IsFacing X (at_patch f (points_before found k) patch.now.found 0 0)) report.new) }
 {
     let plane = patch.naive();
     let a = plane.a;
@@ -37,10 +37,10 @@ fn add_head(patch: &Patch<P3>, report: &mut Report) -> Result<(), NoMemory>
 // Adds the points of a patch.
 fn add_points(patch: &Patch<P3>, report: &mut Report) -> Result<(), NoMemory>
     ensures { (X : Aim) (f : ℕ) (found : List FoundPatch) (k : ℕ)
-        → AreFound X f found → slice_get found k ≡ Some patch.now
-        → IsTextOf (IsFacing X (at_patch f (points_before found k) patch.now 0 0)) report.old
-        → OnOk result (IsTextOf (IsFacing X (at_patch f (points_before found k) patch.now
-        (length patch.now.patch.points) 0)) report.new) }
+        → AreFound X f found → slice_get found k ≡ Some patch.now.found
+        → IsTextOf (IsFacing X (at_patch f (points_before found k) patch.now.found 0 0)) report.old
+        → OnOk result (IsTextOf (IsFacing X (at_patch f (points_before found k) patch.now.found
+        (length patch.now.found.patch.points) 0)) report.new) }
 {
     for j in 0..patch.len() {
         report.add(&Line::On { p: patch.point(j) })?;
@@ -50,13 +50,13 @@ fn add_points(patch: &Patch<P3>, report: &mut Report) -> Result<(), NoMemory>
 
 // Adds the points that a patch refused.
 fn add_refused(patch: &Patch<P3>, report: &mut Report) -> Result<(), NoMemory>
-    requires { IsSomePatch patch.now }
+    requires { IsSomePatch patch.now.found }
     ensures { (X : Aim) (f : ℕ) (found : List FoundPatch) (k : ℕ)
-        → AreFound X f found → slice_get found k ≡ Some patch.now
-        → IsTextOf (IsFacing X (at_patch f (points_before found k) patch.now
-        (length patch.now.patch.points) 0)) report.old
-        → OnOk result (IsTextOf (IsFacing X (at_patch f (points_before found k) patch.now
-        (length patch.now.patch.points) (length patch.now.refused))) report.new) }
+        → AreFound X f found → slice_get found k ≡ Some patch.now.found
+        → IsTextOf (IsFacing X (at_patch f (points_before found k) patch.now.found
+        (length patch.now.found.patch.points) 0)) report.old
+        → OnOk result (IsTextOf (IsFacing X (at_patch f (points_before found k) patch.now.found
+        (length patch.now.found.patch.points) (length patch.now.found.refused))) report.new) }
 {
     for m in 0..patch.refused() {
         let (p, why) = patch.refusal(m);
@@ -67,9 +67,9 @@ fn add_refused(patch: &Patch<P3>, report: &mut Report) -> Result<(), NoMemory>
 
 // Adds all lines of a patch.
 fn add_patch(patch: &Patch<P3>, report: &mut Report) -> Result<(), NoMemory>
-    requires { IsSomePatch patch.now }
+    requires { IsSomePatch patch.now.found }
     ensures { (X : Aim) (f : ℕ) (found : List FoundPatch) (k : ℕ)
-        → AreFound X f found → slice_get found k ≡ Some patch.now
+        → AreFound X f found → slice_get found k ≡ Some patch.now.found
         → IsTextOf (HasPatches X f found k) report.old
         → OnOk result (IsTextOf (HasPatches X f found (k + 1)) report.new) }
 {
@@ -81,8 +81,8 @@ fn add_patch(patch: &Patch<P3>, report: &mut Report) -> Result<(), NoMemory>
 
 // The number of points of all patches.
 fn exposed_points(found: &Patches<P3>) -> u32
-    requires { IsSomeFace found.now }
-    ensures { result ≡ length (points_of (patches_of found.now)) }
+    requires { IsSomeFace found.now.patches }
+    ensures { result ≡ length (points_of (patches_of found.now.patches)) }
 {
     let mut n = 0;
     for k in 0..found.len() {
@@ -93,10 +93,10 @@ fn exposed_points(found: &Patches<P3>) -> u32
 
 // Adds the lines of each patch.
 fn add_patches(found: &Patches<P3>, report: &mut Report) -> Result<(), NoMemory>
-    requires { IsSomeFace found.now }
-    ensures { (X : Aim) (f : ℕ) → AreFound X f found.now
-        → IsTextOf (HasPatches X f found.now 0) report.old
-        → OnOk result (IsTextOf (HasPatches X f found.now (length found.now)) report.new) }
+    requires { IsSomeFace found.now.patches }
+    ensures { (X : Aim) (f : ℕ) → AreFound X f found.now.patches
+        → IsTextOf (HasPatches X f found.now.patches 0) report.old
+        → OnOk result (IsTextOf (HasPatches X f found.now.patches (length found.now.patches)) report.new) }
 {
     for k in 0..found.len() {
         add_patch(found.patch(k), report)?;

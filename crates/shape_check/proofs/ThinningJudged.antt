@@ -62,7 +62,7 @@ module _ {X : Picture} {by : Rule} {F : List Event → List ℕ → Type 0} {b k
     )
       where
         counted : (s : Stage) → ThinsTo by X (events_of lines) s → IsTrue result ↔ Counts s.left p q r
-        counted s thins = same_counts s.left left o d p q r result (rw (n s thins) (thinning_keeps by X (events_of lines) s t.points o d t.filled thins t.counts)) h
+        counted s thins = same_counts s.left left o d p q r result (rw (n s thins) (thinning_keeps by X (events_of lines) s t.points o d thins t.counts)) h
 
   -- the `kept` line was taken
   pub kept_stands : (b2 : Bool) (p q r : ℕ) → k ≡ false → b2 ≡ b → Thins X by F b2 true o d now (lines ++ Line.Kept p q r ∷ [])

@@ -68,7 +68,7 @@ fn exposed<P: Point>(
     Ok(left)
 }
 
-/// The partition of the exposed points of a face into patches, each with the points that it refused.
+/// The partition of the exposed points of a face into patches, each with its plane of the axis and the points that it refused.
 ///
 /// Each patch begins with the first exposed point in raster order that no earlier patch has, and takes, one after the other, each
 /// exposed point near one of its points that a naive plane of the axis holds with all of them.
@@ -79,7 +79,9 @@ pub fn patches<P: Pairing>(
     sense: Sense,
 ) -> Result<Patches<P>, NoMemory>
     requires axis { axis < P.DIM }
-    ensures { IfOk result (ArePatches P.DIM grid.now axis (sense_of sense)) }
+    ensures axis { IfOk result (λ found. found.axis ≡ axis) }
+    ensures patches { IfOk result (λ found.
+        ArePatches P.DIM grid.now axis (sense_of sense) found.patches) }
 {
     let mut left = exposed(alloc, grid, axis, sense)?;
     parts_of(alloc, axis, &mut left)

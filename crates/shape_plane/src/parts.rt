@@ -4,7 +4,6 @@ ghost use Rattle.std.specs.Prelude.{◌≡◌, ◌<◌, ◌^◌, ◌+◌, ◌++�
 ghost use Rattle.shape_terms.specs.Points.{Point as Place, in_box, box_count};
 ghost use Rattle.shape_terms.specs.Pictures.{Picture, at};
 ghost use Rattle.shape_terms.specs.Steps.{Before};
-ghost use Rattle.patch_terms.specs.Patches.{FoundPatch};
 ghost use Rattle.shape_plane.specs.Parting.{IsNewPart, AreRefusedOf, IsVisited};
 ghost use Rattle.shape_plane.specs.Trials.{Refusal};
 
@@ -49,9 +48,10 @@ fn next_patch<P: Pairing>(
     ensures none { IfOk result (λ _. (q : Place) → IsTrue (at tried.new q) → ⊥) }
     ensures left { IfOk result (λ _. left.new.sides ≡ left.old.sides) }
     ensures cleared { IfOk result (λ _. IsTrue (at left.new (P.coords p)) → ⊥) }
-    ensures part { IfOk result (λ x. IsNewPart axis left.old left.new x.patch) }
+    ensures axis { IfOk result (λ x. x.axis ≡ axis) }
+    ensures part { IfOk result (λ x. IsNewPart axis left.old left.new x.found.patch) }
     ensures refused { IfOk result (λ x.
-        AreRefusedOf P.DIM axis x.patch (λ q. IsTrue (at left.new q)) x.refused) }
+        AreRefusedOf P.DIM axis x.found.patch (λ q. IsTrue (at left.new q)) x.found.refused) }
 {
     left.is_picture();
     let mut grown = grow(alloc, axis, p, left, tried)?;
@@ -60,37 +60,43 @@ fn next_patch<P: Pairing>(
     Ok(Patch::new(grown.growing, grown.refused))
 }
 
-/// The patches of a face, in the order in which they have grown. Contracts see them as a list of patches with their refused points.
+/// The patches of a face, in the order in which they have grown. Contracts see them as a list of patches with their refused points,
+/// beside the axis of the face.
 #[derive(Drop)]
 pub struct Patches<P: Point> {
+    axis: usize,
     items: Vec<Patch<P>>,
 }
 
 impl<P: Point> Model for Patches<P> {
-    ghost use Rattle.std.specs.Prelude.{◌<◌, ◌^◌, List, length};
-    ghost use Rattle.patch_terms.specs.Patches.{FoundPatch};
+    ghost use Rattle.shape_plane.specs.Found.{AxisPatches, patches_of_axis, AreOfAxis};
 
-    ghost Value = { List FoundPatch };
+    ghost Value = { AxisPatches };
 
-    ghost view = { λ s. s.items.items };
+    ghost view = { λ s. patches_of_axis s.axis s.items.items };
 
-    ghost invariant = { λ s. length s.items.items < 2 ^ 32 };
+    ghost invariant = { λ s. AreOfAxis s.axis s.items.items };
 }
 
 impl<P: Point> Patches<P> {
-    // None.
-    fn new(alloc: Global) -> Self
-        ensures { result ≡ [] }
+    // None, of a face of an axis.
+    fn new(alloc: Global, axis: usize) -> Self
+        ensures axis { result.axis ≡ axis }
+        ensures patches { result.patches ≡ [] }
     {
         Patches {
+            axis,
             items: Vec::new(alloc),
         }
     }
 
-    // Puts a patch last.
+    // Puts a patch of the axis last.
     fn push(&mut self, patch: Patch<P>) -> Result<(), NoMemory>
-        requires { length self.old < 2 ^ 31 }
-        ensures { IfOk result (λ _. self.new ≡ self.old ++ patch ∷ []) }
+        requires few { length self.old.patches < 2 ^ 31 }
+        requires axis { patch.axis ≡ self.old.axis }
+        ensures axis { IfOk result (λ _. self.new.axis ≡ self.old.axis) }
+        ensures patches { IfOk result (λ _.
+            self.new.patches ≡ self.old.patches ++ patch.found ∷ []) }
     {
         self.items.push(patch)?;
         Ok(())
@@ -98,15 +104,16 @@ impl<P: Point> Patches<P> {
 
     /// The number of patches.
     pub fn len(&self) -> u32
-        ensures { result ≡ length self.now }
+        ensures { result ≡ length self.now.patches }
     {
         self.items.len() as u32
     }
 
-    /// The patch at a place, from 0 on.
+    /// The patch at a place, from 0 on; it is of the axis of the face.
     pub fn patch(&self, i: u32) -> &Patch<P>
-        requires { i < length self.now }
-        ensures { slice_get self.now i ≡ Some result.now }
+        requires { i < length self.now.patches }
+        ensures patch { slice_get self.now.patches i ≡ Some result.now.found }
+        ensures axis { result.now.axis ≡ self.now.axis }
     {
         &self.items[i as usize]
     }
@@ -123,12 +130,15 @@ fn visit<P: Pairing>(
 ) -> Result<(), NoMemory>
     requires axis { axis < P.DIM }
     requires place { i < box_count left.old.sides }
+    requires of_axis { found.old.axis ≡ axis }
     requires visited { (first : Picture)
-        × IsVisited P.DIM axis first i found.old left.old tried.old }
+        × IsVisited P.DIM axis first i found.old.patches left.old tried.old }
+    ensures of_axis { IfOk result (λ _. found.new.axis ≡ axis) }
     ensures sides { IfOk result (λ _. left.new.sides ≡ left.old.sides) }
     ensures visited { (first : Picture)
-        → IsVisited P.DIM axis first i found.old left.old tried.old
-        → IfOk result (λ _. IsVisited P.DIM axis first (i + 1) found.new left.new tried.new) }
+        → IsVisited P.DIM axis first i found.old.patches left.old tried.old
+        → IfOk result (λ _.
+        IsVisited P.DIM axis first (i + 1) found.new.patches left.new tried.new) }
 {
     left.is_picture();
     let p = left.sides().unraster(i);
@@ -139,19 +149,20 @@ fn visit<P: Pairing>(
     Ok(())
 }
 
-/// The patches that all points of a grid fall into; none of them is left.
+/// The patches of an axis that all points of a grid fall into; none of them is left.
 pub fn parts_of<P: Pairing>(
     alloc: Global,
     axis: usize,
     left: &mut Grid<P>,
 ) -> Result<Patches<P>, NoMemory>
     requires axis { axis < P.DIM }
-    ensures { IfOk result (λ found. (tried : Picture)
-        × IsVisited P.DIM axis left.old (box_count left.old.sides) found left.new tried) }
+    ensures axis { IfOk result (λ found. found.axis ≡ axis) }
+    ensures parts { IfOk result (λ found. (tried : Picture) × IsVisited P.DIM axis left.old
+        (box_count left.old.sides) found.patches left.new tried) }
 {
     let sides = left.sides();
     let mut tried = Grid::new(alloc, sides)?;
-    let mut found = Patches::new(alloc);
+    let mut found = Patches::new(alloc, axis);
     for i in 0..sides.count() {
         visit(alloc, axis, i, left, &mut tried, &mut found)?;
     }

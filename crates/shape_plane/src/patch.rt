@@ -26,14 +26,16 @@ pub struct Patch<P: Point> {
 }
 
 impl<P: Point> Model for Patch<P> {
-    ghost use Rattle.patch_terms.specs.Patches.{FoundPatch};
-    ghost use Rattle.shape_plane.specs.Found.{found_patch, IsFound};
+    ghost use Rattle.shape_plane.specs.Found.{AxisPatch, found_patch, IsFound};
 
-    ghost Value = { FoundPatch };
+    ghost Value = { AxisPatch };
 
-    ghost view = { λ x. found_patch P.DIM x.growing.points x.plane x.refused };
+    ghost view = { λ x. record {
+      axis = x.growing.axis;
+      found = found_patch P.DIM x.growing.points x.plane x.refused;
+    } };
 
-    ghost invariant = { λ x. IsFound P.DIM x.growing.points x.plane x.refused };
+    ghost invariant = { λ x. IsFound P.DIM x.growing.axis x.growing.points x.plane x.refused };
 }
 
 impl<P: Point> Patch<P> {
@@ -41,9 +43,10 @@ impl<P: Point> Patch<P> {
     pub(crate) fn new(growing: Growing<P>, refused: Refusals<P>) -> Patch<P>
         requires few { length refused < 2 ^ 32 }
         requires small { All (λ (r : Refusal). AreSmallWeights r.why) refused }
-        ensures points { result.patch.points ≡ growing.points }
-        ensures plane { IsNaiveFor growing.axis growing.points result.patch.plane }
-        ensures refused { result.refused ≡ map (told_point (length growing.points)) refused }
+        ensures axis { result.axis ≡ growing.axis }
+        ensures points { result.found.patch.points ≡ growing.points }
+        ensures plane { IsNaiveFor growing.axis growing.points result.found.patch.plane }
+        ensures refused { result.found.refused ≡ map (told_point (length growing.points)) refused }
     {
         let plane = growing.naive();
         Patch {
@@ -53,40 +56,40 @@ impl<P: Point> Patch<P> {
         }
     }
 
-    /// A proper naive plane of the axis that holds the points.
+    /// A proper naive plane of the axis of the face that holds the points.
     pub fn naive(&self) -> Naive
-        ensures plane { naive_of P.DIM result ≡ self.now.patch.plane }
-        ensures held { IsHeld P.DIM result.axis self.now.patch.points result }
+        ensures plane { naive_of P.DIM result ≡ self.now.found.patch.plane }
+        ensures held { IsHeld P.DIM self.now.axis self.now.found.patch.points result }
     {
         self.plane
     }
 
     /// The number of points.
     pub fn len(&self) -> u32
-        ensures { result ≡ length self.now.patch.points }
+        ensures { result ≡ length self.now.found.patch.points }
     {
         self.growing.len()
     }
 
     /// The point at a place, from 0 on.
     pub fn point(&self, i: u32) -> P
-        requires { i < length self.now.patch.points }
-        ensures { slice_get self.now.patch.points i ≡ Some (P.coords result) }
+        requires { i < length self.now.found.patch.points }
+        ensures { slice_get self.now.found.patch.points i ≡ Some (P.coords result) }
     {
         self.growing.point(i)
     }
 
     /// The number of refused points.
     pub fn refused(&self) -> u32
-        ensures { result ≡ length self.now.refused }
+        ensures { result ≡ length self.now.found.refused }
     {
         self.refused.len() as u32
     }
 
     /// The refused point at a place, from 0 on, with the weights that refute the points of the patch with this one put last.
     pub fn refusal(&self, i: u32) -> (P, Refutation)
-        requires { i < length self.now.refused }
-        ensures refused { slice_get self.now.refused i
+        requires { i < length self.now.found.refused }
+        ensures refused { slice_get self.now.found.refused i
             ≡ Some (refused_point (P.coords result.0) (refutation_of result.1)) }
         ensures small { AreSmallWeights (refutation_of result.1) }
     {

@@ -4,7 +4,7 @@ use Rattle.std.proofs.Common.{◌≡◌, ◌≢◌, ℕ, true, false, [], ◌∷
 use Rattle.std.specs.Prelude.{IsTrue, ◌-ℤ◌, nat_abs, ◌≤◌}
 use Rattle.std.specs.List.{AllZip}
 use Rattle.std.proofs.lemmas.Int.{ints}
-use Rattle.shape_terms.specs.Points.{Point, in_box, box_count}
+use Rattle.shape_terms.specs.Points.{Point, in_box}
 use Rattle.shape_terms.specs.Pictures.{Picture, at, object_points}
 use Rattle.shape_terms.specs.Adjacency.{Near, Side, Round}
 use Rattle.shape_terms.specs.Parts.{Object, HasParts, InFrame, FramedBackground, Counts}
@@ -16,7 +16,7 @@ use Rattle.shape_terms.proofs.NeighbourNumbers.{side_is_round}
 use Rattle.shape_terms.proofs.ObjectPlaces.{object_in_box}
 use Rattle.thin_terms.proofs.PointTests.{same_point}
 use Rattle.thin_terms.proofs.Deletion.{same_parts, same_holding, lost, gained}
-use Rattle.thin_terms.proofs.OneValue.{value_there, value_elsewhere}
+use Rattle.thin_terms.proofs.OneValue.{value_gone, value_elsewhere}
 
 -- a point near a point of the box lies in the framed box
 near_in_frame : (sides : List ℕ) (p q : Point) → IsTrue (in_box sides p) → AllZip (λ x y. nat_abs (x -ℤ y) ≤ 1) p q → InFrame sides q
@@ -37,12 +37,12 @@ box_in_frame (n ∷ sides) (x ∷ p) b =
     let f = in_box_first n sides x p b in
     ((omega (arith, ints, f.0, f.1), omega (arith, ints, f.0, f.1)), box_in_frame sides p f.2)
 
-module _ (Y : Picture) (p : Point) (filled : length Y.values ≡ box_count Y.sides) (o : Object Y p) (simple : IsSimple Y p) where
+module _ (Y : Picture) (p : Point) (o : Object Y p) (simple : IsSimple Y p) where
   in_the_box : IsTrue (in_box Y.sides p)
   in_the_box = object_in_box Y p o
 
   gone : at (without Y p) p ≡ false
-  gone = value_there Y p false filled in_the_box
+  gone = value_gone Y p
 
   not_both : (q : Point) → at Y q ≡ true → at Y q ≡ false → ⊥
   not_both q a b = let t : true ≡ false = sym a ∙ b in cc
@@ -80,6 +80,6 @@ module _ (Y : Picture) (p : Point) (filled : length Y.values ≡ box_count Y.sid
       others q h n = (h.0, record { point = h.1.point; value = sym (value_elsewhere Y p q false in_the_box n) ∙ h.1.value })
 
 -- both numbers of components are those before
-pub counts_kept : (Y : Picture) (p : Point) (o b n m : ℕ) → length Y.values ≡ box_count Y.sides → Object Y p → IsSimple Y p → Counts Y n o b
+pub counts_kept : (Y : Picture) (p : Point) (o b n m : ℕ) → Object Y p → IsSimple Y p → Counts Y n o b
     → m ≡ length (object_points (without Y p)) → Counts (without Y p) m o b
-counts_kept Y p o b n m filled h simple c e = record { points = e; object = object_kept Y p filled h simple c.object; background = background_kept Y p filled h simple c.background }
+counts_kept Y p o b n m h simple c e = record { points = e; object = object_kept Y p h simple c.object; background = background_kept Y p h simple c.background }

@@ -10,26 +10,26 @@ use Rattle.shape_analyse.proofs.FaceGrowth.{as_many, some_face, face_begun, face
 use Rattle.shape_analyse.proofs.faces.add_face.Goals as goal
 
 pub exposed_points-points-requires : goal.exposed_points-points-requires
-exposed_points-points-requires c = some_face c.args.grid.now _ _ c.in_ok-found.found c.is_picture.ensures.few c.in_ok-found.ensures
+exposed_points-points-requires c = some_face c.args.grid.now _ _ c.in_ok-found.found.patches c.is_picture.ensures.few c.in_ok-found.ensures.patches
 
 pub add_patches-requires : goal.add_patches-requires
-add_patches-requires c = some_face c.args.grid.now _ _ c.in_ok-found.found c.is_picture.ensures.few c.in_ok-found.ensures
+add_patches-requires c = some_face c.args.grid.now _ _ c.in_ok-found.found.patches c.is_picture.ensures.few c.in_ok-found.ensures.patches
 
 pub returns-clause-exposed : goal.returns-clause-exposed
 returns-clause-exposed c =
     let X = c.args.grid.now in
     let f = c.args.face in
-    let found = c.in_ok-found.found in
-    let there : ArePatches 3 X (face_axis f) (face_sense f) found = subst (λ s. ArePatches 3 X (face_axis f) s found) c.sense_in-sense.ensures c.in_ok-found.ensures in
+    let found = c.in_ok-found.found.patches in
+    let there : ArePatches 3 X (face_axis f) (face_sense f) found = subst (λ s. ArePatches 3 X (face_axis f) s found) c.sense_in-sense.ensures c.in_ok-found.ensures.patches in
     c.exposed_points-points.ensures ∙ as_many 3 X (face_axis f) (face_sense f) (patches_of found) there.partition
 
 pub returns-clause-text : goal.returns-clause-text
 returns-clause-text c =
     let f = c.args.face in
-    let found = c.in_ok-found.found in
+    let found = c.in_ok-found.found.patches in
     let n = c.exposed_points-points.result in
     let sense = c.sense_in-sense in
-    let there : ArePatches 3 c.args.grid.now (face_axis f) (face_sense f) found = subst (λ s. ArePatches 3 c.args.grid.now (face_axis f) s found) sense.ensures c.in_ok-found.ensures in
+    let there : ArePatches 3 c.args.grid.now (face_axis f) (face_sense f) found = subst (λ s. ArePatches 3 c.args.grid.now (face_axis f) s found) sense.ensures c.in_ok-found.ensures.patches in
     let own : IsLineOf 3 (Line.Face (face_axis f) (sense_of sense.result) n) = search rules in
     let fields = subst (λ s. IsLineOf 3 (Line.Face (face_axis f) s n)) sense.ensures own in
     let text = subst (λ s. c.add.new.self ≡ c.args.report.now ++ line_text (Line.Face (face_axis f) s n)) sense.ensures c.in_ok-add.ensures.ok in

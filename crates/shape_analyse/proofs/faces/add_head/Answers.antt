@@ -9,7 +9,7 @@ use Rattle.shape_analyse.proofs.faces.add_head.Goals as goal
 pub returns : goal.returns
 returns c =
     let n = c.naive-plane.result in
-    let x = c.args.patch.now in
+    let x = c.args.patch.now.found in
     let a = take 3 n.a in
     let own : IsLineOf 3 (Line.Patch c.len.result a n.mu) = search rules in
     let fields = subst (λ m. IsLineOf 3 (Line.Patch m a n.mu)) c.len.ensures own in

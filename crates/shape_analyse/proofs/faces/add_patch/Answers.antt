@@ -6,4 +6,4 @@ pub returns : goal.returns
 returns c = λ X f found k are there h.
     let head = c.in_ok-add_head.ensures X f found k are there h in
     let points = c.in_ok-add_points.ensures X f found k are there head in
-    text_as (λ lines o. patch_done X f found k c.args.patch.now are there lines o) (c.in_ok-add_refused.ensures X f found k are there points)
+    text_as (λ lines o. patch_done X f found k c.args.patch.now.found are there lines o) (c.in_ok-add_refused.ensures X f found k are there points)

@@ -4,4 +4,4 @@ use Rattle.shape_analyse.specs.Facing.{HasPatches, AreFound}
 use Rattle.shape_analyse.proofs.faces.add_patches.Given as goal
 
 abbrev pub invariant-loop-k : goal.invariant-loop-k
-invariant-loop-k l = (X : Aim) (f : ℕ) → AreFound X f l.found → IsTextOf (HasPatches X f l.found 0) l.fn.report → IsTextOf (HasPatches X f l.found l.k) l.report
+invariant-loop-k l = (X : Aim) (f : ℕ) → AreFound X f l.found.patches → IsTextOf (HasPatches X f l.found.patches 0) l.fn.report → IsTextOf (HasPatches X f l.found.patches l.k) l.report

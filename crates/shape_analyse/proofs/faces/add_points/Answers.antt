@@ -12,11 +12,11 @@ loop-j-preserved c =
     let fields : IsLineOf 3 (Line.On (p.x ∷ p.y ∷ p.z ∷ [])) = search rules in
     λ X f found k are there h.
     let i = c.loop-j.invariant X f found k are there h in
-    text_more _ _ _ i.lines _ i.is c.in_ok-add.ensures.ok (patch_point X f found k c.args.patch.now are there i.lines c.loop-j.j (p.x ∷ p.y ∷ p.z ∷ []) i.so c.point.ensures fields)
+    text_more _ _ _ i.lines _ i.is c.in_ok-add.ensures.ok (patch_point X f found k c.args.patch.now.found are there i.lines c.loop-j.j (p.x ∷ p.y ∷ p.z ∷ []) i.so c.point.ensures fields)
 
 pub returns : goal.returns
 returns c =
-    let x = c.args.patch.now in
+    let x = c.args.patch.now.found in
     let all : c.loop-j.j ≡ length x.patch.points = omega (arith, c.loop-j.auto.j-end, c.len-j-end.ensures, c.loop-j-test.false) in
     λ X f found k are there h.
     subst (λ j. IsTextOf (IsFacing X (at_patch f (points_before found k) x j 0)) c.loop-j.report) all (c.loop-j.invariant X f found k are there h)

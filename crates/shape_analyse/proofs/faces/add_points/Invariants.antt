@@ -6,5 +6,5 @@ use Rattle.shape_analyse.specs.Facing.{IsFacing, AreFound, points_before, at_pat
 use Rattle.shape_analyse.proofs.faces.add_points.Given as goal
 
 abbrev pub invariant-loop-j : goal.invariant-loop-j
-invariant-loop-j l = (X : Aim) (f : ℕ) (found : List FoundPatch) (k : ℕ) → AreFound X f found → slice_get found k ≡ Some l.patch
-    → IsTextOf (IsFacing X (at_patch f (points_before found k) l.patch 0 0)) l.fn.report → IsTextOf (IsFacing X (at_patch f (points_before found k) l.patch l.j 0)) l.report
+invariant-loop-j l = (X : Aim) (f : ℕ) (found : List FoundPatch) (k : ℕ) → AreFound X f found → slice_get found k ≡ Some l.patch.found
+    → IsTextOf (IsFacing X (at_patch f (points_before found k) l.patch.found 0 0)) l.fn.report → IsTextOf (IsFacing X (at_patch f (points_before found k) l.patch.found l.j 0)) l.report

@@ -13,7 +13,7 @@ use Rattle.shape_analyse.proofs.faces.add_refused.Goals as goal
 pub add-requires : goal.add-requires
 add-requires c =
     let p = c.refusal-why.result.0 in
-    let points = c.args.patch.now.patch.points in
+    let points = c.args.patch.now.found.patch.points in
     let own : IsLineOf 3 (Line.On (p.x ∷ p.y ∷ p.z ∷ [])) = search rules in
     let run : length (points ++ (p.x ∷ p.y ∷ p.z ∷ []) ∷ []) ≤ 2 ^ 32 = omega (arith, length-append points ((p.x ∷ p.y ∷ p.z ∷ []) ∷ []), c.requires.few) in
     (refl, (own.1, weights_fit 3 c.requires.axis (points ++ (p.x ∷ p.y ∷ p.z ∷ []) ∷ []) (refutation_of c.refusal-why.result.1) run (c.requires.refused.weights c.loop-m.m _ c.refusal-why.ensures.refused) c.refusal-why.ensures.small))
@@ -22,17 +22,17 @@ pub loop-m-preserved : goal.loop-m-preserved
 loop-m-preserved c =
     let p = c.refusal-why.result.0 in
     let r : RefusedPoint = record { point = p.x ∷ p.y ∷ p.z ∷ []; why = refutation_of c.refusal-why.result.1 } in
-    let points = c.args.patch.now.patch.points in
+    let points = c.args.patch.now.found.patch.points in
     let own : IsLineOf 3 (Line.On r.point) = search rules in
     let run : length (points ++ r.point ∷ []) ≤ 2 ^ 32 = omega (arith, length-append points (r.point ∷ []), c.requires.few) in
     let fields : IsLineOf 3 (Line.Off r.point r.why) = (refl, (own.1, weights_fit 3 c.requires.axis (points ++ r.point ∷ []) r.why run (c.requires.refused.weights c.loop-m.m r c.refusal-why.ensures.refused) c.refusal-why.ensures.small)) in
     λ X f found k are there h.
     let i = c.loop-m.invariant X f found k are there h in
-    text_more _ _ _ i.lines _ i.is c.in_ok-add.ensures.ok (patch_refused X f found k c.args.patch.now are there i.lines c.loop-m.m r i.so c.refusal-why.ensures.refused (patch_some X f found k c.args.patch.now are there) fields)
+    text_more _ _ _ i.lines _ i.is c.in_ok-add.ensures.ok (patch_refused X f found k c.args.patch.now.found are there i.lines c.loop-m.m r i.so c.refusal-why.ensures.refused (patch_some X f found k c.args.patch.now.found are there) fields)
 
 pub returns : goal.returns
 returns c =
-    let x = c.args.patch.now in
+    let x = c.args.patch.now.found in
     let all : c.loop-m.m ≡ length x.refused = omega (arith, c.loop-m.auto.m-end, c.refused-m-end.ensures, c.loop-m-test.false) in
     λ X f found k are there h.
     subst (λ m. IsTextOf (IsFacing X (at_patch f (points_before found k) x (length x.patch.points) m)) c.loop-m.report) all (c.loop-m.invariant X f found k are there h)

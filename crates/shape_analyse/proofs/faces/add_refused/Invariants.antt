@@ -6,5 +6,5 @@ use Rattle.shape_analyse.specs.Facing.{IsFacing, AreFound, points_before, at_pat
 use Rattle.shape_analyse.proofs.faces.add_refused.Given as goal
 
 abbrev pub invariant-loop-m : goal.invariant-loop-m
-invariant-loop-m l = (X : Aim) (f : ℕ) (found : List FoundPatch) (k : ℕ) → AreFound X f found → slice_get found k ≡ Some l.patch
-    → IsTextOf (IsFacing X (at_patch f (points_before found k) l.patch (length l.patch.patch.points) 0)) l.fn.report → IsTextOf (IsFacing X (at_patch f (points_before found k) l.patch (length l.patch.patch.points) l.m)) l.report
+invariant-loop-m l = (X : Aim) (f : ℕ) (found : List FoundPatch) (k : ℕ) → AreFound X f found → slice_get found k ≡ Some l.patch.found
+    → IsTextOf (IsFacing X (at_patch f (points_before found k) l.patch.found (length l.patch.found.patch.points) 0)) l.fn.report → IsTextOf (IsFacing X (at_patch f (points_before found k) l.patch.found (length l.patch.found.patch.points) l.m)) l.report

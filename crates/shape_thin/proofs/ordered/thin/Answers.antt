@@ -69,8 +69,7 @@ returns-clause-thinning g c =
     (i.stands.marked, (i.stands.thins, going_end _ c.args.grid.now _ _ t.left t.free _ (has t.keys) i.stands c.in_default.ensures))
 
 pub returns-clause-kept : goal.returns-clause-kept
-returns-clause-kept g c = λ n o b h. rw (c.of.ensures.left, c.into_left.ensures) (thinning_keeps _ c.args.grid.now _ _ n o b
-    c.in_ok-thinner.ensures.picture.filled c.loop-next.invariant.stands.thins h)
+returns-clause-kept g c = λ n o b h. rw (c.of.ensures.left, c.into_left.ensures) (thinning_keeps _ c.args.grid.now _ _ n o b c.loop-next.invariant.stands.thins h)
 
 pub returns-clause-few : goal.returns-clause-few
 returns-clause-few g c =
