@@ -7,10 +7,11 @@ ghost use Rattle.shape_adj.specs.Flood.{Flooded};
 ghost use Rattle.shape_adj.specs.Labels.{Spreading, zeros, Kept};
 
 use crate::net::Net;
+use shape_space::Point;
 use std::alloc::{AllocError, Global};
 
 // Labels the places that the links of `p` lead to.
-fn spread<N: Net>(
+fn spread<P: Point, N: Net<P>>(
     net: &N,
     p: u32,
     label: u32,
@@ -30,8 +31,9 @@ fn spread<N: Net>(
     ensures less { IfOk result
         (λ _. zeros labels.new + vec_len work.new ≡ zeros labels.old + vec_len work.old) }
 {
+    let point = net.point(p);
     for k in 0..net.links() {
-        if let Some(q) = net.follow(p, k) {
+        if let Some(q) = net.follow(point, k) {
             if labels[q as usize] == 0 {
                 labels[q as usize] = label;
                 work.push(q)?;
@@ -42,7 +44,7 @@ fn spread<N: Net>(
 }
 
 // Labels the component of `s`, the next one.
-fn fill<N: Net>(
+fn fill<P: Point, N: Net<P>>(
     net: &N,
     s: u32,
     label: u32,
@@ -80,7 +82,10 @@ pub struct Components {
 }
 
 /// Labels the components in the order of their first places.
-pub fn label_components<N: Net>(alloc: Global, net: &N) -> Result<Components, AllocError>
+pub fn label_components<P: Point, N: Net<P>>(
+    alloc: Global,
+    net: &N,
+) -> Result<Components, AllocError>
     ensures filled { IfOk result (λ c. length c.labels.items ≡ N.size net.now) }
     ensures members { IfOk result (λ c. (i : ℕ) → 1 ≤ slice_index c.labels.items i
         → N.Holds net.now i) }

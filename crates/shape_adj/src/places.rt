@@ -1,10 +1,10 @@
 //! The object and the background of a picture as nets of places.
 //! Which places are adjacent, and how they are numbered, stands here; the flood knows neither.
 ghost use Rattle.std.specs.Prelude.{◌≡◌, ◌<◌, ◌↔◌, IsTrue, length};
-ghost use Rattle.shape_terms.specs.Points.{box_count};
-ghost use Rattle.shape_terms.specs.FramedBox.{framed_sides};
-ghost use Rattle.shape_terms.specs.Adjacency.{near_steps, side_steps};
-ghost use Rattle.shape_terms.specs.Places.{ObjectPlace, NearPlaces, object_link, BackgroundPlace, SidePlaces, background_link};
+ghost use Rattle.shape_terms.specs.Points.{box_count, raster_point};
+ghost use Rattle.shape_terms.specs.FramedBox.{framed_sides, framed_point};
+ghost use Rattle.shape_terms.specs.Adjacency.{near_steps, side_steps, near_point, side_point};
+ghost use Rattle.shape_terms.specs.Places.{ObjectPlace, NearPlaces, object_place, BackgroundPlace, SidePlaces, background_place};
 ghost use Rattle.shape_terms.proofs.ObjectPlaces.{object_net};
 ghost use Rattle.shape_terms.proofs.BackgroundPlaces.{background_net};
 
@@ -19,7 +19,7 @@ pub struct Object<'a, P: Pairing> {
     pub grid: &'a Grid<P>,
 }
 
-impl<'a, P: Pairing> Net for Object<'a, P> {
+impl<'a, P: Pairing> Net<P> for Object<'a, P> {
     ghost size = { λ s. box_count s.grid.now.sides };
 
     ghost Holds = { λ s. ObjectPlace s.grid.now };
@@ -28,7 +28,9 @@ impl<'a, P: Pairing> Net for Object<'a, P> {
 
     ghost degree = { λ s. length (near_steps (length s.grid.now.sides)) };
 
-    ghost next = { λ s. object_link s.grid.now };
+    ghost spot = { λ s. raster_point s.grid.now.sides };
+
+    ghost next = { λ s p k. object_place s.grid.now (near_point p k) };
 
     fn places(&self) -> u32 {
         self.grid.sides().count()
@@ -43,9 +45,13 @@ impl<'a, P: Pairing> Net for Object<'a, P> {
         P::NEAR_COUNT
     }
 
-    fn follow(&self, place: u32, link: usize) -> Option<u32> {
+    fn point(&self, place: u32) -> P {
+        self.grid.sides().unraster(place)
+    }
+
+    fn follow(&self, p: P, link: usize) -> Option<u32> {
         let sides = self.grid.sides();
-        let q = sides.unraster(place).near(link);
+        let q = p.near(link);
         if self.grid.has(q) {
             Some(sides.raster(q))
         } else {
@@ -63,7 +69,7 @@ pub struct Background<'a, P: Pairing> {
     pub grid: &'a Grid<P>,
 }
 
-impl<'a, P: Pairing> Net for Background<'a, P> {
+impl<'a, P: Pairing> Net<P> for Background<'a, P> {
     ghost size = { λ s. box_count (framed_sides s.grid.now.sides) };
 
     ghost Holds = { λ s. BackgroundPlace s.grid.now };
@@ -72,7 +78,9 @@ impl<'a, P: Pairing> Net for Background<'a, P> {
 
     ghost degree = { λ s. length (side_steps (length s.grid.now.sides)) };
 
-    ghost next = { λ s. background_link s.grid.now };
+    ghost spot = { λ s. framed_point s.grid.now.sides };
+
+    ghost next = { λ s p k. background_place s.grid.now (side_point p k) };
 
     fn places(&self) -> u32 {
         self.grid.sides().framed_count()
@@ -87,9 +95,13 @@ impl<'a, P: Pairing> Net for Background<'a, P> {
         P::SIDE_COUNT
     }
 
-    fn follow(&self, place: u32, link: usize) -> Option<u32> {
+    fn point(&self, place: u32) -> P {
+        self.grid.sides().framed_point(place)
+    }
+
+    fn follow(&self, p: P, link: usize) -> Option<u32> {
         let sides = self.grid.sides();
-        let q = sides.framed_point(place).side(link);
+        let q = p.side(link);
         if sides.in_frame(q) && !self.grid.has(q) {
             Some(sides.framed_number(q))
         } else {

@@ -1,6 +1,6 @@
 //! The neighbours of points of space: 26 near ones and 6 beside.
 //! What a pairing owes, `pairing.rt` says; the numbering is that of the steps in `shape_terms`.
-ghost use Rattle.std.specs.Prelude.{◌≡◌, ◌<◌, ◌≤◌, ◌+◌, [], ◌∷◌, ◌-ℤ◌, pos, refl, nat_abs, cond, nat_lt};
+ghost use Rattle.std.specs.Prelude.{◌≡◌, ◌<◌, ◌≤◌, [], ◌∷◌, refl, nat_abs};
 ghost use Rattle.shape_terms.specs.Adjacency.{near_step, side_step};
 ghost use Rattle.shape_terms.proofs.AdjacencySymmetric.{near_sym, side_sym};
 ghost use Rattle.shape_terms.proofs.NeighbourNumbers.{near_listed_once, side_listed_once, side_is_round};
@@ -8,24 +8,6 @@ ghost use Rattle.shape_terms.proofs.RoundSets.{solid_round};
 
 use crate::pairing::Pairing;
 use shape_space::P3;
-
-// The number of a near neighbour among all 27 steps, of which that with number 13 has no length.
-fn among_all(k: usize) -> usize
-    requires { k < 26 }
-    ensures value { result ≡ cond (nat_lt k 13) k (k + 1) }
-    ensures few { result < 27 }
-{
-    if k < 13 { k } else { k + 1 }
-}
-
-// A digit of a step's number, as a coordinate.
-fn coordinate_of(digit: usize) -> i32
-    requires { digit < 3 }
-    ensures value { result ≡ pos digit -ℤ pos 1 }
-    ensures short { nat_abs result ≤ 1 }
-{
-    digit as i32 - 1
-}
 
 // The step to a near neighbour.
 fn solid_near_step(k: usize) -> P3
@@ -35,11 +17,37 @@ fn solid_near_step(k: usize) -> P3
     ensures short_y { nat_abs result.y ≤ 1 }
     ensures short_z { nat_abs result.z ≤ 1 }
 {
-    let d = among_all(k);
-    P3 {
-        x: coordinate_of(d % 3),
-        y: coordinate_of(d / 3 % 3),
-        z: coordinate_of(d / 9),
+    match k {
+        0 => P3 {
+            x: -1,
+            y: -1,
+            z: -1,
+        },
+        1 => P3 { x: 0, y: -1, z: -1 },
+        2 => P3 { x: 1, y: -1, z: -1 },
+        3 => P3 { x: -1, y: 0, z: -1 },
+        4 => P3 { x: 0, y: 0, z: -1 },
+        5 => P3 { x: 1, y: 0, z: -1 },
+        6 => P3 { x: -1, y: 1, z: -1 },
+        7 => P3 { x: 0, y: 1, z: -1 },
+        8 => P3 { x: 1, y: 1, z: -1 },
+        9 => P3 { x: -1, y: -1, z: 0 },
+        10 => P3 { x: 0, y: -1, z: 0 },
+        11 => P3 { x: 1, y: -1, z: 0 },
+        12 => P3 { x: -1, y: 0, z: 0 },
+        13 => P3 { x: 1, y: 0, z: 0 },
+        14 => P3 { x: -1, y: 1, z: 0 },
+        15 => P3 { x: 0, y: 1, z: 0 },
+        16 => P3 { x: 1, y: 1, z: 0 },
+        17 => P3 { x: -1, y: -1, z: 1 },
+        18 => P3 { x: 0, y: -1, z: 1 },
+        19 => P3 { x: 1, y: -1, z: 1 },
+        20 => P3 { x: -1, y: 0, z: 1 },
+        21 => P3 { x: 0, y: 0, z: 1 },
+        22 => P3 { x: 1, y: 0, z: 1 },
+        23 => P3 { x: -1, y: 1, z: 1 },
+        24 => P3 { x: 0, y: 1, z: 1 },
+        _ => P3 { x: 1, y: 1, z: 1 },
     }
 }
 

@@ -1,10 +1,6 @@
 use Rattle.std.proofs.Common.{arith}
 use Rattle.std.proofs.lemmas.Int.{ints}
-use Rattle.shape_terms.proofs.FramedBoxes.{box_point_within}
 use Rattle.shape_adj.proofs.places.ObjectNet.follow.Goals as goal
 
 pub near-q-requires-clause-within : goal.near-q-requires-clause-within
-near-q-requires-clause-within g c =
-    let s = c.sides-sides.result in
-    let w = box_point_within g.P.Point.MAX_SIDE (g.P.Point.coords s.lengths) (g.P.Point.coords c.unraster.result) s.in_range g.met.P.Point.flat_side c.unraster.ensures.inside in
-    λ k l. (omega (arith, ints, (w k l).0), (w k l).1)
+near-q-requires-clause-within g c = λ k l. let w = c.requires.within k l in (omega (arith, ints, w.0), w.1)
