@@ -20,8 +20,8 @@ use std::alloc::Global;
 fn add_head(patch: &Patch<P3>, report: &mut Report) -> Result<(), NoMemory>
     ensures { (X : Aim) (f : ℕ) (found : List FoundPatch) (k : ℕ)
         → AreFound X f found → slice_get found k ≡ Some patch.now.found
-        → IsTextOf (HasPatches X f found k) report.old → OnOk result
-        (IsTextOf (IsFacing X (at_patch f (points_before found k) patch.now.found 0 0)) report.new) }
+        → IsTextOf (HasPatches X f found k) report.old → OnOk result (IsTextOf
+        (IsFacing X (at_patch f (points_before found k) patch.now.found 0 0)) report.new) }
 {
     let plane = patch.naive();
     let a = plane.a;
@@ -96,7 +96,8 @@ fn add_patches(found: &Patches<P3>, report: &mut Report) -> Result<(), NoMemory>
     requires { IsSomeFace found.now.patches }
     ensures { (X : Aim) (f : ℕ) → AreFound X f found.now.patches
         → IsTextOf (HasPatches X f found.now.patches 0) report.old
-        → OnOk result (IsTextOf (HasPatches X f found.now.patches (length found.now.patches)) report.new) }
+        → OnOk result (IsTextOf
+        (HasPatches X f found.now.patches (length found.now.patches)) report.new) }
 {
     for k in 0..found.len() {
         add_patch(found.patch(k), report)?;

@@ -1,7 +1,7 @@
 -- What thinnings keep, and that there is one: statements over the definitions alone.
 -- A law of the program is a function whose contract is one of these.
 use Rattle.std.specs.Prelude.{◌≡◌, ℕ, List, length}
-use Rattle.shape_terms.specs.Points.{Point, box_count}
+use Rattle.shape_terms.specs.Points.{Point}
 use Rattle.shape_terms.specs.Pictures.{Picture, object_points}
 use Rattle.shape_terms.specs.Parts.{Object, Counts}
 use Rattle.thin_terms.specs.Simple.{IsSimple}
@@ -13,7 +13,7 @@ KeepsParts X Y = (n o b : ℕ) → Counts X n o b → Counts Y (length (object_p
 
 -- deleting a simple point keeps both numbers of components
 abbrev pub DeletionKeeps : Type 0
-DeletionKeeps = (Y : Picture) (p : Point) → length Y.values ≡ box_count Y.sides → Object Y p → IsSimple Y p → KeepsParts Y (without Y p)
+DeletionKeeps = (Y : Picture) (p : Point) → Object Y p → IsSimple Y p → KeepsParts Y (without Y p)
 
 -- a picture has one thinning by a rule: the events and the last stage are determined
 abbrev pub OneThinning : Type 0
