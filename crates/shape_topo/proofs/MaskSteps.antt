@@ -11,7 +11,7 @@ use Rattle.shape_terms.specs.Points.{Point, in_box, box_count, raster_number, ra
 use Rattle.shape_terms.specs.Pictures.{Picture, at}
 use Rattle.shape_terms.specs.Adjacency.{near_point}
 use Rattle.shape_terms.specs.Parts.{Object}
-use Rattle.shape_terms.proofs.Boxes.{raster_point_in, raster_number-raster_point, raster_point-raster_number}
+use Rattle.shape_terms.proofs.Boxes.{raster_number-raster_point, raster_point-raster_number}
 use Rattle.shape_terms.proofs.ObjectPlaces.{length-raster_point}
 use Rattle.thin_terms.specs.Thinning.{without}
 use Rattle.thin_terms.proofs.OneValue.{value_there, value_elsewhere}
@@ -119,19 +119,21 @@ module _ (Y : Picture) (p : Point) (dims : (length p ≡ 2) ⊎ (length p ≡ 3)
         here : raster_point Y.sides r ≡ near_point p k
         here = ap (raster_point Y.sides) e ∙ raster_point-raster_number Y.sides (near_point p k) b
 
-    pub taken_pass : (IsTrue (in_box Y.sides (near_point p k)) → ⊥) → AreTaken Y p (k + 1) ms
-    taken_pass out = record {
-      filled = h.filled;
-      each = λ i l o. taken_other (raster_point Y.sides i) (slice_index ms i) (length_there i)
-          (λ f. out (subst (λ r. IsTrue (in_box Y.sides r)) f (raster_point_in Y.sides i l))) (h.each i l o);
-    }
-
 module _ (Y : Picture) (p : Point) (filled : length Y.values ≡ box_count Y.sides) (b : IsTrue (in_box Y.sides p)) where
   not_p : (q : Point) → Object (without Y p) q → q ≢ p
   not_p q o e = let t : true ≡ false = sym o ∙ ap (at (without Y p)) e ∙ value_there Y p false filled b in cc
 
   was : (q : Point) → Object (without Y p) q → Object Y q
   was q o = sym (value_elsewhere Y p q false b (not_p q o)) ∙ o
+
+  -- the neighbour with the number k is background: no mask tells of its own way back
+  pub taken_pass : (dims : (length p ≡ 2) ⊎ (length p ≡ 3)) (k : ℕ) → k < near_total (length p) → length p ≡ length Y.sides → (ms : List ℕ) → AreTaken Y p k ms
+      → (Object Y (near_point p k) → ⊥) → AreTaken Y p (k + 1) ms
+  taken_pass dims k within axes ms h closed = record {
+    filled = h.filled;
+    each = λ i l o. taken_other Y p dims k within (raster_point Y.sides i) (slice_index ms i) (length-raster_point Y.sides i ∙ sym axes)
+        (λ f. closed (subst (Object Y) f (was (raster_point Y.sides i) o))) (h.each i l o);
+  }
 
   pub taken_end : (k : ℕ) (ms : List ℕ) → length p ≡ length Y.sides → near_total (length p) ≤ k → AreTaken Y p k ms → AreMasks (without Y p) ms
   taken_end k ms axes l h = record {

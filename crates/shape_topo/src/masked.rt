@@ -53,16 +53,17 @@ fn masks_of<P: Pairing>(alloc: Global, grid: &Grid<P>) -> Result<Vec<u32>, NoMem
     Ok(masks)
 }
 
-// Takes a point of the grid out of the masks of its near neighbours.
-fn take_out<P: Pairing>(grid: &Grid<P>, masks: &mut [u32], p: P)
+// Takes a point with this mask out of the masks of its object near neighbours.
+fn take_out<P: Pairing>(grid: &Grid<P>, masks: &mut [u32], p: P, mask: u32)
     requires inside { IsTrue (in_box grid.now.sides (P.coords p)) }
     requires masks { AreMasks grid.now masks.old }
+    requires mask { IsNearMask grid.now (P.coords p) mask }
     ensures { AreMasks (without grid.now (P.coords p)) masks.new }
 {
     let sides = grid.sides();
     for k in 0..P::NEAR_COUNT {
-        let q = p.near(k);
-        if sides.inside(q) {
+        if (mask >> k) & 1 == 1 {
+            let q = p.near(k);
             masks[sides.raster(q) as usize] &= !(1u32 << (P::NEAR_COUNT - 1 - k));
         }
     }
@@ -128,8 +129,11 @@ impl<P: Pairing> MaskedGrid<P> {
         requires { IsTrue (in_box self.old.sides (P.coords p)) }
         ensures { self.new ≡ without self.old (P.coords p) }
     {
-        take_out(&self.grid, &mut self.masks, p);
-        self.grid.clear(p);
+        if self.grid.has(p) {
+            let mask = self.mask(p);
+            take_out(&self.grid, &mut self.masks, p, mask);
+            self.grid.clear(p);
+        }
     }
 }
 

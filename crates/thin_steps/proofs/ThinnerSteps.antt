@@ -1,15 +1,16 @@
 -- What the parts of a thinning tell of a key, and that they still fit together after an event.
 -- Laws over pictures and keys alone.
-use Rattle.std.proofs.Common.{◌≡◌, ℕ, ◌+◌, ◌<◌, Bool, true, false, List, length, sym, ◌∙◌, ap, subst, arith}
+use Rattle.std.proofs.Common.{◌≡◌, ◌≢◌, ℕ, ◌+◌, ◌<◌, Bool, true, false, List, length, sym, ◌∙◌, ap, subst, arith}
 use Rattle.std.proofs.Math.Logic.{∥∥₁_elim}
 use Rattle.std.proofs.Props.{props}
 use Rattle.std.proofs.lemmas.Grind.{merely}
 use Rattle.std.specs.Prelude.{IsTrue}
 use Rattle.shape_terms.specs.Points.{Point, in_box, box_count, raster_point}
-use Rattle.shape_terms.specs.Pictures.{Picture, object_points}
+use Rattle.shape_terms.specs.Pictures.{Picture, at, object_points}
 use Rattle.shape_terms.specs.Parts.{Object}
 use Rattle.shape_terms.proofs.ObjectPlaces.{object_in_box}
 use Rattle.thin_terms.specs.Thinning.{Rule, Event, without}
+use Rattle.thin_terms.proofs.OneValue.{value_there, value_elsewhere}
 use Rattle.shape_queue.specs.declared.key.Key.{Key}
 use Rattle.shape_queue.specs.Waiting.{key_at, Waits, IsQueue, IsQueueBut, Put}
 use Rattle.shape_queue.specs.Standing.{IsSubset}
@@ -33,6 +34,12 @@ going_at {rule} {X} {events} {state} {left} {free} {keys = keys} e h = subst (λ
 pub looked_at : {p : Point} {left free : Picture} {ds ds' : List ℕ} {old new : Key → Bool}
     → ds' ≡ ds → (IsQueueBut p left free ds' old → IsQueue left free ds' new) → IsQueueBut p left free ds old → IsQueue left free ds new
 looked_at {p} {left} {free} {old = old} {new = new} e h = subst (λ (xs : List ℕ). IsQueueBut p left free xs old → IsQueue left free xs new) e h
+
+-- an object point of the picture without q is one of the picture
+was_object : (Y : Picture) (q r : Point) → length Y.values ≡ box_count Y.sides → IsTrue (in_box Y.sides q) → Object (without Y q) r → Object Y r
+was_object Y q r filled b o =
+    let other : r ≢ q = λ e. (let t : true ≡ false = sym o ∙ ap (at (without Y q)) e ∙ value_there Y q false filled b in cc) in
+    sym (value_elsewhere Y q r false b other) ∙ o
 
 module _ {left free : Picture} {ds : List ℕ} {keys : Key → Bool} (fits : ∥ AreFitting left free ds keys ∥₁) where
   pub fits_filled : length ds ≡ box_count left.sides
@@ -70,6 +77,10 @@ module _ {left free : Picture} {ds : List ℕ} {keys : Key → Bool} (fits : ∥
       in_free = object_in_box free q fits_free
 
       module _ (free' : Picture) (f : free' ≡ without free q) where
+        -- what is free without q was left
+        pub free_was_left : (r : Point) → Object free' r → Object left r
+        free_was_left r o = ∥∥₁_elim fits (Prim.hlevel props) (λ a. ((a.stands.free_is r).0 (was_object free q r a.stands.free_filled in_free (subst (λ (Y : Picture). Object Y r) f o))).0)
+
         pub one_less : length (object_points free') + 1 ≡ length (object_points free)
         one_less = ∥∥₁_elim fits (Prim.hlevel props) (λ a. one_free_less a.opening a.marked a.state left free ds keys a.stands a.waits k there q e free' f)
 

@@ -1,9 +1,11 @@
 //! Looks at points, whether they wait in the queue: at all of them in the beginning, at the near ones after a deletion.
 //! Each look is one step of the counter.
-ghost use Rattle.std.specs.Prelude.{◌≡◌, ◌+◌, ◌≤◌, ◌^◌, length, IsTrue, IfOk, pos, negsuc};
+ghost use Rattle.std.specs.Prelude.{◌≡◌, ℕ, ◌+◌, ◌<◌, ◌≤◌, ◌^◌, length, IsTrue, IfOk, pos, negsuc};
 ghost use Rattle.shape_terms.specs.Points.{box_count};
 ghost use Rattle.shape_terms.specs.Pictures.{IsPicture, at, object_points};
 ghost use Rattle.shape_terms.specs.FramedBox.{IsWithin};
+ghost use Rattle.shape_terms.specs.Adjacency.{near_point};
+ghost use Rattle.shape_topo.specs.Bits.{In};
 ghost use Rattle.shape_queue.specs.Keys.{has};
 ghost use Rattle.shape_queue.specs.Standing.{IsSubset};
 ghost use Rattle.shape_queue.specs.Waiting.{IsQueue, IsQueueBut, IsLookedAt};
@@ -59,27 +61,32 @@ pub(crate) fn look_at_all<P: SimpleMask, L: Ledger>(
     Ok(keys)
 }
 
-// Looks at the free near neighbours of a point that was deleted.
+// Looks at the free near neighbours of a point that was deleted; its mask has them all.
 pub(crate) fn look_round<P: SimpleMask, L: Ledger>(
     left: &MaskedGrid<P>,
     free: &Grid<P>,
     keys: &mut Queue,
     p: P,
+    mask: u32,
     steps: &mut Steps<L>,
 )
     requires within { IsWithin (negsuc 0) (pos 4096) (P.coords p) }
     requires sides { free.now.sides ≡ left.now.sides }
     requires some { IsSubset free.now left.now }
     requires filled { length keys.old.distances ≡ box_count left.now.sides }
+    requires masked { (k : ℕ) → k < P.NEAR_COUNT
+        → IsTrue (at free.now (near_point (P.coords p) k)) → In mask k }
     ensures waits { IsQueueBut (P.coords p) left.now free.now keys.old.distances (has keys.old)
         → IsQueue left.now free.now keys.old.distances (has keys.new) }
     ensures distances { keys.new.distances ≡ keys.old.distances }
     ensures few { steps.new ≤ steps.old + P.NEAR_COUNT }
 {
     for k in 0..P::NEAR_COUNT {
-        let q = p.near(k);
-        if free.has(q) {
-            look_at(left, keys, q, steps);
+        if (mask >> k) & 1 == 1 {
+            let q = p.near(k);
+            if free.has(q) {
+                look_at(left, keys, q, steps);
+            }
         }
     }
 }

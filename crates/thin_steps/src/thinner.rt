@@ -85,10 +85,18 @@ impl<P: SimpleMask> Thinner<P> {
         ensures room { room_of self.new + 1 ≡ room_of self.old }
         ensures few { steps.new ≤ steps.old + P.NEAR_COUNT }
     {
+        let mask = self.left.mask(next.point);
         self.keys.settle(next.place, false);
         self.free.clear(next.point);
         self.left.clear(next.point);
-        look_round(&self.left, &self.free, &mut self.keys, next.point, steps);
+        look_round(
+            &self.left,
+            &self.free,
+            &mut self.keys,
+            next.point,
+            mask,
+            steps,
+        );
     }
 
     /// Goes on after the next point was marked, or is deleted. After a deletion each near neighbour is tested: a step each.
