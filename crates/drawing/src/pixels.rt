@@ -39,11 +39,7 @@ fn depth(square: u64) -> u8
 }
 
 /// Takes of a line the pixel that it gives.
-pub fn take_pixel(
-    found: &mut Vec<Pixel>,
-    sides: Sides<P2>,
-    line: &Line<P2>,
-) -> Result<(), NoMemory>
+pub fn take_pixel(found: &mut Vec<Pixel>, sides: Sides<P2>, line: &Line<P2>) -> Result<(), NoMemory>
     ensures { OnOk result (all_pixels found.new.items ≡ all_pixels found.old.items
         ++ pixels (sides_of (flat sides.lengths)) (flat_line line.now ∷ [])) }
 {
