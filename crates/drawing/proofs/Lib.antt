@@ -3,5 +3,3 @@ pub mod LayerLaws
 pub mod Contours
 pub mod Deleting
 pub mod FirstLine
-pub mod Sketched
-pub mod Files

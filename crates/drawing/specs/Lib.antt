@@ -5,5 +5,3 @@ pub mod Skeleton
 pub mod Svg
 pub mod Seen
 pub mod Standing
-pub mod Answers
-pub mod Outcomes

@@ -91,12 +91,16 @@ head w h = size_text w h ++ (view_text w h ++ codes "\" fill=\"none\">\n<title>D
 
 -- all layers: the object, on it the contours, and on top the skeleton
 abbrev pub layers : List ℕ → List Pixel → List Stroke → List Point → List ℕ
-layers sides xs ss ps = head (slice_index sides 0) (slice_index sides 1) ++ (object_layer xs ++ (contour_layer ss ++ (skeleton_layer ps ++ codes "</svg>\n")))
+layers sides xs ss ps = head (slice_index sides 0) (slice_index sides 1) ++ (object_layer xs ++ (contour_layer ss ++ skeleton_layer ps))
 
--- the drawing of these lines in a box with these sides
+-- the layers of these lines in a box with these sides
 abbrev pub drawn : List ℕ → List Line → List ℕ
 drawn sides lines = layers sides (pixels sides lines) (strokes sides lines) (left sides lines)
 
+-- the layers of a report with these lines
+abbrev pub report_layers : List Line → List ℕ
+report_layers lines = drawn (given_sides lines) lines
+
 -- the drawing of a report with these lines
 abbrev pub drawing : List Line → List ℕ
-drawing lines = drawn (given_sides lines) lines
+drawing lines = report_layers lines ++ codes "</svg>\n"

@@ -20,6 +20,7 @@ const SHOWN: usize = 1024;
 fn scale(width: usize, height: usize) -> usize
     requires { 1 ≤ width }
     ensures value { result ≡ scale width height }
+    ensures some { 1 ≤ result }
     ensures most { result ≤ 1024 }
 {
     (SHOWN / width.max(height)).max(1)
@@ -50,14 +51,23 @@ fn put_view(width: usize, height: usize, svg: &mut Svg) -> Result<(), NoMemory>
     svg.count(height)
 }
 
-// A side of the picture, on the axis x or y.
-fn side(sides: Sides<P2>, axis: usize) -> usize
+/// A side of the picture, on the axis x or y.
+pub fn side(sides: Sides<P2>, axis: usize) -> usize
     requires { axis < 2 }
     ensures value { result ≡ nat_abs (coordinate (flat sides.lengths) axis) }
     ensures some { 1 ≤ result }
     ensures most { result ≤ 2048 }
 {
     sides.side(axis) as usize
+}
+
+/// So many points of the screen a pixel of a picture with these sides takes.
+pub fn scale_of(sides: Sides<P2>) -> usize
+    ensures value { result ≡ scale (nat_abs sides.lengths.x) (nat_abs sides.lengths.y) }
+    ensures some { 1 ≤ result }
+    ensures most { result ≤ 1024 }
+{
+    scale(side(sides, 0), side(sides, 1))
 }
 
 /// Puts the front of the drawing.
@@ -201,7 +211,7 @@ pub(crate) fn put_skeleton(points: &[P2], svg: &mut Svg) -> Result<(), NoMemory>
     Ok(())
 }
 
-/// Puts the whole drawing.
+/// Puts all layers.
 pub(crate) fn put_layers(
     alloc: Global,
     sides: Sides<P2>,
@@ -217,6 +227,5 @@ pub(crate) fn put_layers(
     put_object(alloc, found, svg)?;
     put_contours(strokes, svg)?;
     put_skeleton(left, svg)?;
-    svg.put(b"</svg>\n")?;
     Ok(())
 }

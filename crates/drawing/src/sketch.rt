@@ -1,9 +1,9 @@
 //! What is known of a flat picture's report while it is read, and the drawing of all of it.
 //! A further layer is a field here, which takes each line and is drawn behind the others.
-ghost use Rattle.std.specs.Prelude.{◌≡◌, ◌∷◌, [], List, IfOk};
+ghost use Rattle.std.specs.Prelude.{◌≡◌, ◌∷◌, ◌++◌, [], List, IfOk, OnOk};
 ghost use Rattle.report_terms.specs.Lines as Terms;
 ghost use Rattle.report_lines.specs.Seen as Lines;
-ghost use Rattle.drawing.specs.Svg.{drawing};
+ghost use Rattle.drawing.specs.Svg.{report_layers, drawing};
 ghost use Rattle.drawing.specs.Standing.{IsSketchOf};
 
 use crate::layers::put_layers;
@@ -40,15 +40,25 @@ impl FlatSketch {
         })
     }
 
+    /// Puts the layers, and nothing behind them: the text of a drawing is still open.
+    pub fn put_layers(self, alloc: Global, svg: &mut Svg) -> Result<(), NoMemory>
+        ensures { (lines : List Terms.Line) → IsSketchOf lines self
+            → OnOk result (svg.new ≡ svg.old ++ report_layers lines) }
+    {
+        let strokes = self.outlines.into_strokes(self.sides)?;
+        let left = points_left(alloc, &self.pixels, &self.deleted)?;
+        put_layers(alloc, self.sides, &self.pixels, &strokes, &left, svg)?;
+        Ok(())
+    }
+
     /// The drawing.
     pub fn draw(self, alloc: Global) -> Result<Vec<u8>, NoMemory>
         ensures { (lines : List Terms.Line) → IsSketchOf lines self
             → IfOk result (λ svg. svg.items ≡ drawing lines) }
     {
-        let strokes = self.outlines.into_strokes(self.sides)?;
-        let left = points_left(alloc, &self.pixels, &self.deleted)?;
         let mut svg = Svg::new(alloc);
-        put_layers(alloc, self.sides, &self.pixels, &strokes, &left, &mut svg)?;
+        self.put_layers(alloc, &mut svg)?;
+        svg.put(b"</svg>\n")?;
         Ok(svg.into_text())
     }
 }

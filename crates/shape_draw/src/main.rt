@@ -1,10 +1,10 @@
 //! The program `shape_draw`: the words of the command line, the real desk, and what the user sees of the outcome.
-//! All that it decides is decided by `drawing::run`.
+//! All that it decides is decided by `draw_report::run`.
 #![tactic(auto)]
 
 ghost use Rattle.std.specs.Prelude.{◌≡◌, ◌⊎◌};
 
-use drawing::{Outcome, run};
+use draw_report::{Outcome, USAGE, run};
 use host_desk::HostDesk;
 use std::env::{self, Env};
 use std::fs::Files;
@@ -33,7 +33,7 @@ fn without_words(error: &io::Error) -> Outcome
 
 // Prints what went wrong.
 fn complain<R: Eprint>(rt: &R, outcome: Outcome) -> io::Result<()> {
-    let text = outcome.text();
+    let text = outcome.text(USAGE);
     match outcome.number() {
         Some(number) => eprintln!(rt; "shape_draw: {text} {number}"),
         None => eprintln!(rt; "shape_draw: {text}"),

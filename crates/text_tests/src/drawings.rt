@@ -1,6 +1,6 @@
 //! Whole drawings, written by hand from the rule, and what no clause says: that calls succeed with ample memory.
 //! Refusals and failing calls of the desk are tried by example.
-use drawing::{Outcome, run};
+use draw_report::{Outcome, run};
 use shape_desk::MemoryDesk;
 use std::alloc::{AllocError, Global};
 use std::test::Fail;
@@ -165,6 +165,38 @@ const STRANGE_DRAWN: &str =
 <path transform=\"translate(-.25)\" stroke=\"#000\" stroke-width=\".5\" stroke-dasharray=\".5\" d=\"M1 0h1\"/>\n\
 </svg>\n";
 
+// Lines about two objects, of which each has its deepest point not first.
+const TWO: &str = "shape 1 pbm 5 3 none\n\
+near 0 0 -1 0 1\n\
+near 1 0 1 -2 4\n\
+near 4 1 5 1 1\n\
+near 4 2 4 4 4\n\
+near 3 2 1 2 4\n\
+end\n";
+
+// Their drawing with numbers: of two points that are as deep, the first in raster order has it.
+const TWO_NUMBERED: &str =
+    "<svg xmlns=\"http://www.w3.org/2000/svg\" width=\"1020\" height=\"612\" viewBox=\"-.5 -.5 5 3\" fill=\"none\">\n\
+<title>Drawn from a report, which `shape check` can check</title>\n\
+<rect x=\"-.5\" y=\"-.5\" width=\"100%\" height=\"100%\" fill=\"#fff\"/>\n\
+<g transform=\"translate(-.5)\" stroke=\"#666\" shape-rendering=\"crispEdges\">\n\
+<path stroke-opacity=\".2\" d=\"M0 0h1M4 1h1\"/>\n\
+<path stroke-opacity=\".3\" d=\"M1 0h1M4 2h1M3 2h1\"/>\n\
+<path stroke-opacity=\".4\" d=\"\"/>\n\
+<path stroke-opacity=\".5\" d=\"\"/>\n\
+<path stroke-opacity=\".6\" d=\"\"/>\n\
+<path stroke-opacity=\".7\" d=\"\"/>\n\
+</g>\n\
+<path stroke=\"#0072B2\" stroke-width=\".25\" d=\"\"/>\n\
+<path stroke=\"#E69F00\" stroke-width=\".25\" d=\"\"/>\n\
+<path transform=\"translate(-.2)\" stroke=\"#D55E00\" stroke-width=\".4\" stroke-dasharray=\".4 .6\" d=\"\"/>\n\
+<path transform=\"translate(-.25)\" stroke=\"#000\" stroke-width=\".5\" stroke-dasharray=\".5\" d=\"M0 0h2M4 1h1M4 2h1M3 2h1\"/>\n\
+<g transform=\"scale(.001)\" font-family=\"sans-serif\" font-size=\"78\" text-anchor=\"middle\" dominant-baseline=\"central\" fill=\"#909\" stroke=\"#fff\" stroke-width=\".2em\" paint-order=\"stroke\">\n\
+<text x=\"1000\" y=\"0\">1</text>\n\
+<text x=\"3000\" y=\"2000\">2</text>\n\
+</g>\n\
+</svg>\n";
+
 // A desk with the file `a.report`, whose calls move 100 bytes at most.
 pub(crate) fn desk(
     alloc: Global,
@@ -202,17 +234,18 @@ fn outcome(alloc: Global, line: &str, report: &str) -> Result<Outcome, Fail> {
     Ok(run(alloc, &words(alloc, line)?, &mut desk))
 }
 
-// Reports and their drawings.
-const DRAWINGS: [(&str, &str); 3] = [
-    (FULL, FULL_DRAWN),
-    (RING, RING_DRAWN),
-    (STRANGE, STRANGE_DRAWN),
+// Words, reports and their drawings.
+const DRAWINGS: [(&str, &str, &str); 4] = [
+    ("a.report", FULL, FULL_DRAWN),
+    ("a.report", RING, RING_DRAWN),
+    ("a.report", STRANGE, STRANGE_DRAWN),
+    ("labels a.report", TWO, TWO_NUMBERED),
 ];
 
 #[test]
 fn whole_drawings(rt: HostRuntime) -> Result<(), Fail> {
-    let words = words(rt.alloc(), "a.report")?;
-    for (report, drawn) in &DRAWINGS {
+    for (line, report, drawn) in &DRAWINGS {
+        let words = words(rt.alloc(), line)?;
         let mut desk = desk(rt.alloc(), report, &[], &[])?;
         assert!(rt;
             run(rt.alloc(), &words, &mut desk) == Outcome::Done,
@@ -224,8 +257,10 @@ fn whole_drawings(rt: HostRuntime) -> Result<(), Fail> {
 }
 
 // Texts that are no reports, and the line from which on they are none.
-const OTHERS: [(&str, u64); 12] = [
+const OTHERS: [(&str, u64); 14] = [
     ("", 1),
+    ("shape 1 raw 1 1 0 none\n", 1),
+    ("shape 1 raw 1 1 1 none\n", 2),
     ("parts 1 1 1\n", 1),
     ("shape 1 pbm 0 1 none\n", 1),
     ("shape 1 pbm 1 2049 none\n", 1),
@@ -252,15 +287,22 @@ fn refuses_other_texts(rt: HostRuntime) -> Result<(), Fail> {
 }
 
 // Words and reports, and how the run ends.
-const RUNS: [(&str, &str, Outcome); 4] = [
-    ("a.report", "shape 1 raw 1 1 1 none\n", Outcome::Volume),
+const RUNS: [(&str, &str, Outcome); 8] = [
+    ("a.report", VOLUME, Outcome::Done),
+    ("labels a.report", VOLUME, Outcome::Done),
     ("", FULL, Outcome::Usage),
     ("a.report a.report", FULL, Outcome::Usage),
+    ("labels a.report a.report", FULL, Outcome::Usage),
+    ("labels", FULL, Outcome::ReadFault),
     ("b.report", FULL, Outcome::ReadFault),
+    ("labels b.report", FULL, Outcome::ReadFault),
 ];
 
+// The report of one voxel without object.
+const VOLUME: &str = "shape 1 raw 1 1 1 none\nend\n";
+
 #[test]
-fn refuses_volumes_other_words_and_missing_files(rt: HostRuntime) -> Result<(), Fail> {
+fn takes_volumes_and_refuses_other_words_and_missing_files(rt: HostRuntime) -> Result<(), Fail> {
     for (line, report, want) in &RUNS {
         assert!(rt; outcome(rt.alloc(), line, report)? == *want, "{line}");
     }

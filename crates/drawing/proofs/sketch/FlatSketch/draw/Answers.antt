@@ -1,16 +1,9 @@
-use Rattle.std.proofs.Common.{◌++◌, ap, sym, ◌∙◌}
-use Rattle.shape_terms.specs.Points.{sides_of}
-use Rattle.drawing.specs.Seen.{flat, flats, all_pixels, all_strokes}
-use Rattle.drawing.specs.Svg.{layers, drawn}
-use Rattle.drawing.proofs.Deleting.{left_seen}
+use Rattle.std.proofs.Common.{◌++◌, ap, ◌∙◌}
+use Rattle.std.specs.Prelude.{codes}
+use Rattle.drawing.specs.Svg.{report_layers}
 use Rattle.drawing.proofs.sketch.FlatSketch.draw.Goals as goal
 
 pub returns : goal.returns
 returns c = λ lines h.
-    let sides = sides_of (flat c.args.self.sides.lengths) in
-    let xs = ap all_pixels c.deref-2.ensures.value ∙ h.pixels in
-    let ss = ap all_strokes c.deref-3.ensures.value ∙ c.in_ok-strokes.ensures lines h.outlines in
-    let found = ap all_pixels c.deref.ensures.value ∙ h.pixels in
-    let ps = ap flats (c.deref-4.ensures.value ∙ c.in_ok-left.ensures) ∙ left_seen sides lines c.args.self.deleted c.deref.result.now h.deleted found in
-    c.into_text.ensures ∙ c.in_ok-put_layers.ensures ∙ ap (λ t. t ++ layers sides (all_pixels c.deref-2.result.now) (all_strokes c.deref-3.result.now) (flats c.deref-4.result.now)) c.new-svg.ensures
-    ∙ (λ i. layers sides (xs i) (ss i) (ps i)) ∙ ap (λ q. drawn q lines) (sym h.given)
+    let layers = c.in_ok-put_layers.ensures lines h ∙ ap (λ t. t ++ report_layers lines) c.new-svg.ensures in
+    c.into_text.ensures ∙ c.in_ok-put.ensures ∙ ap (λ t. t ++ codes "</svg>\n") layers

@@ -1,0 +1,3 @@
+mod Words
+mod NumbersMade
+mod Deepest

@@ -1,0 +1,18 @@
+//! The drawing of a report: of a flat picture the layers of `drawing`, with the numbers of its objects on top where they are
+//! wanted, and of a volume its unfolded box.
+//! No claim of the report is judged.
+#![tactic(auto)]
+
+mod drawings;
+mod law;
+mod numbered;
+mod numbers;
+mod sheet;
+mod top;
+
+pub use drawings::{Drawings, NumberedDrawings};
+pub use law::holding_is_numbered;
+pub use numbered::Numbered;
+pub use report_making::Outcome;
+pub use sheet::Sheet;
+pub use top::{USAGE, run};
