@@ -1,17 +1,18 @@
 -- The table that is made is that of the lines whose sketch was kept.
 -- Lists alone; nothing is read here.
-use Rattle.std.proofs.Common.{◌≡◌, ℕ, List, ap, ◌∙◌, subst}
+use Rattle.std.proofs.Common.{◌≡◌, ℕ, List, [], ap, ◌∙◌, subst, arith}
 use Rattle.shape_terms.specs.Pictures.{Picture}
 use Rattle.shape_terms.specs.Parts.{LabelsObject}
 use Rattle.report_terms.specs.Lines.{Line}
 use Rattle.report_lines.specs.Said.{Said, said}
 use Rattle.measure_terms.specs.Facts.{facts}
 use Rattle.measure_terms.specs.Measures.{Measures, greatest}
+use Rattle.measure_terms.specs.Feret.{Feret, AreFerets}
 use Rattle.measure_terms.specs.Tables.{rows, IsTable}
 use Rattle.measure_terms.specs.Texts.{no_columns, table_text}
 use Rattle.border_terms.specs.Borders.{Border, borders}
 use Rattle.border_terms.specs.Objects.{Bounds, object_bounds}
-use Rattle.measure_report.specs.BorderColumns.{border_columns}
+use Rattle.measure_report.specs.FurtherColumns.{flat_columns}
 use Rattle.measure_report.specs.TableTexts.{IsTableText}
 
 -- the rows of a table whose labels are given
@@ -46,18 +47,20 @@ table_of lines object squares left labels count ms e h =
     }
 
 pub solid_made : (lines : List Line) (object : Picture) (squares : List ℕ) (left : Picture) (labels : List ℕ) (count : ℕ) (ms : List Measures) (bytes : List ℕ) → AreSaid lines object squares left → HasRows object squares left labels count ms → bytes ≡ table_text 3 no_columns ms → IsTableText 3 lines bytes
-solid_made lines object squares left labels count ms bytes e h t = record { rows = ms; table = table_of lines object squares left labels count ms e h; text = t }
+solid_made lines object squares left labels count ms bytes e h t = record { rows = ms; table = table_of lines object squares left labels count ms e h; ferets = []; farthest = λ two. absurd (omega (arith, two)); text = t }
 
-pub flat_made : (lines : List Line) (object : Picture) (squares : List ℕ) (left : Picture) (labels : List ℕ) (count : ℕ) (ms : List Measures) (sides : List ℕ) (bs : List Border) (all : List Bounds) (bytes : List ℕ)
+pub flat_made : (lines : List Line) (object : Picture) (squares : List ℕ) (left : Picture) (labels : List ℕ) (count : ℕ) (ms : List Measures) (sides : List ℕ) (bs : List Border) (all : List Bounds) (fs : List Feret) (bytes : List ℕ)
     → AreSaid lines object squares left → HasRows object squares left labels count ms → sides ≡ object.sides → bs ≡ borders lines → all ≡ object_bounds sides labels count bs
-    → bytes ≡ table_text 2 (border_columns all) ms → IsTableText 2 lines bytes
+    → AreFerets sides labels count fs → bytes ≡ table_text 2 (flat_columns all fs) ms → IsTableText 2 lines bytes
 unfolding table_of
-flat_made lines object squares left labels count ms sides bs all bytes e h side border a t =
+flat_made lines object squares left labels count ms sides bs all fs bytes e h side border a far t =
     let whole = side ∙ ap (λ (z : Picture). z.sides) e.object_is in
     let many = h.count_is in
     let bounds : all ≡ object_bounds (said lines).object.sides labels (greatest labels) (borders lines) = a ∙ (λ i. object_bounds (whole i) labels (many i) (border i)) in
     record {
       rows = ms;
       table = table_of lines object squares left labels count ms e h;
-      text = t ∙ ap (λ c. table_text 2 (border_columns c) ms) bounds;
+      ferets = fs;
+      farthest = λ _. subst (λ n. AreFerets (said lines).object.sides labels n fs) many (subst (λ s. AreFerets s labels count fs) whole far);
+      text = t ∙ ap (λ c. table_text 2 (flat_columns c fs) ms) bounds;
     }

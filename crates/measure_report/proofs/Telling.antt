@@ -17,12 +17,12 @@ use Rattle.report_lines.proofs.Telling as Lines
 use Rattle.report_lines.proofs.TextLines.{one_list}
 use Rattle.measure_terms.specs.Measures.{Measures}
 use Rattle.measure_terms.specs.Texts.{table_text}
-use Rattle.measure_terms.specs.Components.{MeasuresComponents}
-use Rattle.measure_terms.proofs.TableOfComponents.{table_measures, labels_kept}
+use Rattle.measure_terms.specs.Components.{MeasuresComponents, FeretsComponents}
+use Rattle.measure_terms.proofs.TableOfComponents.{table_measures, labels_kept, ferets_measure}
 use Rattle.border_terms.specs.Borders.{borders}
 use Rattle.border_terms.specs.Shown.{BordersShow}
 use Rattle.border_terms.proofs.BordersShown.{borders_shown}
-use Rattle.measure_report.specs.BorderColumns.{further_columns}
+use Rattle.measure_report.specs.FurtherColumns.{further_columns}
 use Rattle.measure_report.specs.TableTexts.{IsTableText}
 use Rattle.measure_report.specs.Holding.{SpellsMeasures, TableTells}
 
@@ -62,7 +62,10 @@ spelled_so s X text bytes t holds i h =
       number = (content_of t.lines).number;
       borders = borders t.lines;
       shows = borders_so s X text t holds i;
-      text = h.text ∙ (λ j. table_text s.axes (further_columns s.axes (t.object j).sides (same j) (borders t.lines)) h.rows);
+      ferets = h.ferets;
+      farthest = λ e. subst (λ (ls : List ℕ). FeretsComponents X.picture ls (length h.rows) h.ferets) same (
+          subst (λ (Y : Picture). FeretsComponents Y labels (length h.rows) h.ferets) t.object (ferets_measure said_object said_left squares h.rows h.ferets h.table (h.farthest e)));
+      text = h.text ∙ (λ j. table_text s.axes (further_columns s.axes (t.object j).sides (same j) (borders t.lines) h.ferets) h.rows);
     }
 
 pub table_tells : (s : Space) (X : Subject) (text bytes : List ℕ) → Holds X text → StandsIn s X.picture → TableTells s X text bytes

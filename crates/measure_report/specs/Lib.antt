@@ -1,4 +1,6 @@
 pub mod Outlined
 pub mod BorderColumns
+pub mod FeretColumns
+pub mod FurtherColumns
 pub mod TableTexts
 pub mod Holding

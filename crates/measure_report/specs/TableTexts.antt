@@ -3,14 +3,17 @@
 use Rattle.std.specs.Prelude.{◌≡◌, ℕ, List}
 use Rattle.report_terms.specs.Lines.{Line}
 use Rattle.report_lines.specs.Said.{said}
-use Rattle.measure_terms.specs.Measures.{Measures}
+use Rattle.measure_terms.specs.Measures.{Measures, greatest}
+use Rattle.measure_terms.specs.Feret.{Feret, AreFerets}
 use Rattle.measure_terms.specs.Tables.{IsTable}
 use Rattle.measure_terms.specs.Texts.{table_text}
 use Rattle.border_terms.specs.Borders.{borders}
-use Rattle.measure_report.specs.BorderColumns.{further_columns}
+use Rattle.measure_report.specs.FurtherColumns.{further_columns}
 
--- the bytes spell the table of what the lines say of the points of a box with d axes, with the borders that they tell
+-- the bytes spell the table of what the lines say of the points of a box with d axes, with the borders that they tell and, in the plane, the Feret diameters of the objects
 pub record IsTableText (d : ℕ) (lines : List Line) (bytes : List ℕ) : Type 0 where
   pub rows : List Measures
   pub table : IsTable (said lines).object (said lines).squares (said lines).left rows
-  pub text : bytes ≡ table_text d (further_columns d (said lines).object.sides table.labels (borders lines)) rows
+  pub ferets : List Feret
+  pub farthest : d ≡ 2 → AreFerets (said lines).object.sides table.labels (greatest table.labels) ferets
+  pub text : bytes ≡ table_text d (further_columns d (said lines).object.sides table.labels (borders lines) ferets) rows

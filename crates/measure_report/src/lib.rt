@@ -1,9 +1,11 @@
-//! The table of the objects that a report speaks of: what `measuring` makes of what it says of the points of its box, and
-//! `bordering` of its contours.
+//! The table of the objects that a report speaks of: what `measuring` makes of what it says of the points of its box,
+//! `bordering` of its contours, and `feret` of the objects' points.
 //! No claim of the report is judged.
 #![tactic(auto)]
 
 mod borders;
+mod ferets;
+mod further;
 mod law;
 mod outlined;
 mod tables;

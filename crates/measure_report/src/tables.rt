@@ -1,5 +1,5 @@
 //! What is made of a report: the table of the objects that its lines tell.
-//! What the rows are, and how they are spelled, is known to `measuring`; the lengths of borders, to `bordering`.
+//! What the rows are, and how they are spelled, is known to `measuring`; the lengths of borders, to `bordering`, and Feret diameters to `feret`.
 ghost use Rattle.std.specs.Prelude.{◌≡◌, [], ◌∷◌, List, IfOk};
 ghost use Rattle.report_terms.specs.Lines.{Line};
 ghost use Rattle.report_lines.specs.Said.{said};
@@ -7,8 +7,11 @@ ghost use Rattle.measure_report.specs.Outlined.{IsOutlined};
 ghost use Rattle.measure_report.specs.TableTexts.{IsTableText};
 
 use crate::borders::BorderColumns;
+use crate::ferets::FeretColumns;
+use crate::further::FlatColumns;
 use crate::outlined::Outlined;
 use bordering::object_bounds;
+use feret::ferets;
 use measuring::{NoColumns, measure, table_text};
 use report_lines::{Heading, Seen};
 use report_making::Making;
@@ -19,7 +22,7 @@ use std::alloc::Global;
 #[derive(Clone, Copy, Debug, PartialEq, Eq)]
 pub struct Tables;
 
-// The table of a flat picture's objects, with their borders.
+// The table of a flat picture's objects, with their borders and Feret diameters.
 fn flat_table(alloc: Global, kept: Outlined) -> Result<Vec<u8>, NoMemory>
     ensures { (lines : List Line) → IsOutlined lines kept
         → IfOk result (λ csv. IsTableText 2 lines csv.items) }
@@ -35,7 +38,11 @@ fn flat_table(alloc: Global, kept: Outlined) -> Result<Vec<u8>, NoMemory>
         table.count,
         borders.as_slice(),
     )?;
-    let more = BorderColumns { bounds };
+    let ferets = ferets(alloc, seen.sides(), &table.labels, table.count)?;
+    let more = FlatColumns {
+        borders: BorderColumns { bounds },
+        ferets: FeretColumns { ferets },
+    };
     table_text(alloc, seen.sides(), table.rows.as_slice(), &more)
 }
 

@@ -2,5 +2,6 @@ pub mod OneMore
 pub mod TableRows
 pub mod RootFound
 pub mod ComponentPoints
+pub mod ComponentFerets
 pub mod ComponentMeasures
 pub mod TableOfComponents

@@ -14,7 +14,9 @@ use Rattle.shape_terms.proofs.Members.{Contains-filter}
 use Rattle.measure_terms.specs.Facts.{facts}
 use Rattle.measure_terms.specs.Measures.{Measures, measures_of, greatest}
 use Rattle.measure_terms.specs.Tables.{IsTable}
-use Rattle.measure_terms.specs.Components.{component, AreMeasuresOf, MeasuresComponents}
+use Rattle.measure_terms.specs.Feret.{Feret, HasLabel, AreFerets}
+use Rattle.measure_terms.specs.Components.{component, AreMeasuresOf, MeasuresComponents, FeretsComponents}
+use Rattle.measure_terms.proofs.ComponentFerets.{filtered, same_feret}
 use Rattle.measure_terms.proofs.OneMore.{below_greatest}
 use Rattle.measure_terms.proofs.TableRows.{length-rows, row_is}
 use Rattle.measure_terms.proofs.ComponentPoints.{fact, facts_are, seen}
@@ -112,3 +114,37 @@ table_measures X left squares table s h =
 pub labels_kept : (X left : Picture) (squares : List ℕ) (table : List Measures) (s : left.sides ≡ X.sides) (h : IsTable X squares left table) → (table_measures X left squares table s h).labels ≡ h.labels
 unfolding table_measures
 labels_kept X left squares table s h = refl
+
+-- ---- Feret diameters
+
+has_label : (X : Picture) (labels : List ℕ) (k : ℕ) (p : Point) → Contains (component X labels (k + 1)) p → HasLabel X.sides labels (k + 1) p
+has_label X labels k p c =
+    let a = filtered (λ q. label_of X labels q == k + 1) (object_points X) p c in
+    let b = filtered (at X) (box_points X.sides) p a.0 in
+    let t = a.1 in
+    record { inside = and_left (in_box X.sides p) _ b.1; label = grind (arith, nat_tests) }
+
+in_component : (X : Picture) (labels : List ℕ) (k : ℕ) (p : Point) → LabelsObject X labels → HasLabel X.sides labels (k + 1) p → Contains (component X labels (k + 1)) p
+in_component X labels k p named h =
+    let e = h.label in
+    let t : (label_of X labels p == k + 1) ≡ true = grind (arith, nat_tests) in
+    let filled = seen X labels (k + 1) (raster_number X.sides p) (omega arith) t (named.background (raster_number X.sides p) (raster_below X.sides p h.inside)) in
+    let object = ap (at X) (sym (raster_point-raster_number X.sides p h.inside)) ∙ filled in
+    Contains-filter (λ q. label_of X labels q == k + 1) (object_points X) p (Contains-filter (at X) (box_points X.sides) p (box_has X p object) object) t
+
+-- the Feret diameters by the labels of a table are those of the components
+pub ferets_measure : (X left : Picture) (squares : List ℕ) (table : List Measures) (ferets : List Feret) → (h : IsTable X squares left table) → AreFerets X.sides h.labels (greatest h.labels) ferets
+    → FeretsComponents X h.labels (length table) ferets
+ferets_measure X left squares table ferets h f =
+    let labels = h.labels in
+    let fs = facts X squares left labels in
+    let n = h.named.parts.0 in
+    let names = h.named.parts.1 in
+    let len : length table ≡ greatest labels = ap length h.rows ∙ length-rows (greatest labels) fs in
+    let same : n ≡ length table = omega (arith, len, no_more X labels n h.named names, no_fewer X labels n names) in
+    record {
+      each = λ k d l.
+          let some = some_point X labels n k names (omega (arith, same, l)) in
+          let one = f.each k d some.0 (omega (arith, len, l)) (has_label X labels k some.0 some.1) in
+          same_feret X.sides (HasLabel X.sides labels (k + 1)) (Contains (component X labels (k + 1))) (get_or ferets k d) (λ p. in_component X labels k p h.named) (has_label X labels k) one;
+    }

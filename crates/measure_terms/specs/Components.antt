@@ -8,6 +8,7 @@ use Rattle.shape_terms.specs.Parts.{Object, NamesParts, LabelsObject}
 use Rattle.shape_terms.specs.Adjacency.{Near}
 use Rattle.measure_terms.specs.Facts.{near_count, exposed, at_rim}
 use Rattle.measure_terms.specs.Measures.{Span, Measures}
+use Rattle.measure_terms.specs.Feret.{Feret, IsFeret}
 
 -- the points of the component with a number, in raster order
 abbrev pub component : Picture → List ℕ → ℕ → List Point
@@ -50,3 +51,7 @@ pub record MeasuresComponents (X : Picture) (squares : List ℕ) (left : Picture
   pub all : NamesParts Near (Object X) (length table) (λ p. slice_index labels (raster_number X.sides p))
   pub each : (k : ℕ) (d : Measures) → k < length table
       → AreMeasuresOf X (λ p. slice_index squares (raster_number X.sides p)) left (component X labels (k + 1)) (slice_index_or table k d)
+
+-- the first n components, by their labels, have these Feret diameters
+pub record FeretsComponents (X : Picture) (labels : List ℕ) (n : ℕ) (ferets : List Feret) : Type 0 where
+  pub each : (k : ℕ) (d : Feret) → k < n → IsFeret X.sides (Contains (component X labels (k + 1))) (slice_index_or ferets k d)

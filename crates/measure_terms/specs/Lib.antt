@@ -4,4 +4,5 @@ pub mod OneMore
 pub mod Rounding
 pub mod Tables
 pub mod Components
+pub mod Feret
 pub mod Texts

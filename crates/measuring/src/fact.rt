@@ -1,11 +1,11 @@
 //! What is known of one point of the box.
 //! A further column may want one more field here, and its word in `Facts`.
-ghost use Rattle.std.specs.Prelude.{◌≡◌, ◌<◌, ◌≤◌, ◌+◌, ◌^◌, IsTrue, ℕ, List, length, slice_index, nat_abs, pos, negsuc};
+ghost use Rattle.std.specs.Prelude.{◌≡◌, ◌<◌, ◌≤◌, ◌^◌, IsTrue, nat_abs, pos, negsuc};
 ghost use Rattle.shape_terms.specs.Points.{coordinate, sides_of, in_box, box_count, raster_point};
 ghost use Rattle.shape_terms.specs.Pictures.{at};
 ghost use Rattle.shape_terms.specs.FramedBox.{IsWithin};
-ghost use Rattle.measure_terms.specs.Facts.{at_end, at_rim, near_count, exposed, neighbours, fact_at};
-ghost use Rattle.measuring.specs.Told.{fact_told};
+ghost use Rattle.measure_terms.specs.Facts.{at_end, at_rim, near_count, exposed, neighbours};
+ghost use Rattle.measuring.specs.Told.{TellsFact};
 
 use shape_adj::Pairing;
 use shape_grid::Grid;
@@ -110,7 +110,7 @@ pub(crate) fn fact_of<P: Pairing>(
     i: u32,
 ) -> Fact<P>
     requires { i < box_count left.now.sides }
-    ensures told { (squares labels : List ℕ) → part ≡ slice_index labels i → square ≡ slice_index squares i → fact_told P.coords result ≡ fact_at object.now squares left.now labels i }
+    ensures told { TellsFact P.coords object.now left.now part square i result }
     ensures inside { IsTrue (in_box left.now.sides (P.coords result.point)) }
     ensures exposed { result.exposed ≤ 6 }
     ensures number { P.coords result.point ≡ raster_point left.now.sides result.number }

@@ -17,6 +17,7 @@ pub use columns::{Columns, NoColumns};
 pub use csv::Csv;
 pub use fact::Fact;
 pub use law::table_measures_components;
+pub use round::root;
 pub use row::Measures;
 pub use span::Span;
 pub use table::{Table, measure};

@@ -16,7 +16,7 @@ pub(crate) fn mean(sum: u64, count: u32) -> u64
 }
 
 /// The square root of a number, in thousandths, rounded to nearest.
-pub(crate) fn root(square: u64) -> u128
+pub fn root(square: u64) -> u128
     ensures value { result ≡ root square }
     ensures nearest { IsRoot square result }
 {

@@ -1,11 +1,11 @@
 //! The table of a picture: the measures of each component of its object, counted in one pass over the box.
 //! What is known of a point stands in `fact`, what a point adds to its object in `count`.
-ghost use Rattle.std.specs.Prelude.{◌≡◌, ◌<◌, ◌≤◌, ◌+◌, [], ℕ, List, map, length, IfOk};
+ghost use Rattle.std.specs.Prelude.{◌≡◌, ◌<◌, ◌≤◌, ◌+◌, [], map, length, IfOk};
 ghost use Rattle.shape_terms.specs.Points.{box_count};
 ghost use Rattle.measure_terms.specs.Facts.{facts, facts_below};
 ghost use Rattle.measure_terms.specs.Measures.{greatest};
 ghost use Rattle.measure_terms.specs.Tables.{rows};
-ghost use Rattle.measuring.specs.Told.{measures_told};
+ghost use Rattle.measuring.specs.Told.{measures_told, AreEmptyRows};
 ghost use Rattle.measuring.specs.TellsTable.{TellsTable};
 
 use crate::fact::fact_of;
@@ -40,7 +40,7 @@ fn greatest_label(labels: &Labels, count: u32) -> u32
 
 // So many rows without a point.
 fn empty_rows(alloc: Global, count: u32) -> Result<Vec<Measures>, NoMemory>
-    ensures { IfOk result (λ all. (sides : List ℕ) → map (measures_told sides) all.items ≡ rows count []) }
+    ensures { IfOk result (λ all. AreEmptyRows count all.items) }
 {
     let mut all = Vec::new(alloc);
     for i in 0..count {

@@ -5,7 +5,7 @@ use measure_report::{Outcome, run};
 use std::test::Fail;
 
 const FLAT: &str =
-    "object,area,left,top,right,bottom,x,y,radius,cx,cy,skeleton,ends,junctions,touches,holes,border,hole_border\n";
+    "object,area,left,top,right,bottom,x,y,radius,cx,cy,skeleton,ends,junctions,touches,holes,border,hole_border,feret,from_x,from_y,to_x,to_y\n";
 
 // A report of a volume, in which one point is deleted, and one line is about a point outside.
 const VOLUME: &str = "shape 1 raw 2 1 2 none\n\
@@ -31,17 +31,32 @@ near 3 3 3 4 0\n\
 del 4 0\n\
 end\n";
 
+// An arch, four pairs of whose points are at the greatest distance, and a point alone.
+const ARCH: &str = "shape 1 pbm 5 3 none\n\
+near 1 0 1 -1 1\n\
+near 4 0 5 0 1\n\
+near 0 1 -1 1 1\n\
+near 2 1 3 1 1\n\
+near 0 2 -1 2 1\n\
+near 2 2 3 2 1\n\
+end\n";
+
 // Reports, and the rows of their tables.
-const TABLES: [(&str, &str, &str); 4] = [
+const TABLES: [(&str, &str, &str); 5] = [
     (
         RING,
         FLAT,
-        "1,8,0,0,2,2,1.000,1.000,1.000,0,0,4,0,0,1,1,10.828,2.828\n",
+        "1,8,0,0,2,2,1.000,1.000,1.000,0,0,4,0,0,1,1,10.828,2.828,2.828,0,0,2,2\n",
     ),
     (
         TWO,
         FLAT,
-        "1,2,4,0,4,1,4.000,0.500,1.000,4,0,1,0,0,1,0,0.000,0.000\n2,4,1,1,3,3,1.750,2.000,1.414,1,1,4,1,1,1,0,0.000,0.000\n",
+        "1,2,4,0,4,1,4.000,0.500,1.000,4,0,1,0,0,1,0,0.000,0.000,1.000,4,0,4,1\n2,4,1,1,3,3,1.750,2.000,1.414,1,1,4,1,1,1,0,0.000,0.000,2.828,1,1,3,3\n",
+    ),
+    (
+        ARCH,
+        FLAT,
+        "1,5,0,0,2,2,1.000,1.200,1.000,1,0,5,2,0,1,0,0.000,0.000,2.236,1,0,2,2\n2,1,4,0,4,0,4.000,0.000,1.000,4,0,1,0,0,1,0,0.000,0.000,0.000,4,0,4,0\n",
     ),
     ("shape 1 pbm 2 2 none\nend\n", FLAT, ""),
     (VOLUME, VOLUME_TABLE, ""),
