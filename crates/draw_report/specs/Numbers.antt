@@ -18,7 +18,7 @@ place_text x y = codes "<text x=\"" ++ (decimal (1000 * x) ++ (codes "\" y=\"" +
 
 -- a number with its middle at x and y
 abbrev pub number_text : (n x y : ℕ) → List ℕ
-number_text n x y = place_text x y ++ (codes "\">" ++ (decimal n ++ codes "</text>\n"))
+number_text n x y = place_text x y ++ (codes "\" dy=\".35em\">" ++ (decimal n ++ codes "</text>\n"))
 
 -- a number at a point
 abbrev pub number_at : ℕ → Point → List ℕ
@@ -37,7 +37,7 @@ digit_size w h = 16000 / scale w h
 
 -- the text that opens the layer: digits in purple, with a white outline
 abbrev pub opening : ℕ → List ℕ
-opening size = codes "<g transform=\"scale(.001)\" font-family=\"sans-serif\" font-size=\"" ++ (decimal size ++ codes "\" text-anchor=\"middle\" dominant-baseline=\"central\" fill=\"#909\" stroke=\"#fff\" stroke-width=\".2em\" paint-order=\"stroke\">\n")
+opening size = codes "<g transform=\"scale(.001)\" font-family=\"sans-serif\" font-size=\"" ++ (decimal size ++ codes "\" font-weight=\"bold\" text-anchor=\"middle\" fill=\"#909\" stroke=\"#fff\" stroke-width=\".2em\" paint-order=\"stroke\">\n")
 
 -- the layer on a picture with these sides
 abbrev pub number_layer : List ℕ → List Point → List ℕ

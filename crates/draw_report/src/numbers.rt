@@ -48,7 +48,7 @@ fn put_number(number: usize, x: usize, y: usize, svg: &mut Svg) -> Result<(), No
     ensures { OnOk result (svg.new ≡ svg.old ++ number_text number x y) }
 {
     put_place(x, y, svg)?;
-    svg.put(b"\">")?;
+    svg.put(b"\" dy=\".35em\">")?;
     svg.count(number)?;
     svg.put(b"</text>\n")?;
     Ok(())
@@ -89,7 +89,7 @@ fn open(sides: Sides<P2>, svg: &mut Svg) -> Result<(), NoMemory>
     svg.put(b"<g transform=\"scale(.001)\" font-family=\"sans-serif\" font-size=\"")?;
     svg.count(16000 / scale_of(sides))?;
     svg.put(
-        b"\" text-anchor=\"middle\" dominant-baseline=\"central\" fill=\"#909\" stroke=\"#fff\" stroke-width=\".2em\" paint-order=\"stroke\">\n",
+        b"\" font-weight=\"bold\" text-anchor=\"middle\" fill=\"#909\" stroke=\"#fff\" stroke-width=\".2em\" paint-order=\"stroke\">\n",
     )?;
     Ok(())
 }
