@@ -47,14 +47,62 @@ def pruned(lines, place):
     first = first_word(lines[place])
     if first not in COUNTED:
         return None
-    counter, k = COUNTED[first]
-    above = max(j for j in range(place) if first_word(lines[j]) == counter)
-    words = lines[above].split(" ")
-    words[k] = str(int(words[k]) - 1)
+    above, k = counter_of(lines, place)
     out = set(range(place, block_end(lines, place) if first in ("seg", "piece") else place + 1))
     if first in ("seg", "arc"):
         before = sum(first_word(line) == first for line in lines[above:place])
         out |= set(gap_lines(lines, place, before))
     left = [line for j, line in enumerate(lines) if j not in out]
-    left[above] = " ".join(words)
+    left[above] = counted_anew(lines[above], k, -1)
     return left
+
+
+def counter_of(lines, place):
+    """The place of the line that tells how many lines there are of the kind of the one at a place, and which of its words does."""
+    first = first_word(lines[place])
+    counter, k = COUNTED[first]
+    return max(j for j in range(place) if first_word(lines[j]) == counter), k
+
+
+def counted_anew(line, k, change):
+    """The line with one of its numbers changed by so much."""
+    words = line.split(" ")
+    words[k] = str(int(words[k]) + change)
+    return " ".join(words)
+
+
+def without_least(lines, place):
+    """The lines without `least` lines, with a heading that says so, and where the line at a place stands then."""
+    left = [line for line in lines if first_word(line) != "least"]
+    left[0] = left[0].replace("shape 2", "shape 1", 1)
+    return left, place - sum(first_word(line) == "least" for line in lines[:place])
+
+
+def grown(draw, lines, place):
+    """The lines with a part of a segment or arc put in before or behind it, or its end in the next round before the first one."""
+    above, k = counter_of(lines, place)
+    first, b, e, *rest = lines[place].split(" ")
+    b, e, n = int(b), int(e), int(lines[above].split(" ")[4])
+    before = min(j for j in range(above, len(lines)) if first_word(lines[j]) == first)
+    behind = block_end(lines, place) if first == "seg" else place + 1
+    part, at = ((0, e - n), before) if e >= n else draw.choice((((b + 1, e), behind), ((b, e - 1), place)))
+    put = [" ".join([first, str(part[0]), str(part[1])] + rest)]
+    if lines[place + 1].startswith("least "):
+        put.append(lines[place + 1])
+    return lines[:above] + [counted_anew(lines[above], k, 1)] + lines[above + 1 : at] + put + lines[at:]
+
+
+def without_counted(lines, place):
+    """The lines without all that the line at a place counts, which says 0 then; None where it counts none."""
+    kinds = {counter: k for first, (counter, k) in COUNTED.items() if first != "at"}
+    first = first_word(lines[place])
+    if first not in kinds:
+        return None
+    gone = {"contour": {"seg", "least"} | GAPS, "cycle": {"arc"} | GAPS, "chain": {"piece"} | GAPS, "patch": {"on", "off"}, "balls": {"ball"}}[first]
+    end = place + 1
+    while end < len(lines) and first_word(lines[end]) in gone | {"at"}:
+        end += 1
+    words = lines[place].split(" ")
+    words[kinds[first]] = "0"
+    inner = [line for line in lines[place + 1 : end] if first_word(line) == "at"]
+    return lines[:place] + [" ".join(words)] + inner + lines[end:]

@@ -81,7 +81,7 @@ class Comparison:
     # ---- changed reports
 
     def change(self, picture, reports):
-        """Changes a report at a line of the kind and in the way that came least often, and compares the answers."""
+        """Changes a report at a line of the kind and in the way that came least often for its share, and compares the answers."""
         report, place, way, text = self.changed(picture, reports)
         bad, told = first_bad(report.reading.read, picture, text)
         what = "%s, line %d, %s" % (report.kind, place + 1, way.__name__)
@@ -89,11 +89,11 @@ class Comparison:
         if bad is None:
             self.agree(picture, "what it shows: " + what, True, report.reading.shows(picture, told), text)
         self.held += bad is None
-        self.cases[report.kind, report.kinds[place], way.__name__] += 1
+        self.cases[report.kind, report.kinds[place], way] += 1
 
     def changed(self, picture, reports):
         cases = dict.fromkeys((report.kind, first, way) for report in reports for first in report.kinds for way in WAYS)
-        for kind, first, way in sorted(cases, key=lambda case: (self.cases[case[0], case[1], case[2].__name__], self.draw.random())):
+        for kind, first, way in sorted(cases, key=lambda case: (self.cases[case] / WAYS[case[2]], self.draw.random())):
             report = self.draw.choice([report for report in reports if report.kind == kind and first in report.kinds])
             place = self.draw.choice([k for k, word in enumerate(report.kinds) if word == first])
             others = [other.lines for other in reports if other is not report]
@@ -114,7 +114,7 @@ class Comparison:
         """The one line of what was compared."""
         ways, kinds = Counter(), Counter()
         for (report, first, way), count in self.cases.items():
-            ways[way] += count
+            ways[way.__name__] += count
             kinds["%s %s" % (report, first)] += count
         numbers = ["%d pictures, %d volumes: no difference" % (self.sizes[2], self.sizes[3]), "reports: " + listed(self.made), "files: " + listed(self.files)]
         numbers += ["%d changed reports, of which %d hold" % (sum(ways.values()), self.held), "changes: " + listed(ways), "lines: " + listed(kinds)]

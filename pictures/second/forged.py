@@ -4,7 +4,7 @@ A way gives nothing where the line does not lend itself. Whether a changed repor
 """
 import re
 
-from second.blocks import block_end, exchanged_blocks, pruned
+from second.blocks import block_end, exchanged_blocks, grown, pruned, without_counted, without_least
 from second.weakened import other_evidence
 
 NUMBERS = (0, 1, 2, 3, 2**31 - 1, 2**31, 2**32 - 1, 2**32, 2**63 - 1, 2**63, 2**64, -1, -(2**31), -(2**31) - 1, -(2**63), -(2**63) - 1)
@@ -80,7 +80,7 @@ def spelling(forging):
 
 def evidence(forging):
     """Other evidence: weaker, as weak, or right as well."""
-    line = other_evidence(forging.draw, forging.picture, forging.line)
+    line = other_evidence(forging.draw, forging.picture, forging.lines, forging.place)
     return None if line is None else forging.with_line(line)
 
 
@@ -141,6 +141,22 @@ def consistent(forging):
     return None if lines is None else text_of(lines)
 
 
+def added(forging):
+    """A segment or an arc put in beside one that holds it, with the number before it that counts them made greater; in half the cases without `least` lines."""
+    lines, draw = forging.lines, forging.draw
+    if not forging.line.startswith(("seg ", "arc ")):
+        return None
+    if draw.random() < 0.5:
+        lines, forging.place = without_least(lines, forging.place)
+    return text_of(grown(draw, lines, forging.place))
+
+
+def emptied(forging):
+    """What a line counts left out as a whole, and the number 0 in its place."""
+    lines = without_counted(forging.lines, forging.place)
+    return None if lines is None else text_of(lines)
+
+
 def heading(forging):
     """The heading with its sides turned over, of another report, or of a report without `least` lines, with them or without."""
     words, lines, draw = forging.line.split(" "), forging.lines, forging.draw
@@ -155,8 +171,9 @@ def heading(forging):
         return forging.with_line(draw.choice(forging.others)[0])
     if words[:2] != ["shape", "2"]:
         return forging.with_line(" ".join([words[0], str(int(words[1]) + draw.choice((-1, 1)))] + words[2:]))
-    lines[0] = " ".join(["shape", "1"] + words[2:])
-    return text_of(lines if way == 2 else [line for line in lines if not line.startswith("least ")])
+    if way == 2:
+        return forging.with_line(" ".join(["shape", "1"] + words[2:]))
+    return text_of(without_least(lines, 0)[0])
 
 
 # ---- bytes
@@ -207,7 +224,8 @@ def behind(forging):
     return text + forging.draw.choice((b"\n", b"end\n", b" ", b"\0", text, b"x" * 2000, b"near 0 0 0 1 1\n"))
 
 
-WAYS = (
-    field, word_count, spelling, evidence, dropped, doubled, exchanged, moved, foreign, stranger, sections, section_dropped, consistent, heading, byte, bit, cut,
-    longer, behind,
-)
+# Each way, and how often it comes beside the others.
+WAYS = {
+    field: 4, word_count: 1, spelling: 1, evidence: 20, dropped: 1, doubled: 1, exchanged: 1, moved: 1, foreign: 3, stranger: 1, sections: 1, section_dropped: 1,
+    consistent: 4, added: 10, emptied: 3, heading: 10, byte: 2, bit: 1, cut: 1, longer: 1, behind: 2,
+}

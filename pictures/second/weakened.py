@@ -116,10 +116,27 @@ def other_line(draw, words, coefficients):
     return spelled(*numbers)
 
 
-def other_stretch(draw, words):
-    """A first and a last place, one of them moved."""
+def line_on(draw, t, run):
+    """The coefficients and the bound of a line of the axis that holds a run and may not be proper, where a few tries find one."""
+    for _ in range(40):
+        a = [draw.randint(-6, 6), draw.randint(-6, 6)]
+        values = [a[0] * x + a[1] * y for x, y in run]
+        if values and max(values) - min(values) < a[t]:
+            return spelled(*a, min(values))
+    return None
+
+
+def other_stretch(draw, words, n):
+    """A first and a last place on a path of n points, one of them moved, both a round on, or the last before the first."""
     b, e = whole(words)
-    return spelled(*draw.choice(((b + 1, e), (b - 1, e), (b, e + 1), (b, e - 1), (b + 1, e + 1))))
+    moved = ((b + 1, e), (b - 1, e), (b, e + 1), (b, e - 1), (b + 1, e + 1), (b + n, e + n), (b, e + n), (b, b - 1), (b, b))
+    return spelled(*((b, e + 1) if draw.random() < 0.4 else draw.choice(moved)))
+
+
+def other_count(draw, words):
+    """A number of points or cracks, and how many lines come of them, one of these another."""
+    n, m = whole(words)
+    return spelled(*draw.choice(((n + 1, m), (n - 1, m), (n, m + 1), (n, m - 1), (n, 0), (n, n), (n, n + 1))))
 
 
 def other_places(draw, words):
@@ -136,13 +153,12 @@ def other_places(draw, words):
 
 
 def other_near(draw, picture, words):
-    """The point, another background point and its squared distance: as near, further away, or the one of a wrong distance."""
+    """The point, another point beside it and a squared distance: one of the background or of the object, as near or further away."""
     axes = picture.axes
     p = tuple(whole(words[:axes]))
-    dark = [q for q in picture.framed if q not in picture.points]
-    as_near = [q for q in dark if square(p, q) == picture.square[p]]
-    q = draw.choice(as_near if draw.random() < 0.5 else dark)
-    return spelled(*p, *q, draw.choice((square(p, q), square(p, q), picture.square[p])))
+    as_near = [q for q in picture.framed if square(p, q) == picture.square.get(p, 1)]
+    q = draw.choice(as_near or picture.framed if draw.random() < 0.6 else picture.framed)
+    return spelled(*p, *q, draw.choice((square(p, q), picture.square.get(p, 1))))
 
 
 def other_point(draw, words):
@@ -164,19 +180,58 @@ def other_own(draw, picture, words):
 # ---- lines of reports
 
 
-def other_evidence(draw, picture, line):
-    """The line with other evidence; none where it has no evidence of its own."""
-    first, *words = line.split(" ")
-    axes = picture.axes
+def path_of(picture, lines, place):
+    """The points or corners of the contour, chain or cycle that the line at a place belongs to."""
+    paths = picture.cycles if lines[0].startswith("edges") else picture.contours
+    k = sum(line.split(" ")[0] in ("contour", "chain", "cycle") for line in lines[: place + 1])
+    return paths[k - 1][1]
+
+
+def other_segment(draw, path, words):
+    """The words of a `seg` or `piece` line with another stretch, or with another line, which mostly holds it."""
+    b, e = whole(words[:2])
+    t = "xy".index(words[2])
+    way = draw.randrange(3)
+    if way == 0:
+        return other_stretch(draw, words[:2], len(path)) + words[2:]
+    held = line_on(draw, t, [path[k % len(path)] for k in range(b, e + 1)]) if way == 1 else None
+    return words[:3] + (held or other_line(draw, words[3:], 2))
+
+
+def other_arc(draw, path, words):
+    """The words of an `arc` line with another stretch, with another sign, or with another line."""
+    way = draw.randrange(3)
+    if way == 0:
+        return other_stretch(draw, words[:2], len(path)) + words[2:]
+    if way == 1:
+        signs = draw.choice(("++", "+-", "-+", "--"))
+        return words[:2] + list(signs) + words[4:]
+    return words[:4] + other_line(draw, words[4:], 2)
+
+
+def other_ball(draw, picture, words):
+    """The words of a `ball` line with another nearest point, with another own point, or of a ball round any point."""
+    k, way = 2 * picture.axes + 1, draw.randrange(5)
+    if way <= 1:
+        return other_near(draw, picture, words[:k]) + words[k:]
+    if way <= 3:
+        return words[:k] + other_own(draw, picture, words)
+    p, q = draw.choice(picture.framed), draw.choice(picture.framed)
+    return spelled(*p, *q, square(p, q), *p)
+
+
+def other_evidence(draw, picture, lines, place):
+    """The line at a place with other evidence; none where it has no evidence of its own."""
+    first, *words = lines[place].split(" ")
     if first in ("cut", "off", "fold"):
         k = {"cut": 1, "off": 3, "fold": 0}[first]
         words[k:] = other_weights(draw, words[k:])
-    elif first in ("seg", "piece") and draw.random() < 0.3 or first == "arc" and draw.random() < 0.3:
-        words[:2] = other_stretch(draw, words[:2])
     elif first in ("seg", "piece"):
-        words[3:] = other_line(draw, words[3:], 2)
+        words = other_segment(draw, path_of(picture, lines, place), words)
     elif first == "arc":
-        words[4:] = other_line(draw, words[4:], 2)
+        words = other_arc(draw, path_of(picture, lines, place), words)
+    elif first in ("contour", "chain", "cycle"):
+        words[3:] = other_count(draw, words[3:])
     elif first == "patch":
         words[1:] = other_line(draw, words[1:], 3)
     elif first == "least":
@@ -185,10 +240,8 @@ def other_evidence(draw, picture, line):
         words[-2:] = other_places(draw, words[-2:])
     elif first == "near":
         words = other_near(draw, picture, words)
-    elif first == "ball" and draw.random() < 0.5:
-        words[: 2 * axes + 1] = other_near(draw, picture, words[: 2 * axes + 1])
     elif first == "ball":
-        words[2 * axes + 1 :] = other_own(draw, picture, words)
+        words = other_ball(draw, picture, words)
     elif first in ("at", "on", "del", "tip"):
         words = other_point(draw, words)
     else:
