@@ -3,11 +3,9 @@
 `read` takes the lines of a report of the picture and gives the segments, gaps and patches that it tells. What a section claims stands in `contours` and `faces`.
 """
 from second import contours, faces
-from second.picture import RULES
-from second.texts import COUNT, POINTS, WEIGHT, need, number, several, word
 from second.geometry import square
-
-SIDES = number(1, 2**32 - 1)
+from second.picture import RULES
+from second.texts import COUNT, LENGTH, POINTS, WEIGHT, need, several, word
 
 
 def read(picture, lines):
@@ -23,7 +21,7 @@ def read(picture, lines):
 def read_heading(picture, lines):
     """The number of the report, and the name of its rule."""
     versions = word("1", "2") if picture.axes == 2 else word("1")
-    version, _, sides, rule = lines.line("shape", versions, word(picture.word), several(SIDES, picture.axes), word(*RULES))
+    version, _, sides, rule = lines.line("shape", versions, word(picture.word), several(LENGTH, picture.axes), word(*RULES))
     need(sides == picture.sides)
     return int(version), rule
 

@@ -1,12 +1,11 @@
 """A second reading of ball reports of pictures and volumes: each line by its claim, and the union of the balls point by point."""
-from second.analysis import SIDES
 from second.geometry import raster, square
-from second.texts import COUNT, POINTS, WEIGHT, need, several, word
+from second.texts import COUNT, LENGTH, POINTS, WEIGHT, need, several, word
 
 
 def read(picture, lines):
     """The balls: the centre, the squared distance and the own point of each."""
-    version, _, sides, m = lines.line("balls", word("1"), word(picture.word), several(SIDES, picture.axes), COUNT)
+    version, _, sides, m = lines.line("balls", word("1"), word(picture.word), several(LENGTH, picture.axes), COUNT)
     need(sides == picture.sides and m <= len(picture.points))
     balls = []
     for _ in range(m):

@@ -2,11 +2,10 @@
 import functools
 import itertools
 
-from second.analysis import SIDES
 from second.cracks import arc, maximal_runs
 from second.digital import refutes
 from second.geometry import minus
-from second.texts import COUNT, LONG, POINTS, SIDE, WEIGHT, WHY, need, several, word
+from second.texts import COUNT, LENGTH, LONG, POINTS, SIDE, WEIGHT, WHY, need, several, word
 
 SIGNS = {"+": 1, "-": -1}
 
@@ -29,7 +28,7 @@ def holds(run, h, v, a, c, mu):
 
 def read(picture, lines):
     """For each cycle its corners and the first and last places of its arcs."""
-    version, sides = lines.line("edges", word("1"), several(SIDES, 2))
+    version, sides = lines.line("edges", word("1"), several(LENGTH, 2))
     need(sides == picture.sides)
     told = [read_cycle(start, path, lines) for start, path in picture.cycles]
     lines.line("end")

@@ -6,6 +6,7 @@ import functools
 import itertools
 
 
+@functools.lru_cache(None)
 def near_steps(axes):
     """The steps to the points that share a side, an edge or a corner."""
     return [step for step in itertools.product((-1, 0, 1), repeat=axes) if any(step)]
@@ -67,15 +68,12 @@ def components(points, steps):
 
 def is_simple(points, p):
     """Whether a point of the set is simple in it."""
-    return _is_simple_among(len(p), tuple(plus(p, step) in points for step in _near(len(p))))
-
-
-_near = functools.lru_cache(None)(near_steps)
+    return is_simple_among(len(p), tuple(plus(p, step) in points for step in near_steps(len(p))))
 
 
 @functools.lru_cache(None)
-def _is_simple_among(axes, held):
-    """The same by the truth values of its near neighbours: simple points are counted with neighbours told from the point on."""
+def is_simple_among(axes, held):
+    """The same by which of its near neighbours are in the set; all points are told from the point on."""
     light = {step for step, is_held in zip(near_steps(axes), held) if is_held}
     sides = set(side_steps(axes))
     dark = components([step for step in edge_steps(axes) if step not in light], side_steps(axes))
@@ -84,4 +82,4 @@ def _is_simple_among(axes, held):
 
 def object_neighbours(points, p):
     """How many near neighbours of a point are in the set."""
-    return sum(plus(p, step) in points for step in _near(len(p)))
+    return sum(plus(p, step) in points for step in near_steps(len(p)))

@@ -1,16 +1,15 @@
 """A second reading of piece reports: each line by its claim, and the fewest pieces by a search over all splits."""
 import itertools
 
-from second.analysis import SIDES
 from second.contours import is_straight, read_gap
 from second.cracks import arc
 from second.digital import holds, is_proper, is_straight_for, keeps_sense
-from second.texts import AXES, COUNT, LONG, POINTS, ROWS, SIDE, need, several, word
+from second.texts import AXES, COUNT, LENGTH, LONG, POINTS, ROWS, SIDE, need, several, word
 
 
 def read(picture, lines):
     """For each contour its points, how many pieces it has, and the runs that are refused."""
-    version, sides = lines.line("pieces", word("1"), several(SIDES, 2))
+    version, sides = lines.line("pieces", word("1"), several(LENGTH, 2))
     need(sides == picture.sides)
     told = [read_chain(start, points, lines) for start, points in picture.contours]
     lines.line("end")

@@ -108,6 +108,7 @@ COUNT = number(0, 2**32 - 1)
 WEIGHT = number(0, 2**63 - 1)
 LONG = number(-(2**63), 2**63 - 1)
 SIDE = number(0, 3)
+LENGTH = number(1, 2**32 - 1)
 POINTS = [several(number(-(2**31), 2**31 - 1), axes) for axes in range(4)]
 ROWS = [several(LONG, axes) for axes in range(4)]
 AXES = [letter("xyz"[:axes]) for axes in range(4)]
