@@ -1,118 +1,54 @@
 """A second reading of piece reports: each line by its claim, and the fewest pieces by a search over all splits."""
-import functools
 import itertools
 
-from second.cracks import arc, contour, cycles
-from second.geometry import COUNT, LONG, coordinates, minus, number, read_weights, refutes
+from second.contours import is_straight, read_gap
+from second.cracks import arc
+from second.digital import holds, is_proper, is_straight_for, keeps_sense
+from second.texts import AXES, COUNT, LENGTH, LONG, POINTS, ROWS, SIDE, need, several, word
 
 
-def changes(run, axis):
-    """The differences of the other coordinate along a run."""
-    return [minus(q, p)[1 - axis] for p, q in zip(run, run[1:])]
+def read(picture, lines):
+    """For each contour its points, how many pieces it has, and the runs that are refused."""
+    version, sides = lines.line("pieces", word("1"), several(LENGTH, 2))
+    need(sides == picture.sides)
+    told = [read_chain(start, points, lines) for start, points in picture.contours]
+    lines.line("end")
+    return told
 
 
-def keeps_sense(run, axis):
-    return all(d == 1 for d in changes(run, axis)) or all(d == -1 for d in changes(run, axis))
+def read_chain(start, points, lines):
+    pixel, side, n, k = lines.line("chain", POINTS[2], SIDE, COUNT, COUNT)
+    need((pixel, side) == start and n == len(points) and 1 <= k <= n)
+    place, gaps = 0, []
+    for j in range(k):
+        b, e = read_piece(points, place, j == k - 1, lines)
+        if j < k - 1:
+            gaps += [read_gap(axis, arc(points, b, e + 1), lines) for axis in (0, 1)]
+        place = e + 1
+    return points, k, gaps
 
 
-def is_straight_for(run, axis):
-    """Whether some naive line of the axis holds the run: a search over all with main coefficients of at most its length."""
-    if not keeps_sense(run, axis):
-        return False
-    for main in range(1, len(run) + 1):
-        for other in range(-main, main + 1):
-            values = [main * p[axis] + other * p[1 - axis] for p in run]
-            if max(values) - min(values) < main:
-                return True
-    return False
+def read_piece(points, place, is_last, lines):
+    """The next piece, which begins at this place."""
+    b, e, t, a, mu = lines.line("piece", COUNT, COUNT, AXES[2], ROWS[2], LONG)
+    last = len(points) - 1
+    need(b == place and b <= e and (e == last if is_last else e < last))
+    run = points[b : e + 1]
+    need(is_proper(t, a) and holds(t, a, mu, run) and keeps_sense(t, run))
+    return b, e
 
 
 def fewest_pieces(points):
     """The least number of straight runs that make up the points in their order, over all splits."""
     n = len(points)
-
-    @functools.lru_cache(None)
-    def straight(b, e):
-        return is_straight_for(points[b : e + 1], 0) or is_straight_for(points[b : e + 1], 1)
-
     least = [0] * (n + 1)
     for b in reversed(range(n)):
-        ends = itertools.takewhile(lambda e: straight(b, e), range(b, n))
+        ends = itertools.takewhile(lambda e: is_straight(points[b : e + 1]), range(b, n))
         least[b] = min(1 + least[e + 1] for e in ends)
     return least[0]
 
 
-class PieceReport:
-    """A judge of the lines of a piece report, which takes the definitions word for word."""
-
-    first_word = "pieces"
-
-    def __init__(self, picture):
-        self.sides = picture.sides
-        self.contours = [(cycle[0], contour(picture.points, cycle)) for cycle in cycles(picture.points)]
-        self.opened, self.ended, self.begun = False, False, 0
-        self.points, self.declared, self.pieces, self.gaps = [], 0, [], 0
-
-    def has_pieces(self):
-        return len(self.pieces) == self.declared
-
-    def take_pieces(self, words):
-        good = not self.opened and words[0] == "1" and coordinates(words[1:]) == self.sides
-        self.opened = True
-        return good
-
-    def take_chain(self, words):
-        good = self.opened and self.has_pieces() and self.begun < len(self.contours)
-        start, self.points = self.contours[self.begun]
-        x, y = coordinates(words[:2])
-        side, n, k = number(words[2], 0, 3), number(words[3], *COUNT), number(words[4], *COUNT)
-        self.begun, self.declared, self.pieces, self.gaps = self.begun + 1, k, [], 0
-        return good and len(words) == 5 and start == ((x, y), side) and n == len(self.points) and 1 <= k <= n
-
-    def take_piece(self, words):
-        b, e = (number(word, *COUNT) for word in words[:2])
-        axis = "xy".index(words[2])
-        a, mu = coordinates(words[3:5], *LONG), number(words[5], *LONG)
-        n, count = len(self.points), len(self.pieces)
-        good = len(words) == 6 and count < self.declared and (count == 0 or self.gaps == 2)
-        good = good and b == (self.pieces[-1][1] + 1 if self.pieces else 0) and b <= e
-        good = good and (e == n - 1 if count + 1 == self.declared else e < n - 1)
-        if not good:
-            return False
-        run = arc(self.points, b, e)
-        self.pieces.append((b, e))
-        self.gaps = 0
-        proper = a[axis] >= 1 and abs(a[1 - axis]) <= a[axis]
-        return proper and keeps_sense(run, axis) and all(mu <= a[0] * x + a[1] * y < mu + a[axis] for x, y in run)
-
-    def gap_run(self, axis):
-        """The run of the last piece with the next point, where a gap line of this axis comes next; else none."""
-        if not (self.pieces and not self.has_pieces() and self.gaps < 2 and axis == self.gaps):
-            return None
-        self.gaps += 1
-        b, e = self.pieces[-1]
-        return arc(self.points, b, e + 1)
-
-    def take_turn(self, words):
-        axis = "xy".index(words[0])
-        i, j = (number(word, *COUNT) for word in words[1:])
-        run = self.gap_run(axis)
-        if run is None:
-            return False
-        turns = changes(run, axis)
-        return i < len(turns) and j < len(turns) and (turns[i], turns[j]) not in ((1, 1), (-1, -1))
-
-    def take_cut(self, words):
-        axis = "xy".index(words[0])
-        read_weights(words[1:], 2)
-        run = self.gap_run(axis)
-        return run is not None and refutes(axis, run, words[1:])
-
-    def take_end(self, words):
-        self.ended = not words and self.opened and self.has_pieces() and self.begun == len(self.contours)
-        return self.ended
-
-    def shows(self, lines):
-        """Whether a report that holds has for each contour as many pieces as the shortest of all its splits."""
-        told = [int(text.split()[-1]) for text in lines if text.startswith("chain ")]
-        return told == [fewest_pieces(tuple(points)) for _, points in self.contours]
+def shows(picture, told):
+    """Whether each contour has as many pieces as the shortest of all its splits, and no refused run is straight for its axis."""
+    fewest = all(count == fewest_pieces(points) for points, count, _ in told)
+    return fewest and not any(is_straight_for(gap.axis, gap.run) for _, _, gaps in told for gap in gaps)

@@ -1,0 +1,51 @@
+"""The built programs, and the files that they are run on."""
+import os
+import subprocess
+
+from second.picture import file_of
+
+
+class Difference(Exception):
+    """The programs and the second reading do not say the same."""
+
+
+class Programs:
+    """The programs of a folder of crates, in a folder of files."""
+
+    def __init__(self, crates, folder):
+        self.crates, self.folder, self.source = crates, folder, []
+
+    def path(self, name):
+        return os.path.join(self.folder, name)
+
+    def write(self, name, data):
+        with open(self.path(name), "wb") as out:
+            out.write(data)
+        return self.path(name)
+
+    def run(self, name, *words):
+        """What a program writes, and its status."""
+        program = os.path.join(self.crates, name, "out", name)
+        done = subprocess.run([program, *words], stdout=subprocess.PIPE, stderr=subprocess.PIPE, close_fds=False, check=False)
+        if done.returncode not in (0, 1) or done.stderr:
+            raise Difference("%s %s: status %d, %r" % (name, " ".join(words), done.returncode, done.stderr))
+        return done.stdout, done.returncode
+
+    def lay(self, picture):
+        """Writes the file of a picture, which later calls read."""
+        path = self.write("picture.pbm" if picture.axes == 2 else "picture.raw", file_of(picture))
+        self.source = ["pbm", path] if picture.axes == 2 else ["raw", *map(str, picture.sides), path]
+
+    def made(self, form, *rule):
+        """The report of the picture of a form."""
+        return self.run("shape", form, *self.source, *rule)[0]
+
+    def checked(self, form, text):
+        """The number of the first bad line of a text, None where the program says yes."""
+        out, status = self.run("shape", form, *self.source, self.write("report", text))
+        if (out, status) == (b"yes\n", 0):
+            return None
+        words = out.decode("latin-1").split(" ")
+        if status != 1 or words[0] != "no" or len(words) != 2 or words[1] != "%d\n" % int(words[1]):
+            raise Difference("%s: status %d, %r" % (form, status, out))
+        return int(words[1])
