@@ -1,14 +1,18 @@
 """What a run writes for all its images together: `objects.csv`, `pictures.csv`, `summary.txt` and `made.json`."""
 from __future__ import annotations
 
+import platform
 from collections.abc import Iterator
 from pathlib import Path
 from typing import Any
+
+import numpy as np
 
 from . import __version__
 from .batch import Image
 from .faults import Fault
 from .files import encoded, read_json, write, write_json
+from .images import pillow_version
 from .making import Plan, Record
 from .pictures import told_sides
 from .programs import sums
@@ -22,11 +26,15 @@ _JOINED = {"objects.csv": ".csv", "networks.csv": ".network.csv", "branches.csv"
 def finish(images: list[Image], plan: Plan, pixel: Pixel | None, options: dict[str, Any]) -> None:
     """Writes the tables, the summary and the record of a run. A Fault where the folder cannot be written."""
     records = [record for image in images for record in image.records]
-    for name, table in tables_of(plan.folder, records, pixel).items():
+    tables = tables_of(plan.folder, records, pixel)
+    for name, table in tables.items():
         write(plan.folder / name, table)
+    for name in _JOINED.keys() - tables.keys():
+        (plan.folder / name).unlink(missing_ok=True)
     write(plan.folder / "summary.txt", encoded("".join(line + "\n" for line in summary(images, plan, pixel))))
     made = {
         "shapefront": __version__,
+        "versions": {"Python": platform.python_version(), "numpy": np.__version__, "Pillow": pillow_version()},
         "programs": sums(),
         "options": options,
         "pixel": {"size": str(pixel.size), "unit": pixel.unit} if pixel else None,
@@ -37,7 +45,8 @@ def finish(images: list[Image], plan: Plan, pixel: Pixel | None, options: dict[s
 
 def _told(image: Image) -> dict[str, Any]:
     pictures = [f"{_key(record)}.json" for record in image.records]
-    return {"image": image.name, "sum": image.source, "pictures": pictures, "failure": image.failure}
+    thresholds = [record["cut"]["threshold"] for record in image.records if record["cut"]]
+    return {"image": image.name, "sum": image.source, "thresholds": thresholds, "pictures": pictures, "failure": image.failure}
 
 
 def _key(record: Record) -> str:
