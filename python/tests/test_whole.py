@@ -54,7 +54,7 @@ class TwelveImages(InFolder):
         "labels.tif": ["if these are labels, give --labels"],
         "clear.png": ["objects dark (the frame is light)", "transparent paper made white"],
         "rocket.jpg": ["chosen by Otsu", "colours made grey"],
-        "board.tif": ["it has two values"],
+        "board.tif": ["chosen by Otsu", "objects dark (the frame is light)"],
         "camera.pgm": ["chosen by Otsu"],
     }
     FAILED = {
