@@ -12,11 +12,12 @@ from pathlib import Path
 from .arrays import report_of, verdict
 from .faults import Fault
 from .files import read_json, shown
-from .folder import parts, pictures, run_of
+from .folder import run_of, tables_of
+from .networks import Network, part, parts_of
 from .pictures import Source
+from .products import DRAWINGS
 from .programs import call, explained, has
 from .report import counts_of, text_of
-from .tables import objects, spelled_rows
 from .why import reason as reason_of
 
 # The words of `shape` that make and check each kind of report, by the report's first word.
@@ -85,11 +86,11 @@ def _plain(text: bytes, report: Path) -> Iterator[Path]:
 
 def check_folder(folder: Path, jobs: int = 1) -> Iterator[Finding]:
     """Each report of a folder against its picture, with its table and its drawing, `jobs` at once; at last the tables of all."""
-    reports = sorted(path for path in folder.rglob("*") if path.name.endswith((".report", ".report.gz")) and not _is_hidden(path, folder))
+    reports = [path for path in folder.rglob("*") if path.name.endswith((".report", ".report.gz")) and not _is_hidden(path, folder)]
     if not reports:
         raise Fault(shown(folder), "no report is in this folder", "reports are files whose names end in .report or .report.gz")
     with ThreadPoolExecutor(jobs) as pool:
-        yield from pool.map(_check_beside, reports)
+        yield from pool.map(_check_beside, sorted(reports, key=lambda report: (report.parent, _stem(report))))
     yield from _check_tables(folder)
 
 
@@ -98,14 +99,20 @@ def _is_hidden(path: Path, folder: Path) -> bool:
     return any(part.startswith(".") for part in path.relative_to(folder).parts)
 
 
+def _stem(report: Path) -> str:
+    return report.name.removesuffix(".gz").removesuffix(".report")
+
+
 def _check_beside(report: Path) -> Finding:
     """The finding on a report and what lies beside it; where no check can be made, that is why."""
-    stem = report.name.removesuffix(".gz").removesuffix(".report")
+    stem = _stem(report)
     name = shown(report.with_name(stem))
     try:
         return _check_all(name, stem, report)
     except Fault as fault:
         return Finding(name, False, f"{fault.reason}" + (f"; {fault.remedy}" if fault.remedy else ""))
+    except (KeyError, ValueError, ArithmeticError):
+        return Finding(name, False, "the reports and tables of its network do not fit together; measure again into an empty folder")
 
 
 def _check_all(name: str, stem: str, report: Path) -> Finding:
@@ -117,21 +124,36 @@ def _check_all(name: str, stem: str, report: Path) -> Finding:
     if record is not None and (record.get("parts"), record.get("kept")) != counts_of(report):
         return Finding(name, False, f"the report holds, but its record {stem}.json says other counts")
     for words, written in _made_of(report, stem, record or {}):
-        if written.exists() and not has(words[0]):
-            left_out.append(f"{shown(written)} was not checked: {words[0]} is not found")
-        elif written.exists() and not _is_written(words, report, written):
-            return Finding(name, False, f"the report holds, but {shown(written)} is not what {words[0]} makes of it")
+        program = words[0][0]
+        if written.exists() and not has(program):
+            left_out.append(f"{shown(written)} was not checked: {program} is not found")
+        elif written.exists() and not any(_is_written(choice, report, written) for choice in words):
+            return Finding(name, False, f"the report holds, but {shown(written)} is not what {program} makes of it")
+    for written, data in _arranged(report.with_name(stem)):
+        if not written.exists() or written.read_bytes() != data:
+            return Finding(name, False, f"the report holds, but {shown(written)} is not what the reports and tables of its parts say")
     return Finding(name, True, ", ".join(left_out))
 
 
-def _made_of(report: Path, stem: str, record: dict) -> Iterator[tuple[tuple[str, ...], Path]]:
-    """The files that are made of a report, there or not, each with the program and its words."""
-    yield ("shape_measure",), report.with_name(stem + ".csv")
-    yield ("shape_draw",), report.with_name(stem + ".svg")
+def _made_of(report: Path, stem: str, record: dict) -> Iterator[tuple[tuple[tuple[str, ...], ...], Path]]:
+    """The files that are made of a report, there or not, each with the program and its words, of which any may have made it."""
+    yield (("shape_measure",),), report.with_name(stem + ".csv")
+    yield DRAWINGS, report.with_name(stem + ".svg")
+    yield (("shape_mask", "skeleton"),), part(report.with_name(stem), "skeleton", ".pbm")
     for kind in record.get("masks", []):
         for name in record.get("files", {}):
             if name.startswith(f"{stem}.{kind}.") and "/" not in name:
-                yield ("shape_mask", kind), report.with_name(name)
+                yield (("shape_mask", kind),), report.with_name(name)
+
+
+def _arranged(stem: Path) -> Iterator[tuple[Path, bytes]]:
+    """The files that are arranged from the parts of a network, where it has these: what they have to be."""
+    skeleton = part(stem, "skeleton", ".pbm")
+    if skeleton.exists():
+        for name, data in parts_of(skeleton.read_bytes()).items():
+            yield part(stem, name, ".pbm"), data
+        for suffix, table in Network.of(stem).arranged().items():
+            yield stem.with_name(f"{stem.name}.{suffix}"), table
 
 
 def _is_written(words: tuple[str, ...], report: Path, written: Path) -> bool:
@@ -160,12 +182,10 @@ def _check_tables(folder: Path) -> Iterator[Finding]:
         run = run_of(folder)
         if run is None:
             return
-        records, pixel = run
-        tables = {"pictures.csv": lambda: pictures(records), "objects.csv": lambda: objects(parts(folder, records), pixel)}
-        for name, rows in tables.items():
+        for name, data in tables_of(folder, *run).items():
             table = folder / name
             if table.exists():
-                holds = table.read_bytes() == spelled_rows(rows())
+                holds = table.read_bytes() == data
                 yield Finding(shown(table), holds, "" if holds else "it is not what the records and tables of the pictures say")
     except Fault as fault:
         yield Finding(shown(fault.about), False, fault.reason)

@@ -1,30 +1,40 @@
 """What a run writes for all its images together: `objects.csv`, `pictures.csv`, `summary.txt` and `made.json`."""
 from __future__ import annotations
 
+import platform
 from collections.abc import Iterator
 from pathlib import Path
 from typing import Any
+
+import numpy as np
 
 from . import __version__
 from .batch import Image
 from .faults import Fault
 from .files import encoded, read_json, write, write_json
+from .images import pillow_version
 from .making import Plan, Record
 from .pictures import told_sides
 from .programs import sums
-from .tables import Part, Row, objects, spelled_rows
+from .tables import Part, Row, joined, spelled_rows
 from .units import Pixel
+
+# The tables of all pictures together, and what the names of a picture's own end in.
+_JOINED = {"objects.csv": ".csv", "networks.csv": ".network.csv", "branches.csv": ".branches.csv"}
 
 
 def finish(images: list[Image], plan: Plan, pixel: Pixel | None, options: dict[str, Any]) -> None:
     """Writes the tables, the summary and the record of a run. A Fault where the folder cannot be written."""
     records = [record for image in images for record in image.records]
-    write(plan.folder / "pictures.csv", spelled_rows(pictures(records)))
-    if any(has_table(record) for record in records):
-        write(plan.folder / "objects.csv", spelled_rows(objects(parts(plan.folder, records), pixel)))
+    tables = tables_of(plan.folder, records, pixel)
+    for name, table in tables.items():
+        write(plan.folder / name, table)
+    for name in _JOINED.keys() - tables.keys():
+        (plan.folder / name).unlink(missing_ok=True)
     write(plan.folder / "summary.txt", encoded("".join(line + "\n" for line in summary(images, plan, pixel))))
     made = {
         "shapefront": __version__,
+        "versions": {"Python": platform.python_version(), "numpy": np.__version__, "Pillow": pillow_version()},
         "programs": sums(),
         "options": options,
         "pixel": {"size": str(pixel.size), "unit": pixel.unit} if pixel else None,
@@ -35,22 +45,29 @@ def finish(images: list[Image], plan: Plan, pixel: Pixel | None, options: dict[s
 
 def _told(image: Image) -> dict[str, Any]:
     pictures = [f"{_key(record)}.json" for record in image.records]
-    return {"image": image.name, "sum": image.source, "pictures": pictures, "failure": image.failure}
+    thresholds = [record["cut"]["threshold"] for record in image.records if record["cut"]]
+    return {"image": image.name, "sum": image.source, "thresholds": thresholds, "pictures": pictures, "failure": image.failure}
 
 
 def _key(record: Record) -> str:
     return record["image"] if record["label"] is None else f"{record['image']}.label{record['label']}"
 
 
-def has_table(record: Record) -> bool:
-    """Whether a picture has a table of its objects."""
-    return Path(_key(record)).name + ".csv" in record["files"]
+def tables_of(folder: Path, records: list[Record], pixel: Pixel | None) -> dict[str, bytes]:
+    """The tables of a run, by the names of their files, as its records and the tables of its pictures give them."""
+    tables = {"pictures.csv": spelled_rows(pictures(records))}
+    for name, suffix in _JOINED.items():
+        if own := list(_parts(folder, records, suffix)):
+            tables[name] = spelled_rows(joined(own, pixel))
+    return tables
 
 
-def parts(folder: Path, records: list[Record]) -> Iterator[Part]:
-    """The tables of the pictures that have one, as they are in the folder. A Fault where one cannot be read."""
-    for record in filter(has_table, records):
-        path = folder / (_key(record) + ".csv")
+def _parts(folder: Path, records: list[Record], suffix: str) -> Iterator[Part]:
+    """The tables of this kind of the pictures that have one, as they are in the folder. A Fault where one cannot be read."""
+    for record in records:
+        path = folder / (_key(record) + suffix)
+        if path.name not in record["files"]:
+            continue
         try:
             yield Part(record["image"], record["label"], record["fit"], path.read_text())
         except (OSError, UnicodeDecodeError) as error:

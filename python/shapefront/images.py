@@ -35,6 +35,15 @@ def pillow():
     return Image, ImageOps
 
 
+def pillow_version() -> str | None:
+    """The version of Pillow; None where it is not installed."""
+    try:
+        import PIL
+    except ImportError:
+        return None
+    return PIL.__version__
+
+
 def load(path: Path, labels: bool = False) -> Grey:
     """The grey values of an image's file; of one with a palette the numbers of its colours where labels are wanted.
 

@@ -26,6 +26,8 @@ def measure(words: argparse.Namespace) -> int:
     """`shapes measure` and `shapes volume`: all that the images give, in one folder."""
     pixel, is_volume, settings = pixel_of(words), words.command == "volume", settings_of(words)
     find("shape")
+    if words.network:
+        _network(words)
     images, passed = images_of(words.images, is_volume)
     if passed:
         print(f"passed over, as their names are not those of images: {passed} of the files", file=sys.stderr)
@@ -42,13 +44,21 @@ def measure(words: argparse.Namespace) -> int:
         raise Fault("-o", "the folder of the images themselves", "choose another one for what is written")
     make_folder(words.folder)
     clear_aside(words.folder)
-    plan = Plan(words.folder, words.rule, words.gzip, tuple(dict.fromkeys(words.masks)))
+    plan = Plan(words.folder, words.rule, words.gzip, tuple(dict.fromkeys(words.masks)), words.network)
     convert = volumes_of if is_volume else pictures_of
     run(images, plan, lambda path, name: convert(path, name, settings), words.jobs)
     finish(images, plan, pixel, options_of(words))
     failed = sum(image.failure is not None for image in images)
     print(f"{len(images) - failed} of {len(images)} measured, in {words.folder}: summary.txt tells how")
     return FAILED if failed else DONE
+
+
+def _network(words: argparse.Namespace) -> None:
+    """A Fault where no networks can be measured: by another rule of the thinning, or without the programs for it."""
+    if words.rule != "curve":
+        raise Fault("--network", f"the rule {words.rule} does not keep the ends of branches", "leave out --rule")
+    find("shape_mask")
+    find("shape_measure")
 
 
 def check(words: argparse.Namespace) -> int:

@@ -13,12 +13,12 @@ from dataclasses import asdict, dataclass
 from pathlib import Path
 from typing import Any
 
-from .arrays import verdict
 from .convert import Picture
 from .faults import Fault
 from .files import gzipped, read_json, shown, sum_of, sum_of_bytes, write_json
-from .pictures import Source, sides_of, spelled, suffix_of
-from .programs import call, explained, has, made, sums
+from .pictures import sides_of, spelled, suffix_of
+from .products import draw, measured, write_mask, write_network
+from .programs import has, sums
 from .report import counts_of
 
 _ASIDE = ".making-"
@@ -27,12 +27,13 @@ Record = dict[str, Any]
 
 @dataclass(frozen=True)
 class Plan:
-    """Where the files go, the rule of the thinning, whether reports are gzipped, and the masks that are wanted beside them."""
+    """Where the files go, the rule of the thinning, whether reports are gzipped, and the masks and the networks that are wanted."""
 
     folder: Path
     rule: str
     gzip: bool = False
     masks: tuple[str, ...] = ()
+    network: bool = False
 
 
 def make(picture: Picture, plan: Plan) -> Record:
@@ -58,7 +59,7 @@ def _head(picture: Picture, plan: Plan) -> Record:
     """What says how a picture's files are made: equal heads, equal files."""
     return {
         "image": picture.image, "label": picture.label, "sides": list(sides_of(picture.mask)), "fit": picture.fit,
-        "cut": asdict(picture.cut) if picture.cut else None, "notes": list(picture.notes), "rule": plan.rule, "gzip": plan.gzip, "masks": list(plan.masks),
+        "cut": asdict(picture.cut) if picture.cut else None, "notes": list(picture.notes), "rule": plan.rule, "gzip": plan.gzip, "masks": list(plan.masks), "network": plan.network,
         "picture": sum_of_bytes(spelled(picture.mask)), "programs": sums(),
     }  # fmt: skip
 
@@ -93,46 +94,17 @@ def clear_aside(folder: Path) -> None:
 
 def _products(picture: Picture, plan: Plan, work: Path) -> Record:
     """Writes the files of a picture into the folder `work`; what the record says of them."""
-    name = Path(picture.key).name
-    image, report = work / (name + suffix_of(picture.mask)), work / (name + ".report")
+    stem = work / Path(picture.key).name
+    image = stem.with_name(stem.name + suffix_of(picture.mask))
     image.write_bytes(spelled(picture.mask))
-    source = Source.of(image)
-    with open(report, "wb") as out:
-        made("shape", "analyse", *source.words, plan.rule, out=out, about=picture.key)
-    answer = verdict(source, report)
-    if not answer:
-        raise Fault(picture.key, f"its fresh report does not hold ({answer})", "this must never be: is the disk or the memory broken?")
-    if has("shape_measure"):
-        with open(work / (name + ".csv"), "wb") as out:
-            made("shape_measure", report, out=out, about=picture.key)
-    _draw(report, work / (name + ".svg"), picture.key)
+    report = measured(image, stem, plan.rule, picture.key)
+    draw(report, stem, picture)
     for kind in plan.masks if has("shape_mask") else ():
-        _mask(kind, report, work / f"{name}.{kind}", picture)
+        write_mask(kind, report, stem, picture)
+    if plan.network:
+        write_network(stem, report, picture)
     counts = dict(zip(("parts", "kept"), counts_of(report)))
-    if plan.gzip:
-        report.with_name(report.name + ".gz").write_bytes(gzipped(report.read_bytes()))
-        report.unlink()
+    for path in sorted(work.glob("*.report")) if plan.gzip else ():
+        path.with_name(path.name + ".gz").write_bytes(gzipped(path.read_bytes()))
+        path.unlink()
     return counts
-
-
-def _draw(report: Path, drawing: Path, about: str) -> None:
-    """Draws a report, where the program is there and draws reports of this kind."""
-    if not has("shape_draw"):
-        return
-    with open(drawing, "wb") as out:
-        answer = call("shape_draw", report, out=out)
-    if answer.status:
-        drawing.unlink()
-        if answer.message != "a report of a volume":
-            raise explained(about, answer)
-
-
-def _mask(kind: str, report: Path, path: Path, picture: Picture) -> None:
-    """Writes a picture of what a report says: a PBM or a PGM, or of a volume raw bytes, whose sides its name tells."""
-    with open(path, "wb") as out:
-        made("shape_mask", kind, report, out=out, about=picture.key)
-    with open(path, "rb") as file:
-        suffix = {b"P1": ".pbm", b"P4": ".pbm", b"P2": ".pgm", b"P5": ".pgm"}.get(file.read(2), "")
-    if picture.mask.ndim == 3:
-        suffix = suffix_of(picture.mask) if kind != "distances" else suffix_of(picture.mask).removesuffix("raw") + "16bit.raw"
-    os.replace(path, path.with_name(path.name + suffix))

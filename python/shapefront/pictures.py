@@ -10,6 +10,7 @@ import numpy as np
 from .faults import Fault
 from .programs import SIDE_FLAT, SIDE_SOLID
 
+_PBM = re.compile(rb"P4\s(\d+)\s(\d+)\s")
 _SIDES_IN_NAME = re.compile(r"\.(\d+)x(\d+)x(\d+)\.raw$")
 
 
@@ -33,6 +34,16 @@ def spelled(mask: np.ndarray) -> bytes:
     if mask.ndim == 2:
         return b"P4\n%d %d\n" % sides_of(mask) + np.packbits(mask, axis=1).tobytes()
     return mask.astype(np.uint8).tobytes()
+
+
+def pbm_mask(data: bytes) -> np.ndarray:
+    """The picture in the bytes of a raw PBM without comments, as the programs and `spelled` write it."""
+    head = _PBM.match(data)
+    if head is None:
+        raise Fault("a mask", "no raw PBM", "was it changed?")
+    width, height = map(int, head.groups())
+    rows = np.frombuffer(data, np.uint8, offset=head.end()).reshape(height, -1)
+    return np.unpackbits(rows, axis=1, count=width).astype(bool)
 
 
 def checked_mask(mask: np.ndarray, name: str = "the array") -> np.ndarray:

@@ -132,6 +132,11 @@ class Analysis:
         return self._image(self.points, self.distances)
 
     @cached_property
+    def square_image(self) -> np.ndarray:
+        """The squared distances as an image, with 0 at background points."""
+        return self._image(self.points, self.squares)
+
+    @cached_property
     def skeleton_mask(self) -> np.ndarray:
         """The skeleton as an image of booleans: the object points that no `del` line takes away."""
         left = self.mask.copy()

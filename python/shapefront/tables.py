@@ -1,7 +1,6 @@
-"""The tables of a folder: `objects.csv` with a row for each object of all images, `pictures.csv` with a row for each picture.
+"""Tables as rows of words: those of all pictures in one, each row with its image's name and its lengths and areas in a unit.
 
-The rows come out of the tables that `shape_measure` wrote and out of lines of reports. Nothing is computed but products with
-the pixel's size.
+Nothing is computed but products with the pixel's size.
 """
 from __future__ import annotations
 
@@ -19,7 +18,7 @@ Row = list[str]
 
 @dataclass(frozen=True)
 class Part:
-    """One picture's table, with what the rows of `objects.csv` say of the picture."""
+    """One picture's table, with what the rows of all of them say of the picture."""
 
     image: str
     label: int | None
@@ -31,14 +30,19 @@ def rows_of(table: str) -> list[Row]:
     return list(csv.reader(io.StringIO(table)))
 
 
+def dicts_of(table: str) -> list[dict[str, str]]:
+    """The rows of a table, each with its values by the names of their columns."""
+    return list(csv.DictReader(io.StringIO(table)))
+
+
 def spelled_rows(rows: Iterable[Row]) -> bytes:
     out = io.StringIO()
     csv.writer(out, lineterminator="\n").writerows(rows)
     return encoded(out.getvalue())
 
 
-def objects(parts: Iterable[Part], pixel: Pixel | None) -> Iterator[Row]:
-    """The rows of `objects.csv`, the header first. A Fault where a picture's table has another header than the first one's."""
+def joined(parts: Iterable[Part], pixel: Pixel | None) -> Iterator[Row]:
+    """The rows of all tables, the header first. A Fault where a picture's table has another header than the first one's."""
     parts, header = list(parts), None
     labels, fits = any(part.label is not None for part in parts), any(part.fit > 1 for part in parts)
     for part in parts:

@@ -6,8 +6,11 @@ from decimal import Context, Decimal, InvalidOperation
 
 from .faults import Fault
 
-# The power of the pixel's size that a column of `shape_measure` is in. A column that is not here has no unit, or is a place.
-POWERS = {"area": 2, "border": 1, "hole_border": 1, "feret": 1, "radius": 1, "voxels": 3, "sides": 2}
+# The power of the pixel's size that a column of a table is in. A column that is not here has no unit, or is a place.
+POWERS = {
+    **{"area": 2, "border": 1, "hole_border": 1, "feret": 1, "radius": 1, "voxels": 3, "sides": 2},
+    **{"length": 1, "width": 1, "mean_width": 1},
+}
 _DIGITS = Context(prec=9)
 
 

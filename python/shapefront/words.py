@@ -91,10 +91,16 @@ def parser() -> argparse.ArgumentParser:
     words = top.add_subparsers(dest="command", required=True, metavar="COMMAND")
     measure = words.add_parser("measure", help="images to tables, drawings and reports", epilog=_STATUS)
     measure.add_argument("images", nargs="+", type=Path, metavar="IMAGE", help="an image, or a folder of images")
+    measure.add_argument(
+        "--network",
+        action="store_true",
+        help="also measure each skeleton as a network: networks.csv, and branches.csv with a row for each branch",
+    )
     volume = words.add_parser("volume", help="the same for volumes", epilog=_STATUS)
     volume.add_argument(
         "images", nargs="+", type=Path, metavar="VOLUME", help="a folder of slices, a TIFF of several pages, or a .npy file [z, y, x]"
     )
+    volume.set_defaults(network=False)
     for part in (measure, volume):
         _making(part)
     check = words.add_parser(

@@ -24,8 +24,13 @@ def installed(*packages: str) -> bool:
     return all(importlib.util.find_spec(package) for package in packages)
 
 
+def needs_programs(*names: str):
+    return unittest.skipUnless(all(map(programs.has, names)), f"not all of the programs {', '.join(names)} are built")
+
+
 needs_shape = unittest.skipUnless(programs.has("shape"), "the program shape is not built")
 needs_draw = unittest.skipUnless(programs.has("shape_draw"), "the program shape_draw is not built")
+slow = unittest.skipUnless(os.environ.get("SHAPES_SLOW"), "it takes minutes: set SHAPES_SLOW=1")
 needs_pillow = unittest.skipUnless(installed("PIL"), "Pillow is not installed")
 
 

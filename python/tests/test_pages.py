@@ -13,7 +13,7 @@ import tempfile
 import unittest
 from pathlib import Path
 
-from .common import ROOT, installed, needs_shape
+from .common import ROOT, installed, needs_shape, slow
 
 from shapefront import programs
 
@@ -39,6 +39,7 @@ def blocks(page):
     return found
 
 
+@slow
 @needs_shape
 @unittest.skipUnless(installed("skimage", "PIL"), "scikit-image is not installed")
 class Pages(unittest.TestCase):

@@ -4,7 +4,7 @@ import unittest
 from .common import ROOT  # noqa: F401  (puts the package on the path)
 
 from shapefront import Fault
-from shapefront.tables import Part, objects
+from shapefront.tables import Part, joined
 from shapefront.units import Pixel
 
 
@@ -24,16 +24,16 @@ class Units(unittest.TestCase):
 
     def test_the_table_of_all(self):
         table = "object,area,left,border\n1,100,3,40.000\n2,7,9,11.500\n"
-        rows = list(objects([Part("a.png", None, 1, table), Part("b.png", None, 2, table)], Pixel.given("0.5", "mm")))
+        rows = list(joined([Part("a.png", None, 1, table), Part("b.png", None, 2, table)], Pixel.given("0.5", "mm")))
         self.assertEqual(rows[0], ["image", "fit", "object", "area", "left", "border", "area_mm2", "border_mm"])
         self.assertEqual(rows[1], ["a.png", "1", "1", "100", "3", "40.000", "25", "20"])
         self.assertEqual(rows[4], ["b.png", "2", "2", "7", "9", "11.500", "7", "11.5"])
         self.assertEqual(len(rows), 5)
 
     def test_labels_and_no_unit(self):
-        rows = list(objects([Part("a.png", 3, 1, "object,area\n1,5\n")], None))
+        rows = list(joined([Part("a.png", 3, 1, "object,area\n1,5\n")], None))
         self.assertEqual(rows, [["image", "label", "object", "area"], ["a.png", "3", "1", "5"]])
 
     def test_other_columns_are_refused(self):
         with self.assertRaisesRegex(Fault, "b.png: its table has other columns"):
-            list(objects([Part("a.png", None, 1, "object,area\n"), Part("b.png", None, 1, "object,voxels\n")], None))
+            list(joined([Part("a.png", None, 1, "object,area\n"), Part("b.png", None, 1, "object,voxels\n")], None))

@@ -1,0 +1,127 @@
+"""Networks: the skeleton of a picture, its branches and its junctions as pictures of their own, measured by the proved programs.
+
+A junction is a connected set of points of the skeleton with three neighbours or more, and a branch one of its other points. Each
+is a picture's object, so all lengths, points and places of `networks.csv` and `branches.csv` come out of reports and tables.
+"""
+from __future__ import annotations
+
+from collections.abc import Iterator
+from dataclasses import dataclass
+from decimal import Decimal
+from pathlib import Path
+
+import numpy as np
+
+from .faults import Fault
+from .pictures import pbm_mask, spelled
+from .report import Analysis, read
+from .tables import Row, dicts_of, spelled_rows
+
+PARTS = ("skeleton", "branches", "junctions")
+MADE = ("network.csv", "branches.csv")
+BRANCHES = ["branch", "length", "width", "ends", "junctions", "points", "from_x", "from_y", "to_x", "to_y"]
+NETWORKS = ["pieces", "holes", "area", "length", "mean_width", "branches", "ends", "junctions"]
+
+_THOUSANDTH = Decimal("0.001")
+# How much longer the edge of an object is than the line through the middles of its outermost pixels, all round.
+_EDGE = Decimal(8).sqrt()
+
+
+def split(skeleton: np.ndarray) -> tuple[np.ndarray, np.ndarray]:
+    """The points of a skeleton that have at most two neighbours among the eight around them, and the others."""
+    are_junctions = skeleton & (_neighbours(skeleton) >= 3)
+    return skeleton & ~are_junctions, are_junctions
+
+
+def _neighbours(mask: np.ndarray) -> np.ndarray:
+    """For each point how many of the eight around it are true."""
+    height, width = mask.shape
+    wide = np.pad(mask, 1).astype(np.uint8)
+    steps = [(y, x) for y in range(3) for x in range(3) if (y, x) != (1, 1)]
+    return sum(wide[y : y + height, x : x + width] for y, x in steps)
+
+
+def part(stem: Path, name: str, suffix: str) -> Path:
+    """A file of a part of the network of the picture whose files' names begin with `stem`."""
+    return stem.with_name(f"{stem.name}.network-{name}{suffix}")
+
+
+def parts_of(skeleton: bytes) -> dict[str, bytes]:
+    """The pictures of all parts, by their names, of a skeleton's picture."""
+    branches, junctions = split(pbm_mask(skeleton))
+    return {"skeleton": skeleton, "branches": spelled(branches), "junctions": spelled(junctions)}
+
+
+@dataclass(frozen=True)
+class Network:
+    """What was measured of a network: the report of its picture, and of each of its parts the report and the table."""
+
+    whole: Analysis
+    reports: dict[str, Analysis]
+    tables: dict[str, str]
+
+    @classmethod
+    def of(cls, stem: Path) -> Network:
+        """The network whose files' names begin with `stem`. A Fault where one of them cannot be read."""
+        try:
+            tables = {name: part(stem, name, ".csv").read_text() for name in PARTS}
+        except OSError as error:
+            raise Fault(error.filename, f"cannot be read ({error.strerror})", "measure again into an empty folder") from error
+        reports = {name: _report(part(stem, name, ".report")) for name in PARTS}
+        return cls(_report(stem.with_name(stem.name + ".report")), reports, tables)
+
+    def branches(self) -> Iterator[Row]:
+        """The rows of its branches, in the order of their first points, the header first."""
+        yield BRANCHES
+        report, (_, junctions) = self.reports["branches"], split(self.whole.skeleton_mask)
+        squares, at_junctions = self.whole.square_image, _neighbours(junctions)
+        free, tips = _as_set(self.whole.tips), report.tips[np.lexsort(report.tips.T)]
+        outer = (contour for contour in report.contours if not contour.is_hole)
+        for row, contour in zip(dicts_of(self.tables["branches"]), outer, strict=True):
+            points = np.unique(contour.points, axis=0)
+            x, y = points.T
+            own = _as_set(points)
+            ends = [tip for tip in tips.tolist() if tuple(tip) in own] or (points.tolist() if len(points) == 1 else [])
+            places = [*ends[0], *ends[-1]] if ends else [""] * 4
+            counts = len(own & free), int(at_junctions[y, x].sum()), row["area"]
+            yield [str(word) for word in (row["object"], length(row), _width(squares[y, x]), *counts, *places)]
+
+    def total(self) -> Iterator[Row]:
+        """The row of the whole network, the header first."""
+        yield NETWORKS
+        pieces, (_, *branches) = dicts_of(self.tables["skeleton"]), self.branches()
+        total, area = sum(map(length, pieces), Decimal(0)), self.whole.parts.points
+        mean = (area / total).quantize(_THOUSANDTH) if total else ""
+        ends = sum(int(row[BRANCHES.index("ends")]) for row in branches)
+        junctions = len(dicts_of(self.tables["junctions"]))
+        counts = len(pieces), self.whole.parts.holes, area, total, mean, len(branches), ends, junctions
+        yield list(map(str, counts))
+
+    def arranged(self) -> dict[str, bytes]:
+        """Its tables, by the ends of their files' names."""
+        return dict(zip(MADE, (spelled_rows(self.total()), spelled_rows(self.branches()))))
+
+
+def length(row: dict[str, str]) -> Decimal:
+    """The length of a line one pixel thin, by its row in a table of `shape_measure`: half of the borders that go along it.
+
+    A border goes through the middles of the line's own pixels, by its segments; the table has it as the edge of an object, which
+    is longer by twice the root of 2 outside, and shorter by that in a hole.
+    """
+    borders = Decimal(row["border"]) + Decimal(row["hole_border"])
+    twice = max(borders - _EDGE * (1 - int(row["holes"])), Decimal(0))
+    return (twice / 2).quantize(_THOUSANDTH)
+
+
+def _width(squares: np.ndarray) -> Decimal:
+    """Twice the distance that is the median of those with these squares."""
+    median = int(np.sort(squares)[(len(squares) - 1) // 2])
+    return (2 * Decimal(median).sqrt()).quantize(_THOUSANDTH)
+
+
+def _as_set(points: np.ndarray) -> set[tuple[int, ...]]:
+    return set(map(tuple, points.tolist()))
+
+
+def _report(path: Path) -> Analysis:
+    return read(path if path.exists() else path.with_name(path.name + ".gz"))

@@ -1,0 +1,115 @@
+"""Networks: branches, ends, junctions, lengths and widths, beside the true ones of shapes of known measure."""
+import csv
+import subprocess
+import sys
+import unittest
+from decimal import Decimal
+from pathlib import Path
+
+import numpy as np
+
+from .common import ROOT, STORED, InFolder, needs_pillow, needs_programs, needs_shape
+
+from shapefront import read
+from shapefront.networks import length, split
+from shapefront.pictures import pbm_mask, spelled
+
+
+def drawn(name, *words):
+    """A shape of known measure from docs/shapes, in a file of this name."""
+    done = subprocess.run([sys.executable, ROOT / "docs" / "shapes", *map(str, words)], stdout=subprocess.PIPE, check=True)
+    Path(name).write_bytes(done.stdout)
+
+
+def table(path):
+    with open(path, newline="") as file:
+        return list(csv.DictReader(file))
+
+
+class Parts(unittest.TestCase):
+    def test_where_four_strokes_meet(self):
+        cross = np.zeros((7, 7), bool)
+        cross[3, :] = cross[:, 3] = True
+        branches, junctions = split(cross)
+        self.assertEqual(np.argwhere(junctions).tolist(), [[2, 3], [3, 2], [3, 3], [3, 4], [4, 3]])
+        np.testing.assert_array_equal(branches | junctions, cross)
+
+    def test_a_pbm_comes_back(self):
+        for width in (1, 7, 8, 9, 17):
+            mask = np.random.default_rng(width).random((5, width)) > 0.5
+            np.testing.assert_array_equal(pbm_mask(spelled(mask)), mask)
+
+    def test_lengths_of_lines_by_their_borders(self):
+        edge = 8**0.5
+        for border, hole_border, holes, true in ((2 * 20 + edge, 0, 0, "20.000"), (60 + edge, 60 - edge, 1, "60.000"), (2.828, 0, 0, "0.000")):
+            row = {"border": f"{border:.3f}", "hole_border": f"{hole_border:.3f}", "holes": str(holes)}
+            self.assertEqual(str(length(row)), true)
+
+
+@needs_shape
+@needs_pillow
+@needs_programs("shape_measure", "shape_mask")
+class KnownNetworks(InFolder):
+    def test_strokes_of_a_width(self):
+        widths = {"4.pbm": 4, "6.pbm": 6, "10.pbm": 10}
+        for name, width in widths.items():
+            drawn(name, "network", width)
+        self.assertEqual(self.shapes("measure", *widths, "--network", "--pixel-size", "0.5", "mm", "-o", "out")[0], 0)
+        for row in table("out/networks.csv"):
+            width = widths[row["image"]]
+            self.assertEqual([row[name] for name in ("pieces", "holes", "ends", "junctions", "branches")], ["1", "1", "4", "4", "8"])
+            self.assertLess(abs(float(row["length"]) / 700 - 1), 0.022)
+            self.assertLess(abs(float(row["mean_width"]) / width - 1), 0.03)
+            self.assertEqual(Decimal(row["length_mm"]), Decimal(row["length"]) / 2)
+            rows = [branch for branch in table("out/branches.csv") if branch["image"] == row["image"]]
+            rows.sort(key=lambda branch: float(branch["length"]))
+            for branch, true in zip(rows, sorted((58, 75, 70, 130, 70, 65, 150, 82)), strict=True):
+                self.assertTrue(-width - 3 <= float(branch["length"]) - true <= 3, branch)
+                self.assertLess(abs(float(branch["width"]) - width), 0.7)
+                self.assertEqual(int(branch["ends"]) + int(branch["junctions"]), 2)
+
+    def test_a_ring_is_one_branch_without_ends(self):
+        drawn("ring.pbm", "ring", 60, 80)
+        self.assertEqual(self.shapes("measure", "ring.pbm", "--network", "-o", "out")[0], 0)
+        (row,) = table("out/branches.csv")
+        self.assertEqual((row["ends"], row["junctions"], row["from_x"], row["width"]), ("0", "0", "", "20.000"))
+        self.assertLess(abs(float(row["length"]) / 439.82 - 1), 0.002)
+        self.assertEqual(table("out/networks.csv")[0]["junctions"], "0")
+
+    def test_every_number_is_one_of_a_report_or_a_table(self):
+        self.assertEqual(self.shapes("measure", STORED / "granite.pbm", STORED / "cross.pbm", "--network", "-o", "out")[0], 0)
+        for name in ("granite.pbm", "cross.pbm"):
+            own, total = table(f"out/{name}.branches.csv"), table(f"out/{name}.network.csv")[0]
+            rows = {part: table(f"out/{name}.network-{part}.csv") for part in ("skeleton", "branches", "junctions")}
+            report = read(f"out/{name}.report")
+            widths = {f"{2 * float(square) ** 0.5:.3f}" for square in report.squares}
+            tips = {tuple(map(str, point)) for point in read(f"out/{name}.network-branches.report").tips}
+            self.assertEqual([(row["branch"], row["points"]) for row in own], [(row["object"], row["area"]) for row in rows["branches"]])
+            for row, measured in zip(own, rows["branches"]):
+                line = (float(measured["border"]) + float(measured["hole_border"]) - 8**0.5 * (1 - int(measured["holes"]))) / 2
+                self.assertAlmostEqual(float(row["length"]), line, 2)
+                self.assertIn(row["width"], widths)
+                if row["points"] not in ("1", "0") and row["from_x"]:
+                    self.assertLessEqual({(row["from_x"], row["from_y"]), (row["to_x"], row["to_y"])}, tips)
+            self.assertEqual(sum(int(row["ends"]) for row in own), len(report.tips))
+            self.assertEqual([int(total[part]) for part in ("branches", "junctions")], [len(rows["branches"]), len(rows["junctions"])])
+            self.assertEqual((int(total["pieces"]), int(total["area"])), (len(rows["skeleton"]), report.parts.points))
+
+    def test_it_is_checked_and_made_again(self):
+        self.assertEqual(self.shapes("measure", STORED / "cross.pbm", "--network", "--gzip", "-o", "out")[0], 0)
+        names = ["cross.pbm", *(f"cross.pbm.network-{part}" for part in ("branches", "junctions", "skeleton"))]
+        tables = ["pictures.csv", "objects.csv", "networks.csv", "branches.csv"]
+        self.assertEqual(self.shapes("check", "out")[:2], (0, [f"out/{name}: yes" for name in names + tables]))
+        path = Path("out/cross.pbm.branches.csv")
+        text = path.read_text()
+        path.write_text(text.replace(",1,1,", ",2,1,", 1))
+        status, out, _ = self.shapes("check", "out")
+        self.assertEqual((status, out[0]), (1, f"out/cross.pbm: no, the report holds, but {path} is not what the reports and tables of its parts say"))
+        self.assertEqual(self.shapes("measure", STORED / "cross.pbm", "--network", "--gzip", "-o", "out")[0], 0)
+        self.assertEqual(path.read_text(), text)
+        self.assertEqual(self.shapes("measure", STORED / "cross.pbm", "-o", "out")[0], 0)
+        self.assertFalse([path for path in Path("out").iterdir() if "network" in path.name or "branches" in path.name])
+
+    def test_another_rule_is_refused(self):
+        status, _, error = self.shapes("measure", STORED / "cross.pbm", "--network", "--rule", "none", "-o", "out")
+        self.assertEqual((status, error), (2, ["shapes: --network: the rule none does not keep the ends of branches; leave out --rule"]))
