@@ -1,0 +1,5 @@
+pub mod Seen
+pub mod Layout
+pub mod Canvas
+pub mod Inks
+pub mod Dabs
