@@ -14,7 +14,7 @@ use Rattle.report_lines.specs.Said.{is_same_point, values_of}
 use Rattle.report_lines.proofs.SamePoints.{same_yes, same_not}
 use Rattle.report_lines.proofs.BoxValues.{value_of, values_same, values_equal, values_with}
 use Rattle.shape_space.specs.declared.point.P2.{P2}
-use Rattle.unfolding.specs.Seen.{flat, flats}
+use Rattle.drawing.specs.Seen.{flat, flats}
 use Rattle.unfolding.specs.Inks.{has_ink}
 use Rattle.unfolding.specs.declared.cell.Cell.{Cell}
 use Rattle.unfolding.specs.Canvas.{Dab, Canvas, nearer, cells_at, shown, canvas_of, cell_at, laid_on, laid_all}

@@ -1,1 +1,2 @@
 pub mod CanvasLaws
+pub mod DabLaws

@@ -3,3 +3,5 @@ pub mod Layout
 pub mod Canvas
 pub mod Inks
 pub mod Dabs
+pub mod Sheets
+pub mod Standing

@@ -2,7 +2,7 @@
 //! What the inks are is told in `sheet`.
 ghost use Rattle.std.specs.Prelude.{◌≡◌, [], IfOk, List, ℕ, filter};
 ghost use Rattle.shape_terms.specs.Points.{sides_of, box_points};
-ghost use Rattle.unfolding.specs.Seen.{flat, flats};
+ghost use Rattle.drawing.specs.Seen.{flat, flats};
 ghost use Rattle.unfolding.specs.Canvas.{canvas_of, cell_at, laid_on};
 ghost use Rattle.unfolding.specs.Inks.{has_ink, points_with};
 
@@ -21,7 +21,7 @@ pub struct Canvas {
 impl Model for Canvas {
     ghost use Rattle.std.specs.Prelude.{◌≡◌, length};
     ghost use Rattle.shape_terms.specs.Points.{sides_of, box_count};
-    ghost use Rattle.unfolding.specs.Seen.{flat};
+    ghost use Rattle.drawing.specs.Seen.{flat};
     ghost use Rattle.unfolding.specs.Canvas as Terms;
 
     ghost Value = { Terms.Canvas };

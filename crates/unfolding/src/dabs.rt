@@ -3,7 +3,8 @@
 ghost use Rattle.std.specs.Prelude.{◌≡◌, ◌∷◌, []};
 ghost use Rattle.shape_terms.specs.Points.{sides_of};
 ghost use Rattle.shape_report.specs.LineOf.{line_of};
-ghost use Rattle.unfolding.specs.Seen.{flat, solid};
+ghost use Rattle.drawing.specs.Seen.{flat};
+ghost use Rattle.unfolding.specs.Seen.{solid};
 ghost use Rattle.unfolding.specs.Layout.{IsBox, IsIn};
 ghost use Rattle.unfolding.specs.Canvas.{laid_all};
 ghost use Rattle.unfolding.specs.Dabs.{face_dab, point_dabs, line_dabs, view_cell, through, voxel_dabs, view_dabs};

@@ -2,7 +2,8 @@
 //! Another layout is a change of the tables here and of the same tables in `specs/Layout.antt`.
 ghost use Rattle.std.specs.Prelude.{◌≡◌, ◌<◌, ◌≤◌, IfSome, IsTrue};
 ghost use Rattle.shape_terms.specs.Points.{sides_of};
-ghost use Rattle.unfolding.specs.Seen.{flat, solid};
+ghost use Rattle.drawing.specs.Seen.{flat};
+ghost use Rattle.unfolding.specs.Seen.{solid};
 ghost use Rattle.unfolding.specs.Layout.{IsBox, IsIn, extent, voxel_in, gap, column, row, left, top, wide, high, across, down, place, depth, far, quarter, sheet_width, sheet_height, sheet_sides};
 
 use shape_space::{P2, P3, Sides};

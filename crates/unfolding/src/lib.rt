@@ -5,5 +5,9 @@
 mod canvas;
 mod cell;
 mod dabs;
+mod layers;
 mod layout;
 mod pen;
+mod sheet;
+
+pub use sheet::Sheet;

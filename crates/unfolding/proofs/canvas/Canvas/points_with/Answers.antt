@@ -1,7 +1,7 @@
 use Rattle.std.proofs.Common.{ap, sym, ◌∙◌, arith}
 use Rattle.std.specs.Prelude.{filter}
 use Rattle.shape_terms.specs.Points.{sides_of}
-use Rattle.unfolding.specs.Seen.{flat, flats}
+use Rattle.drawing.specs.Seen.{flat, flats}
 use Rattle.unfolding.specs.Canvas.{Canvas, cell_at}
 use Rattle.unfolding.specs.Inks.{has_ink}
 use Rattle.unfolding.proofs.CanvasLaws.{one_shows, none_shows, all_places}

@@ -1,7 +1,7 @@
 use Rattle.std.proofs.Common.{◌≡◌, take}
 use Rattle.std.specs.Prelude.{filter}
 use Rattle.shape_terms.specs.Points.{box_points}
-use Rattle.unfolding.specs.Seen.{flats}
+use Rattle.drawing.specs.Seen.{flats}
 use Rattle.unfolding.specs.Canvas.{cell_at}
 use Rattle.unfolding.specs.Inks.{has_ink}
 use Rattle.unfolding.proofs.canvas.Canvas.points_with.Given as goal
