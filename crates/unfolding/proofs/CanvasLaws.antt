@@ -1,16 +1,16 @@
 -- One more dab on a grid: the place at which it is laid shows the nearer of two cells, and each other place what it showed.
 -- Laws of lists and points; the program stands in none.
 use Rattle.std.proofs.Common.{◌≡◌, ◌≢◌, ◌<◌, ◌≤◌, ◌+◌, subst, inl, inr, ℕ, suc, append_assoc, Bool, true, false, List, [], ◌∷◌, ◌++◌, length, map, take, Option, None, get_or, set, replicate, refl, ap, sym, ◌∙◌, arith}
-use Rattle.std.specs.Prelude.{IsTrue, filter, fold, flat_map, cond}
+use Rattle.std.specs.Prelude.{filter, fold, flat_map, cond}
 use Rattle.std.proofs.Math.Seq.{take-suc}
 use Rattle.std.proofs.lemmas.Bool.{cases_Bool, cond-true, cond-false}
 use Rattle.std.proofs.lemmas.List.{append-nil, map-append, get_or_default, take_all}
-use Rattle.std.proofs.lemmas.List.Elements.{filter-append, filter_more}
+use Rattle.std.proofs.lemmas.List.Elements.{filter-append}
 use Rattle.std.proofs.lemmas.Grind.{fold-append, flat_map-append}
 use Rattle.shape_terms.specs.Points.{Point, in_box, box_points, box_count, raster_number, raster_point}
 use Rattle.shape_terms.proofs.Boxes.{raster_number-raster_point}
 use Rattle.shape_terms.proofs.BoxLists.{length-box_points, get_or-box_points}
-use Rattle.report_lines.specs.Said.{is_same_point, values_of}
+use Rattle.report_lines.specs.Said.{is_same_point}
 use Rattle.report_lines.proofs.SamePoints.{same_yes, same_not}
 use Rattle.report_lines.proofs.BoxValues.{value_of, values_same, values_equal, values_with}
 use Rattle.shape_space.specs.declared.point.P2.{P2}

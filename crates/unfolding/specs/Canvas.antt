@@ -1,6 +1,6 @@
 -- What is shown at each place of a grid of cells on which dabs of ink are laid: at each place the nearest dab, and of equally near ones the first.
 -- Where the dabs come from does not matter here. A dab outside the grid is not shown.
-use Rattle.std.specs.Prelude.{ℕ, nat_lt, if◌then◌else◌, List, [], ◌∷◌, map, filter, fold, slice_set, slice_index_or, Option, Some, None}
+use Rattle.std.specs.Prelude.{ℕ, nat_lt, if◌then◌else◌, List, map, filter, fold, slice_set, slice_index_or, Option, Some, None}
 use Rattle.shape_terms.specs.Points.{Point, in_box, raster_number}
 use Rattle.report_lines.specs.Said.{is_same_point, values_of}
 use Rattle.unfolding.specs.declared.cell.Cell.{Cell}

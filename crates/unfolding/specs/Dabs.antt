@@ -1,6 +1,6 @@
 -- Dabs of ink for the lines of a report: each exposed voxel that an `on` line gives, on its face, in the colour of its patch; and each object voxel on the three views.
 -- Lines are taken as they stand; what lies outside the box of the heading is not drawn, nor what stands behind no `face` and `patch` line.
-use Rattle.std.specs.Prelude.{ℕ, zero, suc, ◌+◌, nat_lt, if◌then◌else◌, List, [], ◌∷◌, ◌++◌, map, flat_map, Option, Some, None}
+use Rattle.std.specs.Prelude.{ℕ, zero, suc, ◌+◌, nat_lt, if◌then◌else◌, List, [], ◌∷◌, ◌++◌, flat_map, Option, Some, None}
 use Rattle.std.specs.Option.{option_map, option_map_or, option_and_then, option_to_list}
 use Rattle.shape_terms.specs.Points.{Point, box_points}
 use Rattle.shape_terms.specs.Pictures.{at}

@@ -1,7 +1,7 @@
 -- The sheet: where each face of the box, and each view, stands on it, and which voxel is seen at which place.
 -- The box is cut open and folded flat round its face z -, seen from outside: x - at its left, x + at its right and z + right of that, y - above and y + below. So faces
 -- that are neighbours on the sheet meet along their common edge. Below the faces stand the views along x, y and z, as one sees the box from the faces x -, y - and z -.
-use Rattle.std.specs.Prelude.{◌≡◌, ℕ, zero, suc, ◌+◌, ◌-◌, ◌*◌, ◌/◌, ◌<◌, ◌≤◌, max, nat_le, count_by, if◌then◌else◌, List, [], ◌∷◌, slice_index, nat_abs, pos, Option, Some, None}
+use Rattle.std.specs.Prelude.{ℕ, zero, suc, ◌+◌, ◌-◌, ◌*◌, ◌/◌, ◌<◌, ◌≤◌, max, nat_le, count_by, if◌then◌else◌, List, [], ◌∷◌, slice_index, nat_abs, pos, Option, Some, None}
 use Rattle.shape_terms.specs.Points.{Point, coordinate, in_box}
 use Rattle.unfolding.specs.declared.layout.Triple.{Triple}
 use Rattle.unfolding.specs.declared.layout.Panel.{Panel}

@@ -1,6 +1,6 @@
 -- The drawing of a report of a volume: an SVG of the sheet, layer upon layer.
 -- The centre of the place (x, y) of the sheet is the point (x, y) of the SVG. Another look is a change of texts here and of the same texts in `layers`.
-use Rattle.std.specs.Prelude.{ℕ, ◌+◌, ◌*◌, ◌-◌, List, [], ◌∷◌, ◌++◌, codes, slice_index_or}
+use Rattle.std.specs.Prelude.{ℕ, ◌*◌, ◌-◌, List, [], ◌∷◌, ◌++◌, codes, slice_index_or}
 use Rattle.std.specs.List.{range_with_len, flat_map}
 use Rattle.std.specs.Fmt.{decimal}
 use Rattle.report_terms.specs.Lines.{Line}

@@ -1,6 +1,6 @@
-use Rattle.std.proofs.Common.{◌≡◌, ◌∷◌, [], zero, suc, inl, ℤ, pos, ◌≤ℤ◌, ◌≤◌, ◌<◌, refl, arith, rules, to_z, w32}
+use Rattle.std.proofs.Common.{◌∷◌, [], zero, suc, inl, ℤ, pos, ◌≤ℤ◌, refl, arith, to_z, w32}
 use Rattle.std.proofs.lemmas.Int.{ints}
-use Rattle.shape_terms.specs.Points.{Point, AreSides}
+use Rattle.shape_terms.specs.Points.{AreSides}
 use Rattle.shape_terms.proofs.Boxes.{some_points, few_points}
 use Rattle.unfolding.proofs.layout.sheet_sides.Goals as goal
 

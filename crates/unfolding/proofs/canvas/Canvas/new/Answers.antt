@@ -1,7 +1,6 @@
-use Rattle.std.proofs.Common.{◌≡◌, [], rules, refl, ap, ◌∙◌, replicate, None}
+use Rattle.std.proofs.Common.{rules, ap, ◌∙◌, replicate, None}
 use Rattle.shape_terms.specs.Points.{sides_of}
 use Rattle.drawing.specs.Seen.{flat}
-use Rattle.unfolding.specs.Canvas.{shown}
 use Rattle.unfolding.proofs.CanvasLaws.{blank_canvas}
 use Rattle.unfolding.proofs.canvas.Canvas.new.Goals as goal
 

@@ -1,4 +1,4 @@
-use Rattle.std.proofs.Common.{◌≡◌, ◌++◌, ap, sym, ◌∙◌}
+use Rattle.std.proofs.Common.{◌++◌, ap, sym, ◌∙◌}
 use Rattle.shape_terms.specs.Points.{sides_of}
 use Rattle.report_lines.specs.Said.{given_sides, said, said_in}
 use Rattle.unfolding.specs.Seen.{solid}

@@ -1,4 +1,4 @@
-use Rattle.std.proofs.Common.{[], ◌∷◌, ◌++◌, ap, sym, ◌∙◌, length, arith}
+use Rattle.std.proofs.Common.{[], ◌∷◌, ap, sym, ◌∙◌, length, arith}
 use Rattle.std.proofs.lemmas.Grind.{fold-append}
 use Rattle.shape_terms.specs.Points.{sides_of}
 use Rattle.report_lines.specs.Seen.{solid_line}
