@@ -28,7 +28,6 @@ fn flat_table(alloc: Global, kept: Outlined) -> Result<Vec<u8>, NoMemory>
         → IfOk result (λ csv. IsTableText 2 lines csv.items) }
 {
     let Outlined { seen, contours } = kept;
-    seen.is_of_box();
     let table = measure(alloc, seen.object(), seen.squares(), seen.left())?;
     let borders = contours.into_borders()?;
     let bounds = object_bounds(
