@@ -1,6 +1,6 @@
 pub mod Words
 pub mod Numbers
-pub mod Sheets
+pub mod Overs
 pub mod Kept
 pub mod Drawings
 pub mod Holding

@@ -1,7 +1,11 @@
--- The words of the command line: the name of a report's file, and before it the word `labels` where numbers are wanted.
+-- The words of the command line: the name of a report's file, and before it the word `labels` where numbers are wanted, or the name of another one over which it is drawn.
 -- A further word is one more definition.
-use Rattle.std.specs.Prelude.{ℕ, List, codes}
+use Rattle.std.specs.Prelude.{◌≢◌, ℕ, List, [], ◌∷◌, codes}
 
 -- the word for numbers at the objects
 abbrev pub labels_word : List ℕ
 labels_word = codes "labels"
+
+-- the words are neither one nor two
+abbrev pub AreNoForm : List (List ℕ) → Type 0
+AreNoForm words = ((name : List ℕ) → words ≢ name ∷ []) × ((first second : List ℕ) → words ≢ first ∷ second ∷ [])

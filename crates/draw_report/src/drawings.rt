@@ -7,13 +7,13 @@ ghost use Rattle.draw_report.specs.Drawings.{IsNumberedText};
 
 use crate::numbered::Numbered;
 use crate::numbers::put_numbers;
-use crate::sheet::Sheet;
 use drawing::{FlatSketch, Svg};
 use measuring::measure;
 use report_lines::Heading;
 use report_making::Making;
 use shape_space::{NoMemory, P2, P3};
 use std::alloc::Global;
+use unfolding::Sheet;
 
 /// Makes the drawing of a report.
 #[derive(Clone, Copy, Debug, PartialEq, Eq)]

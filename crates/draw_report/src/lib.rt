@@ -7,12 +7,11 @@ mod drawings;
 mod law;
 mod numbered;
 mod numbers;
-mod sheet;
+mod over;
 mod top;
 
 pub use drawings::{Drawings, NumberedDrawings};
 pub use law::holding_is_numbered;
 pub use numbered::Numbered;
 pub use report_making::Outcome;
-pub use sheet::Sheet;
 pub use top::{USAGE, run};

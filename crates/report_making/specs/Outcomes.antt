@@ -11,6 +11,7 @@ abbrev pub status_of : Outcome → ℕ
 status_of outcome.Done = 0
 status_of outcome.Usage = 2
 status_of (outcome.NotReport k) = 3
+status_of (outcome.NotOver k) = 3
 status_of outcome.ReadFault = 4
 status_of outcome.WriteFault = 5
 status_of outcome.NoMemory = 6
@@ -20,6 +21,7 @@ abbrev pub message_of : List ℕ → Outcome → List ℕ
 message_of usage outcome.Done = []
 message_of usage outcome.Usage = usage
 message_of usage (outcome.NotReport k) = codes "not a report at"
+message_of usage (outcome.NotOver k) = codes "the second is no report over the first at"
 message_of usage outcome.ReadFault = codes "read failed"
 message_of usage outcome.WriteFault = codes "write failed"
 message_of usage outcome.NoMemory = codes "no memory"
@@ -27,6 +29,7 @@ message_of usage outcome.NoMemory = codes "no memory"
 -- the number behind the text: that of a line
 abbrev pub number_of : Outcome → Option ℕ
 number_of (outcome.NotReport k) = Some k
+number_of (outcome.NotOver k) = Some k
 number_of _ = None
 
 -- the outcome where nothing is made

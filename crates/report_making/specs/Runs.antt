@@ -33,11 +33,12 @@ pub record CutsShort (make : Maker) (name : List ℕ) (old new : DeskState) : Ty
   pub puts : PutsFront old.written new.written bytes
   pub cause : Rose old.write_faults new.write_faults
 
--- what a run did for the file with this name, outcome by outcome
+-- what a run did for the file with this name, outcome by outcome; it has no second file
 abbrev pub Ran : Maker → List ℕ → DeskState → DeskState → Outcome → Type 0
 Ran make name old new outcome.Done = WritesMade make name old new
 Ran make name old new outcome.Usage = ⊥
 Ran make name old new (outcome.NotReport k) = OfFile old.files name (λ text. IsNoReport text k) × IsSilent old new
+Ran make name old new (outcome.NotOver k) = ⊥
 Ran make name old new outcome.ReadFault = (Rose old.read_faults new.read_faults ⊎ IsMissing old.files name) × IsSilent old new
 Ran make name old new outcome.WriteFault = CutsShort make name old new
 Ran make name old new outcome.NoMemory = IsSilent old new

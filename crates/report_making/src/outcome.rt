@@ -14,6 +14,8 @@ pub enum Outcome {
     Usage,
     /// The file is no report, from this line on.
     NotReport { line: u64 },
+    /// The file of the second report is none that goes with the first, from this line on.
+    NotOver { line: u64 },
     /// A read failed, or the file is missing.
     ReadFault,
     /// A write failed. A front of what is made was written.
@@ -31,6 +33,7 @@ impl Outcome {
             Outcome::Done => 0,
             Outcome::Usage => 2,
             Outcome::NotReport { line: _ } => 3,
+            Outcome::NotOver { line: _ } => 3,
             Outcome::ReadFault => 4,
             Outcome::WriteFault => 5,
             Outcome::NoMemory => 6,
@@ -45,6 +48,7 @@ impl Outcome {
             Outcome::Done => "",
             Outcome::Usage => usage,
             Outcome::NotReport { line: _ } => "not a report at",
+            Outcome::NotOver { line: _ } => "the second is no report over the first at",
             Outcome::ReadFault => "read failed",
             Outcome::WriteFault => "write failed",
             Outcome::NoMemory => "no memory",
@@ -57,6 +61,7 @@ impl Outcome {
     {
         match self {
             Outcome::NotReport { line } => Some(*line),
+            Outcome::NotOver { line } => Some(*line),
             _ => None,
         }
     }
