@@ -1,4 +1,4 @@
-//! Tests of texts, judges and drawings: desks, the readers of pictures, reports, the judges of their lines, ball reports, drawings, masks and tables.
+//! Tests of texts, judges and drawings: desks, the readers of pictures, reports, the judges of their lines, ball reports, drawings, sheets of volumes, masks and tables.
 //! They ask public names alone, and the crates under test have no tests of their own: what is proved of them is proved once.
 #![tactic(auto)]
 
@@ -28,6 +28,8 @@ mod piece_reports;
 mod plane_judge;
 #[cfg(test)]
 mod report;
+#[cfg(test)]
+mod sheets;
 #[cfg(test)]
 mod tables;
 #[cfg(test)]

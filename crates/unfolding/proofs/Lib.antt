@@ -1,2 +1,4 @@
 pub mod CanvasLaws
 pub mod DabLaws
+pub mod NearestLaws
+pub mod PlaceLaws

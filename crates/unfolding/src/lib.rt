@@ -5,9 +5,11 @@
 mod canvas;
 mod cell;
 mod dabs;
+mod law;
 mod layers;
 mod layout;
 mod pen;
 mod sheet;
 
+pub use law::{nearest_is_shown, voxels_have_places};
 pub use sheet::Sheet;
