@@ -291,7 +291,7 @@ const RUNS: [(&str, &str, Outcome); 8] = [
     ("a.report", VOLUME, Outcome::Done),
     ("labels a.report", VOLUME, Outcome::Done),
     ("", FULL, Outcome::Usage),
-    ("a.report a.report", FULL, Outcome::Usage),
+    ("a.report a.report", FULL, Outcome::NotOver { line: 1 }),
     ("labels a.report a.report", FULL, Outcome::Usage),
     ("labels", FULL, Outcome::ReadFault),
     ("b.report", FULL, Outcome::ReadFault),

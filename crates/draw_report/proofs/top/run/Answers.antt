@@ -14,8 +14,7 @@ returns-in-len1-clause-usage g c =
 
 pub returns-in-len2-clause-usage : goal.returns-in-len2-clause-usage
 returns-in-len2-clause-usage g c =
-    let two = two_words c.args.words.now c.word-item.result c.name-item-then-words-lt3.result c.in-len2.len_at_least (omega (arith, c.in-len2.len_below)) c.word-item.is c.name-item-then-words-lt3.is in
-    (
+    let two = two_words c.args.words.now c.word-item.result c.name-item-then-words-lt3.result c.in-len2.len_at_least (omega (arith, c.in-len2.len_below)) c.word-item.is c.name-item-then-words-lt3.is in (
       λ e. absurd (c.run_two.ensures.usage e),
       λ none. absurd (none.1 c.word-item.result.items c.name-item-then-words-lt3.result.items two),
     )
