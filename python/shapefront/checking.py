@@ -16,7 +16,7 @@ from .folder import run_of, tables_of
 from .networks import Network, part, parts_of
 from .pictures import Source
 from .products import DRAWINGS
-from .programs import call, explained, has
+from .programs import call, explained, has, sums
 from .report import counts_of, text_of
 from .why import reason as reason_of
 
@@ -128,7 +128,9 @@ def _check_all(name: str, stem: str, report: Path) -> Finding:
         if written.exists() and not has(program):
             left_out.append(f"{shown(written)} was not checked: {program} is not found")
         elif written.exists() and not any(_is_written(choice, report, written) for choice in words):
-            return Finding(name, False, f"the report holds, but {shown(written)} is not what {program} makes of it")
+            made_by = (record or {}).get("programs", {}).get(program, sums()[program])
+            other = "" if made_by == sums()[program] else ", and was made by another version of it"
+            return Finding(name, False, f"the report holds, but {shown(written)} is not what {program} makes of it{other}")
     for written, data in _arranged(report.with_name(stem)):
         if not written.exists() or written.read_bytes() != data:
             return Finding(name, False, f"the report holds, but {shown(written)} is not what the reports and tables of its parts say")

@@ -5,9 +5,9 @@ is a picture's object, so all lengths, points and places of `networks.csv` and `
 """
 from __future__ import annotations
 
-from collections.abc import Iterator
 from dataclasses import dataclass
 from decimal import Decimal
+from functools import cached_property
 from pathlib import Path
 
 import numpy as np
@@ -53,6 +53,28 @@ def parts_of(skeleton: bytes) -> dict[str, bytes]:
 
 
 @dataclass(frozen=True)
+class Branch:
+    """A branch of a network: how many of its two ends are free and how many at a junction, and where its last points are.
+
+    There are two of these places, one of a branch of a single point, and none of a ring, which has no ends.
+    """
+
+    number: str
+    length: Decimal
+    width: Decimal
+    ends: int
+    junctions: int
+    points: str
+    places: list[tuple[int, int]]
+
+    @property
+    def row(self) -> Row:
+        """Its row under the columns of `BRANCHES`."""
+        places = [*self.places[0], *self.places[-1]] if self.places else [""] * 4
+        return list(map(str, (self.number, self.length, self.width, self.ends, self.junctions, self.points, *places)))
+
+
+@dataclass(frozen=True)
 class Network:
     """What was measured of a network: the report of its picture, and of each of its parts the report and the table."""
 
@@ -70,36 +92,34 @@ class Network:
         reports = {name: _report(part(stem, name, ".report")) for name in PARTS}
         return cls(_report(stem.with_name(stem.name + ".report")), reports, tables)
 
-    def branches(self) -> Iterator[Row]:
-        """The rows of its branches, in the order of their first points, the header first."""
-        yield BRANCHES
+    @cached_property
+    def branches(self) -> list[Branch]:
+        """Its branches, in the order of their first points."""
         report, (_, junctions) = self.reports["branches"], split(self.whole.skeleton_mask)
         squares, at_junctions = self.whole.square_image, _neighbours(junctions)
-        free, tips = _as_set(self.whole.tips), report.tips[np.lexsort(report.tips.T)]
-        outer = (contour for contour in report.contours if not contour.is_hole)
+        free, last = _as_set(self.whole.tips), _as_set(report.tips)
+        found = []
+        outer = [contour for contour in report.contours if not contour.is_hole]
         for row, contour in zip(dicts_of(self.tables["branches"]), outer, strict=True):
-            points = np.unique(contour.points, axis=0)
-            x, y = points.T
-            own = _as_set(points)
-            ends = [tip for tip in tips.tolist() if tuple(tip) in own] or (points.tolist() if len(points) == 1 else [])
-            places = [*ends[0], *ends[-1]] if ends else [""] * 4
-            counts = len(own & free), int(at_junctions[y, x].sum()), row["area"]
-            yield [str(word) for word in (row["object"], length(row), _width(squares[y, x]), *counts, *places)]
+            x, y = points = _in_raster_order(contour.points).T
+            own = list(zip(*points.tolist()))
+            places = [point for point in own if point in last] if len(own) > 1 else own
+            ends = sum(point in free for point in own), int(at_junctions[y, x].sum())
+            found.append(Branch(row["object"], length(row), _width(squares[y, x]), *ends, row["area"], places))
+        return found
 
-    def total(self) -> Iterator[Row]:
-        """The row of the whole network, the header first."""
-        yield NETWORKS
-        pieces, (_, *branches) = dicts_of(self.tables["skeleton"]), self.branches()
-        total, area = sum(map(length, pieces), Decimal(0)), self.whole.parts.points
+    def total(self) -> Row:
+        """The row of the whole network, under the columns of `NETWORKS`."""
+        pieces, area = dicts_of(self.tables["skeleton"]), self.whole.parts.points
+        total = sum(map(length, pieces), Decimal(0))
         mean = (area / total).quantize(_THOUSANDTH) if total else ""
-        ends = sum(int(row[BRANCHES.index("ends")]) for row in branches)
-        junctions = len(dicts_of(self.tables["junctions"]))
-        counts = len(pieces), self.whole.parts.holes, area, total, mean, len(branches), ends, junctions
-        yield list(map(str, counts))
+        ends, junctions = sum(branch.ends for branch in self.branches), len(dicts_of(self.tables["junctions"]))
+        return list(map(str, (len(pieces), self.whole.parts.holes, area, total, mean, len(self.branches), ends, junctions)))
 
     def arranged(self) -> dict[str, bytes]:
         """Its tables, by the ends of their files' names."""
-        return dict(zip(MADE, (spelled_rows(self.total()), spelled_rows(self.branches()))))
+        tables = [NETWORKS, self.total()], [BRANCHES, *(branch.row for branch in self.branches)]
+        return dict(zip(MADE, map(spelled_rows, tables)))
 
 
 def length(row: dict[str, str]) -> Decimal:
@@ -117,6 +137,12 @@ def _width(squares: np.ndarray) -> Decimal:
     """Twice the distance that is the median of those with these squares."""
     median = int(np.sort(squares)[(len(squares) - 1) // 2])
     return (2 * Decimal(median).sqrt()).quantize(_THOUSANDTH)
+
+
+def _in_raster_order(points: np.ndarray) -> np.ndarray:
+    """The points, each once, by their y and then by their x."""
+    points = np.unique(points, axis=0)
+    return points[np.lexsort(points.T)]
 
 
 def _as_set(points: np.ndarray) -> set[tuple[int, ...]]:

@@ -173,6 +173,17 @@ class Measuring(InFolder):
         self.assertEqual(self.shapes("check", "slices", "out/slices.report")[0], 0)
         self.assertEqual(self.shapes("check", "v.npy", "out/v.npy.report")[0], 0)
 
+    def test_volumes_that_are_none_are_named(self):
+        np.save("good.npy", random_mask(7, 5, 6, 7))
+        np.save("large.npy", np.zeros((3, 3, 193), np.uint8))
+        Path("mixed").mkdir()
+        for name, side in (("a1.png", 4), ("a2.png", 5)):
+            Image.fromarray(np.zeros((3, side), np.uint8)).save(f"mixed/{name}")
+        status, out, error = self.shapes("volume", "good.npy", "large.npy", "mixed", "nowhere", "-o", "out")
+        self.assertEqual((status, out, len(error)), (1, ["1 of 4 measured, in out: summary.txt tells how"], 3))
+        for line, begin in zip(error, ("large.npy: too large: x 193, y 3, z 3", "mixed: slices of different sizes", "nowhere: no such file")):
+            self.assertTrue(line.startswith(begin), error)
+
     def test_nothing_can_be_done(self):
         self.save(1)
         Path("empty").mkdir()

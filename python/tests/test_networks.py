@@ -89,6 +89,7 @@ class KnownNetworks(InFolder):
                 line = (float(measured["border"]) + float(measured["hole_border"]) - 8**0.5 * (1 - int(measured["holes"]))) / 2
                 self.assertAlmostEqual(float(row["length"]), line, 2)
                 self.assertIn(row["width"], widths)
+                self.assertIn(int(row["ends"]) + int(row["junctions"]), (0, 2))
                 if row["points"] not in ("1", "0") and row["from_x"]:
                     self.assertLessEqual({(row["from_x"], row["from_y"]), (row["to_x"], row["to_y"])}, tips)
             self.assertEqual(sum(int(row["ends"]) for row in own), len(report.tips))

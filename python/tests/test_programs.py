@@ -57,6 +57,15 @@ class OtherPrograms(InFolder):
             self.assertEqual(Path("out/cross.pbm.svg").read_text(), drawn)
             self.assertEqual(self.shapes("check", "out")[0], 0)
 
+    def test_a_drawing_by_another_version_is_told(self):
+        self.tell(more="", values="")
+        self.program("shape_draw", "echo one")
+        self.assertEqual(self.shapes("measure", STORED / "cross.pbm", "-o", "out")[0], 0)
+        self.program("shape_draw", "echo other")
+        status, out, _ = self.shapes("check", "out")
+        told = "out/cross.pbm: no, the report holds, but out/cross.pbm.svg is not what shape_draw makes of it, and was made by another version of it"
+        self.assertEqual((status, out[0]), (1, told))
+
     def test_a_flat_picture_that_is_not_drawn_is_a_failure(self):
         self.tell(more="", values="")
         self.program("shape_draw", 'echo "shape_draw: no memory" >&2; exit 6')
