@@ -16,9 +16,9 @@ mod svg;
 mod top;
 
 pub use law::holding_is_drawn;
-pub use layers::{put_head, put_object};
+pub use layers::{put_contours, put_head, put_object};
 pub use outcome::Outcome;
-pub use outlines::Stroke;
+pub use outlines::{Stroke, point_at};
 pub use pixels::{Pixel, take_pixel};
 pub use runs::put_runs;
 pub use sketch::FlatSketch;
