@@ -191,7 +191,7 @@ fn put_ends(strokes: &[Stroke], svg: &mut Svg) -> Result<(), NoMemory>
 }
 
 /// Puts the segments of the contours.
-pub(crate) fn put_contours(strokes: &[Stroke], svg: &mut Svg) -> Result<(), NoMemory>
+pub fn put_contours(strokes: &[Stroke], svg: &mut Svg) -> Result<(), NoMemory>
     ensures { OnOk result (svg.new ≡ svg.old ++ contour_layer (all_strokes strokes.now)) }
 {
     put_even(strokes, svg)?;

@@ -10,8 +10,8 @@ mod skeleton;
 mod sketch;
 mod svg;
 
-pub use layers::{put_head, put_object, scale_of, side};
-pub use outlines::Stroke;
+pub use layers::{put_contours, put_head, put_object, scale_of, side};
+pub use outlines::{Stroke, point_at};
 pub use pixels::{Pixel, take_pixel};
 pub use runs::put_runs;
 pub use sketch::FlatSketch;

@@ -57,8 +57,8 @@ impl Model for Outlines {
     } };
 }
 
-// The point at a place of a contour.
-fn point_at(points: &[P2], place: u32) -> Option<P2>
+/// The point at a place of a contour, whose points come round again behind the last.
+pub fn point_at(points: &[P2], place: u32) -> Option<P2>
     ensures { option_map flat result ≡ point_at (flats points.now) place }
 {
     if points.is_empty() {

@@ -21,6 +21,8 @@ mod line_texts;
 #[cfg(test)]
 mod masks;
 #[cfg(test)]
+mod overlays;
+#[cfg(test)]
 mod picture;
 #[cfg(test)]
 mod piece_reports;

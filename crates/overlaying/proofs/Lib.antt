@@ -1,0 +1,4 @@
+pub mod Gathering
+pub mod HeadingLaws
+pub mod CircleLaws
+pub mod Overs

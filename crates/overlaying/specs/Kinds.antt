@@ -1,0 +1,30 @@
+-- The kinds of reports that are drawn over an object, what the lines of each give, and when a text is one of them in order.
+-- A further kind is one more variant of `Kind` and a clause of `lines_of`.
+use Rattle.std.specs.Prelude.{◌≡◌, ℕ, List}
+use Rattle.shape_terms.specs.Points.{Point}
+use Rattle.text_terms.specs.Going.{IsTextOf}
+use Rattle.text_terms.specs.Reports.{FirstBad}
+use Rattle.ball_terms.specs.Lines as Balls
+use Rattle.overlaying.specs.Parts.{Mark, Part, LineKind, kind_by, marks_of, in_order}
+use Rattle.overlaying.specs.declared.kind.Kind.{Kind}
+use Rattle.overlaying.specs.declared.kind.Kind.TheVariants as kind
+
+-- what a line of a ball report gives
+abbrev pub ball_part : Balls.Line → Part
+ball_part (Balls.Line.Balls sides number) = Part.Heading sides
+ball_part (Balls.Line.Ball b) = Part.Gives (Mark.Ball b.centre b.s)
+ball_part Balls.Line.End = Part.End
+
+-- the lines of each kind, in reports of flat pictures
+abbrev pub lines_of : Kind → LineKind
+lines_of kind.Balls = kind_by (Balls.spelled 2) Balls.Line.End ball_part
+
+-- the text is a report in order of this kind, about a picture with these sides, and its lines give these marks
+abbrev pub IsMarkedBy : Kind → Point → List Mark → List ℕ → Type 0
+IsMarkedBy k sides marks text = IsTextOf (in_order (lines_of k) sides) (λ lines. marks ≡ marks_of (lines_of k) lines) text
+
+-- line n is the first bad one of the order of some kind; where it is the first of all, it is a heading of none with these sides
+pub record IsNoFurther (sides : Point) (n : ℕ) (text : List ℕ) : Type 0 where
+  pub kind : Kind
+  pub bad : FirstBad (in_order (lines_of kind) sides) text n
+  pub any : n ≡ 1 → (k : Kind) → FirstBad (in_order (lines_of k) sides) text 1

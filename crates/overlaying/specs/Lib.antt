@@ -1,0 +1,9 @@
+pub mod Parts
+pub mod Kinds
+pub mod Ends
+pub mod Headings
+pub mod Circles
+pub mod Layers
+pub mod Seen
+pub mod Standing
+pub mod Answers

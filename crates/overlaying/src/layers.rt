@@ -1,0 +1,50 @@
+//! The whole drawing: the front, the object, and the marks on it.
+//! A further kind is one more arm of `put_marks`.
+ghost use Rattle.std.specs.Prelude.{◌≡◌, ◌++◌, List, IfOk, OnOk};
+ghost use Rattle.report_terms.specs.Lines as Terms;
+ghost use Rattle.report_lines.specs.Said.{given_sides};
+ghost use Rattle.overlaying.specs.Layers.{marks_layer, overlay};
+ghost use Rattle.overlaying.specs.Seen.{all_marks};
+ghost use Rattle.overlaying.specs.Standing.{IsAnalysisOf};
+
+use crate::analysis::Analysis;
+use crate::balls::put_balls;
+use crate::further::Further;
+use crate::kind::Kind;
+use drawing::{Svg, put_head, put_object};
+use shape_space::NoMemory;
+use std::alloc::Global;
+
+// Puts the marks of a further report over an analysis.
+fn put_marks(
+    alloc: Global,
+    analysis: &Analysis,
+    further: &Further,
+    svg: &mut Svg,
+) -> Result<(), NoMemory>
+    ensures { (lines : List Terms.Line) → IsAnalysisOf lines analysis.now
+        → OnOk result (svg.new ≡ svg.old
+        ++ marks_layer further.now.kind (given_sides lines) (all_marks further.now.marks.items)) }
+{
+    match further.kind {
+        Kind::Balls => put_balls(alloc, analysis.sides, &further.marks, svg),
+    }
+}
+
+/// The drawing of a further report over the object of an analysis.
+pub(crate) fn draw(
+    alloc: Global,
+    analysis: &Analysis,
+    further: &Further,
+) -> Result<Vec<u8>, NoMemory>
+    ensures { (lines : List Terms.Line) → IsAnalysisOf lines analysis.now
+        → IfOk result (λ svg. svg.items
+        ≡ overlay further.now.kind lines (all_marks further.now.marks.items)) }
+{
+    let mut svg = Svg::new(alloc);
+    put_head(analysis.sides, &mut svg)?;
+    put_object(alloc, &analysis.pixels, &mut svg)?;
+    put_marks(alloc, analysis, further, &mut svg)?;
+    svg.put(b"</svg>\n")?;
+    Ok(svg.into_text())
+}

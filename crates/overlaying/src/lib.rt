@@ -1,0 +1,19 @@
+//! Further reports of flat pictures, drawn over the object of an analysis as an SVG: balls.
+//! No claim is judged; a further kind of report is an `impl` of `OverLine`, a variant of `Kind`, and a layer of its own.
+#![tactic(auto)]
+
+mod analysis;
+mod balls;
+mod fault;
+mod further;
+mod gatherer;
+mod kind;
+mod layers;
+mod line;
+mod part;
+mod read;
+mod top;
+
+pub use fault::OverFault;
+pub use kind::Kind;
+pub use top::overlaid;

@@ -1,0 +1,56 @@
+//! The lines of the kinds of reports that are drawn over an object.
+//! A further kind is one more `impl`.
+ghost use Rattle.std.specs.Prelude.{◌≡◌, ◌∷◌, [], refl};
+ghost use Rattle.shape_space.specs.declared.point.P2.{P2};
+ghost use Rattle.overlaying.specs.Parts as Parts;
+ghost use Rattle.overlaying.specs.Kinds.{ball_part};
+ghost use Rattle.overlaying.specs.Seen.{part_of};
+ghost use Rattle.overlaying.specs.Ends.{only_ball_end};
+
+use crate::part::{Mark, Part};
+use judge_balls::BallLine;
+use report_text::ReportLine;
+use shape_space::P2;
+
+/// A line of a report that is drawn over an object.
+pub trait OverLine: ReportLine {
+    /// What the line gives.
+    ghost gives: { Self.Seen → Parts.Part };
+
+    /// What the line gives.
+    fn part(&self) -> Part
+        ensures { part_of result ≡ gives (Self.seen self.now) };
+
+    ghost last_ends: { gives Self.last ≡ Parts.Part.End };
+
+    ghost only_last: { (l : Self.Seen) → gives l ≡ Parts.Part.End → l ≡ Self.last };
+}
+
+// A heading with these sides.
+fn heading(sides: P2) -> Part
+    ensures { part_of result ≡ Parts.Part.Heading (sides.x ∷ sides.y ∷ []) }
+{
+    Part::Heading {
+        width: i64::from(sides.x),
+        height: i64::from(sides.y),
+    }
+}
+
+impl OverLine for BallLine<P2> {
+    ghost gives = { ball_part };
+
+    fn part(&self) -> Part {
+        match *self {
+            BallLine::Balls { sides, number: _ } => heading(sides),
+            BallLine::Ball { ball } => Part::Gives(Mark::Ball {
+                centre: ball.centre,
+                square: ball.s,
+            }),
+            BallLine::End => Part::End,
+        }
+    }
+
+    ghost last_ends = { refl };
+
+    ghost only_last = { only_ball_end };
+}
