@@ -103,7 +103,10 @@ fn fault(
 fn refuses_other_further_reports(rt: HostRuntime) -> Result<(), Fail> {
     for (further, line) in &OTHERS {
         let told = fault(rt.alloc(), SQUARE, further, b"b")?;
-        assert!(rt; told == Some(OverFault::NotOver { line: *line }), "{further}");
+        assert!(rt;
+            told == Some(OverFault::NotOver { line: *line }),
+            "{further}"
+        );
     }
     Ok(())
 }
