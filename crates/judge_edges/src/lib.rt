@@ -1,5 +1,5 @@
 //! A judge of the lines of the corner paths of a flat picture: cycles, arcs and the evidence for their gaps.
-//! It stands on the definitions and on small tests, and on nothing that finds arcs.
+//! It stands on the definitions and on small tests, and on nothing that finds arcs; it lends its corner paths to a drawing of arcs.
 #![tactic(auto)]
 
 mod bend;
@@ -15,4 +15,5 @@ mod stage;
 mod whole;
 
 pub use check::check_edges;
+pub use cycles::{Cycle, Cycles, all_cycles};
 pub use law::edges_holding_shows;
