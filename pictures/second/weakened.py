@@ -169,12 +169,18 @@ def other_point(draw, words):
     return spelled(*p)
 
 
-def other_own(draw, picture, words):
-    """Another own point of a ball, mostly one in the ball."""
+def points_of_ball(picture, words):
     axes = picture.axes
     centre, s = tuple(whole(words[:axes])), int(words[2 * axes])
-    inside = [p for p in picture.framed if square(centre, p) < s]
-    return spelled(*draw.choice(inside if draw.random() < 0.8 else picture.framed))
+    return [p for p in picture.framed if square(centre, p) < s]
+
+
+def other_own(draw, picture, lines, words):
+    """Another own point of a ball, mostly one in the ball, and in another ball too where there is one."""
+    inside = points_of_ball(picture, words)
+    others = [line.split(" ")[1:] for line in lines if line.startswith("ball ")]
+    shared = [p for p in inside if any(p in points_of_ball(picture, other) for other in others if other != words)]
+    return spelled(*draw.choice((shared or inside) if draw.random() < 0.8 else picture.framed))
 
 
 # ---- lines of reports
@@ -198,9 +204,22 @@ def other_segment(draw, path, words):
     return words[:3] + (held or other_line(draw, words[3:], 2))
 
 
+def arc_on(draw, run):
+    """The signs, coefficients and bound of a line on which the corners of a run lie, but perhaps not its steps, where a few tries find one."""
+    for _ in range(40):
+        signs, a, c = draw.choice(("++", "+-", "-+", "--")), draw.randint(0, 4), draw.randint(0, 4)
+        values = [a * int(signs[0] + "1") * x - c * int(signs[1] + "1") * y for x, y in run]
+        if values and max(values) - min(values) < a + c:
+            return list(signs) + spelled(a, c, min(values))
+    return None
+
+
 def other_arc(draw, path, words):
-    """The words of an `arc` line with another stretch, with another sign, or with another line."""
-    way = draw.randrange(3)
+    """The words of an `arc` line with another stretch, with another sign, or with another line, on which its corners may lie."""
+    way = draw.randrange(4)
+    b, e = whole(words[:2])
+    if way == 3:
+        return words[:2] + (arc_on(draw, [path[k % len(path)] for k in range(b, e + 1)]) or words[2:])
     if way == 0:
         return other_stretch(draw, words[:2], len(path)) + words[2:]
     if way == 1:
@@ -209,13 +228,13 @@ def other_arc(draw, path, words):
     return words[:4] + other_line(draw, words[4:], 2)
 
 
-def other_ball(draw, picture, words):
+def other_ball(draw, picture, lines, words):
     """The words of a `ball` line with another nearest point, with another own point, or of a ball round any point."""
     k, way = 2 * picture.axes + 1, draw.randrange(5)
     if way <= 1:
         return other_near(draw, picture, words[:k]) + words[k:]
     if way <= 3:
-        return words[:k] + other_own(draw, picture, words)
+        return words[:k] + other_own(draw, picture, lines, words)
     p, q = draw.choice(picture.framed), draw.choice(picture.framed)
     return spelled(*p, *q, square(p, q), *p)
 
@@ -241,7 +260,7 @@ def other_evidence(draw, picture, lines, place):
     elif first == "near":
         words = other_near(draw, picture, words)
     elif first == "ball":
-        words = other_ball(draw, picture, words)
+        words = other_ball(draw, picture, lines, words)
     elif first in ("at", "on", "del", "tip"):
         words = other_point(draw, words)
     else:
