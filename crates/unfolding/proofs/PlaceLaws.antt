@@ -1,13 +1,13 @@
 -- Each voxel of the box has its place on the sheet, in each part.
 -- Laws of numbers alone.
-use Rattle.std.proofs.Common.{◌≡◌, ◌≤◌, ◌<◌, ◌+◌, ℕ, List, [], ◌∷◌, refl, pos, true, arith}
-use Rattle.std.specs.Prelude.{◌-◌, IsTrue, max, nat_lt, ◌&&◌}
+use Rattle.std.proofs.Common.{◌<◌, ◌+◌, ℕ, [], ◌∷◌, refl, pos, true, arith}
+use Rattle.std.specs.Prelude.{IsTrue, nat_lt, ◌&&◌}
 use Rattle.std.proofs.lemmas.Bool.{lt-ltb, and_from}
 use Rattle.shape_terms.specs.Points.{in_box}
 use Rattle.unfolding.specs.declared.layout.Triple.{Triple}
 use Rattle.unfolding.specs.declared.layout.Panel.{Panel}
 use Rattle.unfolding.specs.declared.layout.Panel.TheVariants.{Left, Right, Top, Bottom, Front, Back, AlongX, AlongY, AlongZ}
-use Rattle.unfolding.specs.Layout.{IsBox, IsIn, gap, left, top, across, down, place, sheet_width, sheet_height, sheet_sides}
+use Rattle.unfolding.specs.Layout.{IsIn, left, top, across, down, place, sheet_width, sheet_height, sheet_sides}
 
 in_sheet : (w h a b : ℕ) → a < w → b < h → IsTrue (in_box (w ∷ h ∷ []) (pos a ∷ pos b ∷ []))
 in_sheet w h a b l m = and_from (nat_lt a w) (nat_lt b h && true) (lt-ltb a w l) (and_from (nat_lt b h) true (lt-ltb b h m) refl)
