@@ -1,4 +1,6 @@
 pub mod Gathering
 pub mod HeadingLaws
 pub mod CircleLaws
+pub mod ContourLaws
+pub mod BorderLaws
 pub mod Overs

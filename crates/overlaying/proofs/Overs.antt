@@ -1,7 +1,7 @@
 -- From what was read of two reports to the drawing of the one over the other, or why there is none.
 -- Laws over texts, files and lines; nothing is read here.
 use Rattle.std.proofs.Common.{◌≡◌, ◌≢◌, ◌≤◌, inl, inr, ℕ, refl, ap, sym, subst, ◌∙◌, arith, List, [], ◌∷◌, ◌++◌, map, Option, Some, None}
-use Rattle.std.specs.Prelude.{◌⊎◌, ℤ, pos, ⊤, nat_abs, Result, Ok, Err, OnOk, MatchOption, ◌≤ℤ◌}
+use Rattle.std.specs.Prelude.{◌⊎◌, ℤ, pos, ⊤, nat_abs, Result, Ok, Err, OnOk, MatchOption, ◌≤ℤ◌, filter}
 use Rattle.std.proofs.lemmas.Int.{ints}
 use Rattle.shape_desk.specs.Desk.{Files, DeskState, IsAtFront, IsMissing, Rose}
 use Rattle.shape_desk.specs.Line.{IfTold}
@@ -19,9 +19,12 @@ use Rattle.report_lines.specs.Answers as Lines
 use Rattle.report_lines.specs.declared.fault.ReportFault.{ReportFault}
 use Rattle.report_lines.specs.declared.fault.ReportFault.TheVariants as cause
 use Rattle.drawing.specs.Seen.{flat}
+use Rattle.drawing.specs.Outlines.{is_inside}
+use Rattle.drawing.specs.Svg.{contour_layer}
 use Rattle.drawing.proofs.Sketched.{no_report}
 use Rattle.overlaying.specs.Parts.{Mark, LineKind}
 use Rattle.overlaying.specs.Kinds.{lines_of, IsMarkedBy, IsNoFurther}
+use Rattle.overlaying.specs.Borders.{borders, strokes_over}
 use Rattle.overlaying.specs.Circles.{balls_in, balls_layer}
 use Rattle.overlaying.specs.Layers.{marks_layer, overlay}
 use Rattle.overlaying.specs.Seen.{all_marks}
@@ -138,5 +141,9 @@ on_ok (Ok u) f h = f h
 on_ok (Err e) f h = tt
 
 -- the balls were put
-pub balls_put : {E : Type 0} (r : Result (Unit {0}) E) (k : Kind) (given sides : List ℕ) (ms ns : List Mark) (old new : List ℕ) → given ≡ sides → ns ≡ ms → OnOk r (new ≡ old ++ balls_layer (balls_in sides ns)) → OnOk r (new ≡ old ++ marks_layer k given ms)
-balls_put r kind.Balls given sides ms ns old new e f h = on_ok r (λ p. p ∙ (λ i. old ++ balls_layer (balls_in (sym e i) (f i)))) h
+pub balls_put : {E : Type 0} (r : Result (Unit {0}) E) (k : Kind) (given sides : List ℕ) (cs : List (List Point)) (ms ns : List Mark) (old new : List ℕ) → k ≡ kind.Balls → given ≡ sides → ns ≡ ms → OnOk r (new ≡ old ++ balls_layer (balls_in sides ns)) → OnOk r (new ≡ old ++ marks_layer k given cs ms)
+balls_put r k given sides cs ms ns old new z e f h = on_ok r (λ p. p ∙ (λ i. old ++ balls_layer (balls_in (sym e i) (f i))) ∙ ap (λ j. old ++ marks_layer j given cs ms) (sym z)) h
+
+-- the pieces were put
+pub pieces_put : {E : Type 0} (r : Result (Unit {0}) E) (k : Kind) (given sides : List ℕ) (cs ds : List (List Point)) (ms ns : List Mark) (old new : List ℕ) → k ≡ kind.Pieces → given ≡ sides → ds ≡ cs → ns ≡ ms → OnOk r (new ≡ old ++ contour_layer (filter (is_inside sides) (strokes_over ds (borders ns)))) → OnOk r (new ≡ old ++ marks_layer k given cs ms)
+pieces_put r k given sides cs ds ms ns old new z e d f h = on_ok r (λ p. p ∙ (λ i. old ++ contour_layer (filter (is_inside (sym e i)) (strokes_over (d i) (borders (f i))))) ∙ ap (λ j. old ++ marks_layer j given cs ms) (sym z)) h
