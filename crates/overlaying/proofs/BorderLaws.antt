@@ -1,11 +1,11 @@
 -- The strokes of borders, gone through mark by mark.
 -- Laws of lists alone.
-use Rattle.std.proofs.Common.{◌≡◌, ℕ, zero, suc, ◌+◌, ◌<◌, refl, ap, sym, ◌∙◌, arith, Bool, true, false, List, [], ◌∷◌, ◌++◌, length, get_or, drop, drop-cons, append_assoc}
+use Rattle.std.proofs.Common.{◌≡◌, ℕ, zero, suc, ◌+◌, ◌<◌, refl, ap, sym, ◌∙◌, arith, Bool, true, List, [], ◌∷◌, ◌++◌, length, get_or, drop, drop-cons, append_assoc}
 use Rattle.std.specs.Prelude.{not, slice_index_or}
 use Rattle.std.specs.Option.{option_to_list}
 use Rattle.shape_terms.specs.Points.{Point}
 use Rattle.shape_terms.specs.Covers.{Stretch}
-use Rattle.drawing.specs.Outlines.{Stroke, stroke_of, strokes_along}
+use Rattle.drawing.specs.Outlines.{stroke_of, strokes_along}
 use Rattle.overlaying.specs.Parts.{Mark}
 use Rattle.overlaying.specs.Borders.{leading, borders, strokes_over}
 use Rattle.overlaying.specs.Going.{path_before, strokes_from}

@@ -1,6 +1,6 @@
 -- The contours that lines give, when one more line comes.
 -- Laws of lists of lines alone.
-use Rattle.std.proofs.Common.{◌≡◌, ◌<◌, inl, inr, ℕ, refl, ap, sym, ◌∙◌, arith, Bool, false, List, [], ◌∷◌, ◌++◌, length, map}
+use Rattle.std.proofs.Common.{◌≡◌, ◌<◌, inl, inr, ℕ, refl, ap, sym, ◌∙◌, arith, false, List, [], ◌∷◌, ◌++◌, length, map}
 use Rattle.std.specs.Prelude.{◌⊎◌, filter_map}
 use Rattle.std.proofs.lemmas.List.{append-nil, map-append}
 use Rattle.std.proofs.lemmas.List.Elements.{filter_map-append}

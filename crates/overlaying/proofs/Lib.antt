@@ -3,4 +3,5 @@ pub mod HeadingLaws
 pub mod CircleLaws
 pub mod ContourLaws
 pub mod BorderLaws
+pub mod PathLaws
 pub mod Overs

@@ -1,10 +1,9 @@
 -- Stretches of borders as strokes: those of the k-th border along the k-th of some paths.
 -- What paths these are, each kind of report says in `Layers`.
-use Rattle.std.specs.Prelude.{◌≡◌, ℕ, zero, suc, true, not, List, [], ◌∷◌, ◌++◌, slice_index_or}
-use Rattle.std.specs.Option.{option_to_list}
+use Rattle.std.specs.Prelude.{true, List, [], ◌∷◌, ◌++◌}
 use Rattle.shape_terms.specs.Points.{Point}
 use Rattle.shape_terms.specs.Covers.{Stretch}
-use Rattle.drawing.specs.Outlines.{Stroke, strokes_along, stroke_of}
+use Rattle.drawing.specs.Outlines.{Stroke, strokes_along}
 use Rattle.overlaying.specs.Parts.{Mark}
 
 -- the stretches before the next border begins

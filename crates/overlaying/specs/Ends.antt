@@ -1,6 +1,6 @@
 -- Which lines end a further report, and that none comes in order behind such a line.
 -- Laws of lines and states alone.
-use Rattle.std.proofs.Common.{◌≡◌, refl, ap, sym, subst, ◌∙◌, true, false}
+use Rattle.std.proofs.Common.{◌≡◌, refl, sym, subst}
 use Rattle.shape_terms.specs.Points.{Point}
 use Rattle.text_terms.specs.Reports.{IsReport}
 use Rattle.text_terms.specs.Courses.{EndsBy}

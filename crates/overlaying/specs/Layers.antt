@@ -1,6 +1,6 @@
 -- The drawing of a further report over the object of an analysis: an SVG, layer upon layer.
 -- The front and the object stand in `drawing`; a further kind is one more clause of `marks_layer`.
-use Rattle.std.specs.Prelude.{◌≡◌, ℕ, List, ◌++◌, codes, filter, slice_index}
+use Rattle.std.specs.Prelude.{ℕ, List, ◌++◌, codes, filter, slice_index}
 use Rattle.shape_terms.specs.Points.{Point}
 use Rattle.report_terms.specs.Lines.{Line}
 use Rattle.report_lines.specs.Said.{given_sides}

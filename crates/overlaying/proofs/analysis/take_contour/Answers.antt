@@ -1,4 +1,4 @@
-use Rattle.std.proofs.Common.{◌≡◌, ℕ, refl, ap, sym, ◌∙◌, List}
+use Rattle.std.proofs.Common.{◌≡◌, ℕ, refl, List}
 use Rattle.shape_terms.specs.Points.{Point}
 use Rattle.shape_space.specs.declared.point.P2.{P2}
 use Rattle.shape_report.specs.declared.line.Line.{Line}
