@@ -1,12 +1,12 @@
 -- Gathering marks: what is owed at one more line, from the heading on.
 -- Laws of lines, states and texts; the program stands in none.
-use Rattle.std.proofs.Common.{◌≡◌, ◌≢◌, ℕ, refl, ap, sym, subst, ◌∙◌, Bool, true, false, List, [], ◌∷◌, ◌++◌, Option, Some, None}
+use Rattle.std.proofs.Common.{◌≡◌, ℕ, refl, ap, sym, subst, ◌∙◌, Bool, true, false, List, [], ◌∷◌, ◌++◌, Option, Some, None}
 use Rattle.std.specs.Prelude.{◌↔◌, IsTrue, filter_map}
 use Rattle.std.specs.Option.{option_to_list}
 use Rattle.std.proofs.lemmas.List.Elements.{filter_map-append}
 use Rattle.shape_desk.specs.Line.{IfTold}
 use Rattle.shape_terms.specs.Points.{Point}
-use Rattle.text_terms.specs.Reports.{BeginsWith, EndsWith, FirstBad}
+use Rattle.text_terms.specs.Reports.{EndsWith, FirstBad}
 use Rattle.text_terms.specs.Courses.{reached}
 use Rattle.text_terms.specs.Going.{IsTextOf}
 use Rattle.text_terms.proofs.CourseLaws.{reached_push, ended_exactly}

@@ -1,6 +1,6 @@
 -- Headings of further reports: of one line's bytes, and of the bytes that begin with it.
 -- Laws of lines and texts; the program stands in none.
-use Rattle.std.proofs.Common.{◌≡◌, ◌≢◌, ℕ, ◌≤◌, refl, ap, sym, subst, ◌∙◌, arith, Bool, true, false, List, [], ◌∷◌, ◌++◌, length, Option, Some, None}
+use Rattle.std.proofs.Common.{◌≡◌, ℕ, ap, sym, ◌∙◌, Bool, true, false, List, [], ◌∷◌, ◌++◌, Option, Some, None}
 use Rattle.std.specs.Prelude.{◌↔◌, IsTrue}
 use Rattle.std.proofs.lemmas.List.{append_assoc}
 use Rattle.std.proofs.lemmas.List.Elements.{All-from_get_or, recursion_from_All}
@@ -14,6 +14,7 @@ use Rattle.text_terms.proofs.Checking.{begins_none, first_bad, same_front, no_li
 use Rattle.report_text.proofs.NextAnswers.{claim_taken}
 use Rattle.report_text.proofs.Told.{if_told}
 use Rattle.ball_terms.proofs.LineLaws.{spelled_balls}
+use Rattle.piece_terms.proofs.LineLaws.{are_spelled}
 use Rattle.overlaying.specs.Parts.{Part, Standing, LineKind, Claim, in_order}
 use Rattle.overlaying.specs.Kinds.{lines_of, IsNoFurther}
 use Rattle.overlaying.specs.Headings.{IsHeadingLine, KindFound, TakesHeading}
@@ -31,12 +32,14 @@ heading_found K is sides bytes l b f e h =
 pub not_so : {P : Type 0} (b : Bool) → b ≡ false → IsTrue b ↔ P → P → ⊥
 not_so b f h p = let e : false ≡ true = sym f ∙ h.1 p in cc
 
-pub none_found : (sides : Point) (bytes : List ℕ) → (IsHeadingLine (lines_of kind.Balls) sides bytes → ⊥) → KindFound sides bytes None
-none_found sides bytes b kind.Balls = b
+pub none_found : (sides : Point) (bytes : List ℕ) → (IsHeadingLine (lines_of kind.Balls) sides bytes → ⊥) → (IsHeadingLine (lines_of kind.Pieces) sides bytes → ⊥) → KindFound sides bytes None
+none_found sides bytes b p kind.Balls = b
+none_found sides bytes b p kind.Pieces = p
 
 -- the spellings of each kind
 pub kind_spelled : (k : Kind) → IsSpelled (lines_of k).text
 kind_spelled kind.Balls = spelled_balls 2
+kind_spelled kind.Pieces = are_spelled
 
 -- ---- the bytes
 

@@ -1,4 +1,7 @@
 pub mod Gathering
 pub mod HeadingLaws
 pub mod CircleLaws
+pub mod ContourLaws
+pub mod BorderLaws
+pub mod PathLaws
 pub mod Overs

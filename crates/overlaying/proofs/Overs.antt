@@ -1,9 +1,9 @@
 -- From what was read of two reports to the drawing of the one over the other, or why there is none.
 -- Laws over texts, files and lines; nothing is read here.
-use Rattle.std.proofs.Common.{◌≡◌, ◌≢◌, ◌≤◌, inl, inr, ℕ, refl, ap, sym, subst, ◌∙◌, arith, List, [], ◌∷◌, ◌++◌, map, Option, Some, None}
-use Rattle.std.specs.Prelude.{◌⊎◌, ℤ, pos, ⊤, nat_abs, Result, Ok, Err, OnOk, MatchOption, ◌≤ℤ◌}
+use Rattle.std.proofs.Common.{◌≡◌, ◌≤◌, inl, inr, ℕ, refl, ap, sym, subst, ◌∙◌, arith, List, [], ◌∷◌, ◌++◌, map, Option, Some, None}
+use Rattle.std.specs.Prelude.{ℤ, pos, nat_abs, Result, Ok, Err, OnOk, MatchOption, filter}
 use Rattle.std.proofs.lemmas.Int.{ints}
-use Rattle.shape_desk.specs.Desk.{Files, DeskState, IsAtFront, IsMissing, Rose}
+use Rattle.shape_desk.specs.Desk.{Files, DeskState, IsAtFront, IsMissing}
 use Rattle.shape_desk.specs.Line.{IfTold}
 use Rattle.shape_desk.specs.Files.{OfFile}
 use Rattle.shape_desk.proofs.Begun.{of_file, rose_earlier}
@@ -11,22 +11,26 @@ use Rattle.shape_terms.specs.Points.{AreSides, sides_of}
 use Rattle.shape_terms.proofs.Boxes.{abs_is}
 use Rattle.shape_terms.specs.Points.{Point}
 use Rattle.text_terms.specs.Going.{IsTextOf}
+use Rattle.text_terms.proofs.Checking.{begins_none, first_bad}
 use Rattle.report_text.proofs.Told.{if_told}
 use Rattle.report_terms.specs.Lines.{Line}
-use Rattle.report_lines.specs.Reports.{flat as plane, in_order, IsOfVolume}
-use Rattle.report_lines.specs.Headings.{IsOfNoBox, IsNoOpening}
+use Rattle.report_terms.proofs.Spelled.{are_spelled}
+use Rattle.report_lines.specs.Reports.{flat as plane, in_order, FirstBad}
+use Rattle.report_lines.specs.Headings.{IsOfNoBox, LacksHeading}
 use Rattle.report_lines.specs.Answers as Lines
 use Rattle.report_lines.specs.declared.fault.ReportFault.{ReportFault}
 use Rattle.report_lines.specs.declared.fault.ReportFault.TheVariants as cause
 use Rattle.drawing.specs.Seen.{flat}
-use Rattle.drawing.proofs.Sketched.{no_report}
-use Rattle.overlaying.specs.Parts.{Mark, LineKind}
+use Rattle.drawing.specs.Outlines.{is_inside}
+use Rattle.drawing.specs.Svg.{contour_layer}
+use Rattle.overlaying.specs.Parts.{Mark}
 use Rattle.overlaying.specs.Kinds.{lines_of, IsMarkedBy, IsNoFurther}
+use Rattle.overlaying.specs.Borders.{borders, strokes_over}
 use Rattle.overlaying.specs.Circles.{balls_in, balls_layer}
 use Rattle.overlaying.specs.Layers.{marks_layer, overlay}
 use Rattle.overlaying.specs.Seen.{all_marks}
 use Rattle.overlaying.specs.Standing.{IsAnalysisOf}
-use Rattle.overlaying.specs.Answers.{IsNoAnalysis, AnalysisFails, AnalysisRead, AnalysisInFile, AnalysisRefused, FurtherFails, FurtherRead, FurtherInFile, FurtherRefused, GatherFails, FirstBehind, OfFiles, AreDrawnAs, AreNotOver, Refused, sides_in}
+use Rattle.overlaying.specs.Answers.{IsNoAnalysis, AnalysisFails, AnalysisRead, AnalysisInFile, FurtherFails, FurtherRead, FurtherInFile, FurtherRefused, GatherFails, OfFiles, AreDrawnAs, AreNotOver, Refused, sides_in}
 use Rattle.overlaying.specs.declared.kind.Kind.{Kind}
 use Rattle.overlaying.specs.declared.kind.Kind.TheVariants as kind
 use Rattle.overlaying.specs.declared.analysis.Analysis.{Analysis}
@@ -49,10 +53,18 @@ read_later text before mid now (Err (cause.NotReport k)) l h = h
 read_later text before mid now (Err cause.ReadFault) l h = omega (arith, l, h)
 read_later text before mid now (Err cause.NoMemory) l h = tt
 
+-- without a heading the first line is bad
+none_there : (front : List Line) → [] ≡ front ++ Line.End ∷ [] → ⊥
+none_there [] e = cc
+none_there (l ∷ front) e = cc
+
+first_of : (text : List ℕ) → LacksHeading plane text → FirstBad plane text 1
+first_of text lacks = first_bad (in_order plane) (are_spelled plane.axes) text [] text (begins_none (in_order plane) text) (λ l rest t c. lacks l rest t (c.heading refl)) (λ front f z. none_there front f)
+
 -- there is no heading
 pub no_opening : (bytes new text : Option (List ℕ)) (before now : ℕ) (why : ReportFault) → bytes ≡ text → Lines.OpeningAnswer bytes new before now (Err why) → AnalysisFails text before now why
 no_opening bytes new text before now (cause.NotReport k) e h =
-    subst (λ t. IfTold t (IsNoAnalysis k)) e (subst (λ j. IfTold bytes (IsNoAnalysis j)) (sym h.0) (if_told bytes (λ t n. inl n.bad) (no_report bytes h.1)))
+    subst (λ t. IfTold t (IsNoAnalysis k)) e (subst (λ j. IfTold bytes (IsNoAnalysis j)) (sym h.0) (if_told bytes (λ t n. inl (first_of t n.flat)) h.1))
 no_opening bytes new text before now cause.ReadFault e h = h
 no_opening bytes new text before now cause.NoMemory e h = tt
 
@@ -138,5 +150,9 @@ on_ok (Ok u) f h = f h
 on_ok (Err e) f h = tt
 
 -- the balls were put
-pub balls_put : {E : Type 0} (r : Result (Unit {0}) E) (k : Kind) (given sides : List ℕ) (ms ns : List Mark) (old new : List ℕ) → given ≡ sides → ns ≡ ms → OnOk r (new ≡ old ++ balls_layer (balls_in sides ns)) → OnOk r (new ≡ old ++ marks_layer k given ms)
-balls_put r kind.Balls given sides ms ns old new e f h = on_ok r (λ p. p ∙ (λ i. old ++ balls_layer (balls_in (sym e i) (f i)))) h
+pub balls_put : {E : Type 0} (r : Result (Unit {0}) E) (k : Kind) (given sides : List ℕ) (cs : List (List Point)) (ms ns : List Mark) (old new : List ℕ) → k ≡ kind.Balls → given ≡ sides → ns ≡ ms → OnOk r (new ≡ old ++ balls_layer (balls_in sides ns)) → OnOk r (new ≡ old ++ marks_layer k given cs ms)
+balls_put r k given sides cs ms ns old new z e f h = on_ok r (λ p. p ∙ (λ i. old ++ balls_layer (balls_in (sym e i) (f i))) ∙ ap (λ j. old ++ marks_layer j given cs ms) (sym z)) h
+
+-- the pieces were put
+pub pieces_put : {E : Type 0} (r : Result (Unit {0}) E) (k : Kind) (given sides : List ℕ) (cs ds : List (List Point)) (ms ns : List Mark) (old new : List ℕ) → k ≡ kind.Pieces → given ≡ sides → ds ≡ cs → ns ≡ ms → OnOk r (new ≡ old ++ contour_layer (filter (is_inside sides) (strokes_over ds (borders ns)))) → OnOk r (new ≡ old ++ marks_layer k given cs ms)
+pieces_put r k given sides cs ds ms ns old new z e d f h = on_ok r (λ p. p ∙ (λ i. old ++ contour_layer (filter (is_inside (sym e i)) (strokes_over (d i) (borders (f i))))) ∙ ap (λ j. old ++ marks_layer j given cs ms) (sym z)) h

@@ -1,13 +1,15 @@
 -- Which lines end a further report, and that none comes in order behind such a line.
 -- Laws of lines and states alone.
-use Rattle.std.proofs.Common.{◌≡◌, refl, ap, sym, subst, ◌∙◌, true, false}
+use Rattle.std.proofs.Common.{◌≡◌, refl, sym, subst}
 use Rattle.shape_terms.specs.Points.{Point}
 use Rattle.text_terms.specs.Reports.{IsReport}
 use Rattle.text_terms.specs.Courses.{EndsBy}
 use Rattle.text_terms.proofs.CourseLaws.{course_ends}
 use Rattle.ball_terms.specs.Lines as Balls
+use Rattle.piece_terms.specs.Lines as Pieces
+use Rattle.piece_terms.specs.SplitLines.{SplitLine}
 use Rattle.overlaying.specs.Parts.{Part, Standing, LineKind, step, Claim, course, in_order}
-use Rattle.overlaying.specs.Kinds.{ball_part}
+use Rattle.overlaying.specs.Kinds.{ball_part, piece_part}
 
 -- ---- each kind has one last line
 
@@ -15,6 +17,13 @@ pub only_ball_end : (l : Balls.Line) → ball_part l ≡ Part.End → l ≡ Ball
 only_ball_end (Balls.Line.Balls sides number) e = cc
 only_ball_end (Balls.Line.Ball b) e = cc
 only_ball_end Balls.Line.End e = refl
+
+pub only_piece_end : (l : Pieces.Line) → piece_part l ≡ Part.End → l ≡ Pieces.Line.End
+only_piece_end (Pieces.Line.Pieces sides) e = cc
+only_piece_end (Pieces.Line.Listed (SplitLine.Chain c n m)) e = cc
+only_piece_end (Pieces.Line.Listed (SplitLine.Piece b l t line)) e = cc
+only_piece_end (Pieces.Line.Listed (SplitLine.Gap t why)) e = cc
+only_piece_end Pieces.Line.End e = refl
 
 -- ---- no line comes behind it
 

@@ -5,6 +5,8 @@ use Rattle.shape_terms.specs.Points.{Point}
 use Rattle.text_terms.specs.Going.{IsTextOf}
 use Rattle.text_terms.specs.Reports.{FirstBad}
 use Rattle.ball_terms.specs.Lines as Balls
+use Rattle.piece_terms.specs.Lines as Pieces
+use Rattle.piece_terms.specs.SplitLines.{SplitLine}
 use Rattle.overlaying.specs.Parts.{Mark, Part, LineKind, kind_by, marks_of, in_order}
 use Rattle.overlaying.specs.declared.kind.Kind.{Kind}
 use Rattle.overlaying.specs.declared.kind.Kind.TheVariants as kind
@@ -15,9 +17,18 @@ ball_part (Balls.Line.Balls sides number) = Part.Heading sides
 ball_part (Balls.Line.Ball b) = Part.Gives (Mark.Ball b.centre b.s)
 ball_part Balls.Line.End = Part.End
 
+-- what a line of a report of straight pieces gives: each chain is a border, and each piece a stretch of it
+abbrev pub piece_part : Pieces.Line → Part
+piece_part (Pieces.Line.Pieces sides) = Part.Heading sides
+piece_part (Pieces.Line.Listed (SplitLine.Chain c n m)) = Part.Gives Mark.Border
+piece_part (Pieces.Line.Listed (SplitLine.Piece b e t line)) = Part.Gives (Mark.Along (record { first = b; last = e }))
+piece_part (Pieces.Line.Listed (SplitLine.Gap t why)) = Part.Quiet
+piece_part Pieces.Line.End = Part.End
+
 -- the lines of each kind, in reports of flat pictures
 abbrev pub lines_of : Kind → LineKind
 lines_of kind.Balls = kind_by (Balls.spelled 2) Balls.Line.End ball_part
+lines_of kind.Pieces = kind_by Pieces.spelled Pieces.Line.End piece_part
 
 -- the text is a report in order of this kind, about a picture with these sides, and its lines give these marks
 abbrev pub IsMarkedBy : Kind → Point → List Mark → List ℕ → Type 0

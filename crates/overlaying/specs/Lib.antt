@@ -2,6 +2,9 @@ pub mod Parts
 pub mod Kinds
 pub mod Ends
 pub mod Headings
+pub mod Contours
+pub mod Borders
+pub mod Going
 pub mod Circles
 pub mod Layers
 pub mod Seen

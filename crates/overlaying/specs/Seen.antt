@@ -1,7 +1,10 @@
--- What the program's own marks, parts and balls mean, as those of the definitions.
+-- What the program's own marks, parts, balls and paths mean, as those of the definitions.
 -- A point is the list of its coordinates.
 use Rattle.std.specs.Prelude.{List, [], ◌∷◌, map}
-use Rattle.drawing.specs.Seen.{flat}
+use Rattle.std.specs.declared.vec.Vec.{Vec}
+use Rattle.shape_space.specs.declared.point.P2.{P2}
+use Rattle.shape_terms.specs.Points.{Point}
+use Rattle.drawing.specs.Seen.{flat, flats}
 use Rattle.overlaying.specs.Parts as Parts
 use Rattle.overlaying.specs.Circles as Circles
 use Rattle.overlaying.specs.declared.part.Mark as Program
@@ -29,3 +32,7 @@ ball_of b = record { centre = flat b.centre; square = b.square }
 
 abbrev pub all_balls : List ProgramBall.Ball → List Circles.Ball
 all_balls bs = map ball_of bs
+
+-- the points of each path
+abbrev pub all_paths : {Z : Type 0} → List (Vec P2 Z) → List (List Point)
+all_paths paths = map (λ v. flats v.items) paths

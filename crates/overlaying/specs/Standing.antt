@@ -7,8 +7,9 @@ use Rattle.report_terms.specs.Lines.{Line}
 use Rattle.report_lines.specs.Said.{given_sides}
 use Rattle.drawing.specs.Object.{pixels}
 use Rattle.drawing.specs.Seen.{flat, all_pixels}
+use Rattle.overlaying.specs.Contours.{contours_of}
 use Rattle.overlaying.specs.Parts.{Standing, LineKind, marks_of, course}
-use Rattle.overlaying.specs.Seen.{all_marks}
+use Rattle.overlaying.specs.Seen.{all_marks, all_paths}
 use Rattle.overlaying.specs.declared.analysis.Analysis.{Analysis}
 use Rattle.overlaying.specs.declared.gatherer.Gatherer.{Gatherer}
 
@@ -16,6 +17,7 @@ use Rattle.overlaying.specs.declared.gatherer.Gatherer.{Gatherer}
 pub record IsAnalysisOf (lines : List Line) (a : Analysis) : Type 0 where
   pub given : given_sides lines ≡ sides_of (flat a.sides.lengths)
   pub pixels : all_pixels a.pixels.items ≡ pixels (sides_of (flat a.sides.lengths)) lines
+  pub contours : all_paths a.contours.items ≡ contours_of lines
 
 -- where a report behind its heading stands
 abbrev pub standing_of : Bool → Standing

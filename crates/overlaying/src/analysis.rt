@@ -1,7 +1,10 @@
-//! What is kept of an analysis: its sides, and its object with depths.
+//! What is kept of an analysis: its sides, its object with depths, and its contours.
 //! No claim is judged; what is drawn of it is told in `layers`.
-ghost use Rattle.std.specs.Prelude.{◌∷◌, []};
+ghost use Rattle.std.specs.Prelude.{◌≡◌, ◌∷◌, [], OnOk};
 ghost use Rattle.report_lines.specs.Seen.{flat_line};
+ghost use Rattle.drawing.specs.Seen.{flat};
+ghost use Rattle.overlaying.specs.Contours.{with_point, with_line};
+ghost use Rattle.overlaying.specs.Seen.{all_paths};
 ghost use Rattle.overlaying.specs.Standing.{IsAnalysisOf};
 
 use drawing::{Pixel, take_pixel};
@@ -15,6 +18,35 @@ use std::alloc::Global;
 pub struct Analysis {
     pub(crate) sides: Sides<P2>,
     pub(crate) pixels: Vec<Pixel>,
+    pub(crate) contours: Vec<Vec<P2>>,
+    alloc: Global,
+}
+
+// Puts a point behind those of the last contour, where there is one.
+fn add_point(contours: &mut Vec<Vec<P2>>, p: P2) -> Result<(), NoMemory>
+    ensures { OnOk result (all_paths contours.new.items
+        ≡ with_point (all_paths contours.old.items) (flat p)) }
+{
+    let count = contours.len();
+    if count > 0 {
+        contours[count - 1].push(p)?;
+    }
+    Ok(())
+}
+
+// Takes of a line what it gives of a contour.
+fn take_contour(alloc: Global, contours: &mut Vec<Vec<P2>>, line: &Line<P2>) -> Result<(), NoMemory>
+    ensures { OnOk result (all_paths contours.new.items
+        ≡ with_line (all_paths contours.old.items) (flat_line line.now)) }
+{
+    match line {
+        Line::Contour { .. } => {
+            contours.push(Vec::new(alloc))?;
+            Ok(())
+        }
+        Line::At { p } => add_point(contours, *p),
+        _ => Ok(()),
+    }
 }
 
 impl Analysis {
@@ -25,6 +57,8 @@ impl Analysis {
         Analysis {
             sides: heading.sides,
             pixels: Vec::new(alloc),
+            contours: Vec::new(alloc),
+            alloc,
         }
     }
 }
@@ -34,6 +68,7 @@ impl Sketch<P2> for Analysis {
 
     fn take(&mut self, line: &Line<P2>) -> Result<(), NoMemory> {
         take_pixel(&mut self.pixels, self.sides, line)?;
+        take_contour(self.alloc, &mut self.contours, line)?;
         Ok(())
     }
 }

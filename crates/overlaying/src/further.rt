@@ -17,6 +17,7 @@ use crate::kind::{Kind, kind_of};
 use crate::line::OverLine;
 use crate::part::Mark;
 use judge_balls::BallLine;
+use judge_pieces::PieceLine;
 use report_text::{CheckFault, Judgement, check_from};
 use shape_desk::{Desk, LineFault, LineReader, Place};
 use shape_space::P2;
@@ -69,6 +70,7 @@ fn gather_kind<D: Desk>(
 {
     match kind {
         Kind::Balls => gather::<BallLine<P2>, D>(alloc, reader, desk),
+        Kind::Pieces => gather::<PieceLine, D>(alloc, reader, desk),
     }
 }
 

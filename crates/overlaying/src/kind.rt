@@ -10,6 +10,7 @@ ghost use Rattle.drawing.specs.Seen.{flat};
 use crate::line::OverLine;
 use crate::part::Part;
 use judge_balls::BallLine;
+use judge_pieces::PieceLine;
 use shape_space::P2;
 
 /// A kind of report that is drawn over an object.
@@ -17,6 +18,8 @@ use shape_space::P2;
 pub enum Kind {
     /// The object as a union of balls.
     Balls,
+    /// The contours in straight pieces.
+    Pieces,
 }
 
 // Whether what a line gives is the heading with these sides.
@@ -48,6 +51,9 @@ pub(crate) fn kind_of(bytes: &[u8], sides: P2) -> Option<Kind>
 {
     if is_heading::<BallLine<P2>>(bytes, sides) {
         return Some(Kind::Balls);
+    }
+    if is_heading::<PieceLine>(bytes, sides) {
+        return Some(Kind::Pieces);
     }
     None
 }

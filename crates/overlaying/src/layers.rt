@@ -3,6 +3,7 @@
 ghost use Rattle.std.specs.Prelude.{◌≡◌, ◌++◌, List, IfOk, OnOk};
 ghost use Rattle.report_terms.specs.Lines as Terms;
 ghost use Rattle.report_lines.specs.Said.{given_sides};
+ghost use Rattle.overlaying.specs.Contours.{contours_of};
 ghost use Rattle.overlaying.specs.Layers.{marks_layer, overlay};
 ghost use Rattle.overlaying.specs.Seen.{all_marks};
 ghost use Rattle.overlaying.specs.Standing.{IsAnalysisOf};
@@ -11,6 +12,7 @@ use crate::analysis::Analysis;
 use crate::balls::put_balls;
 use crate::further::Further;
 use crate::kind::Kind;
+use crate::pieces::put_pieces;
 use drawing::{Svg, put_head, put_object};
 use shape_space::NoMemory;
 use std::alloc::Global;
@@ -24,10 +26,18 @@ fn put_marks(
 ) -> Result<(), NoMemory>
     ensures { (lines : List Terms.Line) → IsAnalysisOf lines analysis.now
         → OnOk result (svg.new ≡ svg.old
-        ++ marks_layer further.now.kind (given_sides lines) (all_marks further.now.marks.items)) }
+        ++ marks_layer further.now.kind (given_sides lines) (contours_of lines)
+        (all_marks further.now.marks.items)) }
 {
     match further.kind {
         Kind::Balls => put_balls(alloc, analysis.sides, &further.marks, svg),
+        Kind::Pieces => put_pieces(
+            alloc,
+            analysis.sides,
+            &analysis.contours,
+            &further.marks,
+            svg,
+        ),
     }
 }
 

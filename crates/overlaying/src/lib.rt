@@ -1,9 +1,10 @@
-//! Further reports of flat pictures, drawn over the object of an analysis as an SVG: balls.
+//! Further reports of flat pictures, drawn over the object of an analysis as an SVG: balls and straight pieces.
 //! No claim is judged; a further kind of report is an `impl` of `OverLine`, a variant of `Kind`, and a layer of its own.
 #![tactic(auto)]
 
 mod analysis;
 mod balls;
+mod borders;
 mod fault;
 mod further;
 mod gatherer;
@@ -11,6 +12,7 @@ mod kind;
 mod layers;
 mod line;
 mod part;
+mod pieces;
 mod read;
 mod top;
 

@@ -3,12 +3,13 @@
 ghost use Rattle.std.specs.Prelude.{◌≡◌, ◌∷◌, [], refl};
 ghost use Rattle.shape_space.specs.declared.point.P2.{P2};
 ghost use Rattle.overlaying.specs.Parts as Parts;
-ghost use Rattle.overlaying.specs.Kinds.{ball_part};
+ghost use Rattle.overlaying.specs.Kinds.{ball_part, piece_part};
 ghost use Rattle.overlaying.specs.Seen.{part_of};
-ghost use Rattle.overlaying.specs.Ends.{only_ball_end};
+ghost use Rattle.overlaying.specs.Ends.{only_ball_end, only_piece_end};
 
 use crate::part::{Mark, Part};
 use judge_balls::BallLine;
+use judge_pieces::PieceLine;
 use report_text::ReportLine;
 use shape_space::P2;
 
@@ -53,4 +54,25 @@ impl OverLine for BallLine<P2> {
     ghost last_ends = { refl };
 
     ghost only_last = { only_ball_end };
+}
+
+impl OverLine for PieceLine {
+    ghost gives = { piece_part };
+
+    fn part(&self) -> Part {
+        match self {
+            PieceLine::Pieces { sides } => heading(*sides),
+            PieceLine::Chain { .. } => Part::Gives(Mark::Border),
+            PieceLine::Piece { first, last, .. } => Part::Gives(Mark::Along {
+                first: *first,
+                last: *last,
+            }),
+            PieceLine::Gap { .. } => Part::Quiet,
+            PieceLine::End => Part::End,
+        }
+    }
+
+    ghost last_ends = { refl };
+
+    ghost only_last = { only_piece_end };
 }

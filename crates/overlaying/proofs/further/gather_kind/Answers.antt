@@ -1,10 +1,7 @@
-use Rattle.std.proofs.Common.{◌≡◌, refl}
-use Rattle.overlaying.specs.declared.kind.Kind.{Kind}
-use Rattle.overlaying.specs.declared.kind.Kind.TheVariants as kind
 use Rattle.overlaying.proofs.further.gather_kind.Goals as goal
 
-only_kind : (k : Kind) → k ≡ kind.Balls
-only_kind kind.Balls = refl
+pub returns-in-Balls-clause-answer : goal.returns-in-Balls-clause-answer
+returns-in-Balls-clause-answer g c = rw c.in-Balls.is c.gather.ensures.answer
 
-pub returns-clause-answer : goal.returns-clause-answer
-returns-clause-answer g c = let e : c.args.kind ≡ kind.Balls = only_kind c.args.kind in rw e c.gather.ensures.answer
+pub returns-in-Pieces-clause-answer : goal.returns-in-Pieces-clause-answer
+returns-in-Pieces-clause-answer g c = rw c.in-Pieces.is c.gather-in-Pieces.ensures.answer

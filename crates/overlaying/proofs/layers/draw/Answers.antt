@@ -6,6 +6,7 @@ use Rattle.drawing.specs.Object.{pixels}
 use Rattle.drawing.specs.Seen.{flat, all_pixels}
 use Rattle.drawing.specs.Svg.{head, object_layer}
 use Rattle.drawing.proofs.LayerLaws.{four}
+use Rattle.overlaying.specs.Contours.{contours_of}
 use Rattle.overlaying.specs.Layers.{marks_layer}
 use Rattle.overlaying.specs.Seen.{all_marks}
 use Rattle.overlaying.proofs.layers.draw.Goals as goal
@@ -14,7 +15,7 @@ pub returns : goal.returns
 returns c = λ lines h.
     let a = c.args.analysis.now in
     let given = given_sides lines in
-    let marks = marks_layer c.args.further.now.kind given (all_marks c.args.further.now.marks.items) in
+    let marks = marks_layer c.args.further.now.kind given (contours_of lines) (all_marks c.args.further.now.marks.items) in
     let s : sides_of (flat a.sides.lengths) ≡ given = sym h.given in
     let x : all_pixels c.deref.result.now ≡ pixels given lines = ap all_pixels c.deref.ensures.value ∙ h.pixels ∙ ap (λ q. pixels q lines) s in
     c.into_text.ensures ∙ four _ _ _ _ _ _ _ _ _ c.in_ok-put_head.ensures c.in_ok-put_object.ensures (c.in_ok-put_marks.ensures lines h) c.in_ok-put.ensures

@@ -5,6 +5,8 @@ use Rattle.report_lines.specs.Seen.{flat_line}
 use Rattle.drawing.specs.Object.{pixels}
 use Rattle.drawing.specs.Seen.{flat}
 use Rattle.drawing.proofs.Deleting.{pixels_more}
+use Rattle.overlaying.specs.Contours.{with_line}
+use Rattle.overlaying.proofs.ContourLaws.{contours_more}
 use Rattle.overlaying.proofs.analysis.AnalysisSketchP2.take.Goals as goal
 
 pub returns : goal.returns
@@ -14,4 +16,5 @@ returns c = λ lines h.
     record {
       given = given_more lines l (some_lines 2 lines (omega arith) (ap length h.given)) ∙ h.given;
       pixels = c.in_ok-take_pixel.ensures ∙ ap (λ t. t ++ pixels sides (l ∷ [])) h.pixels ∙ sym (pixels_more sides lines l);
+      contours = c.in_ok-take_contour.ensures ∙ ap (λ t. with_line t l) h.contours ∙ sym (contours_more lines l);
     }
