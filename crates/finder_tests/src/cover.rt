@@ -1,5 +1,7 @@
 //! Covers of the contours of small pictures, found by hand, and their evidence, judged again.
 //! A further picture is one more row of the table.
+ghost use Rattle.std.specs.Prelude.{◌<◌, length};
+
 use crate::pictures::drawn;
 use shape_cover::{Cover, Gap, Stretch, cover};
 use shape_crack::{Contour, contours};
@@ -65,6 +67,22 @@ fn is_refused(
     Ok(refuses(run.as_slice(), 0, &gap.x) && refuses(run.as_slice(), 1, &gap.y))
 }
 
+// Whether a segment as it was grown ends in its last point, and whether its line is shown to be least by places of its own.
+fn is_grown(contour: &Contour, found: &Cover, k: u32) -> bool
+    requires { k < length found.now }
+{
+    let stretch = found.segment(k);
+    let bounds = found.bounds(k);
+    let most = stretch.last.saturating_sub(stretch.first);
+    found.grown(k).last() == contour.point(stretch.last % contour.len())
+        && bounds
+            .low1
+            .max(bounds.high1)
+            .max(bounds.low2)
+            .max(bounds.high2)
+            <= most
+}
+
 // Puts the segments of the cover of a contour behind a text: the first and the last place of each, for how many axes the gap after it
 // is refused by weights, and what is wrong with its evidence.
 fn put_cover(text: &mut String, alloc: Global, contour: &Contour) -> Result<(), Fail> {
@@ -80,6 +98,9 @@ fn put_cover(text: &mut String, alloc: Global, contour: &Contour) -> Result<(), 
         )?;
         if !is_held(alloc, contour, &stretch)? {
             text.push_str(" not held")?;
+        }
+        if !is_grown(contour, &found, k) {
+            text.push_str(" not grown")?;
         }
         let from = next_first(contour, &found, k).saturating_sub(1);
         if !is_refused(

@@ -183,10 +183,10 @@ fn bends_of_both_ways_are_refused(rt: HostRuntime) {
     }
 }
 
-// The two coefficients of the line of the verdict, where there is one.
-fn coefficients(verdict: RunVerdict) -> Option<(i64, i64)> {
+// The two coefficients of the line of the verdict and its lower bound, where there is one.
+fn parameters(verdict: RunVerdict) -> Option<(i64, i64, i64)> {
     match verdict {
-        RunVerdict::Straight(line) => Some((line.a[0], line.a[1])),
+        RunVerdict::Straight(line) => Some((line.a[0], line.a[1], line.mu)),
         _ => None,
     }
 }
@@ -194,12 +194,12 @@ fn coefficients(verdict: RunVerdict) -> Option<(i64, i64)> {
 #[test]
 fn lines_are_in_lowest_terms(rt: HostRuntime) {
     let row = [P2 { x: 0, y: 3 }, P2 { x: 1, y: 3 }, P2 { x: 2, y: 3 }];
-    assert!(rt; coefficients(decide(&row, 1)) == Some((0, 1)));
+    assert!(rt; parameters(decide(&row, 1)) == Some((0, 1, 3)));
     let column = [P2 { x: 7, y: 0 }, P2 { x: 7, y: 1 }, P2 { x: 7, y: 2 }];
-    assert!(rt; coefficients(decide(&column, 0)) == Some((1, 0)));
+    assert!(rt; parameters(decide(&column, 0)) == Some((1, 0, 7)));
     let diagonal = [P2 { x: 0, y: 0 }, P2 { x: 1, y: 1 }, P2 { x: 2, y: 2 }];
-    assert!(rt; coefficients(decide(&diagonal, 1)) == Some((-1, 1)));
-    assert!(rt; coefficients(decide(&diagonal, 0)) == Some((1, -1)));
+    assert!(rt; parameters(decide(&diagonal, 1)) == Some((-1, 1, 0)));
+    assert!(rt; parameters(decide(&diagonal, 0)) == Some((1, -1, 0)));
 }
 
 #[test]
@@ -211,5 +211,16 @@ fn the_line_of_a_staircase_is_in_lowest_terms(rt: HostRuntime) {
         P2 { x: 3, y: 1 },
         P2 { x: 4, y: 2 },
     ];
-    assert!(rt; coefficients(decide(&run, 1)) == Some((-1, 3)));
+    assert!(rt; parameters(decide(&run, 1)) == Some((-1, 3, 0)));
+    // The values of -x + 3 y along the run go from -2 to 0.
+    let run = [
+        P2 { x: 0, y: 0 },
+        P2 { x: 1, y: 0 },
+        P2 { x: 2, y: 0 },
+        P2 { x: 3, y: 1 },
+        P2 { x: 4, y: 1 },
+        P2 { x: 5, y: 1 },
+        P2 { x: 6, y: 2 },
+    ];
+    assert!(rt; parameters(decide(&run, 1)) == Some((-1, 3, -2)));
 }

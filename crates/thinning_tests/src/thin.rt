@@ -1,6 +1,6 @@
 //! Thinnings of small pictures, with events found by hand.
 //! A further row is a picture, a rule and its events.
-ghost use Rattle.std.specs.Prelude.{◌≡◌, ◌==◌, [], ◌∷◌, if◌then◌else◌, slice_index};
+ghost use Rattle.std.specs.Prelude.{◌≡◌, ◌≤◌, ◌==◌, [], ◌∷◌, if◌then◌else◌, slice_index};
 ghost use Rattle.thin_terms.specs.Thinning.{rule_by};
 
 use crate::pictures::{SQUARE, drawn};
@@ -110,6 +110,34 @@ fn a_rule_with_a_state(rt: HostRuntime) -> Result<(), Fail> {
     let want = "8 5: del 0 0 tip 1 0 del 2 0 tip 0 1 del 2 1 tip 0 2 del 1 2 tip 2 2";
     assert!(rt; told(rt.alloc(), &grid, &mut rule)?.as_str() == want);
     Ok(())
+}
+
+// What is asked of a counter: that it stands at 73 at most.
+fn is_few<L: Ledger>(steps: &Steps<L>)
+    requires { steps.now ≤ 73 }
+{}
+
+// The thinning of the full square of 9 points has 8 events, so its counter stands at 9 + 8 * 8 at most.
+fn square_is_counted<L: Ledger>(alloc: Global, blank: Blank) -> Result<(), Fail>
+    requires name { blank.name ≡ L.name }
+    requires parts { blank.parts ≡ L.parts }
+    requires whole { blank.parts ≡ 1 }
+{
+    let grid = drawn(alloc, SQUARE)?;
+    let field = nearest(alloc, &grid)?;
+    let mut rule: Box<dyn EndRule> = Box::new(alloc, NoEnds)?;
+    let mut steps = Steps::<L>::new(blank);
+    let thinning = thin(alloc, &grid, &field, &mut rule, &mut steps)?;
+    if grid.count() != 9 || thinning.len() != 8 {
+        return Err(Fail::from(AllocError));
+    }
+    is_few(&steps);
+    Ok(())
+}
+
+#[test]
+fn a_square_takes_few_steps(rt: HostRuntime) -> Result<(), Fail> {
+    square_is_counted::<Brand>(rt.alloc(), Blank::new(1))
 }
 
 // A full box of 44 by 32 points in a picture of 64 by 48.
