@@ -51,15 +51,17 @@ fn outlives(rt: &impl Abort, alloc: Global, known: Known<'_>, fault: Fault) -> R
     Ok(false)
 }
 
-// How many calls of `begin` and `read` failed in turn, fewer than so many.
+// No run here makes so many calls.
+const MANY: u64 = 9000;
+
+// How many calls of `begin` and `read` failed in turn: all of them, where they are fewer than `MANY`.
 fn failed_reads(
     rt: &impl Abort,
     alloc: Global,
     known: Known<'_>,
     piece: usize,
-    most: u64,
 ) -> Result<u64, Fail> {
-    for n in 1..most {
+    for n in 1..MANY {
         let fault = Fault {
             bad_read: n,
             bad_write: 0,
@@ -69,7 +71,7 @@ fn failed_reads(
             return Ok(n.saturating_sub(1));
         }
     }
-    Ok(most)
+    Ok(MANY)
 }
 
 // The same of calls of `write`.
@@ -78,9 +80,8 @@ fn failed_writes(
     alloc: Global,
     known: Known<'_>,
     piece: usize,
-    most: u64,
 ) -> Result<u64, Fail> {
-    for n in 1..most {
+    for n in 1..MANY {
         let fault = Fault {
             bad_read: 0,
             bad_write: n,
@@ -90,16 +91,26 @@ fn failed_writes(
             return Ok(n.saturating_sub(1));
         }
     }
-    Ok(most)
+    Ok(MANY)
 }
 
-// Lets each call of a case fail in turn, with pieces of three sizes: with the smallest the first calls, else all.
-fn fail_each(rt: &impl Abort, alloc: Global, known: Known<'_>) -> Result<(), Fail> {
-    for (piece, most) in [(1usize, 40u64), (4, 400), (4096, 400)] {
-        let reads = failed_reads(rt, alloc, known, piece, most)?;
-        assert!(rt; 2 <= reads && (reads < most || piece == 1));
-        let writes = failed_writes(rt, alloc, known, piece, most)?;
-        assert!(rt; 1 <= writes && (writes < most || piece == 1));
+// Lets each call of a case fail in turn, to the end of the run, with pieces of some sizes. With pieces of one byte each byte that is
+// written is a call, and so is each that is read.
+fn fail_each(
+    rt: &impl Abort,
+    alloc: Global,
+    known: Known<'_>,
+    pieces: &[usize],
+) -> Result<(), Fail> {
+    for &piece in pieces {
+        let reads = failed_reads(rt, alloc, known, piece)?;
+        assert!(rt; 2 <= reads && reads < MANY);
+        let writes = failed_writes(rt, alloc, known, piece)?;
+        assert!(rt; 1 <= writes && writes < MANY);
+        if piece == 1 {
+            assert!(rt; reads > known.case.picture.len() as u64);
+            assert_eq!(rt; writes, known.text.len() as u64);
+        }
     }
     Ok(())
 }
@@ -111,6 +122,7 @@ fn fail_both(
     analyse: &str,
     check: &str,
     picture: &[u8],
+    pieces: &[usize],
 ) -> Result<(), Fail> {
     let case = Case {
         line: analyse,
@@ -128,6 +140,7 @@ fn fail_both(
             outcome,
             text,
         },
+        pieces,
     )?;
     let case = Case {
         line: check,
@@ -144,6 +157,7 @@ fn fail_both(
             outcome,
             text,
         },
+        pieces,
     )
 }
 
@@ -156,6 +170,7 @@ fn one_pixel(rt: HostRuntime) -> Result<(), Fail> {
         "analyse pbm a none",
         "check pbm a b",
         picture,
+        &[1, 4, 4096],
     )
 }
 
@@ -168,9 +183,24 @@ fn a_full_picture(rt: HostRuntime) -> Result<(), Fail> {
         "analyse pbm a none",
         "check pbm a b",
         picture,
+        &[1, 4, 4096],
     )
 }
 
+#[test]
+fn a_voxel(rt: HostRuntime) -> Result<(), Fail> {
+    let picture = &[1];
+    fail_both(
+        &rt,
+        rt.alloc(),
+        "analyse raw 1 1 1 a none",
+        "check raw 1 1 1 a b",
+        picture,
+        &[1, 4, 4096],
+    )
+}
+
+// Single bytes would be some thousand runs.
 #[test]
 fn a_volume(rt: HostRuntime) -> Result<(), Fail> {
     let picture = &[1, 0, 1, 0, 1, 0];
@@ -180,5 +210,6 @@ fn a_volume(rt: HostRuntime) -> Result<(), Fail> {
         "analyse raw 3 1 2 a none",
         "check raw 3 1 2 a b",
         picture,
+        &[4, 4096],
     )
 }

@@ -231,6 +231,75 @@ fn a_drawing(rt: HostRuntime) -> Result<(), Fail> {
     assert!(rt; text.ends_with(b"\nkept 1 1 1\nend\n".as_slice()));
     assert!(rt; lines_of(text, b"near ") == 1408 && lines_of(text, b"del ") == 1407);
     assert!(rt; lines_of(text, b"near 31 23 31 7 256") == 1);
+    assert!(rt; lines_of(text, b"contour ") == 1 && lines_of(text, b"at ") == 148);
+    assert!(rt; lines_of(text, b"contour 10 8 0 148 4") == 1 && lines_of(text, b"seg ") == 4);
+    assert!(rt; checked(alloc, &drawing(alloc)?, text)? == Outcome::Yes);
+    Ok(())
+}
+
+// The lines of the report of one pixel; where fields are free, one for each value that they can have.
+const ONE_PIXEL: [&[&[u8]]; 12] = [
+    &[b"shape 2 pbm 1 1 none"],
+    &[b"parts 1 1 1"],
+    &[
+        b"near 0 0 0 -1 1",
+        b"near 0 0 1 0 1",
+        b"near 0 0 0 1 1",
+        b"near 0 0 -1 0 1",
+    ],
+    &[b"contour 0 0 0 1 1"],
+    &[b"at 0 0"],
+    &[
+        b"seg 0 0 x 1 -1 0",
+        b"seg 0 0 x 1 0 0",
+        b"seg 0 0 x 1 1 0",
+        b"seg 0 0 y -1 1 0",
+        b"seg 0 0 y 0 1 0",
+        b"seg 0 0 y 1 1 0",
+    ],
+    &[b"least 0 0 0 0"],
+    &[b"turn x 0 0"],
+    &[b"turn y 0 0"],
+    &[b"kept 1 1 1"],
+    &[b"end"],
+    &[b""],
+];
+
+#[test]
+fn each_line_of_one_pixel(rt: HostRuntime) -> Result<(), Fail> {
+    let report = written(rt.alloc(), NONE, b"P1 1 1 1")?;
+    assert!(rt; report.as_slice().split(|&c| c == b'\n').count() == ONE_PIXEL.len());
+    for (line, wanted) in report.as_slice().split(|&c| c == b'\n').zip(&ONE_PIXEL) {
+        assert!(rt; wanted.iter().any(|want| *want == line), "{line:?}");
+    }
+    Ok(())
+}
+
+#[test]
+fn a_row_of_1024_zeros(rt: HostRuntime) -> Result<(), Fail> {
+    let alloc = rt.alloc();
+    let mut picture = b"P1 1024 1\n".as_slice().to_vec(alloc)?;
+    picture.extend_from_slice(&vec![in alloc; b'0'; 1024]?)?;
+    let report = written(alloc, NONE, &picture)?;
+    let want = b"shape 2 pbm 1024 1 none\nparts 0 0 1\nkept 0 0 1\nend\n";
+    assert!(rt; report.as_slice() == want.as_slice());
+    assert!(rt; checked(alloc, &picture, &report)? == Outcome::Yes);
+    Ok(())
+}
+
+// The picture of the seed 0 with the side 4; its events and the places of its segments were worked out by hand.
+const OF_SEED_0: &[u8] = b"P1 4 4 0111 0010 0000 0000";
+
+#[test]
+fn events_and_segments_of_seed_0(rt: HostRuntime) -> Result<(), Fail> {
+    let report = written(rt.alloc(), "analyse pbm a.pbm few", OF_SEED_0)?;
+    let text = report.as_slice();
+    assert!(rt; text.starts_with(b"shape 2 pbm 4 4 few\nparts 4 1 1\nnear 1 0 ".as_slice()));
+    let end = b"\ndel 1 0\ndel 2 0\ntip 3 0\ntip 2 1\nkept 2 1 1\nend\n";
+    assert!(rt; text.ends_with(end.as_slice()));
+    assert!(rt; lines_of(text, b"contour 1 0 0 4 3") == 1 && lines_of(text, b"seg ") == 3);
+    assert!(rt; lines_of(text, b"seg 0 2 y 0 1 0") == 1);
+    assert!(rt; lines_of(text, b"seg 2 3 ") == 1 && lines_of(text, b"seg 3 4 ") == 1);
     Ok(())
 }
 
