@@ -15,6 +15,7 @@ use Rattle.report_text.proofs.NextAnswers.{claim_taken}
 use Rattle.report_text.proofs.Told.{if_told}
 use Rattle.ball_terms.proofs.LineLaws.{spelled_balls}
 use Rattle.piece_terms.proofs.LineLaws.{are_spelled}
+use Rattle.edge_terms.proofs.LineLaws.{spelled_lines}
 use Rattle.overlaying.specs.Parts.{Part, Standing, LineKind, Claim, in_order}
 use Rattle.overlaying.specs.Kinds.{lines_of, IsNoFurther}
 use Rattle.overlaying.specs.Headings.{IsHeadingLine, KindFound, TakesHeading}
@@ -32,14 +33,16 @@ heading_found K is sides bytes l b f e h =
 pub not_so : {P : Type 0} (b : Bool) → b ≡ false → IsTrue b ↔ P → P → ⊥
 not_so b f h p = let e : false ≡ true = sym f ∙ h.1 p in cc
 
-pub none_found : (sides : Point) (bytes : List ℕ) → (IsHeadingLine (lines_of kind.Balls) sides bytes → ⊥) → (IsHeadingLine (lines_of kind.Pieces) sides bytes → ⊥) → KindFound sides bytes None
-none_found sides bytes b p kind.Balls = b
-none_found sides bytes b p kind.Pieces = p
+pub none_found : (sides : Point) (bytes : List ℕ) → (IsHeadingLine (lines_of kind.Balls) sides bytes → ⊥) → (IsHeadingLine (lines_of kind.Pieces) sides bytes → ⊥) → (IsHeadingLine (lines_of kind.Edges) sides bytes → ⊥) → KindFound sides bytes None
+none_found sides bytes b p e kind.Balls = b
+none_found sides bytes b p e kind.Pieces = p
+none_found sides bytes b p e kind.Edges = e
 
 -- the spellings of each kind
 pub kind_spelled : (k : Kind) → IsSpelled (lines_of k).text
 kind_spelled kind.Balls = spelled_balls 2
 kind_spelled kind.Pieces = are_spelled
+kind_spelled kind.Edges = spelled_lines
 
 -- ---- the bytes
 

@@ -4,4 +4,5 @@ pub mod CircleLaws
 pub mod ContourLaws
 pub mod BorderLaws
 pub mod PathLaws
+pub mod CornerLaws
 pub mod Overs

@@ -10,12 +10,14 @@ use Rattle.shape_desk.proofs.Begun.{of_file, rose_earlier}
 use Rattle.shape_terms.specs.Points.{AreSides, sides_of}
 use Rattle.shape_terms.proofs.Boxes.{abs_is}
 use Rattle.shape_terms.specs.Points.{Point}
+use Rattle.shape_terms.specs.Pictures.{Picture}
 use Rattle.text_terms.specs.Going.{IsTextOf}
 use Rattle.text_terms.proofs.Checking.{begins_none, first_bad}
 use Rattle.report_text.proofs.Told.{if_told}
 use Rattle.report_terms.specs.Lines.{Line}
 use Rattle.report_terms.proofs.Spelled.{are_spelled}
 use Rattle.report_lines.specs.Reports.{flat as plane, in_order, FirstBad}
+use Rattle.report_lines.specs.Said.{given_sides, said}
 use Rattle.report_lines.specs.Headings.{IsOfNoBox, LacksHeading}
 use Rattle.report_lines.specs.Answers as Lines
 use Rattle.report_lines.specs.declared.fault.ReportFault.{ReportFault}
@@ -25,9 +27,11 @@ use Rattle.drawing.specs.Outlines.{is_inside}
 use Rattle.drawing.specs.Svg.{contour_layer}
 use Rattle.overlaying.specs.Parts.{Mark}
 use Rattle.overlaying.specs.Kinds.{lines_of, IsMarkedBy, IsNoFurther}
+use Rattle.overlaying.specs.Contours.{contours_of}
+use Rattle.overlaying.specs.Corners.{AreCornerPaths}
 use Rattle.overlaying.specs.Borders.{borders, strokes_over}
 use Rattle.overlaying.specs.Circles.{balls_in, balls_layer}
-use Rattle.overlaying.specs.Layers.{marks_layer, overlay}
+use Rattle.overlaying.specs.Layers.{ArePaths, corner_layer, marks_layer, EdgesPut, MarksPut, IsOverlay}
 use Rattle.overlaying.specs.Seen.{all_marks}
 use Rattle.overlaying.specs.Standing.{IsAnalysisOf}
 use Rattle.overlaying.specs.Answers.{IsNoAnalysis, AnalysisFails, AnalysisRead, AnalysisInFile, FurtherFails, FurtherRead, FurtherInFile, FurtherRefused, GatherFails, OfFiles, AreDrawnAs, AreNotOver, Refused, sides_in}
@@ -132,7 +136,7 @@ module _ (first second : List ℕ) (old mid new : DeskState) (a : Analysis) (rea
   refused_over fault.NoMemory h = tt
 
   -- the drawing of the second over the first
-  pub drawn_over : (u : Further) (svg : List ℕ) → OfFile mid.files second (IsMarkedBy u.kind (flat a.sides.lengths) (all_marks u.marks.items)) → ((lines : List Line) → IsAnalysisOf lines a → svg ≡ overlay u.kind lines (all_marks u.marks.items)) → OfFiles old first second (λ x y. AreDrawnAs x y svg)
+  pub drawn_over : (u : Further) (svg : List ℕ) → OfFile mid.files second (IsMarkedBy u.kind (flat a.sides.lengths) (all_marks u.marks.items)) → ((lines : List Line) → IsAnalysisOf lines a → IsOverlay u.kind lines (all_marks u.marks.items) svg) → OfFiles old first second (λ x y. AreDrawnAs x y svg)
   drawn_over u svg h d = both (λ x y. AreDrawnAs x y svg) old.files first second read (subst (λ f. OfFile f second (IsMarkedBy u.kind (flat a.sides.lengths) (all_marks u.marks.items))) same h)
       (λ x y t m. record {
         lines = t.front ++ Line.End ∷ [];
@@ -140,19 +144,35 @@ module _ (first second : List ℕ) (old mid new : DeskState) (a : Analysis) (rea
         kind = u.kind;
         marks = all_marks u.marks.items;
         marked = subst (λ s. IsMarkedBy u.kind s (all_marks u.marks.items) y) (sym (sides_seen (t.front ++ Line.End ∷ []) a t.follows)) m;
-        drawn = d (t.front ++ Line.End ∷ []) t.follows;
+        overlay = d (t.front ++ Line.End ∷ []) t.follows;
       })
 
 -- ---- layers
 
-on_ok : {E : Type 0} {P Q : Type 0} (r : Result (Unit {0}) E) → (P → Q) → OnOk r P → OnOk r Q
+pub on_ok : {E : Type 0} {P Q : Type 0} (r : Result (Unit {0}) E) → (P → Q) → OnOk r P → OnOk r Q
 on_ok (Ok u) f h = f h
 on_ok (Err e) f h = tt
 
 -- the balls were put
-pub balls_put : {E : Type 0} (r : Result (Unit {0}) E) (k : Kind) (given sides : List ℕ) (cs : List (List Point)) (ms ns : List Mark) (old new : List ℕ) → k ≡ kind.Balls → given ≡ sides → ns ≡ ms → OnOk r (new ≡ old ++ balls_layer (balls_in sides ns)) → OnOk r (new ≡ old ++ marks_layer k given cs ms)
-balls_put r k given sides cs ms ns old new z e f h = on_ok r (λ p. p ∙ (λ i. old ++ balls_layer (balls_in (sym e i) (f i))) ∙ ap (λ j. old ++ marks_layer j given cs ms) (sym z)) h
+pub balls_put : {E : Type 0} (r : Result (Unit {0}) E) (k : Kind) (lines : List Line) (sides : List ℕ) (ms ns : List Mark) (old new : List ℕ) → k ≡ kind.Balls → given_sides lines ≡ sides → ns ≡ ms → OnOk r (new ≡ old ++ balls_layer (balls_in sides ns)) → OnOk r (MarksPut k lines ms old new)
+balls_put r k lines sides ms ns old new z e f h = on_ok r (λ p. record {
+  paths = [];
+  are = subst (λ j. ArePaths j lines []) (sym z) refl;
+  put = p ∙ (λ i. old ++ balls_layer (balls_in (sym e i) (f i))) ∙ ap (λ j. old ++ marks_layer j (given_sides lines) [] ms) (sym z);
+}) h
 
 -- the pieces were put
-pub pieces_put : {E : Type 0} (r : Result (Unit {0}) E) (k : Kind) (given sides : List ℕ) (cs ds : List (List Point)) (ms ns : List Mark) (old new : List ℕ) → k ≡ kind.Pieces → given ≡ sides → ds ≡ cs → ns ≡ ms → OnOk r (new ≡ old ++ contour_layer (filter (is_inside sides) (strokes_over ds (borders ns)))) → OnOk r (new ≡ old ++ marks_layer k given cs ms)
-pieces_put r k given sides cs ds ms ns old new z e d f h = on_ok r (λ p. p ∙ (λ i. old ++ contour_layer (filter (is_inside (sym e i)) (strokes_over (d i) (borders (f i))))) ∙ ap (λ j. old ++ marks_layer j given cs ms) (sym z)) h
+pub pieces_put : {E : Type 0} (r : Result (Unit {0}) E) (k : Kind) (lines : List Line) (sides : List ℕ) (ds : List (List Point)) (ms ns : List Mark) (old new : List ℕ) → k ≡ kind.Pieces → given_sides lines ≡ sides → ds ≡ contours_of lines → ns ≡ ms → OnOk r (new ≡ old ++ contour_layer (filter (is_inside sides) (strokes_over ds (borders ns)))) → OnOk r (MarksPut k lines ms old new)
+pieces_put r k lines sides ds ms ns old new z e d f h = on_ok r (λ p. record {
+  paths = contours_of lines;
+  are = subst (λ j. ArePaths j lines (contours_of lines)) (sym z) refl;
+  put = p ∙ (λ i. old ++ contour_layer (filter (is_inside (sym e i)) (strokes_over (d i) (borders (f i))))) ∙ ap (λ j. old ++ marks_layer j (given_sides lines) (contours_of lines) ms) (sym z);
+}) h
+
+-- the arcs were put
+pub edges_put : {E : Type 0} (r : Result (Unit {0}) E) (k : Kind) (lines : List Line) (X : Picture) (ms ns : List Mark) (old new : List ℕ) → k ≡ kind.Edges → X ≡ (said lines).object → ns ≡ ms → OnOk r (EdgesPut X ns old new) → OnOk r (MarksPut k lines ms old new)
+edges_put r k lines X ms ns old new z e f h = on_ok r (λ (p : EdgesPut X ns old new). record {
+  paths = p.paths;
+  are = subst (λ j. ArePaths j lines p.paths) (sym z) (subst (λ Y. AreCornerPaths Y p.paths) e p.are);
+  put = p.put ∙ ap (λ t. old ++ corner_layer (strokes_over p.paths (borders t))) f ∙ ap (λ j. old ++ marks_layer j (given_sides lines) p.paths ms) (sym z);
+}) h

@@ -16,7 +16,7 @@ use Rattle.overlaying.specs.Parts as Parts
 use Rattle.overlaying.specs.Parts.{Mark, LineKind, marks_of}
 use Rattle.overlaying.specs.Kinds.{lines_of, IsMarkedBy, IsNoFurther}
 use Rattle.overlaying.specs.Headings.{TakesHeading}
-use Rattle.overlaying.specs.Layers.{overlay}
+use Rattle.overlaying.specs.Layers.{IsOverlay}
 use Rattle.overlaying.specs.Seen.{all_marks}
 use Rattle.overlaying.specs.Standing.{IsAnalysisOf}
 use Rattle.overlaying.specs.declared.kind.Kind.{Kind}
@@ -42,7 +42,7 @@ pub record AreDrawnAs (analysis further svg : List ℕ) : Type 0 where
   pub kind : Kind
   pub marks : List Mark
   pub marked : IsMarkedBy kind (sides_in lines) marks further
-  pub drawn : svg ≡ overlay kind lines marks
+  pub overlay : IsOverlay kind lines marks svg
 
 -- the first text is an analysis of a flat picture, and line k of the second is the first bad one of a further report about the same sides
 pub record AreNotOver (analysis further : List ℕ) (k : ℕ) : Type 0 where

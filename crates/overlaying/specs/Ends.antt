@@ -8,8 +8,9 @@ use Rattle.text_terms.proofs.CourseLaws.{course_ends}
 use Rattle.ball_terms.specs.Lines as Balls
 use Rattle.piece_terms.specs.Lines as Pieces
 use Rattle.piece_terms.specs.SplitLines.{SplitLine}
+use Rattle.edge_terms.specs.Lines as Edges
 use Rattle.overlaying.specs.Parts.{Part, Standing, LineKind, step, Claim, course, in_order}
-use Rattle.overlaying.specs.Kinds.{ball_part, piece_part}
+use Rattle.overlaying.specs.Kinds.{ball_part, piece_part, edge_part}
 
 -- ---- each kind has one last line
 
@@ -24,6 +25,13 @@ only_piece_end (Pieces.Line.Listed (SplitLine.Chain c n m)) e = cc
 only_piece_end (Pieces.Line.Listed (SplitLine.Piece b l t line)) e = cc
 only_piece_end (Pieces.Line.Listed (SplitLine.Gap t why)) e = cc
 only_piece_end Pieces.Line.End e = refl
+
+pub only_edge_end : (l : Edges.Line) → edge_part l ≡ Part.End → l ≡ Edges.Line.End
+only_edge_end (Edges.Line.Edges w h) e = cc
+only_edge_end (Edges.Line.Cycle c n m) e = cc
+only_edge_end (Edges.Line.Arc s line) e = cc
+only_edge_end (Edges.Line.Gap g) e = cc
+only_edge_end Edges.Line.End e = refl
 
 -- ---- no line comes behind it
 

@@ -6,6 +6,7 @@ pub mod Contours
 pub mod Borders
 pub mod Going
 pub mod Circles
+pub mod Corners
 pub mod Layers
 pub mod Seen
 pub mod Standing

@@ -4,7 +4,7 @@ use Rattle.std.specs.Prelude.{◌≡◌, Bool, true, false, List}
 use Rattle.shape_terms.specs.Points.{Point, sides_of}
 use Rattle.text_terms.specs.Courses.{reached}
 use Rattle.report_terms.specs.Lines.{Line}
-use Rattle.report_lines.specs.Said.{given_sides}
+use Rattle.report_lines.specs.Said.{given_sides, said}
 use Rattle.drawing.specs.Object.{pixels}
 use Rattle.drawing.specs.Seen.{flat, all_pixels}
 use Rattle.overlaying.specs.Contours.{contours_of}
@@ -18,6 +18,7 @@ pub record IsAnalysisOf (lines : List Line) (a : Analysis) : Type 0 where
   pub given : given_sides lines ≡ sides_of (flat a.sides.lengths)
   pub pixels : all_pixels a.pixels.items ≡ pixels (sides_of (flat a.sides.lengths)) lines
   pub contours : all_paths a.contours.items ≡ contours_of lines
+  pub seen : a.seen ≡ said lines
 
 -- where a report behind its heading stands
 abbrev pub standing_of : Bool → Standing

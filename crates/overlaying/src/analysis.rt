@@ -1,6 +1,7 @@
-//! What is kept of an analysis: its sides, its object with depths, and its contours.
+//! What is kept of an analysis: its sides, its object with depths, its contours, and what it says of the points of its box.
 //! No claim is judged; what is drawn of it is told in `layers`.
-ghost use Rattle.std.specs.Prelude.{◌≡◌, ◌∷◌, [], OnOk};
+ghost use Rattle.std.specs.Prelude.{◌≡◌, ◌∷◌, [], IfOk, OnOk};
+ghost use Rattle.report_lines.specs.Seen as Lines;
 ghost use Rattle.report_lines.specs.Seen.{flat_line};
 ghost use Rattle.drawing.specs.Seen.{flat};
 ghost use Rattle.overlaying.specs.Contours.{with_point, with_line};
@@ -8,7 +9,7 @@ ghost use Rattle.overlaying.specs.Seen.{all_paths};
 ghost use Rattle.overlaying.specs.Standing.{IsAnalysisOf};
 
 use drawing::{Pixel, take_pixel};
-use report_lines::{Heading, Sketch};
+use report_lines::{Heading, Seen, Sketch};
 use shape_report::Line;
 use shape_space::{NoMemory, P2, Sides};
 use std::alloc::Global;
@@ -19,6 +20,7 @@ pub struct Analysis {
     pub(crate) sides: Sides<P2>,
     pub(crate) pixels: Vec<Pixel>,
     pub(crate) contours: Vec<Vec<P2>>,
+    pub(crate) seen: Seen<P2>,
     alloc: Global,
 }
 
@@ -51,15 +53,17 @@ fn take_contour(alloc: Global, contours: &mut Vec<Vec<P2>>, line: &Line<P2>) -> 
 
 impl Analysis {
     /// An analysis of which its heading has come.
-    pub(crate) fn new(alloc: Global, heading: &Heading<P2>) -> Analysis
-        ensures { IsAnalysisOf (flat_line heading.now.line ∷ []) result }
+    pub(crate) fn new(alloc: Global, heading: &Heading<P2>) -> Result<Analysis, NoMemory>
+        ensures { IfOk result (IsAnalysisOf (Lines.flat_line heading.now.line ∷ [])) }
     {
-        Analysis {
+        let seen = Seen::new(alloc, heading)?;
+        Ok(Analysis {
             sides: heading.sides,
             pixels: Vec::new(alloc),
             contours: Vec::new(alloc),
+            seen,
             alloc,
-        }
+        })
     }
 }
 
@@ -69,6 +73,7 @@ impl Sketch<P2> for Analysis {
     fn take(&mut self, line: &Line<P2>) -> Result<(), NoMemory> {
         take_pixel(&mut self.pixels, self.sides, line)?;
         take_contour(self.alloc, &mut self.contours, line)?;
+        self.seen.take(line)?;
         Ok(())
     }
 }

@@ -16,6 +16,7 @@ use crate::gatherer::Gatherer;
 use crate::kind::{Kind, kind_of};
 use crate::line::OverLine;
 use crate::part::Mark;
+use edge_text::EdgeLine;
 use judge_balls::BallLine;
 use judge_pieces::PieceLine;
 use report_text::{CheckFault, Judgement, check_from};
@@ -71,6 +72,7 @@ fn gather_kind<D: Desk>(
     match kind {
         Kind::Balls => gather::<BallLine<P2>, D>(alloc, reader, desk),
         Kind::Pieces => gather::<PieceLine, D>(alloc, reader, desk),
+        Kind::Edges => gather::<EdgeLine, D>(alloc, reader, desk),
     }
 }
 

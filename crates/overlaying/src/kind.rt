@@ -9,6 +9,7 @@ ghost use Rattle.drawing.specs.Seen.{flat};
 
 use crate::line::OverLine;
 use crate::part::Part;
+use edge_text::EdgeLine;
 use judge_balls::BallLine;
 use judge_pieces::PieceLine;
 use shape_space::P2;
@@ -20,6 +21,8 @@ pub enum Kind {
     Balls,
     /// The contours in straight pieces.
     Pieces,
+    /// The standard segments of the borders along cracks.
+    Edges,
 }
 
 // Whether what a line gives is the heading with these sides.
@@ -54,6 +57,9 @@ pub(crate) fn kind_of(bytes: &[u8], sides: P2) -> Option<Kind>
     }
     if is_heading::<PieceLine>(bytes, sides) {
         return Some(Kind::Pieces);
+    }
+    if is_heading::<EdgeLine>(bytes, sides) {
+        return Some(Kind::Edges);
     }
     None
 }

@@ -1,15 +1,14 @@
 //! The whole drawing: the front, the object, and the marks on it.
 //! A further kind is one more arm of `put_marks`.
-ghost use Rattle.std.specs.Prelude.{◌≡◌, ◌++◌, List, IfOk, OnOk};
+ghost use Rattle.std.specs.Prelude.{◌≡◌, List, IfOk, OnOk};
 ghost use Rattle.report_terms.specs.Lines as Terms;
-ghost use Rattle.report_lines.specs.Said.{given_sides};
-ghost use Rattle.overlaying.specs.Contours.{contours_of};
-ghost use Rattle.overlaying.specs.Layers.{marks_layer, overlay};
+ghost use Rattle.overlaying.specs.Layers.{MarksPut, IsOverlay};
 ghost use Rattle.overlaying.specs.Seen.{all_marks};
 ghost use Rattle.overlaying.specs.Standing.{IsAnalysisOf};
 
 use crate::analysis::Analysis;
 use crate::balls::put_balls;
+use crate::edges::put_edges;
 use crate::further::Further;
 use crate::kind::Kind;
 use crate::pieces::put_pieces;
@@ -25,9 +24,8 @@ fn put_marks(
     svg: &mut Svg,
 ) -> Result<(), NoMemory>
     ensures { (lines : List Terms.Line) → IsAnalysisOf lines analysis.now
-        → OnOk result (svg.new ≡ svg.old
-        ++ marks_layer further.now.kind (given_sides lines) (contours_of lines)
-        (all_marks further.now.marks.items)) }
+        → OnOk result (MarksPut further.now.kind lines (all_marks further.now.marks.items)
+        svg.old svg.new) }
 {
     match further.kind {
         Kind::Balls => put_balls(alloc, analysis.sides, &further.marks, svg),
@@ -38,6 +36,7 @@ fn put_marks(
             &further.marks,
             svg,
         ),
+        Kind::Edges => put_edges(alloc, analysis.seen.object(), &further.marks, svg),
     }
 }
 
@@ -48,8 +47,8 @@ pub(crate) fn draw(
     further: &Further,
 ) -> Result<Vec<u8>, NoMemory>
     ensures { (lines : List Terms.Line) → IsAnalysisOf lines analysis.now
-        → IfOk result (λ svg. svg.items
-        ≡ overlay further.now.kind lines (all_marks further.now.marks.items)) }
+        → IfOk result (λ svg. IsOverlay further.now.kind lines
+        (all_marks further.now.marks.items) svg.items) }
 {
     let mut svg = Svg::new(alloc);
     put_head(analysis.sides, &mut svg)?;

@@ -3,11 +3,12 @@
 ghost use Rattle.std.specs.Prelude.{◌≡◌, ◌∷◌, [], refl};
 ghost use Rattle.shape_space.specs.declared.point.P2.{P2};
 ghost use Rattle.overlaying.specs.Parts as Parts;
-ghost use Rattle.overlaying.specs.Kinds.{ball_part, piece_part};
+ghost use Rattle.overlaying.specs.Kinds.{ball_part, piece_part, edge_part};
 ghost use Rattle.overlaying.specs.Seen.{part_of};
-ghost use Rattle.overlaying.specs.Ends.{only_ball_end, only_piece_end};
+ghost use Rattle.overlaying.specs.Ends.{only_ball_end, only_piece_end, only_edge_end};
 
 use crate::part::{Mark, Part};
+use edge_text::EdgeLine;
 use judge_balls::BallLine;
 use judge_pieces::PieceLine;
 use report_text::ReportLine;
@@ -75,4 +76,28 @@ impl OverLine for PieceLine {
     ghost last_ends = { refl };
 
     ghost only_last = { only_piece_end };
+}
+
+impl OverLine for EdgeLine {
+    ghost gives = { edge_part };
+
+    fn part(&self) -> Part {
+        match self {
+            EdgeLine::Edges { width, height } => Part::Heading {
+                width: i64::from(*width),
+                height: i64::from(*height),
+            },
+            EdgeLine::Cycle { .. } => Part::Gives(Mark::Border),
+            EdgeLine::Arc(arc) => Part::Gives(Mark::Along {
+                first: arc.first,
+                last: arc.last,
+            }),
+            EdgeLine::Gap(_) => Part::Quiet,
+            EdgeLine::End => Part::End,
+        }
+    }
+
+    ghost last_ends = { refl };
+
+    ghost only_last = { only_edge_end };
 }

@@ -28,7 +28,9 @@ fn read_behind<D: Desk>(
         → AnalysisRead text (D.state desk.old).read_faults (D.state desk.new).read_faults result }
     ensures reads { OnlyReadsAt Report (D.state desk.old) (D.state desk.new) }
 {
-    let begun = Analysis::new(alloc, heading);
+    let Ok(begun) = Analysis::new(alloc, heading) else {
+        return Err(ReportFault::NoMemory);
+    };
     read_lines::<P2, Analysis, D>(begun, reader, desk)
 }
 

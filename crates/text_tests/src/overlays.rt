@@ -46,6 +46,73 @@ const BALLS_DRAWN: &str =
 <path transform=\"translate(-.2)\" stroke=\"#D55E00\" stroke-width=\".4\" stroke-dasharray=\".4 .6\" d=\"M1 1h1M2 0h1\"/>\n\
 </svg>\n";
 
+// Lines in order of an analysis of the full square of 2 by 2, with the points of its contour.
+const SMALL: &str = "shape 1 pbm 2 2 none\n\
+near 0 0 -1 0 1\n\
+near 1 0 2 0 1\n\
+near 0 1 0 2 1\n\
+near 1 1 1 2 1\n\
+contour 0 0 0 4 4\n\
+at 0 0\n\
+at 1 0\n\
+at 1 1\n\
+at 0 1\n\
+end\n";
+
+// The pieces of its contour.
+const PIECES: &str = "pieces 1 2 2\n\
+chain 0 0 0 4 2\n\
+piece 0 1 y 0 1 0\n\
+turn x 0 0\n\
+turn y 1 1\n\
+piece 2 3 y 0 1 1\n\
+end\n";
+
+// The pieces over the square: the first along the points (0, 0) and (1, 0), the second along (1, 1) and (0, 1).
+const PIECES_DRAWN: &str =
+    "<svg xmlns=\"http://www.w3.org/2000/svg\" width=\"1024\" height=\"1024\" viewBox=\"-.5 -.5 2 2\" fill=\"none\">\n\
+<title>Drawn from a report, which `shape check` can check</title>\n\
+<rect x=\"-.5\" y=\"-.5\" width=\"100%\" height=\"100%\" fill=\"#fff\"/>\n\
+<g transform=\"translate(-.5)\" stroke=\"#666\" shape-rendering=\"crispEdges\">\n\
+<path stroke-opacity=\".2\" d=\"M0 0h2M0 1h2\"/>\n\
+<path stroke-opacity=\".3\" d=\"\"/>\n\
+<path stroke-opacity=\".4\" d=\"\"/>\n\
+<path stroke-opacity=\".5\" d=\"\"/>\n\
+<path stroke-opacity=\".6\" d=\"\"/>\n\
+<path stroke-opacity=\".7\" d=\"\"/>\n\
+</g>\n\
+<path stroke=\"#0072B2\" stroke-width=\".25\" d=\"M0 0L1 0\"/>\n\
+<path stroke=\"#E69F00\" stroke-width=\".25\" d=\"M1 1L0 1\"/>\n\
+<path transform=\"translate(-.2)\" stroke=\"#D55E00\" stroke-width=\".4\" stroke-dasharray=\".4 .6\" d=\"M0 0h1M1 0h1M1 1h1M0 1h1\"/>\n\
+</svg>\n";
+
+// Edges in order, with the first two arcs of the border of the square alone.
+const EDGES: &str = "edges 1 2 2\n\
+cycle 0 0 0 8 8\n\
+arc 0 3 + + 1 2 0\n\
+arc 1 4 + + 2 1 2\n\
+end\n";
+
+// The arcs over the square: from the corner (0, 0) to (2, 1), and from (1, 0) to (2, 2), half a pixel up and left.
+const EDGES_DRAWN: &str =
+    "<svg xmlns=\"http://www.w3.org/2000/svg\" width=\"1024\" height=\"1024\" viewBox=\"-.5 -.5 2 2\" fill=\"none\">\n\
+<title>Drawn from a report, which `shape check` can check</title>\n\
+<rect x=\"-.5\" y=\"-.5\" width=\"100%\" height=\"100%\" fill=\"#fff\"/>\n\
+<g transform=\"translate(-.5)\" stroke=\"#666\" shape-rendering=\"crispEdges\">\n\
+<path stroke-opacity=\".2\" d=\"M0 0h2M0 1h2\"/>\n\
+<path stroke-opacity=\".3\" d=\"\"/>\n\
+<path stroke-opacity=\".4\" d=\"\"/>\n\
+<path stroke-opacity=\".5\" d=\"\"/>\n\
+<path stroke-opacity=\".6\" d=\"\"/>\n\
+<path stroke-opacity=\".7\" d=\"\"/>\n\
+</g>\n\
+<g transform=\"translate(-.5 -.5)\">\n\
+<path stroke=\"#0072B2\" stroke-width=\".25\" d=\"M0 0L2 1\"/>\n\
+<path stroke=\"#E69F00\" stroke-width=\".25\" d=\"M1 0L2 2\"/>\n\
+<path transform=\"translate(-.2)\" stroke=\"#D55E00\" stroke-width=\".4\" stroke-dasharray=\".4 .6\" d=\"M0 0h1M2 1h1M1 0h1M2 2h1\"/>\n\
+</g>\n\
+</svg>\n";
+
 // A desk with the files `a` and `b`, whose calls move 100 bytes at most.
 fn desk(alloc: Global, analysis: &str, further: &str) -> Result<MemoryDesk, Fail> {
     let mut files = Vec::new(alloc);
@@ -58,7 +125,11 @@ fn desk(alloc: Global, analysis: &str, further: &str) -> Result<MemoryDesk, Fail
 }
 
 // Analyses, further reports and their drawings.
-const DRAWINGS: [(&str, &str, &str); 1] = [(SQUARE, BALLS, BALLS_DRAWN)];
+const DRAWINGS: [(&str, &str, &str); 3] = [
+    (SQUARE, BALLS, BALLS_DRAWN),
+    (SMALL, PIECES, PIECES_DRAWN),
+    (SMALL, EDGES, EDGES_DRAWN),
+];
 
 #[test]
 fn whole_overlays(rt: HostRuntime) -> Result<(), Fail> {
@@ -73,11 +144,13 @@ fn whole_overlays(rt: HostRuntime) -> Result<(), Fail> {
 }
 
 // Further reports that are none over the square, and the first line that is bad there.
-const OTHERS: [(&str, u64); 9] = [
+const OTHERS: [(&str, u64); 11] = [
     ("", 1),
     ("shape 1 pbm 3 3 none\nend\n", 1),
     ("balls 1 pbm 3 2 0\nend\n", 1),
     ("balls 1 pbm 2 3 0\nend\n", 1),
+    ("pieces 1 3 2\nend\n", 1),
+    ("edges 1 2 3\nend\n", 1),
     ("balls 1 pbm 3 3 0", 1),
     ("balls 1 pbm 3 3 0\n", 2),
     ("balls 1 pbm 3 3 0\nballs 1 pbm 3 3 0\nend\n", 2),

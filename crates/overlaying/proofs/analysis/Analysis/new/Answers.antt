@@ -15,6 +15,7 @@ returns c =
     let none = heading_gives_none (sides_of (flat h.sides.lengths)) (flat_line h.line) some in
     record {
       given = h.given;
-      pixels = ap all_pixels c.new.ensures.items ∙ sym none.0;
-      contours = ap all_paths c.new-2.ensures.items ∙ sym none.1;
+      pixels = ap all_pixels c.new-2.ensures.items ∙ sym none.0;
+      contours = ap all_paths c.new-3.ensures.items ∙ sym none.1;
+      seen = c.in_ok-seen.ensures;
     }

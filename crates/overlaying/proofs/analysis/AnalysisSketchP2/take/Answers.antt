@@ -17,4 +17,5 @@ returns c = λ lines h.
       given = given_more lines l (some_lines 2 lines (omega arith) (ap length h.given)) ∙ h.given;
       pixels = c.in_ok-take_pixel.ensures ∙ ap (λ t. t ++ pixels sides (l ∷ [])) h.pixels ∙ sym (pixels_more sides lines l);
       contours = c.in_ok-take_contour.ensures ∙ ap (λ t. with_line t l) h.contours ∙ sym (contours_more lines l);
+      seen = c.in_ok-take.ensures lines h.seen;
     }
