@@ -1,4 +1,5 @@
 pub mod Passing
+pub mod Sizes
 pub mod Reading
 pub mod Counting
 pub mod Keeping

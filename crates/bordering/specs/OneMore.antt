@@ -2,6 +2,9 @@
 -- That all borders in turn give the sums of the definitions is a law.
 use Rattle.std.specs.Prelude.{◌≡◌, ℕ, ◌+◌, ◌<◌, ◌==◌, List, length, slice_index_or, if◌then◌else◌}
 use Rattle.border_terms.specs.Borders.{Border}
+use Rattle.bordering.specs.declared.contours.Border as Contours
+use Rattle.bordering.specs.declared.objects.Bounds as Kept
+use Rattle.bordering.specs.Told.{border_told, bounds_told}
 use Rattle.border_terms.specs.Objects.{Bounds, is_outer, is_hole, outer_length, hole_length}
 
 -- no border
@@ -15,6 +18,10 @@ bounds_with t b = record {
   hole_border = t.hole_border + (if is_hole b then hole_length b else 0);
   holes = t.holes + (if is_hole b then 1 else 0);
 }
+
+-- of what the program keeps of an object, the second has one border more than the first
+abbrev pub HasBorderMore : Kept.Bounds → Contours.Border → Kept.Bounds → Type 0
+HasBorderMore old b new = bounds_told new ≡ bounds_with (bounds_told old) (border_told b)
 
 -- of the objects from 1 on, the one with the label has one border more
 pub record HasOneMore (label : ℕ) (b : Border) (old new : List Bounds) : Type 0 where

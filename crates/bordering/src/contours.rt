@@ -31,7 +31,7 @@ pub struct Border {
     /// Where its contour begins.
     pub start: Start,
     /// The length of the line through the middles of its pixels, in units: a million million of them are the side of a pixel.
-    pub length: u64,
+    pub length: u128,
 }
 
 /// The borders of the contours before the last, and what is known of the last.

@@ -3,8 +3,8 @@
 ghost use Rattle.std.specs.Prelude.{◌≡◌, length, IfOk, IfSome, OnOk};
 ghost use Rattle.shape_terms.specs.Points.{sides_of, box_count};
 ghost use Rattle.border_terms.specs.Objects.{label_at, object_bounds as object_bounds_of};
-ghost use Rattle.bordering.specs.Told.{flat, border_told, all_borders, bounds_told, all_bounds};
-ghost use Rattle.bordering.specs.OneMore.{bounds_with, HasOneMore};
+ghost use Rattle.bordering.specs.Told.{flat, border_told, all_borders, all_bounds};
+ghost use Rattle.bordering.specs.OneMore.{HasBorderMore, HasOneMore};
 
 use crate::contours::Border;
 use shape_adj::Labels;
@@ -15,15 +15,15 @@ use std::alloc::Global;
 #[derive(Clone, Copy, Debug, PartialEq, Eq)]
 pub struct Bounds {
     /// The length of its outer border, half a pixel outside the middles of its pixels.
-    pub border: u64,
+    pub border: u128,
     /// The length of the borders of its holes, half a pixel inside.
-    pub hole_border: u64,
+    pub hole_border: u128,
     /// How many holes it has.
-    pub holes: u32,
+    pub holes: u64,
 }
 
 // Half a pixel once round.
-const HALF_PIXEL: u64 = 2_828_427_124_746;
+const HALF_PIXEL: u128 = 2_828_427_124_746;
 
 // The label of a point, and 0 outside the box.
 fn label_at(sides: Sides<P2>, labels: &Labels, p: P2) -> u32
@@ -51,7 +51,7 @@ impl Bounds {
 
     // One border more.
     fn with(self, b: Border) -> Option<Bounds>
-        ensures { IfSome result (λ t. bounds_told t ≡ bounds_with (bounds_told self) (border_told b)) }
+        ensures { IfSome result (HasBorderMore self b) }
     {
         match b.start.side {
             0 => Some(Bounds {
@@ -89,7 +89,7 @@ fn add_border(all: &mut [Bounds], label: u32, b: Border) -> Result<(), NoMemory>
 /// What the borders of each of the objects 1 to `count` add up to, where an object has the borders whose contours begin at a
 /// point with its label.
 ///
-/// `NoMemory` comes as well where a sum has no room in 64 bits, which is so above eighteen million pixels' length alone.
+/// `NoMemory` comes as well where a sum has no room in 128 bits, which is so above 10^26 pixels' length alone.
 pub fn object_bounds(
     alloc: Global,
     sides: Sides<P2>,
