@@ -1,6 +1,6 @@
 //! The length of a contour by the runs of its segments.
 //! What a step of it gets of a run is told in `cells`.
-ghost use Rattle.std.specs.Prelude.{◌≡◌, [], IfOk, OnOk};
+ghost use Rattle.std.specs.Prelude.{◌≡◌, ◌≤◌, ◌^◌, [], IfOk, OnOk};
 ghost use Rattle.border_terms.specs.Lengths.{contour_length};
 ghost use Rattle.bordering.specs.Told.{flats, runs_told};
 ghost use Rattle.bordering.specs.Cells.{HaveRoom, AreCells, all_means};
@@ -33,7 +33,8 @@ fn add_runs(cells: &mut Vec<Cell>, points: &[P2], runs: &[Run])
 // The sum of the means of all steps.
 fn sum_of_means(cells: &[Cell]) -> u128
     requires { HaveRoom 0 cells.now }
-    ensures { result ≡ all_means cells.now }
+    ensures value { result ≡ all_means cells.now }
+    ensures small { result ≤ 2 ^ 99 }
 {
     let mut sum: u128 = 0;
     for cell in cells {
@@ -50,7 +51,8 @@ pub(crate) fn contour_length(
     points: &[P2],
     runs: &[Run],
 ) -> Result<u128, NoMemory>
-    ensures { IfOk result (λ l. l ≡ contour_length (flats points.now) (runs_told runs.now)) }
+    ensures value { IfOk result (λ l. l ≡ contour_length (flats points.now) (runs_told runs.now)) }
+    ensures small { IfOk result (λ l. l ≤ 2 ^ 99) }
 {
     clear_cells(cells, points)?;
     add_runs(cells, points, runs);

@@ -22,11 +22,7 @@ fn bounds_at(all: &[Bounds], i: usize) -> Bounds
     if i < all.len() {
         all[i]
     } else {
-        Bounds {
-            border: 0,
-            hole_border: 0,
-            holes: 0,
-        }
+        Bounds::none()
     }
 }
 
