@@ -11,7 +11,8 @@ use Rattle.std.proofs.lemmas.List.Sums.{sum_by-append}
 use Rattle.std.proofs.lemmas.List.FromFn.{fill_by_all, length-map-range_with_len, get_or-map-range_with_len}
 use Rattle.border_terms.specs.Borders.{Border}
 use Rattle.border_terms.specs.Objects.{Bounds, is_outer, is_hole, outer_length, hole_length, bounds_of, label_at, is_of, object_bounds}
-use Rattle.bordering.specs.Told.{all_bounds}
+use Rattle.bordering.specs.declared.objects.Bounds as Kept
+use Rattle.bordering.specs.Told.{bounds_told, all_bounds}
 use Rattle.bordering.specs.OneMore.{no_bounds, bounds_with, HasOneMore}
 
 -- ---- one border
@@ -46,12 +47,12 @@ bounds_more xs b =
     one f false = refl
 
 -- of no border each adds up to nothing
-pub none_counted : (sides labels : List ℕ) (n : ℕ) → all_bounds (replicate n (record { border = 0; hole_border = 0; holes = 0 })) ≡ object_bounds sides labels n []
-none_counted sides labels n = told n ∙ fill_by_all (λ k. bounds_of (filter (is_of sides labels (k + 1)) [])) (replicate n no_bounds) n no_bounds (length-replicate n no_bounds) (λ k l. get_or-replicate n k no_bounds no_bounds l)
+pub none_counted : (sides labels : List ℕ) (n : ℕ) (none : Kept.Bounds) → bounds_told none ≡ no_bounds → all_bounds (replicate n none) ≡ object_bounds sides labels n []
+none_counted sides labels n none e = told n ∙ fill_by_all (λ k. bounds_of (filter (is_of sides labels (k + 1)) [])) (replicate n no_bounds) n no_bounds (length-replicate n no_bounds) (λ k l. get_or-replicate n k no_bounds no_bounds l)
   where
-    told : (n : ℕ) → all_bounds (replicate n (record { border = 0; hole_border = 0; holes = 0 })) ≡ replicate n no_bounds
+    told : (n : ℕ) → all_bounds (replicate n none) ≡ replicate n no_bounds
     told zero = refl
-    told (suc n) = ap (λ ts. no_bounds ∷ ts) (told n)
+    told (suc n) = let more = told n in λ i. e i ∷ more i
 
 -- one border more
 pub border_counted : (sides labels : List ℕ) (n : ℕ) (bs : List Border) (b : Border) (old new : List Bounds) → old ≡ object_bounds sides labels n bs

@@ -73,6 +73,10 @@ passed_more ps r a i old new c low high h e = record {
         subst (λ j. get_or (set new i c) j no_cell ≡ (if is_between a (i + 1) j then cell_with (get_or old j no_cell) (share r (step_at ps j)) else get_or old j no_cell)) (sym s)
         (now ∙ e ∙ ap (λ x. cell_with x (share r (step_at ps i))) was ∙ sym (cond-true (is_between a (i + 1) i) _ _ (here_between a i low)))
 
+-- the step behind those that were put is as it was
+pub still : (ps : List Point) (r : Run) (a i : ℕ) (old new : List Cell) → i < length old → ArePassed ps r a i old new → get_or new i no_cell ≡ get_or old i no_cell
+still ps r a i old new l h = h.each i l ∙ cond-false (is_between a i i) _ _ (not_yet a i)
+
 -- from a place up to another, where what lies beyond the last step was left out
 pub passed_cut : (ps : List Point) (r : Run) (a b n : ℕ) (old new : List Cell) → length old ≡ n → ArePassed ps r (min a (min b n)) (min b n) old new → ArePassed ps r a b old new
 passed_cut ps r a b n old new e h = record {

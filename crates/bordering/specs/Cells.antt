@@ -1,6 +1,6 @@
 -- What the program keeps of the lengths of a step along several runs: their sum and number.
 -- Which runs pass a step is told in the definitions.
-use Rattle.std.specs.Prelude.{◌≡◌, ℕ, ◌+◌, ◌/◌, ◌<◌, nat_le, nat_lt, Bool, ◌&&◌, if◌then◌else◌, List, map, length, sum, slice_index_or}
+use Rattle.std.specs.Prelude.{◌≡◌, ℕ, ◌+◌, ◌*◌, ◌/◌, ◌^◌, ◌<◌, ◌≤◌, nat_le, nat_lt, Bool, ◌&&◌, if◌then◌else◌, List, map, length, sum, slice_index_or}
 use Rattle.std.specs.List.{range_with_len}
 use Rattle.shape_terms.specs.Points.{Point}
 use Rattle.border_terms.specs.Runs.{Run}
@@ -18,6 +18,15 @@ no_cell = record { sum = 0; many = 0 }
 -- one length more
 abbrev pub cell_with : Cell → ℕ → Cell
 cell_with c x = record { sum = c.sum + x; many = c.many + 1 }
+
+-- there is room for so many lengths more, where none is greater than 2^41
+pub record HasRoom (n : ℕ) (c : Cell) : Type 0 where
+  pub few : c.many + n < 2 ^ 61
+  pub small : c.sum ≤ c.many * 2 ^ 41
+
+-- and of each step
+abbrev pub HaveRoom : ℕ → List Cell → Type 0
+HaveRoom n cells = (i : ℕ) → i < length cells → HasRoom n (slice_index_or cells i no_cell)
 
 -- a place is from the first up to before the second
 abbrev pub is_between : (from to i : ℕ) → Bool

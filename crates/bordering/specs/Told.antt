@@ -1,6 +1,6 @@
 -- What the program's own types mean: its points, steps, runs, borders and bounds as those of the definitions.
 -- A point is the list of its coordinates.
-use Rattle.std.specs.Prelude.{List, [], ◌∷◌, map}
+use Rattle.std.specs.Prelude.{ℕ, ◌+◌, ◌*◌, ◌^◌, List, [], ◌∷◌, map}
 use Rattle.shape_space.specs.declared.point.P2.{P2}
 use Rattle.shape_terms.specs.Points.{Point}
 use Rattle.shape_terms.specs.Contours.{Crack}
@@ -13,9 +13,10 @@ use Rattle.border_terms.specs.Borders as Borders
 use Rattle.border_terms.specs.Objects as Objects
 use Rattle.bordering.specs.declared.step.Step.{Step}
 use Rattle.bordering.specs.declared.run.Run.{Run}
-use Rattle.bordering.specs.declared.contours.Start.{Start}
-use Rattle.bordering.specs.declared.contours.Border.{Border}
+use Rattle.bordering.specs.declared.border.Start.{Start}
+use Rattle.bordering.specs.declared.border.Border.{Border}
 use Rattle.bordering.specs.declared.objects.Bounds.{Bounds}
+use Rattle.bordering.specs.declared.total.Total.{Total}
 
 -- the coordinates of a point of the plane
 abbrev pub flat : P2 → Point
@@ -46,8 +47,12 @@ border_told b = record { start = crack_told b.start; length = b.length }
 abbrev pub all_borders : List Border → List Borders.Border
 all_borders bs = map border_told bs
 
+-- a sum of lengths, in units
+abbrev pub total_told : Total → ℕ
+total_told t = t.pixels * 10 ^ 12 + t.units
+
 abbrev pub bounds_told : Bounds → Objects.Bounds
-bounds_told b = record { border = b.border; hole_border = b.hole_border; holes = b.holes }
+bounds_told b = record { border = total_told b.border; hole_border = total_told b.hole_border; holes = b.holes }
 
 abbrev pub all_bounds : List Bounds → List Objects.Bounds
 all_bounds bs = map bounds_told bs

@@ -7,6 +7,7 @@ ghost use Rattle.border_terms.specs.Borders.{borders as borders_of};
 ghost use Rattle.bordering.specs.Told.{flat, flat_line, crack_told, run_told, all_borders};
 ghost use Rattle.bordering.specs.Kept.{begin_with, closed, with_point, with_segment, HasBorders};
 
+use crate::border::{Border, Start};
 use crate::cells::Cell;
 use crate::length::contour_length;
 use crate::run::Run;
@@ -15,24 +16,6 @@ use shape_report::Line;
 use shape_space::{NoMemory, P2};
 use std::alloc::Global;
 use std::marker::Model;
-
-/// Where a contour begins.
-#[derive(Clone, Copy, Debug, PartialEq, Eq)]
-pub struct Start {
-    /// The pixel of its first crack.
-    pub point: P2,
-    /// The side of that crack, 0 to 3: up, right, down, left.
-    pub side: u8,
-}
-
-/// A border of an object.
-#[derive(Clone, Copy, Debug, PartialEq, Eq)]
-pub struct Border {
-    /// Where its contour begins.
-    pub start: Start,
-    /// The length of the line through the middles of its pixels, in units: a million million of them are the side of a pixel.
-    pub length: u64,
-}
 
 /// The borders of the contours before the last, and what is known of the last.
 #[derive(Drop)]

@@ -3,19 +3,23 @@
 #![tactic(auto)]
 
 mod along;
+mod border;
 mod cells;
 mod contours;
 mod law;
 mod length;
 mod objects;
 mod quotient;
-mod rounding;
 mod run;
 mod runs;
 mod step;
 mod steps;
+mod total;
+mod totals;
 
-pub use contours::{Border, Contours};
+pub use border::{Border, Start};
+pub use contours::Contours;
 pub use law::{holding_tells_borders, shares_are_rounded_down};
 pub use objects::{Bounds, object_bounds};
-pub use rounding::thousandths;
+pub use total::Total;
+pub use totals::thousandths;

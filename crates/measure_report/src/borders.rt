@@ -22,11 +22,7 @@ fn bounds_at(all: &[Bounds], i: usize) -> Bounds
     if i < all.len() {
         all[i]
     } else {
-        Bounds {
-            border: 0,
-            hole_border: 0,
-            holes: 0,
-        }
+        Bounds::none()
     }
 }
 
@@ -35,8 +31,8 @@ fn put_bounds(b: Bounds, csv: &mut Csv) -> Result<(), NoMemory>
     ensures { OnOk result (csv.new ≡ csv.old ++ border_cells (bounds_told b)) }
 {
     csv.whole(b.holes as u128)?;
-    csv.thousandths(thousandths(b.border) as u128)?;
-    csv.thousandths(thousandths(b.hole_border) as u128)?;
+    csv.thousandths(thousandths(b.border))?;
+    csv.thousandths(thousandths(b.hole_border))?;
     Ok(())
 }
 

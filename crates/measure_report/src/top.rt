@@ -15,8 +15,8 @@ use std::alloc::Global;
 ///
 /// The words are judged first, without memory and without the desk. Nothing is written before the whole report was read. The
 /// report is not checked: what it claims is measured as it stands. What it gives outside the box of its heading is not
-/// measured. Want of memory may be answered at any time after the words, and comes for a report of more than 2^61 lines, and
-/// for borders of more than eighteen million pixels' length, as well.
+/// measured. Want of memory may be answered at any time after the words, and comes for a report of more than 2^61 lines as
+/// well.
 pub fn run<D: Desk>(alloc: Global, words: &[Vec<u8>], desk: &mut D) -> Outcome
     ensures usage { (result ≡ Outcome.Usage)
         ↔ ((name : List ℕ) → texts words.now ≢ name ∷ []) }

@@ -8,7 +8,7 @@ use Rattle.bordering.proofs.cells.add_shares.Goals as goal
 pub loop-i-preserved : goal.loop-i-preserved
 loop-i-preserved c =
     let same = c.share-share.ensures.same ∙ c.loop-i.invariant.0 in
-    let put = c.in_ok-cells.ensures ∙ ap (λ x. cell_with (get_or c.loop-i.cells c.loop-i.i no_cell) x)
+    let put = c.with.ensures ∙ ap (λ x. cell_with (get_or c.loop-i.cells c.loop-i.i no_cell) x)
     (c.share-share.ensures.value ∙ (λ j. share (run_told (c.loop-i.invariant.0 j)) (c.step_at.ensures j))) in
     (same, passed_more _ _ _ _ _ _ _ c.loop-i.auto.i (omega arith) c.loop-i.invariant.1 put)
 
@@ -23,5 +23,5 @@ returns-clause-passed c =
     let new = c.loop-i.cells in
     let s : c.min-start.result ≡ min a (min b n) = c.min-start.ensures ∙ ap (min a) c.min-end.ensures in
     let e : c.loop-i.i ≡ min b n = omega arith in
-    passed_cut ps r a b n old new c.requires
+    passed_cut ps r a b n old new c.requires.all
     (subst (λ x. ArePassed ps r x (min b n) old new) s (subst (λ y. ArePassed ps r c.min-start.result y old new) e c.loop-i.invariant.1))
