@@ -13,6 +13,9 @@ from typing import IO, Any
 
 from .faults import Fault
 
+# How what is not finished is called, with the number of its process and a stroke behind.
+ASIDE = ".making-"
+
 
 @contextmanager
 def aside(path: Path) -> Iterator[IO[bytes]]:
@@ -21,7 +24,7 @@ def aside(path: Path) -> Iterator[IO[bytes]]:
     A Fault where the system refuses it.
     """
     try:
-        handle, name = tempfile.mkstemp(prefix="." + path.name[:80] + ".", dir=path.parent)
+        handle, name = tempfile.mkstemp(prefix=f"{ASIDE}{os.getpid()}-", dir=path.parent)
     except OSError as error:
         raise Fault(path, f"cannot be written ({error.strerror})", "choose another folder with -o") from error
     try:

@@ -6,6 +6,7 @@ same picture, rule and programs leaves it as it is.
 from __future__ import annotations
 
 import os
+import shutil
 import tempfile
 from collections.abc import Iterator
 from contextlib import contextmanager
@@ -15,13 +16,12 @@ from typing import Any
 
 from .convert import Picture
 from .faults import Fault
-from .files import gzipped, read_json, shown, sum_of, sum_of_bytes, write_json
+from .files import ASIDE, gzipped, read_json, shown, sum_of, sum_of_bytes, write_json
 from .pictures import sides_of, spelled, suffix_of
 from .products import draw, measured, write_mask, write_network
 from .programs import has, sums
 from .report import counts_of
 
-_ASIDE = ".making-"
 Record = dict[str, Any]
 
 
@@ -76,7 +76,7 @@ def _is_made(record: Record, head: Record, folder: Path) -> bool:
 def _folder_aside(place: Path) -> Iterator[Path]:
     try:
         place.mkdir(parents=True, exist_ok=True)
-        with tempfile.TemporaryDirectory(prefix=f"{_ASIDE}{os.getpid()}-", dir=place) as work:
+        with tempfile.TemporaryDirectory(prefix=f"{ASIDE}{os.getpid()}-", dir=place) as work:
             yield Path(work)
     except OSError as error:
         raise Fault(shown(place), f"cannot be written ({error.strerror})", "is the disk full, or may you not write there?") from error
@@ -84,12 +84,14 @@ def _folder_aside(place: Path) -> Iterator[Path]:
 
 def clear_aside(folder: Path) -> None:
     """Takes away what a run left in the folder that was ended in the middle and is no more."""
-    for work in folder.rglob(_ASIDE + "*"):
-        process = work.name.removeprefix(_ASIDE).split("-")[0]
-        if work.is_dir() and process.isdigit() and not Path("/proc", process).exists():
-            for path in work.iterdir():
-                path.unlink()
-            work.rmdir()
+    for work in folder.rglob(ASIDE + "*"):
+        process = work.name.removeprefix(ASIDE).split("-")[0]
+        if not process.isdigit() or Path("/proc", process).exists():
+            continue
+        if work.is_dir():
+            shutil.rmtree(work)
+        else:
+            work.unlink(missing_ok=True)
 
 
 def _products(picture: Picture, plan: Plan, work: Path) -> Record:

@@ -111,6 +111,7 @@ class Measuring(InFolder):
         self.save(2)
         Path("out/.making-999999999-x").mkdir(parents=True)
         Path("out/.making-999999999-x/000.png.pbm").write_bytes(b"half")
+        Path("out/.making-999999999-y").write_bytes(b"half a record")
         self.assertEqual(self.shapes("measure", "in", "-o", "out")[0], 0)
         self.assertFalse(list(Path("out").glob(".making*")))
 
