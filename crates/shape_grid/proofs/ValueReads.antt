@@ -5,7 +5,10 @@ use Rattle.std.proofs.lemmas.List.{get_or_default, drop_all}
 use Rattle.std.specs.Prelude.{filter}
 use Rattle.shape_terms.specs.Points.{box_count, box_points, raster_point}
 use Rattle.shape_terms.specs.Pictures.{Picture, at, objects_from}
-use Rattle.shape_terms.proofs.BoxLists.{objects_next, objects_skip, length-box_points}
+use Rattle.shape_terms.proofs.BoxLists.{objects_next, objects_skip, length-box_points, at_raster_point}
+
+pub value_at : (X : Picture) (i : ℕ) (r : Bool) → length X.values ≡ box_count X.sides → i < box_count X.sides → r ≡ get_or X.values i r → r ≡ at X (raster_point X.sides i)
+value_at X i r e l h = h ∙ sym (get_or_default X.values i false r (omega arith)) ∙ sym (at_raster_point X i l)
 
 pub found : (X : Picture) (i : ℕ) (r : Bool) → length X.values ≡ box_count X.sides → i < box_count X.sides → r ≡ get_or X.values i r → r ≡ true → objects_from X i ≡ raster_point X.sides i ∷ objects_from X (i + 1)
 found X i r e l h t = objects_next X i l (get_or_default X.values i false r (omega arith) ∙ sym h ∙ t)

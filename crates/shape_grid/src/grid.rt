@@ -86,6 +86,14 @@ impl<P: Point> Grid<P> {
         }
     }
 
+    /// Whether the point with a raster number is an object point.
+    pub fn has_number(&self, i: u32) -> bool
+        requires { i < box_count self.now.sides }
+        ensures { result ≡ at self.now (raster_point self.now.sides i) }
+    {
+        self.values[i as usize]
+    }
+
     /// The number of object points.
     pub fn count(&self) -> u32
         ensures { result ≡ length (object_points self.now) }
@@ -120,7 +128,17 @@ impl<P: Point> Grid<P> {
         requires { IsTrue (in_box self.old.sides (P.coords p)) }
         ensures { self.new ≡ with_value self.old (P.coords p) false }
     {
-        let i = self.sides.raster(p) as usize;
+        let i = self.sides.raster(p);
+        self.clear_number(i);
+    }
+
+    /// Makes the point with a raster number a background point.
+    pub fn clear_number(&mut self, i: u32)
+        requires { i < box_count self.old.sides }
+        ensures { self.new
+            ≡ record { sides = self.old.sides; values = slice_set self.old.values i false } }
+    {
+        let i = i as usize;
         if self.values[i] {
             self.values[i] = false;
             self.objects -= 1;
