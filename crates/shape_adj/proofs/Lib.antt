@@ -3,3 +3,5 @@ pub mod Links
 pub mod Labelling
 pub mod FlatSteps
 mod SolidSteps
+pub mod Offsets
+pub mod Inner

@@ -1,2 +1,3 @@
 pub mod Flood
 pub mod Labels
+pub mod Offsets

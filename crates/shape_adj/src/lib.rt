@@ -5,11 +5,13 @@
 mod answers;
 mod flood;
 mod net;
+mod number;
 mod pairing;
 mod picture;
 mod places;
 mod solid;
 
 pub use answers::{Labels, Parts};
+pub use number::{is_inner, near_number, side_number};
 pub use pairing::Pairing;
 pub use picture::{labels, parts};

@@ -4,6 +4,7 @@ ghost use Rattle.std.specs.Prelude.{◌≡◌, ◌<◌, ◌≤◌, ◌↔◌, []
 ghost use Rattle.std.specs.Int.{bit_at};
 ghost use Rattle.shape_terms.specs.FramedBox.{IsWithin};
 ghost use Rattle.shape_terms.specs.Adjacency.{Near, Side, Round, Lists, city_distance, near_steps, side_steps, near_step, side_step, near_point, side_point};
+ghost use Rattle.shape_adj.specs.Offsets.{IsShort};
 ghost use Rattle.shape_terms.proofs.AdjacencySymmetric.{near_sym, side_sym};
 ghost use Rattle.shape_terms.proofs.NeighbourNumbers.{near_listed_once, side_listed_once, side_is_round};
 ghost use Rattle.shape_terms.proofs.RoundSets.{flat_round};
@@ -28,13 +29,25 @@ pub trait Pairing: Point {
 
     const ROUND: u32;
 
-    /// The near neighbour with a number, in raster order from 0 on.
+    /// The step to the near neighbour with a number, in raster order from 0 on.
+    fn near_step(k: usize) -> Self
+        requires { k < NEAR_COUNT }
+        ensures value { Self.coords result ≡ near_step Self.DIM k }
+        ensures short { IsShort (Self.coords result) };
+
+    /// The step to the side neighbour with a number: back and on along each axis, from 0 on.
+    fn side_step(k: usize) -> Self
+        requires { k < SIDE_COUNT }
+        ensures value { Self.coords result ≡ side_step Self.DIM k }
+        ensures short { IsShort (Self.coords result) };
+
+    /// The near neighbour with a number.
     fn near(&self, k: usize) -> Self
         requires below { k < NEAR_COUNT }
         requires within { IsWithin (negsuc 1) (pos 4096) (Self.coords self.now) }
         ensures { Self.coords result ≡ near_point (Self.coords self.now) k };
 
-    /// The side neighbour with a number: one step back and one step on along each axis, from 0 on.
+    /// The side neighbour with a number.
     fn side(&self, k: usize) -> Self
         requires below { k < SIDE_COUNT }
         requires within { IsWithin (negsuc 1) (pos 4096) (Self.coords self.now) }
@@ -127,6 +140,14 @@ impl Pairing for P2 {
     ghost round_bits = { λ p k h. flat_round (p.x ∷ p.y ∷ []) k refl h };
 
     ghost side_in_round = { λ p q. side_is_round (p.x ∷ p.y ∷ []) (q.x ∷ q.y ∷ []) };
+
+    fn near_step(k: usize) -> P2 {
+        flat_near_step(k)
+    }
+
+    fn side_step(k: usize) -> P2 {
+        flat_side_step(k)
+    }
 
     fn near(&self, k: usize) -> P2 {
         let step = flat_near_step(k);

@@ -98,6 +98,14 @@ impl Pairing for P3 {
 
     ghost side_in_round = { λ p q. side_is_round (p.x ∷ p.y ∷ p.z ∷ []) (q.x ∷ q.y ∷ q.z ∷ []) };
 
+    fn near_step(k: usize) -> P3 {
+        solid_near_step(k)
+    }
+
+    fn side_step(k: usize) -> P3 {
+        solid_side_step(k)
+    }
+
     fn near(&self, k: usize) -> P3 {
         let step = solid_near_step(k);
         P3 {
