@@ -21,7 +21,11 @@ coordinate-moved (x ∷ p) (y ∷ v) (suc j) e = coordinate-moved p v j (omega a
 abbrev pub IsApart : Point → Point → ℕ → Type 0
 IsApart n p k = (j : ℕ) → j < k → (pos 1 ≤ℤ coordinate p j) × (coordinate p j <ℤ (coordinate n j -ℤ pos 1))
 
--- such a point's near neighbours are in the box
+-- such a point is in the box
+pub itself_inside : (n p : Point) → length p ≡ length n → IsApart n p (length n) → IsTrue (in_box (sides_of n) p)
+itself_inside n p e h = in_box_by n p e (λ j m. let b = h j m in (omega (arith, ints, b.0), omega (arith, ints, b.1)))
+
+-- and so are its near neighbours
 pub all_inside : (n p : Point) → length p ≡ length n → IsApart n p (length n) → (k : ℕ) → k < length (near_steps (length p)) → IsTrue (in_box (sides_of n) (near_point p k))
 all_inside n p e h k l =
     let near = near_of_number p k l in

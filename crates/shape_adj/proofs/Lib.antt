@@ -5,3 +5,4 @@ pub mod FlatSteps
 mod SolidSteps
 pub mod Offsets
 pub mod Inner
+pub mod Neighbours

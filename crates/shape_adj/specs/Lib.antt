@@ -1,3 +1,4 @@
 pub mod Flood
 pub mod Labels
 pub mod Offsets
+pub mod Here

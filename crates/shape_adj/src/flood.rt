@@ -31,9 +31,9 @@ fn spread<P: Point, N: Net<P>>(
     ensures less { IfOk result
         (λ _. zeros labels.new + vec_len work.new ≡ zeros labels.old + vec_len work.old) }
 {
-    let point = net.point(p);
+    let here = net.here(p);
     for k in 0..net.links() {
-        if let Some(q) = net.follow(point, k) {
+        if let Some(q) = net.follow(&here, k) {
             if labels[q as usize] == 0 {
                 labels[q as usize] = label;
                 work.push(q)?;

@@ -1,14 +1,22 @@
 //! A set whose points are told by numbers, with links between them.
 //! The flood needs no more of a picture than this; a further kind of set is one more `impl`.
-ghost use Rattle.std.specs.Prelude.{◌≡◌, ◌<◌, ◌↔◌, ℕ, ℤ, List, Option, IsTrue, negsuc, pos};
-ghost use Rattle.shape_terms.specs.FramedBox.{IsWithin};
+ghost use Rattle.std.specs.Prelude.{◌≡◌, ◌<◌, ◌↔◌, ℕ, ℤ, List, Option, IsTrue};
 ghost use Rattle.shape_terms.specs.Net.{IsNet};
 
 use shape_space::Point;
 
+/// A place of a net, with what all its links ask for: told once, and handed to each link.
+#[derive(Clone, Copy)]
+pub struct Here<P: Point> {
+    /// The place.
+    pub place: u32,
+    /// Its point.
+    pub point: P,
+    /// The raster number of the point in the box, where all its near neighbours are in the box.
+    pub inner: Option<u32>,
+}
+
 /// A set of numbered places, and for each of them links that lead to the adjacent places of the set.
-///
-/// A place is that of a point, which is told once for all links of the place.
 pub trait Net<P: Point> {
     /// How many places there are, in the set or not.
     ghost size: { Self → ℕ };
@@ -24,6 +32,9 @@ pub trait Net<P: Point> {
 
     /// The coordinates of the point of a place.
     ghost spot: { Self → ℕ → List ℤ };
+
+    /// What is told of a place: the coordinates of its point, and its raster number in the box where that is asked for.
+    ghost IsHere: { Self → ℕ → List ℤ → Option ℕ → Type 0 };
 
     /// The place of the set that a link of a point leads to.
     ghost next: { Self → List ℤ → ℕ → Option ℕ };
@@ -41,17 +52,17 @@ pub trait Net<P: Point> {
     fn links(&self) -> usize
         ensures { result ≡ degree self.now };
 
-    /// The point of a place.
-    fn point(&self, place: u32) -> P
+    /// A place, with what all its links ask for.
+    fn here(&self, place: u32) -> Here<P>
         requires { place < size self.now }
-        ensures value { P.coords result ≡ spot self.now place }
-        ensures within { IsWithin (negsuc 0) (pos 4096) (P.coords result) };
+        ensures at { IsHere self.now result.place (P.coords result.point) result.inner }
+        ensures place { result.place ≡ place };
 
-    /// The place that a link of a point leads to, or `None` where the neighbour is not in the set.
-    fn follow(&self, p: P, link: usize) -> Option<u32>
-        requires within { IsWithin (negsuc 0) (pos 4096) (P.coords p) }
+    /// The place that a link leads to, or `None` where the neighbour is not in the set.
+    fn follow(&self, here: &Here<P>, link: usize) -> Option<u32>
+        requires here { IsHere self.now here.now.place (P.coords here.now.point) here.now.inner }
         requires below { link < degree self.now }
-        ensures { result ≡ next self.now (P.coords p) link };
+        ensures { result ≡ next self.now (spot self.now here.now.place) link };
 
     ghost is_net: { (s : Self) → IsNet (size s) (Holds s) (Adjacent s) (degree s) (λ i. next s (spot s i)) };
 }

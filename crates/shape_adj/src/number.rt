@@ -89,8 +89,10 @@ pub fn side_number<P: Pairing>(sides: &Sides<P>, i: u32, k: usize) -> u32
 
 /// Whether all near neighbours of a point are in the box.
 pub fn is_inner<P: Pairing>(sides: &Sides<P>, p: P) -> bool
-    ensures { IsTrue result ↔ ((k : ℕ) → k < P.NEAR_COUNT
+    ensures exactly { IsTrue result ↔ ((k : ℕ) → k < P.NEAR_COUNT
         → IsTrue (in_box (sides_of (P.coords sides.now.lengths)) (near_point (P.coords p) k))) }
+    ensures itself { IsTrue result
+        → IsTrue (in_box (sides_of (P.coords sides.now.lengths)) (P.coords p)) }
 {
     for k in 0..P::DIM {
         let x = p.coord(k);

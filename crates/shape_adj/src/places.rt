@@ -1,16 +1,90 @@
 //! The object and the background of a picture as nets of places.
 //! Which places are adjacent, and how they are numbered, stands here; the flood knows neither.
-ghost use Rattle.std.specs.Prelude.{◌≡◌, ◌<◌, ◌↔◌, IsTrue, length};
-ghost use Rattle.shape_terms.specs.Points.{box_count, raster_point};
-ghost use Rattle.shape_terms.specs.FramedBox.{framed_sides, framed_point};
+ghost use Rattle.std.specs.Prelude.{◌≡◌, ◌<◌, ◌↔◌, IsTrue, IfSome, length, negsuc, pos};
+ghost use Rattle.shape_terms.specs.Points.{in_box, box_count, raster_point};
+ghost use Rattle.shape_terms.specs.FramedBox.{framed_sides, framed_point, IsWithin};
 ghost use Rattle.shape_terms.specs.Adjacency.{near_steps, side_steps, near_point, side_point};
 ghost use Rattle.shape_terms.specs.Places.{ObjectPlace, NearPlaces, object_place, BackgroundPlace, SidePlaces, background_place};
+ghost use Rattle.shape_adj.specs.Here.{IsInnerNumber, IsPlaced};
 ghost use Rattle.shape_terms.proofs.ObjectPlaces.{object_net};
 ghost use Rattle.shape_terms.proofs.BackgroundPlaces.{background_net};
 
-use crate::net::Net;
+use crate::net::{Here, Net};
+use crate::number::{is_inner, near_number, side_number};
 use crate::pairing::Pairing;
 use shape_grid::Grid;
+
+// The raster number of a point whose near neighbours are all in the box.
+fn inner_number<P: Pairing>(grid: &Grid<P>, p: P) -> Option<u32>
+    requires { IsWithin (negsuc 0) (pos 4096) (P.coords p) }
+    ensures { IfSome result (IsInnerNumber grid.now.sides (P.coords p)) }
+{
+    let sides = grid.sides();
+    if is_inner(&sides, p) {
+        Some(sides.raster(p))
+    } else {
+        None
+    }
+}
+
+// The place of a near neighbour that is object, where all near neighbours are in the box.
+fn near_object<P: Pairing>(grid: &Grid<P>, i: u32, link: usize) -> Option<u32>
+    requires below { link < length (near_steps (length grid.now.sides)) }
+    requires point { i < box_count grid.now.sides }
+    requires inside { IsTrue (in_box grid.now.sides
+        (near_point (raster_point grid.now.sides i) link)) }
+    ensures { result ≡ object_place grid.now (near_point (raster_point grid.now.sides i) link) }
+{
+    let q = near_number(&grid.sides(), i, link);
+    if grid.has_number(q) { Some(q) } else { None }
+}
+
+// The place of a near neighbour that is object.
+fn near_object_in_box<P: Pairing>(grid: &Grid<P>, p: P, link: usize) -> Option<u32>
+    requires below { link < length (near_steps (length grid.now.sides)) }
+    requires within { IsWithin (negsuc 0) (pos 4096) (P.coords p) }
+    ensures { result ≡ object_place grid.now (near_point (P.coords p) link) }
+{
+    let sides = grid.sides();
+    let q = p.near(link);
+    if grid.has(q) {
+        Some(sides.raster(q))
+    } else {
+        None
+    }
+}
+
+// The place of a side neighbour that is background, where all near neighbours are in the box.
+fn side_background<P: Pairing>(grid: &Grid<P>, p: P, i: u32, link: usize) -> Option<u32>
+    requires below { link < length (side_steps (length grid.now.sides)) }
+    requires point { i < box_count grid.now.sides }
+    requires is { raster_point grid.now.sides i ≡ P.coords p }
+    requires within { IsWithin (negsuc 0) (pos 4096) (P.coords p) }
+    requires inside { IsTrue (in_box grid.now.sides (side_point (P.coords p) link)) }
+    ensures { result ≡ background_place grid.now (side_point (P.coords p) link) }
+{
+    let sides = grid.sides();
+    if grid.has_number(side_number(&sides, i, link)) {
+        None
+    } else {
+        Some(sides.framed_number(p.side(link)))
+    }
+}
+
+// The place of a side neighbour that is background in the framed box.
+fn side_background_in_frame<P: Pairing>(grid: &Grid<P>, p: P, link: usize) -> Option<u32>
+    requires below { link < length (side_steps (length grid.now.sides)) }
+    requires within { IsWithin (negsuc 0) (pos 4096) (P.coords p) }
+    ensures { result ≡ background_place grid.now (side_point (P.coords p) link) }
+{
+    let sides = grid.sides();
+    let q = p.side(link);
+    if sides.in_frame(q) && !grid.has(q) {
+        Some(sides.framed_number(q))
+    } else {
+        None
+    }
+}
 
 /// The object points of a grid by their raster numbers in the box, adjacent where they are near.
 #[derive(Drop)]
@@ -30,6 +104,8 @@ impl<'a, P: Pairing> Net<P> for Object<'a, P> {
 
     ghost spot = { λ s. raster_point s.grid.now.sides };
 
+    ghost IsHere = { λ s. IsPlaced (raster_point s.grid.now.sides) s.grid.now.sides };
+
     ghost next = { λ s p k. object_place s.grid.now (near_point p k) };
 
     fn places(&self) -> u32 {
@@ -37,7 +113,7 @@ impl<'a, P: Pairing> Net<P> for Object<'a, P> {
     }
 
     fn has(&self, place: u32) -> bool {
-        self.grid.has(self.grid.sides().unraster(place))
+        self.grid.has_number(place)
     }
 
     fn links(&self) -> usize {
@@ -45,17 +121,19 @@ impl<'a, P: Pairing> Net<P> for Object<'a, P> {
         P::NEAR_COUNT
     }
 
-    fn point(&self, place: u32) -> P {
-        self.grid.sides().unraster(place)
+    fn here(&self, place: u32) -> Here<P> {
+        let point = self.grid.sides().unraster(place);
+        Here {
+            place,
+            point,
+            inner: inner_number(self.grid, point),
+        }
     }
 
-    fn follow(&self, p: P, link: usize) -> Option<u32> {
-        let sides = self.grid.sides();
-        let q = p.near(link);
-        if self.grid.has(q) {
-            Some(sides.raster(q))
-        } else {
-            None
+    fn follow(&self, here: &Here<P>, link: usize) -> Option<u32> {
+        match here.inner {
+            Some(i) => near_object(self.grid, i, link),
+            None => near_object_in_box(self.grid, here.point, link),
         }
     }
 
@@ -80,6 +158,8 @@ impl<'a, P: Pairing> Net<P> for Background<'a, P> {
 
     ghost spot = { λ s. framed_point s.grid.now.sides };
 
+    ghost IsHere = { λ s. IsPlaced (framed_point s.grid.now.sides) s.grid.now.sides };
+
     ghost next = { λ s p k. background_place s.grid.now (side_point p k) };
 
     fn places(&self) -> u32 {
@@ -95,17 +175,19 @@ impl<'a, P: Pairing> Net<P> for Background<'a, P> {
         P::SIDE_COUNT
     }
 
-    fn point(&self, place: u32) -> P {
-        self.grid.sides().framed_point(place)
+    fn here(&self, place: u32) -> Here<P> {
+        let point = self.grid.sides().framed_point(place);
+        Here {
+            place,
+            point,
+            inner: inner_number(self.grid, point),
+        }
     }
 
-    fn follow(&self, p: P, link: usize) -> Option<u32> {
-        let sides = self.grid.sides();
-        let q = p.side(link);
-        if sides.in_frame(q) && !self.grid.has(q) {
-            Some(sides.framed_number(q))
-        } else {
-            None
+    fn follow(&self, here: &Here<P>, link: usize) -> Option<u32> {
+        match here.inner {
+            Some(i) => side_background(self.grid, here.point, i, link),
+            None => side_background_in_frame(self.grid, here.point, link),
         }
     }
 

@@ -5,13 +5,13 @@ use Rattle.shape_adj.proofs.flood.spread.Goals.{in-Some+then-labels-q-eq0+in_ok-
 
 pub bounds-labels-q : goal.bounds-labels-q
 bounds-labels-q g c =
-    let to = (g.met.N.Net.is_net c.args.net.now).sound c.args.p c.loop-k.k c.in-Some.q (omega (arith, c.links-k-end.ensures)) (sym (c.in-Some.ensures ∙ ap (λ v. g.N.Net.next c.args.net.now v c.loop-k.k) c.point-point.ensures.value)) in
+    let to = (g.met.N.Net.is_net c.args.net.now).sound c.args.p c.loop-k.k c.in-Some.q (omega (arith, c.links-k-end.ensures)) (sym (c.in-Some.ensures ∙ ap (λ i. g.N.Net.next c.args.net.now (g.N.Net.spot c.args.net.now i) c.loop-k.k) c.here-here.ensures.place)) in
     let l = (g.met.N.Net.is_net c.args.net.now).bounded c.in-Some.q to.0 in
     omega (arith, c.loop-k.invariant.same)
 
 pub bounds-labels-q-then-labels-q-eq0 : goal.bounds-labels-q-then-labels-q-eq0
 bounds-labels-q-then-labels-q-eq0 g c =
-    let to = (g.met.N.Net.is_net c.args.net.now).sound c.args.p c.loop-k.k c.in-Some.q (omega (arith, c.links-k-end.ensures)) (sym (c.in-Some.ensures ∙ ap (λ v. g.N.Net.next c.args.net.now v c.loop-k.k) c.point-point.ensures.value)) in
+    let to = (g.met.N.Net.is_net c.args.net.now).sound c.args.p c.loop-k.k c.in-Some.q (omega (arith, c.links-k-end.ensures)) (sym (c.in-Some.ensures ∙ ap (λ i. g.N.Net.next c.args.net.now (g.N.Net.spot c.args.net.now i) c.loop-k.k) c.here-here.ensures.place)) in
     let l = (g.met.N.Net.is_net c.args.net.now).bounded c.in-Some.q to.0 in
     omega (arith, c.loop-k.invariant.same)
 
@@ -19,7 +19,7 @@ pub loop-k-preserved : goal.loop-k-preserved
 loop-k-preserved g c =
     let net = g.met.N.Net.is_net c.args.net.now in
     let d : c.loop-k.k < g.N.Net.degree c.args.net.now = omega (arith, c.links-k-end.ensures) in
-    let there = ap (λ v. g.N.Net.next c.args.net.now v c.loop-k.k) c.point-point.ensures.value in
+    let there = ap (λ i. g.N.Net.next c.args.net.now (g.N.Net.spot c.args.net.now i) c.loop-k.k) c.here-here.ensures.place in
     elim c.match-follow.branch [
       | in-Some+then-labels-q-eq0+in_ok-push w ↦
           rw (w.labels-is, w.work-is, w.in_ok-push.ensures.items) (follow_new _ _ _ _ _ net _ _ _ _ _ _ _ c.loop-k.invariant w.in-Some.q d (sym (w.in-Some.ensures ∙ there)) w.if-labels-q-eq0.true)
