@@ -7,7 +7,7 @@ use Rattle.std.proofs.lemmas.Bool.{cases_Bool}
 use Rattle.std.proofs.lemmas.List.{length-set}
 use Rattle.shape_terms.specs.Points.{Point, in_box, box_count, raster_number}
 use Rattle.shape_terms.specs.Pictures.{Picture, at, with_value}
-use Rattle.shape_terms.proofs.ObjectPlaces.{object_in_box}
+use Rattle.number_terms.proofs.ObjectPlaces.{object_in_box}
 use Rattle.thin_terms.specs.Thinning.{Rule, Event, Stage, ThinStep, stage_after}
 use Rattle.thin_terms.proofs.OneValue.{value_there, value_elsewhere}
 use Rattle.thin_terms.proofs.PointTests.{same_point}

@@ -61,6 +61,7 @@ last_segment (l ∷ m ∷ lines) = last_segment (m ∷ lines)
 -- ---- where the lines stand
 
 -- how many contours were begun; and of the last of them, how many points it was given, how many segments its `contour` line gives, the stretches of those it was given, the segment of the last line where that is a `seg` line, and how many gap lines it has
+-- A judge keeps as much, but what lines claim is not its notion: `holds_shows` says of every text that holds, in geometry alone (`ContourFacts`), that its facts are those of all contours of the picture, each with all its maximal segments and with a refusal of each gap.
 pub record Standing : Type 0 where
   pub begun : ℕ
   pub points : ℕ

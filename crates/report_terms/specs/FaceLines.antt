@@ -73,6 +73,7 @@ abbrev pub given_patch : List Line → GivenPatch
 given_patch lines = record { declared = count_of lines; plane = plane_of lines; points = filter_map on_point lines; refused = filter_map off_point lines }
 
 -- how many faces were begun; and of the last of them, the points that were given, and what is given of its last patch
+-- A judge keeps as much, but what lines claim is not its notion: `holds_shows` says of every text that holds, in geometry alone (`FaceFacts`), that its facts are those of all six faces of the picture, each cut into patches of planes that refuse what touches them.
 pub record FaceStanding : Type 0 where
   pub begun : ℕ
   pub taken : List Point

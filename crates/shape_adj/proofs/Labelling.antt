@@ -7,7 +7,7 @@ use Rattle.std.proofs.lemmas.List.Elements.{Contains-push, Contains-push_cases}
 use native.Mathlib.Decide.{ℕ_discrete, dec_lt}
 use Rattle.shape_terms.specs.Parts.{NamesParts, InOrder}
 use Rattle.shape_adj.specs.Flood.{Flooding, Flooded, Put}
-use Rattle.shape_terms.specs.Net.{IsNet}
+use Rattle.number_terms.specs.Net.{IsNet}
 use Rattle.shape_adj.specs.Labels.{Spreading, Kept}
 use Rattle.shape_adj.proofs.Flooding.{flood_start, flood_work, flood_end, named_as_well}
 use Rattle.shape_adj.proofs.Links.{put_set, kept_set}

@@ -4,11 +4,11 @@ use Rattle.std.proofs.Common.{◌≡◌, ◌<◌, ℕ, true, false, List, length
 use Rattle.std.specs.Prelude.{IsTrue, Some, None}
 use Rattle.shape_terms.specs.Points.{Point, in_box, box_count, raster_number, raster_point}
 use Rattle.shape_terms.specs.Pictures.{Picture, at}
-use Rattle.shape_terms.specs.Places.{place_if, object_place, background_place, framed_number}
+use Rattle.number_terms.specs.Places.{place_if, object_place, background_place, framed_number}
 use Rattle.shape_terms.proofs.Boxes.{raster_below, raster_point-raster_number}
 use Rattle.shape_terms.specs.Adjacency.{near_steps, side_steps, near_point, side_point}
 use Rattle.shape_terms.proofs.NeighbourNumbers.{near_number, side_of_number, side_is_round}
-use Rattle.shape_terms.proofs.FramedEnds.{in_box_in_frame}
+use Rattle.number_terms.proofs.FramedEnds.{in_box_in_frame}
 
 module _ (X : Picture) (q : Point) (i : ℕ) (h : IsTrue (in_box X.sides q)) (number : i ≡ raster_number X.sides q) where
   pub number_below : i < box_count X.sides

@@ -4,10 +4,10 @@ ghost use Rattle.std.specs.Prelude.{◌≡◌, ◌<◌, ◌↔◌, IsTrue, IfSom
 ghost use Rattle.shape_terms.specs.Points.{in_box, box_count, raster_point};
 ghost use Rattle.shape_terms.specs.FramedBox.{framed_sides, framed_point, IsWithin};
 ghost use Rattle.shape_terms.specs.Adjacency.{near_steps, side_steps, near_point, side_point};
-ghost use Rattle.shape_terms.specs.Places.{ObjectPlace, NearPlaces, object_place, BackgroundPlace, SidePlaces, background_place};
+ghost use Rattle.number_terms.specs.Places.{ObjectPlace, NearPlaces, object_place, BackgroundPlace, SidePlaces, background_place};
 ghost use Rattle.shape_adj.specs.Here.{IsInnerNumber, IsPlaced};
-ghost use Rattle.shape_terms.proofs.ObjectPlaces.{object_net};
-ghost use Rattle.shape_terms.proofs.BackgroundPlaces.{background_net};
+ghost use Rattle.number_terms.proofs.ObjectPlaces.{object_net};
+ghost use Rattle.number_terms.proofs.BackgroundPlaces.{background_net};
 
 use crate::net::{Here, Net};
 use crate::number::{is_inner, near_number, side_number};

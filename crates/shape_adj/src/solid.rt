@@ -4,7 +4,7 @@ ghost use Rattle.std.specs.Prelude.{◌≡◌, ◌<◌, ◌≤◌, [], ◌∷◌
 ghost use Rattle.shape_terms.specs.Adjacency.{near_step, side_step};
 ghost use Rattle.shape_terms.proofs.AdjacencySymmetric.{near_sym, side_sym};
 ghost use Rattle.shape_terms.proofs.NeighbourNumbers.{near_listed_once, side_listed_once, side_is_round};
-ghost use Rattle.shape_terms.proofs.RoundSets.{solid_round};
+ghost use Rattle.number_terms.proofs.RoundSets.{solid_round};
 
 use crate::pairing::Pairing;
 use shape_space::P3;

@@ -4,7 +4,7 @@ ghost use Rattle.std.specs.Prelude.{◌≡◌, ◌*◌, ◌<◌, IfOk, vec_len};
 ghost use Rattle.shape_terms.specs.Points.{box_count};
 ghost use Rattle.shape_terms.specs.Contours.{IsCrack};
 ghost use Rattle.shape_terms.specs.Traces.{AreContours};
-ghost use Rattle.shape_terms.specs.CrackNumbers.{crack_number, numbered};
+ghost use Rattle.number_terms.specs.CrackNumbers.{crack_number, numbered};
 ghost use Rattle.shape_crack.specs.Terms.{crack_of};
 ghost use Rattle.shape_crack.specs.MarkBits.{is_marked};
 ghost use Rattle.shape_crack.specs.Marked.{IsCycleMarked};

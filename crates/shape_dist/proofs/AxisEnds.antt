@@ -6,12 +6,12 @@ use Rattle.std.proofs.lemmas.Bool.{cases_Bool}
 use Rattle.shape_terms.specs.Points.{Point, box_count, in_box, squared_distance}
 use Rattle.shape_terms.specs.Pictures.{Picture, at, Least}
 use Rattle.shape_terms.specs.FramedBox.{framed_sides, framed_point}
-use Rattle.shape_terms.specs.Places.{framed_number}
+use Rattle.number_terms.specs.Places.{framed_number}
 use Rattle.shape_terms.proofs.FramedBoxes.{length-framed_point}
-use Rattle.shape_terms.proofs.FramedNumbers.{framed_number_below, framed_point-framed_number}
+use Rattle.number_terms.proofs.FramedNumbers.{framed_number_below, framed_point-framed_number}
 use Rattle.shape_terms.proofs.NearestFound.{least_found, corner_background}
 use Rattle.shape_terms.proofs.FramedLines.{distance_same}
-use Rattle.shape_terms.proofs.FramedEnds.{level_all, in_box_in_frame}
+use Rattle.number_terms.proofs.FramedEnds.{level_all, in_box_in_frame}
 use Rattle.shape_dist.specs.declared.found.Found.{Found}
 use Rattle.shape_dist.specs.Openings.{IsOpening}
 use Rattle.shape_dist.specs.Spreads.{found, IsNearestOn, HasNearestOn, AreNearestOn}

@@ -9,7 +9,7 @@ use Rattle.shape_terms.specs.Steps.{Before}
 use Rattle.shape_terms.specs.Pictures.{Picture, IsPicture, at}
 use Rattle.shape_terms.specs.Naive.{IsNaiveFor}
 use Rattle.shape_terms.proofs.Boxes.{in_box_length}
-use Rattle.shape_terms.proofs.Found.{pairs-append}
+use Rattle.number_terms.proofs.Found.{pairs-append}
 use Rattle.patch_terms.specs.Patches.{Patch, Grows, points_of}
 use Rattle.patch_terms.proofs.ListPushes.{get_push}
 use Rattle.shape_plane.specs.Growth.{Grown}

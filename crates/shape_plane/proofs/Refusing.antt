@@ -12,7 +12,7 @@ use Rattle.shape_terms.specs.Adjacency.{Near, near_steps}
 use Rattle.shape_terms.specs.Steps.{Before}
 use Rattle.shape_terms.specs.Pictures.{Picture, at}
 use Rattle.shape_terms.specs.Refutations.{Refutation, Refutes, Share}
-use Rattle.shape_terms.proofs.Found.{pairs-cons, All-each}
+use Rattle.number_terms.proofs.Found.{pairs-cons, All-each}
 use Rattle.shape_terms.proofs.Members.{Contains-map}
 use Rattle.shape_terms.proofs.NeighbourNumbers.{near_number}
 use Rattle.shape_terms.proofs.AdjacencySymmetric.{near_sym}

@@ -12,7 +12,7 @@ use Rattle.shape_terms.specs.Distances.{NearFact, IsField}
 use Rattle.thin_terms.specs.Thinning.{HasDistance}
 use Rattle.shape_terms.proofs.Boxes.{raster_below, raster_point-raster_number}
 use Rattle.shape_terms.proofs.BoxLists.{objects_are, length-box_points, get_or-box_points}
-use Rattle.shape_terms.proofs.ObjectPlaces.{object_in_box}
+use Rattle.number_terms.proofs.ObjectPlaces.{object_in_box}
 use Rattle.shape_terms.proofs.Members.{Contains-filter}
 use Rattle.shape_queue.specs.Distances.{AreDistances}
 

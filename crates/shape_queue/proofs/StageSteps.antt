@@ -16,7 +16,7 @@ use Rattle.thin_terms.specs.Simple.{IsSimple}
 use Rattle.thin_terms.specs.Thinning.{Stage, IsCandidate, IsNext, IsThinned, HasDistance, near_count, without}
 use Rattle.shape_terms.proofs.Boxes.{raster_below, raster_point_in, raster_number-raster_point, raster_point-raster_number}
 use Rattle.shape_terms.proofs.RasterOrder.{raster_rises}
-use Rattle.shape_terms.proofs.ObjectPlaces.{object_in_box}
+use Rattle.number_terms.proofs.ObjectPlaces.{object_in_box}
 use Rattle.shape_terms.proofs.AdjacencySymmetric.{near_sym}
 use Rattle.thin_terms.proofs.OneValue.{value_there, value_elsewhere}
 use Rattle.thin_terms.proofs.SimpleNear.{simple_alike}

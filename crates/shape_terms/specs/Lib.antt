@@ -2,15 +2,11 @@ pub mod Points
 pub mod Pictures
 pub mod FramedBox
 pub mod Adjacency
-pub mod Links
 pub mod Parts
-pub mod Net
-pub mod Places
 pub mod Distances
 pub mod Steps
 pub mod Contours
 pub mod Traces
-pub mod CrackNumbers
 pub mod Vectors
 pub mod Naive
 pub mod Refutations

@@ -19,10 +19,10 @@ use Rattle.shape_terms.proofs.AdjacencySymmetric.{near_sym, side_sym}
 use Rattle.shape_terms.proofs.NeighbourNumbers.{near_number, near_of_number, near_once, side_is_round}
 use Rattle.shape_topo.specs.Bits.{In, Linked, AreSymmetric, CountsParts}
 use Rattle.shape_topo.specs.Masks.{near_total, IsNearMask, NearSteps, SideSteps, MaskObject, MaskBackground, IsSideStep, HasMaskObjectNumber, HasMaskBackgroundNumber, IsSimpleMask}
-use Rattle.shape_terms.specs.Links.{near_test, side_test, near_links, side_links, side_set}
+use Rattle.number_terms.specs.Links.{near_test, side_test, near_links, side_links, side_set}
 use Rattle.shape_topo.proofs.Growing.{place_below}
 use Rattle.shape_topo.proofs.MaskBits.{both_sets, marks_small, unset}
-use Rattle.shape_terms.proofs.LinkTests.{near_tested, side_tested, row_is, link_is}
+use Rattle.number_terms.proofs.LinkTests.{near_tested, side_tested, row_is, link_is}
 use Rattle.shape_terms.proofs.ShiftedSteps.{length-near_step, length-origin, near-moved, side-moved, round-moved, moved-origin, length-moved}
 use Rattle.shape_topo.proofs.Matching.{Matches, turned_round, parts_across, holding_matches, find, find_at}
 

@@ -13,7 +13,7 @@ use Rattle.thin_terms.specs.Thinning.{without}
 use Rattle.shape_terms.proofs.Boxes.{in_box_first, in_box_length}
 use Rattle.shape_terms.proofs.AdjacencySymmetric.{near_sym, side_sym}
 use Rattle.shape_terms.proofs.NeighbourNumbers.{side_is_round}
-use Rattle.shape_terms.proofs.ObjectPlaces.{object_in_box}
+use Rattle.number_terms.proofs.ObjectPlaces.{object_in_box}
 use Rattle.thin_terms.proofs.PointTests.{same_point}
 use Rattle.thin_terms.proofs.Deletion.{same_parts, same_holding, lost, gained}
 use Rattle.thin_terms.proofs.OneValue.{value_gone, value_elsewhere}

@@ -1,7 +1,7 @@
 use Rattle.std.proofs.Common.{arith, sym, ◌∙◌}
 use Rattle.std.proofs.lemmas.Int.{ints}
 use Rattle.shape_terms.specs.Adjacency.{side_point}
-use Rattle.shape_terms.proofs.FramedEnds.{in_box_in_frame}
+use Rattle.number_terms.proofs.FramedEnds.{in_box_in_frame}
 use Rattle.shape_adj.proofs.Neighbours.{number_below, background_there, background_not}
 use Rattle.shape_adj.proofs.places.side_background.Goals as goal
 

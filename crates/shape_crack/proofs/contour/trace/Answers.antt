@@ -1,7 +1,7 @@
 use Rattle.std.proofs.Common.{rules, arith, ◌≡◌, ◌≤◌, refl, ap, map, length}
 use Rattle.shape_terms.specs.Contours.{contour_points}
-use Rattle.shape_terms.proofs.Walks.{walk}
-use Rattle.shape_terms.proofs.Tracing.{reached_crack, traced_more}
+use Rattle.number_terms.proofs.Walks.{walk}
+use Rattle.number_terms.proofs.Tracing.{reached_crack, traced_more}
 use Rattle.shape_crack.specs.declared.contour.TheConstants.{GREATEST_SIDE}
 use Rattle.shape_crack.specs.Terms.{point_of, crack_of}
 use Rattle.shape_crack.proofs.CrackValues.{cracks_equal, cracks_differ}

@@ -2,7 +2,7 @@ use Rattle.std.proofs.Common.{rules, arith, ◌≡◌, ◌<◌, ◌*◌, subst, 
 use Rattle.shape_terms.specs.Points.{box_count}
 use Rattle.shape_terms.specs.Contours.{Crack, IsCrack}
 use Rattle.shape_terms.specs.Traces.{IsContourFrom}
-use Rattle.shape_terms.specs.CrackNumbers.{numbered}
+use Rattle.number_terms.specs.CrackNumbers.{numbered}
 use Rattle.shape_crack.specs.MarkBits.{is_marked}
 use Rattle.shape_crack.specs.Marked.{IsCycleMarked}
 use Rattle.shape_crack.proofs.Listing.{listing_none, listing_skip, listing_more, listing_all}

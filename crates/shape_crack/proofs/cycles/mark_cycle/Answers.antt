@@ -1,7 +1,7 @@
 use Rattle.std.proofs.Common.{arith, ◌∙◌, ap, subst, ℕ}
-use Rattle.shape_terms.specs.CrackNumbers.{IsMarkedBesides}
-use Rattle.shape_terms.proofs.Tracing.{reached_crack}
-use Rattle.shape_terms.proofs.Marking.{marking_first, marking_more}
+use Rattle.number_terms.specs.CrackNumbers.{IsMarkedBesides}
+use Rattle.number_terms.proofs.Tracing.{reached_crack}
+use Rattle.number_terms.proofs.Marking.{marking_first, marking_more}
 use Rattle.shape_crack.specs.Terms.{crack_of}
 use Rattle.shape_crack.specs.MarkBits.{is_marked}
 use Rattle.shape_crack.proofs.CrackValues.{cracks_equal, cracks_differ}

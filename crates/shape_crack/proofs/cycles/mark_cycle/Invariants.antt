@@ -1,5 +1,5 @@
 use Rattle.std.proofs.Common.{◌≡◌, ◌-◌, vec_len}
-use Rattle.shape_terms.proofs.Marking.{Marking}
+use Rattle.number_terms.proofs.Marking.{Marking}
 use Rattle.shape_crack.specs.Terms.{crack_of}
 use Rattle.shape_crack.specs.MarkBits.{is_marked}
 use Rattle.shape_crack.proofs.cycles.mark_cycle.Given as goal

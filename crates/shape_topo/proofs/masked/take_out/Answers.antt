@@ -1,7 +1,7 @@
 use Rattle.std.proofs.Common.{◌≡◌, ◌⊎◌, ◌+◌, ◌-◌, ◌<◌, ◌≤◌, sym, ◌∙◌, ap, subst, arith, length}
 use Rattle.std.specs.Prelude.{true}
 use Rattle.std.proofs.lemmas.Nat.Bits.{shr_and_one}
-use Rattle.shape_terms.proofs.ObjectPlaces.{object_in_box}
+use Rattle.number_terms.proofs.ObjectPlaces.{object_in_box}
 use Rattle.std.proofs.lemmas.Int.{ints}
 use Rattle.shape_terms.specs.Points.{sides_of, in_box, raster_number}
 use Rattle.shape_terms.specs.Adjacency.{near_point}

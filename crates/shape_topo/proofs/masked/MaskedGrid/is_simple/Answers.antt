@@ -1,5 +1,5 @@
 use Rattle.shape_terms.proofs.Boxes.{in_box_length}
-use Rattle.shape_terms.proofs.ObjectPlaces.{object_in_box}
+use Rattle.number_terms.proofs.ObjectPlaces.{object_in_box}
 use Rattle.shape_topo.proofs.MaskNumbers.{simple_is}
 use Rattle.shape_topo.proofs.masked.MaskedGrid.is_simple.Goals as goal
 

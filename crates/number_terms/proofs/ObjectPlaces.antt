@@ -10,8 +10,8 @@ use Rattle.shape_terms.specs.Parts.{Object, NamesParts, InOrder, LabelsObject}
 use Rattle.shape_terms.proofs.Boxes.{raster_below, raster_number-raster_point, raster_point-raster_number}
 use Rattle.shape_terms.proofs.AdjacencySymmetric.{near_sym}
 use Rattle.shape_terms.proofs.NeighbourNumbers.{near_number, near_of_number}
-use Rattle.shape_terms.specs.Net.{IsNet}
-use Rattle.shape_terms.specs.Places.{place_if, ObjectPlace, NearPlaces, object_place, object_link}
+use Rattle.number_terms.specs.Net.{IsNet}
+use Rattle.number_terms.specs.Places.{place_if, ObjectPlace, NearPlaces, object_place, object_link}
 use Rattle.shape_terms.proofs.PartsAlong.{parts_along}
 
 pub length-raster_point : (sides : List ℕ) (i : ℕ) → length (raster_point sides i) ≡ length sides

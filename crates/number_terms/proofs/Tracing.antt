@@ -9,7 +9,7 @@ use Rattle.shape_terms.specs.Pictures.{Picture}
 use Rattle.shape_terms.specs.Contours.{Crack, IsCrack, successor, IsCycle, stays, left_pixels, contour_points, first_of_cycle}
 use Rattle.shape_terms.proofs.Turning.{iterate}
 use Rattle.shape_terms.proofs.Orbits.{orbit, walk_bound}
-use Rattle.shape_terms.proofs.Walks.{walk, walk-push, walk_cycle, turns, left_pixels-push}
+use Rattle.number_terms.proofs.Walks.{walk, walk-push, walk_cycle, turns, left_pixels-push}
 
 -- c is so many cracks after the start, which has not come again before it
 pub record Reached (X : Picture) (start c : Crack) (steps : ℕ) : Type 0 where

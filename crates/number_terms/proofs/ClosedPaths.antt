@@ -14,11 +14,11 @@ use Rattle.shape_terms.specs.Pictures.{Picture, at}
 use Rattle.shape_terms.specs.Contours.{Crack, IsCrack, successor, Follow, stays, left_pixels, contour_points}
 use Rattle.shape_terms.specs.Traces.{IsClosedPath}
 use Rattle.shape_terms.proofs.Boxes.{in_box_first, in_box_more}
-use Rattle.shape_terms.proofs.Numbered.{object_in_box}
+use Rattle.number_terms.proofs.Numbered.{object_in_box}
 use Rattle.shape_terms.proofs.Successor.{successor_crack}
 use Rattle.shape_terms.proofs.Leaving.{stays_pixel, leaves_pixel, successor_close, close_itself}
-use Rattle.shape_terms.proofs.Walks.{walk, length-walk, walk_follow}
-use Rattle.shape_terms.proofs.Tracing.{Reached, reached_most, not_zero}
+use Rattle.number_terms.proofs.Walks.{walk, length-walk, walk_follow}
+use Rattle.number_terms.proofs.Tracing.{Reached, reached_most, not_zero}
 
 -- from the point a on the object points of the list lead to b, each close to the next and different from it
 abbrev Leads : Picture → Point → List Point → Point → Type 0

@@ -5,8 +5,8 @@ use Rattle.std.specs.Int.{bit_at}
 use Rattle.std.proofs.lemmas.Bool.{ltb-true, lt-ltb}
 use Rattle.shape_terms.specs.Points.{Point}
 use Rattle.shape_terms.specs.Adjacency.{Round, origin, city_distance, near_steps, near_step, near_point}
-use Rattle.shape_terms.specs.Links.{round_test, round_set}
-use Rattle.shape_terms.proofs.LinkTests.{row_is}
+use Rattle.number_terms.specs.Links.{round_test, round_set}
+use Rattle.number_terms.proofs.LinkTests.{row_is}
 use Rattle.shape_terms.proofs.NeighbourNumbers.{near_of_number}
 use Rattle.shape_terms.proofs.ShiftedSteps.{length-near_step, length-origin, moved-origin, city-moved}
 

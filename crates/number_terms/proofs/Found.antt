@@ -10,8 +10,8 @@ use Rattle.shape_terms.specs.Points.{box_count}
 use Rattle.shape_terms.specs.Pictures.{Picture}
 use Rattle.shape_terms.specs.Contours.{Crack, IsCrack, CrackBefore, Follow, IsCycle, BeginsLeast, AreCycles, first_of_cycle}
 use Rattle.shape_terms.proofs.Successor.{successor_crack}
-use Rattle.shape_terms.specs.CrackNumbers.{crack_number, numbered, MarksCycle}
-use Rattle.shape_terms.proofs.Numbered.{is_numbered, number_below, number_rises}
+use Rattle.number_terms.specs.CrackNumbers.{crack_number, numbered, MarksCycle}
+use Rattle.number_terms.proofs.Numbered.{is_numbered, number_below, number_rises}
 use Rattle.shape_terms.proofs.SameCycles.{pairs-head, pairs-tail, head_in, later_in, in_cases, in_none, reaches, cycle_on, of_list, list_of}
 
 pub pairs-cons : {A : Type 0} (R : A → A → Type 0) (x : A) (xs : List A) → All (R x) xs → AllPairs R xs → AllPairs R (x ∷ xs)

@@ -4,10 +4,10 @@ use Rattle.std.proofs.Common.{◌≡◌, ℕ, zero, suc, ◌+◌, ◌<◌, Bool,
 use native.Mathlib.Decide.{dec_lt, ℕ_discrete}
 use Rattle.shape_terms.specs.Pictures.{Picture}
 use Rattle.shape_terms.specs.Contours.{Crack, IsCrack, successor}
-use Rattle.shape_terms.specs.CrackNumbers.{crack_number, IsMarkedBesides, MarksCycle}
+use Rattle.number_terms.specs.CrackNumbers.{crack_number, IsMarkedBesides, MarksCycle}
 use Rattle.shape_terms.proofs.Turning.{iterate}
-use Rattle.shape_terms.proofs.Walks.{walk, walk-get, length-walk}
-use Rattle.shape_terms.proofs.Tracing.{Reached, reached_first, reached_more}
+use Rattle.number_terms.proofs.Walks.{walk, walk-get, length-walk}
+use Rattle.number_terms.proofs.Tracing.{Reached, reached_first, reached_more}
 
 -- the cracks from the start up to before c are marked, beside the old marks
 pub record Marking (X : Picture) (start c : Crack) (steps : ℕ) (old new : ℕ → Bool) : Type 0 where

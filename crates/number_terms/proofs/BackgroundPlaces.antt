@@ -10,11 +10,11 @@ use Rattle.shape_terms.specs.Parts.{FramedBackground, NamesParts}
 use Rattle.shape_terms.proofs.FramedBoxes.{length-framed_point}
 use Rattle.shape_terms.proofs.AdjacencySymmetric.{side_sym}
 use Rattle.shape_terms.proofs.NeighbourNumbers.{side_number, side_of_number}
-use Rattle.shape_terms.specs.Net.{IsNet}
-use Rattle.shape_terms.specs.Places.{in_frame, framed_number, BackgroundPlace, SidePlaces, background_place, background_link}
+use Rattle.number_terms.specs.Net.{IsNet}
+use Rattle.number_terms.specs.Places.{in_frame, framed_number, BackgroundPlace, SidePlaces, background_place, background_link}
 use Rattle.shape_terms.proofs.PartsAlong.{parts_along}
-use Rattle.shape_terms.proofs.FramedNumbers.{frame_tested, frame_is, framed_number_below, framed_point-framed_number, framed_point_in, framed_number-framed_point}
-use Rattle.shape_terms.proofs.ObjectPlaces.{place_there, place_named}
+use Rattle.number_terms.proofs.FramedNumbers.{frame_tested, frame_is, framed_number_below, framed_point-framed_number, framed_point_in, framed_number-framed_point}
+use Rattle.number_terms.proofs.ObjectPlaces.{place_there, place_named}
 
 not_false : (b : Bool) → not b ≡ true → b ≡ false
 not_false true e = cc

@@ -10,7 +10,7 @@ use native.Mathlib.Decide.{dec_lt}
 use Rattle.shape_terms.specs.Points.{Point, in_box, box_count, raster_number, raster_point}
 use Rattle.shape_terms.specs.Pictures.{Picture, at}
 use Rattle.shape_terms.specs.Contours.{Crack, IsCrack, CrackBefore}
-use Rattle.shape_terms.specs.CrackNumbers.{crack_number, numbered}
+use Rattle.number_terms.specs.CrackNumbers.{crack_number, numbered}
 use Rattle.shape_terms.proofs.Boxes.{raster_below, raster_number-raster_point, raster_point-raster_number}
 use Rattle.shape_terms.proofs.RasterOrder.{raster_rises}
 

@@ -10,8 +10,8 @@ use Rattle.shape_terms.specs.Contours.{Crack, IsCrack, successor, Follow, IsCycl
 use Rattle.shape_terms.proofs.Turning.{iterate, Turns, Cycle}
 use Rattle.shape_terms.proofs.Orbits.{distinct}
 use Rattle.shape_terms.proofs.Successor.{successor_crack, successor_once}
-use Rattle.shape_terms.specs.CrackNumbers.{crack_number}
-use Rattle.shape_terms.proofs.Numbered.{number_below, number_once}
+use Rattle.number_terms.specs.CrackNumbers.{crack_number}
+use Rattle.number_terms.proofs.Numbered.{number_below, number_once}
 
 -- n cracks from c on
 abbrev pub walk : Picture → Crack → ℕ → List Crack

@@ -10,7 +10,7 @@ use Rattle.shape_terms.specs.FramedBox.{framed_sides, framed_point}
 use Rattle.shape_terms.specs.Parts.{InFrame}
 use Rattle.shape_terms.proofs.Boxes.{abs_is, in_box_first, in_box_more, raster_below, raster_point_in, raster_number-raster_point, raster_point-raster_number}
 use Rattle.shape_terms.proofs.FramedBoxes.{fewer_framed}
-use Rattle.shape_terms.specs.Places.{raised, in_frame, framed_number}
+use Rattle.number_terms.specs.Places.{raised, in_frame, framed_number}
 
 -- ---- the box by coordinates
 

@@ -13,7 +13,7 @@ use Rattle.shape_terms.specs.Adjacency.{city_distance, Near, Side}
 use Rattle.shape_terms.proofs.SideNeighbours.{none_apart, same_place}
 use Rattle.std.specs.Simd.Lanes.{mask_l}
 use Rattle.std.proofs.lemmas.Simd.{bit_mask_l}
-use Rattle.shape_terms.specs.Links.{close_test, near_test, side_test, links_of}
+use Rattle.number_terms.specs.Links.{close_test, near_test, side_test, links_of}
 
 -- ---- tests of adjacency
 

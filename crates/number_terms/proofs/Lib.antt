@@ -1,0 +1,12 @@
+pub mod LinkTests
+pub mod RoundSets
+pub mod Numbered
+pub mod Walks
+pub mod Tracing
+pub mod Found
+pub mod Marking
+pub mod ClosedPaths
+pub mod FramedNumbers
+pub mod ObjectPlaces
+pub mod BackgroundPlaces
+pub mod FramedEnds

@@ -1,0 +1,4 @@
+pub mod Links
+pub mod Net
+pub mod Places
+pub mod CrackNumbers
