@@ -41,8 +41,23 @@ near 0 2 -1 2 1\n\
 near 2 2 3 2 1\n\
 end\n";
 
+// A pixel over a row of five, whose greatest distance is that along the row. Its contour has one segment, which begins at the last
+// of its two places and goes on over the first: both steps are diagonal.
+const WIDE: &str = "shape 1 pbm 5 2 none\n\
+near 1 0 1 -1 1\n\
+near 0 1 -1 1 1\n\
+near 1 1 1 2 1\n\
+near 2 1 2 2 1\n\
+near 3 1 3 2 1\n\
+near 4 1 5 1 1\n\
+contour 1 0 0 2 1\n\
+at 1 0\n\
+at 2 1\n\
+seg 1 3 y -1 1 -1\n\
+end\n";
+
 // Reports, and the rows of their tables.
-const TABLES: [(&str, &str, &str); 5] = [
+const TABLES: [(&str, &str, &str); 6] = [
     (
         RING,
         FLAT,
@@ -57,6 +72,11 @@ const TABLES: [(&str, &str, &str); 5] = [
         ARCH,
         FLAT,
         "1,5,0,0,2,2,1.000,1.200,1.000,1,0,5,2,0,1,0,0.000,0.000,2.236,1,0,2,2\n2,1,4,0,4,0,4.000,0.000,1.000,4,0,1,0,0,1,0,0.000,0.000,0.000,4,0,4,0\n",
+    ),
+    (
+        WIDE,
+        FLAT,
+        "1,6,0,0,4,1,1.833,0.833,1.000,1,0,6,1,3,1,0,5.657,0.000,4.000,0,1,4,1\n",
     ),
     ("shape 1 pbm 2 2 none\nend\n", FLAT, ""),
     (VOLUME, VOLUME_TABLE, ""),
