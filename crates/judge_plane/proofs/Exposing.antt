@@ -1,11 +1,9 @@
--- Exposed points by tests, how many there are, and which is the first that is left.
+-- Exposed points by tests, and which is the first that is left.
 -- Laws over pictures and points.
-use Rattle.std.proofs.Common.{◌≡◌, ℕ, zero, suc, ◌+◌, ◌<◌, ◌≤◌, Bool, true, false, ap, sym, ◌∙◌, refl, subst, arith, inl, inr, List, [], ◌∷◌, ◌++◌, length, take, map}
+use Rattle.std.proofs.Common.{◌≡◌, ℕ, zero, suc, ◌+◌, ◌<◌, Bool, true, false, ap, sym, ◌∙◌, refl, subst, arith, inl, inr, List, [], ◌∷◌, length, take, map}
 use Rattle.std.specs.Prelude.{◌↔◌, IsTrue, not, filter, Contains, ℤ, pos, negsuc, ◌+ℤ◌}
 use Rattle.std.proofs.lemmas.Int.{ints}
 use Rattle.std.proofs.lemmas.Bool.{cond-true, cond-false, cases_Bool, and_parts}
-use Rattle.std.proofs.lemmas.List.{length-append, take_all, take_more}
-use Rattle.std.proofs.lemmas.List.Elements.{filter-append}
 use native.Mathlib.Decide.{ℕ_discrete}
 use Rattle.shape_terms.specs.Points.{Point, AreSides, sides_of, in_box, box_count, box_points, raster_number, raster_point}
 use Rattle.shape_terms.specs.Adjacency.{moved, side_point}
@@ -22,7 +20,7 @@ use Rattle.report_terms.specs.FaceFacts.{face_axis, face_sense}
 use Rattle.judge_plane.specs.Exposure.{exposed_at, IsLeft, AreTakenBelow}
 
 -- what a filter keeps passes the test and was there
-kept : {A : Type 0} (test : A → Bool) (xs : List A) (x : A) → Contains (filter test xs) x → (test x ≡ true) × Contains xs x
+pub kept : {A : Type 0} (test : A → Bool) (xs : List A) (x : A) → Contains (filter test xs) x → (test x ≡ true) × Contains xs x
 kept test [] x c = absurd (in_none x c)
 kept test (y ∷ xs) x c = elim (cases_Bool (test y)) [
   | inl t ↦
@@ -84,64 +82,6 @@ module _ (X : Picture) (face : ℕ) where
   pub exposed_tests : (p q : Point) (b c : Bool) → b ≡ at X p → b ≡ true → c ≡ at X q → q ≡ moved p (sense_step (face_axis face) (face_sense face)) → IsTrue (not c) ↔ Contains (exposed_at X face) p
   exposed_tests p q b true d t e n = ((λ f. cc), λ h. (let r = (exposed_only p h).1 in let k : at X q ≡ false = ap (at X) n ∙ r in cc))
   exposed_tests p q b false d t e n = ((λ f. exposed_yes p (sym d ∙ t) (ap (at X) (sym n) ∙ sym e)), λ h. refl)
-
-  pub exposed_none : (p : Point) (b : Bool) → b ≡ at X p → b ≡ false → IsTrue b ↔ Contains (exposed_at X face) p
-  exposed_none p b d f = ((λ t. cc), λ h. (let r = (exposed_only p h).0 in d ∙ r))
-
-  -- ---- how many
-
-  -- the exposed points among these
-  pub among : List Point → List Point
-  among xs = filter (λ p. not (at X (moved p (sense_step (face_axis face) (face_sense face))))) (filter (at X) xs)
-
-  pub among_all : length (among (box_points X.sides)) ≡ length (exposed_at X face)
-  unfolding among
-  among_all = refl
-
-  pub among_none : length (among []) ≡ 0
-  unfolding among
-  among_none = refl
-
-  among_append : (xs ys : List Point) → among (xs ++ ys) ≡ among xs ++ among ys
-  unfolding among
-  among_append xs ys =
-      let over : Point → Bool = λ p. not (at X (moved p (sense_step (face_axis face) (face_sense face)))) in
-      ap (filter over) (filter-append (at X) xs ys) ∙ filter-append over (filter (at X) xs) (filter (at X) ys)
-
-  among_one : (p : Point) → Contains (exposed_at X face) p → length (among (p ∷ [])) ≡ 1
-  unfolding among
-  among_one p c =
-      let r = exposed_only p c in
-      let over : Point → Bool = λ p. not (at X (moved p (sense_step (face_axis face) (face_sense face)))) in
-      ap (λ l. length (filter over l)) (cond-true (at X p) (p ∷ []) [] r.0) ∙ ap length (cond-true (over p) (p ∷ []) [] (ap not r.1))
-
-  among_other : (p : Point) → (Contains (exposed_at X face) p → ⊥) → length (among (p ∷ [])) ≡ 0
-  unfolding among
-  among_other p n =
-      let over : Point → Bool = λ p. not (at X (moved p (sense_step (face_axis face) (face_sense face)))) in
-      elim (cases_Bool (at X p)) [
-        | inr f ↦ ap (λ l. length (filter over l)) (cond-false (at X p) (p ∷ []) [] f)
-        | inl t ↦ ap (λ l. length (filter over l)) (cond-true (at X p) (p ∷ []) [] t) ∙ elim (cases_Bool (at X (moved p (sense_step (face_axis face) (face_sense face))))) [
-          | inl u ↦ ap length (cond-false (over p) (p ∷ []) [] (ap not u))
-          | inr v ↦ absurd (n (exposed_yes p t v))
-        ]
-      ]
-
-  next_point : (i : ℕ) → i < box_count X.sides → take (i + 1) (box_points X.sides) ≡ take i (box_points X.sides) ++ raster_point X.sides i ∷ []
-  next_point i l = take_more (box_points X.sides) i [] (omega (arith, length-box_points X.sides)) ∙ ap (λ p. take i (box_points X.sides) ++ p ∷ []) (get_or-box_points X.sides i [] l)
-
-  pub count_yes : (i n : ℕ) → i < box_count X.sides → n ≡ length (among (take i (box_points X.sides))) → Contains (exposed_at X face) (raster_point X.sides i) → n + 1 ≡ length (among (take (i + 1) (box_points X.sides)))
-  count_yes i n l e c =
-      let a = ap (λ xs. length (among xs)) (next_point i l) ∙ ap length (among_append (take i (box_points X.sides)) (raster_point X.sides i ∷ [])) ∙ length-append (among (take i (box_points X.sides))) (among (raster_point X.sides i ∷ [])) in
-      omega (arith, a, e, among_one (raster_point X.sides i) c)
-
-  pub count_no : (i n : ℕ) → i < box_count X.sides → n ≡ length (among (take i (box_points X.sides))) → (Contains (exposed_at X face) (raster_point X.sides i) → ⊥) → n ≡ length (among (take (i + 1) (box_points X.sides)))
-  count_no i n l e c =
-      let a = ap (λ xs. length (among xs)) (next_point i l) ∙ ap length (among_append (take i (box_points X.sides)) (raster_point X.sides i ∷ [])) ∙ length-append (among (take i (box_points X.sides))) (among (raster_point X.sides i ∷ [])) in
-      omega (arith, a, e, among_other (raster_point X.sides i) c)
-
-  pub count_end : (i n : ℕ) → box_count X.sides ≤ i → n ≡ length (among (take i (box_points X.sides))) → n ≡ length (exposed_at X face)
-  count_end i n l e = e ∙ ap (λ xs. length (among xs)) (take_all i (box_points X.sides) (omega (arith, length-box_points X.sides))) ∙ among_all
 
   -- ---- the first that is left
 

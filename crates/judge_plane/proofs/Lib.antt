@@ -1,5 +1,6 @@
 pub mod Placing
 pub mod Exposing
+pub mod ObjectWalk
 pub mod Rounds
 pub mod Rising
 pub mod Touching

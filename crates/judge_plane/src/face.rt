@@ -2,6 +2,7 @@
 //! Faces go by their numbers: x -, x +, y -, y +, z -, z +, from 0 on, as the side neighbours of a point do.
 ghost use Rattle.std.specs.Prelude.{◌≡◌, ◌<◌, ◌≤◌, ◌^◌, ◌↔◌, IsTrue, MatchOption, Contains, length};
 ghost use Rattle.shape_terms.specs.Points.{in_box, box_count, raster_point};
+ghost use Rattle.shape_terms.specs.Pictures.{at};
 ghost use Rattle.shape_refute.specs.Senses.{sense_of};
 ghost use Rattle.report_terms.specs.FaceFacts.{face_axis, face_sense};
 ghost use Rattle.judge_plane.specs.Terms.{point_of};
@@ -36,17 +37,17 @@ pub(crate) fn sense_in(face: u32) -> Sense
     }
 }
 
-/// Whether a point is exposed in a face.
-pub(crate) fn is_exposed(grid: &Grid<P3>, face: u32, p: P3) -> bool
-    requires { face < 6 }
-    ensures answer { IsTrue result ↔ Contains (exposed_at grid.now face) (point_of p) }
-    ensures inside { IsTrue result → IsTrue (in_box grid.now.sides (point_of p)) }
+// Whether an object point is exposed in a face.
+fn is_exposed(grid: &Grid<P3>, face: u32, p: P3) -> bool
+    requires face { face < 6 }
+    requires object { IsTrue (at grid.now (point_of p)) }
+    ensures { IsTrue result ↔ Contains (exposed_at grid.now face) (point_of p) }
 {
     grid.is_picture();
-    grid.has(p) && !grid.has(p.side(face as usize))
+    !grid.has(p.side(face as usize))
 }
 
-/// The number of exposed points of a face. It looks at each point of the grid once.
+/// The number of exposed points of a face. It looks at each object point once.
 pub(crate) fn count_exposed(grid: &Grid<P3>, face: u32) -> u32
     requires { face < 6 }
     ensures value { result ≡ length (exposed_at grid.now face) }
@@ -54,12 +55,23 @@ pub(crate) fn count_exposed(grid: &Grid<P3>, face: u32) -> u32
 {
     let sides = grid.sides();
     let mut count: u32 = 0;
-    for i in 0..sides.count() {
+    let mut next = 0;
+    while let Some(i) = grid.first_from(next) {
         if is_exposed(grid, face, sides.unraster(i)) {
             count += 1;
         }
+        next = i + 1;
     }
     count
+}
+
+// Whether an object point is exposed in a face and not taken.
+fn is_object_left(grid: &Grid<P3>, face: u32, taken: &Listed, p: P3) -> bool
+    requires face { face < 6 }
+    requires object { IsTrue (at grid.now (point_of p)) }
+    ensures { IsTrue result ↔ IsLeft (exposed_at grid.now face) taken.now.points (point_of p) }
+{
+    is_exposed(grid, face, p) && !taken.has(p)
 }
 
 /// Whether a point is exposed in a face and not taken.
@@ -69,7 +81,7 @@ pub(crate) fn is_left(grid: &Grid<P3>, face: u32, taken: &Listed, p: P3) -> bool
         ↔ IsLeft (exposed_at grid.now face) taken.now.points (point_of p) }
     ensures inside { IsTrue result → IsTrue (in_box grid.now.sides (point_of p)) }
 {
-    is_exposed(grid, face, p) && !taken.has(p)
+    grid.has(p) && is_object_left(grid, face, taken, p)
 }
 
 /// The raster number of the first point of a face that is left, where all with smaller numbers than `from` are taken.
@@ -83,10 +95,12 @@ pub(crate) fn first_left(grid: &Grid<P3>, face: u32, taken: &Listed, from: u32) 
         × (i < box_count grid.now.sides)) }
 {
     let sides = grid.sides();
-    for i in from..sides.count() {
-        if is_left(grid, face, taken, sides.unraster(i)) {
+    let mut next = from;
+    while let Some(i) = grid.first_from(next) {
+        if is_object_left(grid, face, taken, sides.unraster(i)) {
             return Some(i);
         }
+        next = i + 1;
     }
     None
 }

@@ -235,8 +235,8 @@ fn kept<P: Point>(words: &mut Words) -> Option<Line<P>>
     })
 }
 
-// Reads the fields of a line whose first word is given.
-fn fields<P: Point>(word: &[u8], words: &mut Words) -> Option<Line<P>>
+// Reads the fields of a line of any kind, whose first word is given.
+fn any<P: Point>(word: &[u8], words: &mut Words) -> Option<Line<P>>
     ensures { ReadsFields P.DIM P.coords word.now words.old words.new result }
 {
     if word == b"shape".as_slice() {
@@ -293,14 +293,36 @@ fn fields<P: Point>(word: &[u8], words: &mut Words) -> Option<Line<P>>
     None
 }
 
+// The same, sooner for the kinds of which reports have most lines: a word is compared with all of theirs at once.
+fn fields<P: Point>(word: &[u8], words: &mut Words) -> Option<Line<P>>
+    ensures { ReadsFields P.DIM P.coords word.now words.old words.new result }
+{
+    match word {
+        b"near" => near(words),
+        b"del" => del(words),
+        b"at" => at(words),
+        b"turn" => turn(words),
+        b"seg" => seg(words),
+        b"least" => least(words),
+        b"cut" => cut(words),
+        b"contour" => contour(words),
+        b"on" => on(words),
+        b"off" => off(words),
+        b"patch" => patch(words),
+        _ => any(word, words),
+    }
+}
+
 // Reads the words of a line.
 fn line<P: Point>(words: &mut Words) -> Option<Line<P>>
     ensures { ReadsLine P.DIM P.coords words.old result }
 {
     let word = words.next_word()?;
-    let line = fields(word, words)?;
-    words.end()?;
-    Some(line)
+    let line = fields(word, words);
+    if line.is_some() && words.end().is_none() {
+        return None;
+    }
+    line
 }
 
 /// Reads a line of a report from its bytes without the LF, for pictures whose points are of type `P`.

@@ -1,10 +1,10 @@
-use Rattle.std.proofs.Common.{◌≡◌, ◌≤◌, length, take}
-use Rattle.shape_terms.specs.Points.{box_points}
-use Rattle.judge_plane.proofs.Exposing.{among}
+use Rattle.std.proofs.Common.{length}
+use Rattle.shape_terms.specs.Pictures.{objects_from}
+use Rattle.judge_plane.proofs.ObjectWalk.{HasCounted}
 use Rattle.judge_plane.proofs.face.count_exposed.Given as goal
 
 abbrev pub invariant-loop-i : goal.invariant-loop-i
-invariant-loop-i l = record {
-  count : l.count ≡ length (among l.grid l.face (take l.i (box_points l.grid.sides)));
-  few : l.count ≤ l.i;
-}
+invariant-loop-i l = HasCounted l.grid l.face l.next l.count
+
+abbrev pub decreases-loop-i : goal.decreases-loop-i
+decreases-loop-i l = length (objects_from l.grid l.next)
