@@ -1,13 +1,12 @@
 -- The points whose near neighbours are all in the box: those that are one unit or more from each face of it.
 -- Laws over plain lists; the loop that tests a point goes by them.
-use Rattle.std.proofs.Common.{◌≡◌, ◌⊎◌, inl, inr, ◌+◌, ◌-◌, ◌<◌, ◌≤◌, ℕ, zero, suc, ℤ, pos, negsuc, ◌≤ℤ◌, ◌<ℤ◌, List, [], ◌∷◌, length, refl, ap, sym, ◌∙◌, subst, arith, lit<}
+use Rattle.std.proofs.Common.{◌≡◌, ◌⊎◌, inl, inr, ◌-◌, ◌<◌, ◌≤◌, ℕ, zero, suc, ℤ, pos, negsuc, ◌≤ℤ◌, ◌<ℤ◌, [], ◌∷◌, length, refl, sym, ◌∙◌, subst, arith, lit<}
 use Rattle.std.specs.Prelude.{nat_abs, IsTrue, ◌+ℤ◌, ◌-ℤ◌}
 use Rattle.std.proofs.lemmas.Int.{ints}
-use Rattle.std.proofs.lemmas.List.{length-map}
 use Rattle.std.proofs.lemmas.List.Elements.{AllZip-get_or}
 use Rattle.shape_terms.specs.Points.{Point, coordinate, AreSides, sides_of, in_box}
 use Rattle.shape_terms.specs.Adjacency.{moved, near_steps, near_step, near_point}
-use Rattle.shape_terms.proofs.Boxes.{in_box_by, in_box_coordinate, in_box_length}
+use Rattle.shape_terms.proofs.Boxes.{in_box_by, in_box_coordinate}
 use Rattle.shape_terms.proofs.NeighbourNumbers.{near_of_number}
 use Rattle.shape_terms.proofs.ShiftedSteps.{length-near_step, length-moved}
 

@@ -1,6 +1,6 @@
 -- How far a step leads in raster order.
 -- Said of sides and steps alone; which steps lead to neighbours belongs elsewhere.
-use Rattle.std.specs.Prelude.{ℕ, ◌≤◌, List, [], ◌∷◌, ℤ, pos, ◌+ℤ◌, ◌*ℤ◌, nat_abs}
+use Rattle.std.specs.Prelude.{ℕ, ◌≤◌, List, ◌∷◌, ℤ, pos, ◌+ℤ◌, ◌*ℤ◌, nat_abs}
 use Rattle.shape_terms.specs.Points.{Point, coordinate}
 
 -- no coordinate of the step is longer than 1

@@ -1,4 +1,4 @@
-use Rattle.std.proofs.Common.{◌≡◌, ◌⊎◌, ◌<◌, ℕ, IsTrue, length, refl, rules, arith, sym, ap, ◌∙◌, subst}
+use Rattle.std.proofs.Common.{◌≡◌, ◌⊎◌, ◌<◌, ℕ, IsTrue, length, refl, arith, sym, ◌∙◌, subst}
 use Rattle.shape_terms.specs.Points.{sides_of, in_box}
 use Rattle.shape_terms.specs.Adjacency.{near_steps, near_point}
 use Rattle.std.proofs.lemmas.Int.{ints}

@@ -1,4 +1,4 @@
-use Rattle.std.proofs.Common.{◌≡◌, ◌+ℤ◌, ◌≤ℤ◌, FitsSigned, w64, to_z, of_z, rules, arith, pos, sym, ap, ◌∙◌, subst}
+use Rattle.std.proofs.Common.{◌≡◌, ◌+ℤ◌, FitsSigned, w64, rules, arith, pos, sym, ◌∙◌}
 use Rattle.std.proofs.lemmas.Int.{ints, to_z-of_z}
 use Rattle.shape_adj.proofs.Offsets.{number_is, number_some, number_few}
 use Rattle.shape_adj.proofs.number.moved_number.Goals as goal

@@ -1,6 +1,6 @@
-use Rattle.std.proofs.Common.{◌≡◌, IsTrue, rules, arith, sym, ap, ◌∙◌, subst}
+use Rattle.std.proofs.Common.{IsTrue, sym, ap, ◌∙◌, subst}
 use Rattle.shape_terms.specs.Points.{Point, sides_of, in_box, raster_point, raster_number}
-use Rattle.shape_terms.specs.Adjacency.{moved, near_step, near_point}
+use Rattle.shape_terms.specs.Adjacency.{moved, near_step}
 use Rattle.shape_adj.proofs.Offsets.{number_axes}
 use Rattle.shape_adj.proofs.number.near_number.Goals as goal
 

@@ -1,7 +1,6 @@
-use Rattle.std.proofs.Common.{◌≡◌, ◌+◌, ◌-◌, ◌<◌, ◌≤◌, ◌^◌, ◌*ℤ◌, ◌+ℤ◌, FitsSigned, w32, w64, to_z, of_z, drop, length, arith, rules, refl, ap, sym, subst, ◌∙◌}
+use Rattle.std.proofs.Common.{◌≡◌, ◌-◌, ◌≤◌, ◌^◌, ◌*ℤ◌, ◌+ℤ◌, FitsSigned, w32, w64, to_z, arith, rules, ap, sym, subst, ◌∙◌}
 use Rattle.std.specs.Prelude.{unsigned_abs, pos, ◌≤ℤ◌}
 use Rattle.std.proofs.lemmas.Int.{ints, to_z-of_z}
-use Rattle.std.proofs.lemmas.List.{drop_all}
 use Rattle.shape_adj.proofs.Offsets.{offset_step, axis_bound, few_axes, small_product, whole_bound, none_yet}
 use Rattle.shape_adj.proofs.number.offset.Goals as goal
 
