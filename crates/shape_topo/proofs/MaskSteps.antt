@@ -1,10 +1,11 @@
 -- The masks while a point is taken out of those of its near neighbours, one after the other.
 -- Laws of the plane and of space, over pictures and lists.
-use Rattle.std.proofs.Common.{◌≡◌, ◌≢◌, ◌⊎◌, ◌+◌, ◌-◌, ◌*◌, ◌%◌, ◌^◌, ◌≤◌, ◌<◌, ◌↔◌, ℕ, true, false, List, length, set, slice_index, refl, ap, sym, ◌∙◌, subst, arith, w32}
+use Rattle.std.proofs.Common.{◌≡◌, ◌≢◌, ◌⊎◌, ◌+◌, ◌-◌, ◌*◌, ◌%◌, ◌^◌, ◌≤◌, ◌<◌, ◌↔◌, ℕ, true, false, List, ◌++◌, length, take, drop, set, slice_index, refl, ap, sym, ◌∙◌, subst, arith, w32}
 use Rattle.std.specs.Prelude.{IsTrue}
 use Rattle.std.specs.Int.{bit_at, bit_not}
 use Rattle.std.specs.Int.Bits.{bit_and}
-use Rattle.std.proofs.lemmas.List.{length-set, get_or-set_same, get_or-set_other}
+use Rattle.std.proofs.lemmas.List.{length-set, set-get_or, get_or-set_same, get_or-set_other}
+use Rattle.std.proofs.Math.Seq.{take-append_seam}
 use Rattle.std.proofs.lemmas.Nat.Bits.{bit_at_clear_same, bit_at_clear_other}
 use native.Mathlib.Decide.{ℕ_discrete}
 use Rattle.shape_terms.specs.Points.{Point, in_box, box_count, raster_number, raster_point}
@@ -12,6 +13,7 @@ use Rattle.shape_terms.specs.Pictures.{Picture, at}
 use Rattle.shape_terms.specs.Adjacency.{near_point}
 use Rattle.shape_terms.specs.Parts.{Object}
 use Rattle.shape_terms.proofs.Boxes.{raster_number-raster_point, raster_point-raster_number}
+use Rattle.shape_terms.proofs.BoxLists.{at_raster_point}
 use Rattle.number_terms.proofs.ObjectPlaces.{length-raster_point}
 use Rattle.thin_terms.specs.Thinning.{without}
 use Rattle.thin_terms.proofs.OneValue.{value_there, value_elsewhere}
@@ -30,6 +32,21 @@ pub record AreMasksSoFar (Y : Picture) (i : ℕ) (masks : List ℕ) : Type 0 whe
   pub each : (j : ℕ) → j < i → j < box_count Y.sides → Object Y (raster_point Y.sides j) → IsNearMask Y (raster_point Y.sides j) (slice_index masks j)
 
 -- ---- a point is taken out
+
+-- the picture with a background point at a place is the picture without the point of the place
+pub cleared_is : (Y : Picture) (i : ℕ) → i < box_count Y.sides → record { sides = Y.sides; values = set Y.values i false } ≡ without Y (raster_point Y.sides i)
+cleared_is Y i l = λ j. record { sides = Y.sides; values = set Y.values (sym (raster_number-raster_point Y.sides i l) j) false }
+
+-- the masks behind the end of a list are none of its masks
+pub masks_back : (Y : Picture) (n : ℕ) (ms old : List ℕ) → length ms ≡ n → AreMasks Y ms → AreMasks Y (take n (ms ++ drop (length ms) old))
+masks_back Y n ms old e h = subst (AreMasks Y) (sym (ap (λ k. take k (ms ++ drop (length ms) old)) (sym e) ∙ take-append_seam ms (drop (length ms) old))) h
+
+-- a point that is background already
+pub cleared_before : (Y : Picture) (i : ℕ) → i < box_count Y.sides → at Y (raster_point Y.sides i) ≡ false → Y ≡ without Y (raster_point Y.sides i)
+cleared_before Y i l h = (λ j. record { sides = Y.sides; values = same j }) ∙ cleared_is Y i l
+  where
+    same : Y.values ≡ set Y.values i false
+    same = sym (set-get_or Y.values i false) ∙ ap (set Y.values i) (sym (at_raster_point Y i l) ∙ h)
 
 -- the neighbour of q with the number j is object, and is not p where q is a neighbour of p with a number below k
 abbrev IsShown : Picture → Point → ℕ → Point → ℕ → Type 0
@@ -125,6 +142,16 @@ module _ (Y : Picture) (p : Point) (filled : length Y.values ≡ box_count Y.sid
 
   was : (q : Point) → Object (without Y p) q → Object Y q
   was q o = sym (value_elsewhere Y p q false b (not_p q o)) ∙ o
+
+  -- before the first neighbour the masks are those of the picture
+  pub taken_start : (ms : List ℕ) → AreMasks Y ms → AreTaken Y p 0 ms
+  taken_start ms h = record {
+    filled = h.filled;
+    each = λ i l o j. (
+      (λ x. let a = (h.each i l (was (raster_point Y.sides i) o) j).0 x in (a.0, (a.1, λ e. let n = a.0 in omega arith))),
+      (λ a. (h.each i l (was (raster_point Y.sides i) o) j).1 (a.0, a.1.0)),
+    );
+  }
 
   -- the neighbour with the number k is background: no mask tells of its own way back
   pub taken_pass : (dims : (length p ≡ 2) ⊎ (length p ≡ 3)) (k : ℕ) → k < near_total (length p) → length p ≡ length Y.sides → (ms : List ℕ) → AreTaken Y p k ms

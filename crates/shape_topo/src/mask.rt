@@ -1,10 +1,12 @@
 //! The near neighbours of a point that are object, as bits.
 //! What a mask says of the point belongs elsewhere.
-ghost use Rattle.std.specs.Prelude.{◌<◌, ◌^◌, negsuc, pos};
+ghost use Rattle.std.specs.Prelude.{ℕ, ◌<◌, ◌^◌, IsTrue, negsuc, pos};
+ghost use Rattle.shape_terms.specs.Points.{in_box, box_count, raster_point};
 ghost use Rattle.shape_terms.specs.FramedBox.{IsWithin};
+ghost use Rattle.shape_terms.specs.Adjacency.{near_point};
 ghost use Rattle.shape_topo.specs.Masks.{IsNearMask};
 
-use shape_adj::Pairing;
+use shape_adj::{Pairing, is_inner, near_number};
 use shape_grid::Grid;
 
 /// The near neighbours that are object: bit k is set where near neighbour k is.
@@ -20,4 +22,35 @@ pub fn mask_of<P: Pairing>(grid: &Grid<P>, p: P) -> u32
         }
     }
     mask
+}
+
+// The same of the point with a raster number, where all its near neighbours are in the box.
+fn inner_mask<P: Pairing>(grid: &Grid<P>, i: u32) -> u32
+    requires point { i < box_count grid.now.sides }
+    requires inner { (k : ℕ) → k < P.NEAR_COUNT
+        → IsTrue (in_box grid.now.sides (near_point (raster_point grid.now.sides i) k)) }
+    ensures { IsNearMask grid.now (raster_point grid.now.sides i) result }
+{
+    let sides = grid.sides();
+    let mut mask = 0;
+    for k in 0..P::NEAR_COUNT {
+        if grid.has_number(near_number(&sides, i, k)) {
+            mask |= 1u32 << k;
+        }
+    }
+    mask
+}
+
+// The same of the point with a raster number.
+pub(crate) fn mask_at<P: Pairing>(grid: &Grid<P>, i: u32) -> u32
+    requires { i < box_count grid.now.sides }
+    ensures { IsNearMask grid.now (raster_point grid.now.sides i) result }
+{
+    let sides = grid.sides();
+    let p = sides.unraster(i);
+    if is_inner(&sides, p) {
+        inner_mask(grid, i)
+    } else {
+        mask_of(grid, p)
+    }
 }

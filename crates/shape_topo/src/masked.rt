@@ -1,16 +1,17 @@
 //! A grid that keeps the mask of near neighbours of each object point while points are deleted.
 //! What a mask says of its point belongs elsewhere.
 ghost use Rattle.std.specs.Prelude.{◌≡◌, ◌+◌, ◌<◌, ◌^◌, ◌↔◌, IfOk, IsTrue};
-ghost use Rattle.shape_terms.specs.Points.{sides_of, in_box};
+ghost use Rattle.shape_terms.specs.Points.{sides_of, in_box, box_count, raster_number, raster_point};
 ghost use Rattle.shape_terms.specs.Pictures.{IsPicture, at};
+ghost use Rattle.shape_terms.specs.Adjacency.{near_point};
 ghost use Rattle.thin_terms.specs.Simple.{IsSimple};
 ghost use Rattle.thin_terms.specs.Thinning.{without, near_count};
 ghost use Rattle.shape_topo.specs.Masks.{IsNearMask};
 ghost use Rattle.shape_topo.specs.MaskLists.{AreMasks};
 
-use crate::mask::mask_of;
+use crate::mask::mask_at;
 use crate::simple::SimpleMask;
-use shape_adj::Pairing;
+use shape_adj::{Pairing, near_number};
 use shape_grid::Grid;
 use shape_space::{NoMemory, Sides, Steps};
 use std::alloc::Global;
@@ -45,27 +46,27 @@ fn masks_of<P: Pairing>(alloc: Global, grid: &Grid<P>) -> Result<Vec<u32>, NoMem
     let sides = grid.sides();
     let mut masks = vec![in alloc; 0u32; sides.count() as usize]?;
     for i in 0..sides.count() {
-        let p = sides.unraster(i);
-        if grid.has(p) {
-            masks[i as usize] = mask_of(grid, p);
+        if grid.has_number(i) {
+            masks[i as usize] = mask_at(grid, i);
         }
     }
     Ok(masks)
 }
 
 // Takes a point with this mask out of the masks of its object near neighbours.
-fn take_out<P: Pairing>(grid: &Grid<P>, masks: &mut [u32], p: P, mask: u32)
-    requires inside { IsTrue (in_box grid.now.sides (P.coords p)) }
+fn take_out<P: Pairing>(grid: &Grid<P>, masks: &mut [u32], i: u32, mask: u32)
+    requires inside { i < box_count grid.now.sides }
     requires masks { AreMasks grid.now masks.old }
-    requires mask { IsNearMask grid.now (P.coords p) mask }
-    ensures { AreMasks (without grid.now (P.coords p)) masks.new }
+    requires mask { IsNearMask grid.now (raster_point grid.now.sides i) mask }
+    ensures { AreMasks (without grid.now (raster_point grid.now.sides i)) masks.new }
 {
     let sides = grid.sides();
-    for k in 0..P::NEAR_COUNT {
-        if (mask >> k) & 1 == 1 {
-            let q = p.near(k);
-            masks[sides.raster(q) as usize] &= !(1u32 << (P::NEAR_COUNT - 1 - k));
-        }
+    let mut rest = mask;
+    while rest != 0 {
+        let k = rest.trailing_zeros() as usize;
+        rest &= !(1u32 << k);
+        let j = near_number(&sides, i, k);
+        masks[j as usize] &= !(1u32 << (P::NEAR_COUNT - 1 - k));
     }
 }
 
@@ -100,51 +101,67 @@ impl<P: Pairing> MaskedGrid<P> {
         self.grid.sides()
     }
 
-    /// Whether the point is an object point.
-    pub fn has(&self, p: P) -> bool
-        ensures { result ≡ at self.now (P.coords p) }
+    /// The raster number of a near neighbour that is in the box, from that of the point.
+    pub fn near_number(&self, i: u32, k: usize) -> u32
+        requires below { k < P.NEAR_COUNT }
+        requires point { i < box_count self.now.sides }
+        requires inside { IsTrue (in_box self.now.sides (near_point (raster_point self.now.sides i) k)) }
+        ensures { result ≡ raster_number self.now.sides (near_point (raster_point self.now.sides i) k) }
     {
-        self.grid.has(p)
+        near_number(&self.grid.sides(), i, k)
     }
 
-    /// The mask of an object point: bit k is set where near neighbour k is object.
-    pub fn mask(&self, p: P) -> u32
-        requires { IsTrue (at self.now (P.coords p)) }
-        ensures mask { IsNearMask self.now (P.coords p) result }
+    /// Whether the point with a raster number is an object point.
+    pub fn has(&self, i: u32) -> bool
+        requires { i < box_count self.now.sides }
+        ensures { result ≡ at self.now (raster_point self.now.sides i) }
+    {
+        self.grid.has_number(i)
+    }
+
+    /// The mask of the object point with a raster number: bit k is set where near neighbour k is object.
+    pub fn mask(&self, i: u32) -> u32
+        requires below { i < box_count self.now.sides }
+        requires object { IsTrue (at self.now (raster_point self.now.sides i)) }
+        ensures mask { IsNearMask self.now (raster_point self.now.sides i) result }
         ensures few { result < 2 ^ P.NEAR_COUNT }
     {
-        self.masks[self.grid.sides().raster(p) as usize]
+        self.grid.is_picture();
+        self.masks[i as usize]
     }
 
-    /// How many near neighbours of an object point are object.
-    pub fn near_count(&self, p: P) -> u8
-        requires { IsTrue (at self.now (P.coords p)) }
-        ensures { result ≡ near_count self.now (P.coords p) }
+    /// How many near neighbours of the object point with a raster number are object.
+    pub fn near_count(&self, i: u32) -> u8
+        requires below { i < box_count self.now.sides }
+        requires object { IsTrue (at self.now (raster_point self.now.sides i)) }
+        ensures { result ≡ near_count self.now (raster_point self.now.sides i) }
     {
-        self.mask(p).count_ones() as u8
+        self.mask(i).count_ones() as u8
     }
 
-    /// Makes a point of the box a background point.
-    pub fn clear(&mut self, p: P)
-        requires { IsTrue (in_box self.old.sides (P.coords p)) }
-        ensures { self.new ≡ without self.old (P.coords p) }
+    /// Makes the point with a raster number a background point.
+    pub fn clear(&mut self, i: u32)
+        requires { i < box_count self.old.sides }
+        ensures { self.new ≡ without self.old (raster_point self.old.sides i) }
     {
-        if self.grid.has(p) {
-            let mask = self.mask(p);
-            take_out(&self.grid, &mut self.masks, p, mask);
-            self.grid.clear(p);
+        if self.grid.has_number(i) {
+            let mask = self.mask(i);
+            take_out(&self.grid, &mut self.masks, i, mask);
+            self.grid.clear_number(i);
         }
     }
 }
 
 impl<P: SimpleMask> MaskedGrid<P> {
-    /// Whether the object point is simple. This is one step.
-    pub fn is_simple<L: Ledger>(&self, p: P, steps: &mut Steps<L>) -> bool
-        requires { IsTrue (at self.now (P.coords p)) }
-        ensures simple { IsTrue result ↔ IsSimple self.now (P.coords p) }
+    /// Whether the object point with a raster number is simple. This is one step.
+    pub fn is_simple<L: Ledger>(&self, i: u32, steps: &mut Steps<L>) -> bool
+        requires below { i < box_count self.now.sides }
+        requires object { IsTrue (at self.now (raster_point self.now.sides i)) }
+        ensures simple { IsTrue result ↔ IsSimple self.now (raster_point self.now.sides i) }
         ensures one_step { steps.new ≡ steps.old + 1 }
     {
+        self.grid.is_picture();
         steps.tick();
-        P::simple_mask(self.mask(p))
+        P::simple_mask(self.mask(i))
     }
 }

@@ -1,1 +1,2 @@
 pub mod ThinnerSteps
+pub mod RoundPlaces

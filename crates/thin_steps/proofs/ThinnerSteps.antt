@@ -1,6 +1,6 @@
 -- What the parts of a thinning tell of a key, and that they still fit together after an event.
 -- Laws over pictures and keys alone.
-use Rattle.std.proofs.Common.{◌≡◌, ◌≢◌, ℕ, ◌+◌, ◌<◌, Bool, true, false, List, length, sym, ◌∙◌, ap, subst, arith}
+use Rattle.std.proofs.Common.{◌≡◌, ◌≢◌, ℕ, ◌+◌, ◌<◌, Bool, true, false, List, length, set, sym, ◌∙◌, ap, subst, arith}
 use Rattle.std.proofs.Math.Logic.{∥∥₁_elim}
 use Rattle.std.proofs.Props.{props}
 use Rattle.std.proofs.lemmas.Grind.{merely}
@@ -11,6 +11,7 @@ use Rattle.shape_terms.specs.Parts.{Object}
 use Rattle.number_terms.proofs.ObjectPlaces.{object_in_box}
 use Rattle.thin_terms.specs.Thinning.{Rule, Event, without}
 use Rattle.thin_terms.proofs.OneValue.{value_there, value_elsewhere}
+use Rattle.shape_topo.proofs.MaskSteps.{cleared_is}
 use Rattle.shape_queue.specs.declared.key.Key.{Key}
 use Rattle.shape_queue.specs.Waiting.{key_at, Waits, IsQueue, IsQueueBut, Put}
 use Rattle.shape_queue.specs.Standing.{IsSubset}
@@ -34,6 +35,11 @@ going_at {rule} {X} {events} {state} {left} {free} {keys = keys} e h = subst (λ
 pub looked_at : {p : Point} {left free : Picture} {ds ds' : List ℕ} {old new : Key → Bool}
     → ds' ≡ ds → (IsQueueBut p left free ds' old → IsQueue left free ds' new) → IsQueueBut p left free ds old → IsQueue left free ds new
 looked_at {p} {left} {free} {old = old} {new = new} e h = subst (λ (xs : List ℕ). IsQueueBut p left free xs old → IsQueue left free xs new) e h
+
+-- the same points near p under another name
+pub looked_there : {p p' : Point} {left free : Picture} {ds : List ℕ} {old new : Key → Bool}
+    → p' ≡ p → (IsQueueBut p' left free ds old → IsQueue left free ds new) → IsQueueBut p left free ds old → IsQueue left free ds new
+looked_there {left = left} {free} {ds} {old} {new} e h = subst (λ r. IsQueueBut r left free ds old → IsQueue left free ds new) e h
 
 -- an object point of the picture without q is one of the picture
 was_object : (Y : Picture) (q r : Point) → length Y.values ≡ box_count Y.sides → IsTrue (in_box Y.sides q) → Object (without Y q) r → Object Y r
@@ -75,6 +81,18 @@ module _ {left free : Picture} {ds : List ℕ} {keys : Key → Bool} (fits : ∥
 
       pub in_free : IsTrue (in_box free.sides q)
       in_free = object_in_box free q fits_free
+
+      -- the free points with a background point at the place are those without q
+      pub free_without : record { sides = free.sides; values = set free.values k.place false } ≡ without free q
+      free_without = let p = fits_place in let s = fits_sides in
+          cleared_is free k.place (omega (arith, p, ap box_count s)) ∙ ap (without free) (ap (λ n. raster_point n k.place) s ∙ sym e)
+
+      -- and the points left are those without q
+      pub left_without : (left' : Picture) → left' ≡ without left (raster_point left.sides k.place) → left' ≡ without left q
+      left_without left' h = h ∙ ap (without left) (sym e)
+
+      pub q_there : (left' : Picture) → left' ≡ without left (raster_point left.sides k.place) → raster_point left'.sides k.place ≡ q
+      q_there left' h = ap (λ (Y : Picture). raster_point Y.sides k.place) h ∙ sym e
 
       module _ (free' : Picture) (f : free' ≡ without free q) where
         -- what is free without q was left

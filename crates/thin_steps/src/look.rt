@@ -1,9 +1,8 @@
 //! Looks at points, whether they wait in the queue: at all of them in the beginning, at the near ones after a deletion.
 //! Each look is one step of the counter.
-ghost use Rattle.std.specs.Prelude.{◌≡◌, ℕ, ◌+◌, ◌<◌, ◌≤◌, ◌^◌, length, IsTrue, IfOk, pos, negsuc};
-ghost use Rattle.shape_terms.specs.Points.{box_count};
+ghost use Rattle.std.specs.Prelude.{◌≡◌, ℕ, ◌+◌, ◌<◌, ◌≤◌, ◌^◌, length, IsTrue, IfOk};
+ghost use Rattle.shape_terms.specs.Points.{in_box, box_count, raster_point};
 ghost use Rattle.shape_terms.specs.Pictures.{IsPicture, at, object_points};
-ghost use Rattle.shape_terms.specs.FramedBox.{IsWithin};
 ghost use Rattle.shape_terms.specs.Adjacency.{near_point};
 ghost use Rattle.shape_topo.specs.Bits.{In};
 ghost use Rattle.shape_queue.specs.Keys.{has};
@@ -21,18 +20,18 @@ use std::sync::ledger::Ledger;
 fn look_at<P: SimpleMask, L: Ledger>(
     left: &MaskedGrid<P>,
     keys: &mut Queue,
-    q: P,
+    place: u32,
     steps: &mut Steps<L>,
 )
-    requires object { IsTrue (at left.now (P.coords q)) }
+    requires below { place < box_count left.now.sides }
+    requires object { IsTrue (at left.now (raster_point left.now.sides place)) }
     requires filled { length keys.old.distances ≡ box_count left.now.sides }
-    ensures looked { IsLookedAt left.now keys.old.distances (P.coords q)
+    ensures looked { IsLookedAt left.now keys.old.distances (raster_point left.now.sides place)
         (has keys.old) (has keys.new) }
     ensures distances { keys.new.distances ≡ keys.old.distances }
     ensures one_step { steps.new ≡ steps.old + 1 }
 {
-    let place = left.sides().raster(q);
-    let simple = left.is_simple(q, steps);
+    let simple = left.is_simple(place, steps);
     keys.settle(place, simple);
 }
 
@@ -53,9 +52,8 @@ pub(crate) fn look_at_all<P: SimpleMask, L: Ledger>(
     let sides = left.sides();
     let mut keys = Queue::new(alloc, distances)?;
     for i in 0..sides.count() {
-        let q = sides.unraster(i);
-        if left.has(q) {
-            look_at(left, &mut keys, q, steps);
+        if left.has(i) {
+            look_at(left, &mut keys, i, steps);
         }
     }
     Ok(keys)
@@ -66,27 +64,31 @@ pub(crate) fn look_round<P: SimpleMask, L: Ledger>(
     left: &MaskedGrid<P>,
     free: &Grid<P>,
     keys: &mut Queue,
-    p: P,
+    place: u32,
     mask: u32,
     steps: &mut Steps<L>,
 )
-    requires within { IsWithin (negsuc 0) (pos 4096) (P.coords p) }
+    requires below { place < box_count left.now.sides }
     requires sides { free.now.sides ≡ left.now.sides }
     requires some { IsSubset free.now left.now }
     requires filled { length keys.old.distances ≡ box_count left.now.sides }
     requires masked { (k : ℕ) → k < P.NEAR_COUNT
-        → IsTrue (at free.now (near_point (P.coords p) k)) → In mask k }
-    ensures waits { IsQueueBut (P.coords p) left.now free.now keys.old.distances (has keys.old)
+        → IsTrue (at free.now (near_point (raster_point left.now.sides place) k)) → In mask k }
+    requires boxed { (k : ℕ) → In mask k → (k < P.NEAR_COUNT)
+        × IsTrue (in_box left.now.sides (near_point (raster_point left.now.sides place) k)) }
+    ensures waits { IsQueueBut (raster_point left.now.sides place) left.now free.now keys.old.distances (has keys.old)
         → IsQueue left.now free.now keys.old.distances (has keys.new) }
     ensures distances { keys.new.distances ≡ keys.old.distances }
     ensures few { steps.new ≤ steps.old + P.NEAR_COUNT }
 {
-    for k in 0..P::NEAR_COUNT {
-        if (mask >> k) & 1 == 1 {
-            let q = p.near(k);
-            if free.has(q) {
-                look_at(left, keys, q, steps);
-            }
+    free.is_picture();
+    let mut rest = mask;
+    while rest != 0 {
+        let k = rest.trailing_zeros() as usize;
+        rest &= !(1u32 << k);
+        let q = left.near_number(place, k);
+        if free.has_number(q) {
+            look_at(left, keys, q, steps);
         }
     }
 }

@@ -58,7 +58,7 @@ impl<P: SimpleMask> Thinner<P> {
         let key = self.keys.least()?;
         let point = self.left.sides().unraster(key.place);
         let facts = Facts {
-            neighbours: self.left.near_count(point),
+            neighbours: self.left.near_count(key.place),
             distance: key.distance,
         };
         Some(Next {
@@ -75,7 +75,7 @@ impl<P: SimpleMask> Thinner<P> {
         ensures room { room_of self.new + 1 ≡ room_of self.old }
     {
         self.keys.settle(next.place, false);
-        self.free.clear(next.point);
+        self.free.clear_number(next.place);
     }
 
     // Deletes the next point, and looks at its free near neighbours.
@@ -85,15 +85,15 @@ impl<P: SimpleMask> Thinner<P> {
         ensures room { room_of self.new + 1 ≡ room_of self.old }
         ensures few { steps.new ≤ steps.old + P.NEAR_COUNT }
     {
-        let mask = self.left.mask(next.point);
+        let mask = self.left.mask(next.place);
         self.keys.settle(next.place, false);
-        self.free.clear(next.point);
-        self.left.clear(next.point);
+        self.free.clear_number(next.place);
+        self.left.clear(next.place);
         look_round(
             &self.left,
             &self.free,
             &mut self.keys,
-            next.point,
+            next.place,
             mask,
             steps,
         );

@@ -1,5 +1,9 @@
-use Rattle.shape_topo.proofs.MaskSteps.{AreTaken}
+use Rattle.shape_terms.specs.Points.{raster_point}
+use Rattle.shape_topo.proofs.TakenPlaces.{IsTaking}
 use Rattle.shape_topo.proofs.masked.take_out.Given as goal
 
-abbrev pub invariant-loop-k : goal.invariant-loop-k
-invariant-loop-k g l = AreTaken l.grid (g.P.Point.coords l.p) l.k l.masks
+abbrev pub invariant-loop-rest : goal.invariant-loop-rest
+invariant-loop-rest g l = IsTaking l.grid (raster_point l.grid.sides l.i) l.mask l.rest l.masks
+
+abbrev pub decreases-loop-rest : goal.decreases-loop-rest
+decreases-loop-rest g l = l.rest

@@ -1,4 +1,4 @@
-use Rattle.std.proofs.Common.{◌≡◌, ◌<◌, true, false, sym, ◌∙◌, ap, subst, arith}
+use Rattle.std.proofs.Common.{◌≡◌, ◌<◌, true, false, refl, sym, ◌∙◌, ap, arith}
 use Rattle.shape_terms.specs.Points.{box_count, raster_point}
 use Rattle.shape_terms.specs.Pictures.{at}
 use Rattle.shape_terms.specs.Parts.{Object}
@@ -12,18 +12,17 @@ loop-i-preserved g c =
     let i = c.loop-i.i in
     let sides = c.sides-sides.ensures.value in
     let l : i < box_count X.sides = omega (arith, ap box_count sides, c.count-i-end.ensures.value) in
-    let e : g.P.Point.coords c.unraster-q.result ≡ raster_point X.sides i = c.unraster-q.ensures.value ∙ ap (λ n. raster_point n i) sides in
     elim c.if-has.branch [
       | then-has w ↦ (
-          let o : Object X (g.P.Point.coords c.unraster-q.result) = sym c.has.ensures ∙ w.if-has.true in
+          let o : Object X (raster_point X.sides i) = sym c.has.ensures ∙ w.if-has.true in
           rw (w.keys-is, w.steps-is) (record {
-            waits = all_more_at X c.args.distances.items i (g.P.Point.coords c.unraster-q.result) _ _ l e c.loop-i.invariant.waits o
+            waits = all_more_at X c.args.distances.items i (raster_point X.sides i) _ _ l refl c.loop-i.invariant.waits o
                 (rw (← c.loop-i.invariant.same) w.look_at.ensures.looked);
             same = w.look_at.ensures.distances ∙ c.loop-i.invariant.same;
-            few = let f = c.loop-i.invariant.few in let s = w.look_at.ensures.one_step in let n = one_more_object X i l (subst (Object X) e o) in omega arith;
+            few = let f = c.loop-i.invariant.few in let s = w.look_at.ensures.one_step in let n = one_more_object X i l o in omega arith;
           }))
       | else-has w ↦ (
-          let f : at X (raster_point X.sides i) ≡ false = sym (ap (at X) e) ∙ (sym c.has.ensures ∙ w.if-has.false) in
+          let f : at X (raster_point X.sides i) ≡ false = sym c.has.ensures ∙ w.if-has.false in
           rw (w.keys-is, w.steps-is) (record {
             waits = all_pass X c.args.distances.items i _ c.loop-i.invariant.waits (λ o. let t : true ≡ false = sym o ∙ f in cc);
             same = c.loop-i.invariant.same;

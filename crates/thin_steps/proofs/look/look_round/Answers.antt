@@ -1,49 +1,164 @@
-use Rattle.std.proofs.Common.{◌≡◌, ◌≤◌, true, false, sym, ◌∙◌, ap, arith, length, refl}
-use Rattle.std.proofs.lemmas.Nat.Bits.{shr_and_one}
+use Rattle.std.proofs.Common.{◌≡◌, true, false, refl, sym, ◌∙◌, ap, subst, arith, length}
+use Rattle.std.specs.Int.Count.{count_trailing_zeros}
+use Rattle.shape_terms.specs.Points.{box_count, raster_number, raster_point}
 use Rattle.shape_terms.specs.Pictures.{at}
-use Rattle.shape_terms.specs.Adjacency.{near_steps}
+use Rattle.shape_terms.specs.Adjacency.{near_steps, near_point}
+use Rattle.shape_terms.specs.Parts.{Object}
+use Rattle.shape_terms.proofs.Boxes.{raster_below, raster_point-raster_number}
+use Rattle.number_terms.proofs.ObjectPlaces.{length-raster_point}
+use Rattle.shape_topo.proofs.PlaceWalk.{rest_less}
+use Rattle.shape_queue.specs.Keys.{has}
+use Rattle.shape_queue.specs.Waiting.{Waits, IsQueueBut}
+use Rattle.shape_queue.specs.Standing.{NearFrom}
 use Rattle.shape_queue.proofs.LookSteps.{round_start, round_more_at, round_pass, round_end}
+use Rattle.thin_steps.proofs.RoundPlaces.{walk_start, walk_end, walk_come, walk_more, walk_place, walk_count}
 use Rattle.thin_steps.proofs.look.look_round.Goals as goal
-use Rattle.thin_steps.proofs.look.look_round.Goals.{then-mask-k-eq1+then-has, then-mask-k-eq1+else-has, else-mask-k-eq1}
 
-pub loop-k-init : goal.loop-k-init
-loop-k-init g c =
-    let n = g.met.P.Pairing.near_total ∙ ap (λ d. length (near_steps d)) (sym (g.met.P.Point.axes c.args.p)) in
-    record {
-      waits = λ w. round_start c.args.left.now.sides c.args.left.now c.args.free.now c.args.keys.now.distances (g.P.Point.coords c.args.p) g.P.Pairing.NEAR_COUNT n _ w;
-      same = refl;
-      few = omega arith;
-    }
-
-pub loop-k-preserved : goal.loop-k-preserved
-loop-k-preserved g c =
+pub loop-rest-init : goal.loop-rest-init
+loop-rest-init g c =
     let left = c.args.left.now in
     let free = c.args.free.now in
-    let p = g.P.Point.coords c.args.p in
-    let k = c.loop-k.k in
-    elim c.if-mask-k-eq1.branch [
-      | then-mask-k-eq1+then-has w ↦ rw (w.keys-is, w.steps-is) (record {
-        waits = λ h. round_more_at left.sides left free c.args.keys.now.distances p g.P.Pairing.NEAR_COUNT k (g.P.Point.coords w.near-q.result) _ _ w.near-q.ensures c.requires.sides
-            (c.loop-k.invariant.waits h) (sym w.has.ensures ∙ w.if-has.true) (rw (← c.loop-k.invariant.same) w.look_at.ensures.looked);
-        same = w.look_at.ensures.distances ∙ c.loop-k.invariant.same;
-        few = let f = c.loop-k.invariant.few in let s = w.look_at.ensures.one_step in omega arith;
-      })
-      | then-mask-k-eq1+else-has w ↦ rw (w.keys-is, w.steps-is) (record {
-        waits = λ h. round_pass left.sides left free c.args.keys.now.distances p g.P.Pairing.NEAR_COUNT k _ (c.loop-k.invariant.waits h)
-            (λ o. let t : true ≡ false = sym (ap (at free) w.near-q.ensures ∙ o) ∙ (sym w.has.ensures ∙ w.if-has.false) in cc);
-        same = c.loop-k.invariant.same;
-        few = let f = c.loop-k.invariant.few in omega arith;
-      })
-      | else-mask-k-eq1 w ↦ rw (w.keys-is, w.steps-is) (record {
-        waits = λ h. round_pass left.sides left free c.args.keys.now.distances p g.P.Pairing.NEAR_COUNT k _ (c.loop-k.invariant.waits h)
-            (λ o. w.if-mask-k-eq1.false (shr_and_one c.args.mask k ∙ c.requires.masked k (omega (arith, c.NEAR_COUNT-k-end.ensures)) o));
-        same = c.loop-k.invariant.same;
-        few = let f = c.loop-k.invariant.few in omega arith;
-      })
-    ]
+    let ds = c.args.keys.now.distances in
+    let p = raster_point left.sides c.args.place in
+    let n = g.P.Pairing.NEAR_COUNT in
+    let axes : length p ≡ g.P.Point.DIM = length-raster_point left.sides c.args.place ∙ (ap length (sym c.requires.sides) ∙ c.is_picture.ensures.picture.axes) in
+    let total = g.met.P.Pairing.near_total ∙ ap (λ d. length (near_steps d)) (sym axes) in
+    record {
+      walk = walk_start (λ j. IsQueueBut p left free ds (has c.args.keys.now) → Waits left.sides left free ds (NearFrom left.sides p n j) (has c.args.keys.now)) n c.args.mask c.args.steps.now
+          (λ w. round_start left.sides left free ds p n total _ w);
+      same = refl;
+    }
+
+pub near_number-q-requires-clause-below : goal.near_number-q-requires-clause-below
+near_number-q-requires-clause-below g c =
+    let left = c.args.left.now in
+    let free = c.args.free.now in
+    let ds = c.args.keys.now.distances in
+    let p = raster_point left.sides c.args.place in
+    let n = g.P.Pairing.NEAR_COUNT in
+    let k = count_trailing_zeros 32 c.loop-rest.rest in
+    let set = walk_place (λ j. IsQueueBut p left free ds (has c.args.keys.now) → Waits left.sides left free ds (NearFrom left.sides p n j) (has c.loop-rest.keys)) n c.args.mask c.loop-rest.rest c.args.steps.now c.loop-rest.steps c.loop-rest.invariant.walk (omega arith) (omega arith) in
+    let there = c.requires.boxed k set in
+    there.0
+
+pub near_number-q-requires-clause-inside : goal.near_number-q-requires-clause-inside
+near_number-q-requires-clause-inside g c =
+    let left = c.args.left.now in
+    let free = c.args.free.now in
+    let ds = c.args.keys.now.distances in
+    let p = raster_point left.sides c.args.place in
+    let n = g.P.Pairing.NEAR_COUNT in
+    let k = count_trailing_zeros 32 c.loop-rest.rest in
+    let set = walk_place (λ j. IsQueueBut p left free ds (has c.args.keys.now) → Waits left.sides left free ds (NearFrom left.sides p n j) (has c.loop-rest.keys)) n c.args.mask c.loop-rest.rest c.args.steps.now c.loop-rest.steps c.loop-rest.invariant.walk (omega arith) (omega arith) in
+    let there = c.requires.boxed k set in
+    there.1
+
+pub has_number-requires : goal.has_number-requires
+has_number-requires g c =
+    let left = c.args.left.now in
+    let free = c.args.free.now in
+    let ds = c.args.keys.now.distances in
+    let p = raster_point left.sides c.args.place in
+    let n = g.P.Pairing.NEAR_COUNT in
+    let k = count_trailing_zeros 32 c.loop-rest.rest in
+    let set = walk_place (λ j. IsQueueBut p left free ds (has c.args.keys.now) → Waits left.sides left free ds (NearFrom left.sides p n j) (has c.loop-rest.keys)) n c.args.mask c.loop-rest.rest c.args.steps.now c.loop-rest.steps c.loop-rest.invariant.walk (omega arith) (omega arith) in
+    let there = c.requires.boxed k set in
+    let e : c.near_number-q.result ≡ raster_number left.sides (near_point p k) = c.near_number-q.ensures in
+    omega (arith, e, raster_below left.sides (near_point p k) there.1, ap box_count c.requires.sides)
+
+pub look_at-requires-clause-below : goal.look_at-requires-clause-below
+look_at-requires-clause-below g c =
+    let left = c.args.left.now in
+    let free = c.args.free.now in
+    let ds = c.args.keys.now.distances in
+    let p = raster_point left.sides c.args.place in
+    let n = g.P.Pairing.NEAR_COUNT in
+    let k = count_trailing_zeros 32 c.loop-rest.rest in
+    let set = walk_place (λ j. IsQueueBut p left free ds (has c.args.keys.now) → Waits left.sides left free ds (NearFrom left.sides p n j) (has c.loop-rest.keys)) n c.args.mask c.loop-rest.rest c.args.steps.now c.loop-rest.steps c.loop-rest.invariant.walk (omega arith) (omega arith) in
+    let there = c.requires.boxed k set in
+    let e : c.near_number-q.result ≡ raster_number left.sides (near_point p k) = c.near_number-q.ensures in
+    omega (arith, e, raster_below left.sides (near_point p k) there.1)
+
+pub look_at-requires-clause-object : goal.look_at-requires-clause-object
+look_at-requires-clause-object g c =
+    c.requires.some _ (subst (λ n. Object c.args.free.now (raster_point n c.near_number-q.result)) c.requires.sides (sym c.has_number.ensures ∙ c.if-has_number.true))
+
+pub loop-rest-smaller-then-has_number : goal.loop-rest-smaller-then-has_number
+loop-rest-smaller-then-has_number g c = rest_less c.args.mask c.loop-rest.invariant.walk.from c.loop-rest.rest c.loop-rest.invariant.walk.left (omega arith) (omega arith)
+
+pub loop-rest-smaller : goal.loop-rest-smaller
+loop-rest-smaller g c = rest_less c.args.mask c.loop-rest.invariant.walk.from c.loop-rest.rest c.loop-rest.invariant.walk.left (omega arith) (omega arith)
+
+pub loop-rest-preserved-then-has_number : goal.loop-rest-preserved-then-has_number
+loop-rest-preserved-then-has_number g c =
+    let left = c.args.left.now in
+    let free = c.args.free.now in
+    let ds = c.args.keys.now.distances in
+    let p = raster_point left.sides c.args.place in
+    let n = g.P.Pairing.NEAR_COUNT in
+    let k = count_trailing_zeros 32 c.loop-rest.rest in
+    let set = walk_place (λ j. IsQueueBut p left free ds (has c.args.keys.now) → Waits left.sides left free ds (NearFrom left.sides p n j) (has c.loop-rest.keys)) n c.args.mask c.loop-rest.rest c.args.steps.now c.loop-rest.steps c.loop-rest.invariant.walk (omega arith) (omega arith) in
+    let there = c.requires.boxed k set in
+    let e : c.near_number-q.result ≡ raster_number left.sides (near_point p k) = c.near_number-q.ensures in
+    let q : raster_point left.sides c.near_number-q.result ≡ near_point p k = ap (raster_point left.sides) e ∙ raster_point-raster_number left.sides (near_point p k) there.1 in
+    let value : c.has_number.result ≡ at free (raster_point left.sides c.near_number-q.result) = c.has_number.ensures ∙ ap (λ n. at free (raster_point n c.near_number-q.result)) c.requires.sides in
+    let come = walk_come (λ j. IsQueueBut p left free ds (has c.args.keys.now) → Waits left.sides left free ds (NearFrom left.sides p n j) (has c.loop-rest.keys)) n c.args.mask c.args.steps.now
+    (λ j b no w h. round_pass left.sides left free ds p n j _ (w h) (λ o. no (c.requires.masked j b o)))
+    c.loop-rest.rest c.loop-rest.steps c.loop-rest.invariant.walk (omega arith) (omega arith) there.0 in
+    record {
+      walk = walk_more (λ j. IsQueueBut p left free ds (has c.args.keys.now) → Waits left.sides left free ds (NearFrom left.sides p n j) (has c.loop-rest.keys)) n c.args.mask c.args.steps.now
+          (λ j b no w h. round_pass left.sides left free ds p n j _ (w h) (λ o. no (c.requires.masked j b o)))
+          c.loop-rest.rest c.loop-rest.steps c.loop-rest.invariant.walk (omega arith) (omega arith) there.0 _ _
+          (λ h. round_more_at left.sides left free ds p n k (raster_point left.sides c.near_number-q.result) _ _ q c.requires.sides
+          (come h) (sym value ∙ c.if-has_number.true) (rw (← c.loop-rest.invariant.same) c.look_at.ensures.looked))
+          (let s = c.look_at.ensures.one_step in omega arith);
+      same = c.look_at.ensures.distances ∙ c.loop-rest.invariant.same;
+    }
+
+pub loop-rest-preserved : goal.loop-rest-preserved
+loop-rest-preserved g c =
+    let left = c.args.left.now in
+    let free = c.args.free.now in
+    let ds = c.args.keys.now.distances in
+    let p = raster_point left.sides c.args.place in
+    let n = g.P.Pairing.NEAR_COUNT in
+    let k = count_trailing_zeros 32 c.loop-rest.rest in
+    let set = walk_place (λ j. IsQueueBut p left free ds (has c.args.keys.now) → Waits left.sides left free ds (NearFrom left.sides p n j) (has c.loop-rest.keys)) n c.args.mask c.loop-rest.rest c.args.steps.now c.loop-rest.steps c.loop-rest.invariant.walk (omega arith) (omega arith) in
+    let there = c.requires.boxed k set in
+    let e : c.near_number-q.result ≡ raster_number left.sides (near_point p k) = c.near_number-q.ensures in
+    let q : raster_point left.sides c.near_number-q.result ≡ near_point p k = ap (raster_point left.sides) e ∙ raster_point-raster_number left.sides (near_point p k) there.1 in
+    let value : c.has_number.result ≡ at free (raster_point left.sides c.near_number-q.result) = c.has_number.ensures ∙ ap (λ n. at free (raster_point n c.near_number-q.result)) c.requires.sides in
+    let come = walk_come (λ j. IsQueueBut p left free ds (has c.args.keys.now) → Waits left.sides left free ds (NearFrom left.sides p n j) (has c.loop-rest.keys)) n c.args.mask c.args.steps.now
+    (λ j b no w h. round_pass left.sides left free ds p n j _ (w h) (λ o. no (c.requires.masked j b o)))
+    c.loop-rest.rest c.loop-rest.steps c.loop-rest.invariant.walk (omega arith) (omega arith) there.0 in
+    record {
+      walk = walk_more (λ j. IsQueueBut p left free ds (has c.args.keys.now) → Waits left.sides left free ds (NearFrom left.sides p n j) (has c.loop-rest.keys)) n c.args.mask c.args.steps.now
+          (λ j b no w h. round_pass left.sides left free ds p n j _ (w h) (λ o. no (c.requires.masked j b o)))
+          c.loop-rest.rest c.loop-rest.steps c.loop-rest.invariant.walk (omega arith) (omega arith) there.0 (λ j. IsQueueBut p left free ds (has c.args.keys.now) → Waits left.sides left free ds (NearFrom left.sides p n j) (has c.loop-rest.keys)) _
+          (λ h. round_pass left.sides left free ds p n k _ (come h)
+          (λ o. let t : true ≡ false = sym (ap (at free) q ∙ o) ∙ (sym value ∙ c.if-has_number.false) in cc))
+          (omega arith);
+      same = c.loop-rest.invariant.same;
+    }
 
 pub returns-clause-waits : goal.returns-clause-waits
 returns-clause-waits g c = λ w.
-    let l : g.P.Pairing.NEAR_COUNT ≤ c.loop-k.k = omega (arith, c.NEAR_COUNT-k-end.ensures) in
-    round_end c.args.left.now.sides c.args.left.now c.args.free.now c.args.keys.now.distances (g.P.Point.coords c.args.p) g.P.Pairing.NEAR_COUNT c.loop-k.k _ l
-    (c.loop-k.invariant.waits w)
+    let left = c.args.left.now in
+    let free = c.args.free.now in
+    let ds = c.args.keys.now.distances in
+    let p = raster_point left.sides c.args.place in
+    let n = g.P.Pairing.NEAR_COUNT in
+    let z : c.loop-rest.rest ≡ 0 = omega arith in
+    round_end left.sides left free ds p n n _ (omega arith)
+    (walk_end (λ j. IsQueueBut p left free ds (has c.args.keys.now) → Waits left.sides left free ds (NearFrom left.sides p n j) (has c.loop-rest.keys)) n c.args.mask c.args.steps.now
+    (λ j b no w h. round_pass left.sides left free ds p n j _ (w h) (λ o. no (c.requires.masked j b o)))
+    c.loop-rest.steps (rw (← z) c.loop-rest.invariant.walk) w)
+
+pub returns-clause-few : goal.returns-clause-few
+returns-clause-few g c =
+    let left = c.args.left.now in
+    let free = c.args.free.now in
+    let ds = c.args.keys.now.distances in
+    let p = raster_point left.sides c.args.place in
+    let n = g.P.Pairing.NEAR_COUNT in
+    walk_count (λ j. IsQueueBut p left free ds (has c.args.keys.now) → Waits left.sides left free ds (NearFrom left.sides p n j) (has c.loop-rest.keys)) n c.args.mask c.loop-rest.rest c.args.steps.now c.loop-rest.steps c.loop-rest.invariant.walk

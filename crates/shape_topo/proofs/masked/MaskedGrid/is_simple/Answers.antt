@@ -1,13 +1,16 @@
-use Rattle.shape_terms.proofs.Boxes.{in_box_length}
-use Rattle.number_terms.proofs.ObjectPlaces.{object_in_box}
+use Rattle.std.proofs.Common.{◌≡◌, length, ap, sym, ◌∙◌}
+use Rattle.shape_terms.specs.Points.{raster_point}
+use Rattle.shape_terms.specs.Pictures.{Picture}
+use Rattle.number_terms.proofs.ObjectPlaces.{length-raster_point}
 use Rattle.shape_topo.proofs.MaskNumbers.{simple_is}
 use Rattle.shape_topo.proofs.masked.MaskedGrid.is_simple.Goals as goal
 
 pub returns-clause-simple : goal.returns-clause-simple
 returns-clause-simple g c =
-    let p = g.P.Point.coords c.args.p in
-    let axes = g.met.P.Point.axes c.args.p in
-    let space = in_box_length c.args.self.now.sides p (object_in_box c.args.self.now p c.requires) in
-    let b = simple_is c.args.self.now p c.mask.result space c.mask.ensures.mask in
+    let Y = c.args.self.now in
+    let p = raster_point Y.sides c.args.i in
+    let space = length-raster_point Y.sides c.args.i in
+    let axes : length p ≡ g.P.Point.DIM = space ∙ (ap (λ (Y : Picture). length Y.sides) (sym c.self.view_is) ∙ c.is_picture.ensures.picture.axes) in
+    let b = simple_is Y p c.mask.result space c.mask.ensures.mask in
     let s = rw axes at b in
     ((λ t. s.0 (c.simple_mask.ensures.0 t)), λ h. c.simple_mask.ensures.1 (s.1 h))

@@ -1,5 +1,5 @@
 use Rattle.shape_terms.proofs.FramedBoxes.{box_point_within}
-use Rattle.shape_topo.proofs.masked.masks_of.Goals as goal
+use Rattle.shape_topo.proofs.mask.mask_at.Goals as goal
 
 pub mask_of-requires : goal.mask_of-requires
 mask_of-requires g c =
