@@ -2,17 +2,21 @@
 //! A further line, of the plane or of space, is one more line of a text. What a line is read as stands in `line_texts`.
 use shape_desk::{Desk, LineReader, MemoryDesk, Place};
 use shape_refute::Sense;
-use shape_report::{Line, Next, ReadFault, Report, next_claim, read_claim, write_report};
+use shape_report::{Line, Next, ReadFault, Report, next_claim, put_claim, read_claim, write_report};
 use shape_space::{P2, P3, Point};
 use std::alloc::{AllocError, Global};
 use std::test::Fail;
 
-// The report of the lines of a text, each read and spelled again.
+// The report of the lines of a text, each read and spelled again, by itself too.
 fn spelled<P: Point>(alloc: Global, text: &str) -> Result<Report, Fail> {
     let mut report = Report::new(alloc);
     for line in text.lines() {
         let is_added = match read_claim::<P>(line.as_bytes()) {
-            Some(claim) => report.add(&claim).is_ok(),
+            Some(claim) => {
+                let mut room = [0; 1024];
+                let len = put_claim(&claim, &mut room);
+                &room[..len] == line.as_bytes() && report.add(&claim).is_ok()
+            }
             None => false,
         };
         if !is_added {
