@@ -2,7 +2,9 @@
 //! A further line, of the plane or of space, is one more line of a text. What a line is read as stands in `line_texts`.
 use shape_desk::{Desk, LineReader, MemoryDesk, Place};
 use shape_refute::Sense;
-use shape_report::{Line, Next, ReadFault, Report, next_claim, put_claim, read_claim, write_report};
+use shape_report::{
+    Line, Next, ReadFault, Report, next_claim, put_claim, read_claim, write_report,
+};
 use shape_space::{P2, P3, Point};
 use std::alloc::{AllocError, Global};
 use std::test::Fail;
