@@ -4,32 +4,23 @@ ghost use Rattle.std.specs.Prelude.{◌≡◌, [], ◌∷◌, pos, take, drop, I
 ghost use Rattle.std.specs.Int.{w32, w64};
 ghost use Rattle.text_terms.specs.Forms.{natural, signed, letter};
 ghost use Rattle.text_terms.specs.Fields.{count, weight, point, row};
-ghost use Rattle.report_text.specs.Reading.{ReadsForm, ReadsNumberWord};
+ghost use Rattle.report_text.specs.Reading.{ReadsForm};
 
 use crate::words::Words;
-use shape_desk::read_number;
 use shape_space::Point;
-
-// The number that a whole word spells.
-fn number(word: &[u8]) -> Option<i64>
-    ensures { ReadsNumberWord word.now result }
-{
-    let (value, len) = read_number(word)?;
-    if len == word.len() { Some(value) } else { None }
-}
 
 /// Reads a coordinate.
 pub fn coordinate(words: &mut Words) -> Option<i32>
     ensures { ReadsForm (λ z. z) (signed w32 31) words.old words.new result }
 {
-    i32::try_from(number(words.next_word()?)?).ok()
+    i32::try_from(words.next_number()?).ok()
 }
 
 /// Reads a count.
 pub fn count(words: &mut Words) -> Option<u32>
     ensures { ReadsForm (λ n. n) count words.old words.new result }
 {
-    u32::try_from(number(words.next_word()?)?).ok()
+    u32::try_from(words.next_number()?).ok()
 }
 
 // A pixel has so many sides.
@@ -47,14 +38,14 @@ pub fn side(words: &mut Words) -> Option<u8>
 pub fn weight(words: &mut Words) -> Option<u64>
     ensures { ReadsForm (λ n. n) weight words.old words.new result }
 {
-    u64::try_from(number(words.next_word()?)?).ok()
+    u64::try_from(words.next_number()?).ok()
 }
 
 /// Reads a signed number of 64 bits.
 pub fn signed(words: &mut Words) -> Option<i64>
     ensures { ReadsForm (λ z. z) (signed w64 63) words.old words.new result }
 {
-    number(words.next_word()?)
+    words.next_number()
 }
 
 /// Reads the letter of an axis of the plane.

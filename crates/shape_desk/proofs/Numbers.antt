@@ -1,18 +1,20 @@
 -- The run of digits at the front of bytes, and the one spelling of a number.
-use Rattle.std.proofs.Common.{◌≡◌, ◌≢◌, ◌+◌, ◌-◌, ◌*◌, ◌^◌, ◌<◌, ◌≤◌, ℕ, zero, suc, ℤ, pos, negsuc, Bool, true, false, cond, List, [], ◌∷◌, ◌++◌, length, get_or, take, drop, take_while, decimal, Option, None, Some, MatchOption, FitsSigned, refl, sym, ap, subst, ◌∙◌, arith}
+use Rattle.std.proofs.Common.{◌≡◌, ◌≢◌, ◌+◌, ◌-◌, ◌*◌, ◌^◌, ◌<◌, ◌≤◌, ℕ, zero, suc, ℤ, pos, negsuc, Bool, true, false, cond, List, [], ◌∷◌, ◌++◌, length, get_or, take, drop, take_while, decimal, ◌⊎◌, inl, inr, FitsSigned, refl, sym, ap, subst, ◌∙◌, arith}
 use Rattle.std.specs.Int.{w64}
 use Rattle.std.specs.Fmt.{signed_decimal}
 use Rattle.std.specs.Char.{is_ascii_digit, digit_value}
 use Rattle.std.specs.Str.Parse.{AllDigits, digits_value_after, digits_value}
-use Rattle.std.proofs.lemmas.List.Sums.{take_while-cons}
+use Rattle.std.proofs.lemmas.List.Sums.{take_while-cons, prefix_len-le-length, prefix_len_passes, prefix_len_stops}
 use Rattle.std.proofs.lemmas.Str.{digit_value_digit}
 use Rattle.std.proofs.lemmas.Str.Parse.{digit_from_value, digit_at, numerals_by_value, tells_digits}
 use Rattle.std.proofs.lemmas.Fmt.{decimal_is_IsNumeral, decimal_nonempty, first_decimal, decimal_digit, decimal_injective, decimal-digits_value}
 use Rattle.std.proofs.lemmas.Bool.Decides.{nat_tests}
-use Rattle.std.proofs.lemmas.List.{drop_more, length-take, take_min}
+use Rattle.std.proofs.Math.ListN.{drop_of_length-le}
+use Rattle.std.proofs.lemmas.Bool.{cases_lt}
+use Rattle.std.proofs.lemmas.List.{drop_more, length-take, length-drop, take_min, get_or-take}
 use Rattle.std.specs.List.{prefix_len}
 use borrow.Author.Tests.{ne_eqb}
-use Rattle.shape_desk.specs.Number.{number_front, HasNoLeadingZero, SpellsNumber}
+use Rattle.shape_desk.specs.Number.{number_front, HasNoLeadingZero, IsSizeOf, SpellsNumber}
 
 -- ---- the run of digits
 
@@ -118,10 +120,85 @@ value_above size (c ∷ cs) h l = omega (arith, at_least (size * 10 + digit_valu
 pub spelled : (ds : List ℕ) (n : ℕ) → AllDigits 10 ds → HasNoLeadingZero ds → n ≤ 2 ^ 63 → digits_value 10 ds ≡ n → ds ≡ decimal n
 spelled ds n d s l e = sym (decimal-digits_value (numerals_by_value _ tells_digits) ds d s.0 s.1 (omega arith)) ∙ ap decimal e
 
--- digits without a leading zero spell their value, or no number up to 2 ^ 63
-pub spelled_or_none : (ds : List ℕ) (r : Option ℕ) → AllDigits 10 ds → HasNoLeadingZero ds → MatchOption r (2 ^ 63 < digits_value 10 ds) (λ n. (n ≤ 2 ^ 63) × (digits_value 10 ds ≡ n)) → MatchOption r ((n : ℕ) → n ≤ 2 ^ 63 → ds ≢ decimal n) (λ n. (n ≤ 2 ^ 63) × (ds ≡ decimal n))
-spelled_or_none ds None d s h = λ n l. none_large ds n l h
-spelled_or_none ds (Some n) d s h = (h.0, spelled ds n d s h.0 h.1)
+-- digits without a leading zero spell the size that is told of them
+pub spells_size : (ds : List ℕ) (m : ℕ) → AllDigits 10 ds → HasNoLeadingZero ds → m ≤ 2 ^ 63 → IsSizeOf (digits_value 10 ds) m → ds ≡ decimal m
+spells_size ds m d z l s = elim (cases_lt (2 ^ 63) (digits_value 10 ds)) [
+  | inl h ↦ absurd (omega (arith, s.great h))
+  | inr h ↦ spelled ds m d z l (sym (s.same (omega arith)))
+]
+
+-- and where that size is too great, they spell no number up to 2 ^ 63
+pub none_great : (ds : List ℕ) (m : ℕ) → 2 ^ 63 < m → IsSizeOf (digits_value 10 ds) m → (n : ℕ) → n ≤ 2 ^ 63 → ds ≢ decimal n
+none_great ds m g s n l = none_large ds n l (elim (cases_lt (2 ^ 63) (digits_value 10 ds)) [
+  | inl h ↦ h
+  | inr h ↦ absurd (omega (arith, s.same (omega arith)))
+])
+
+-- ---- the run, digit by digit
+
+-- the first i bytes are digits, and m is told of them
+pub record IsRunSoFar (bytes : List ℕ) (i m : ℕ) : Type 0 where
+  pub within : i ≤ prefix_len is_ascii_digit bytes
+  pub size : IsSizeOf (digits_value 10 (take_while is_ascii_digit bytes)) (digits_value_after 10 m (drop i (take_while is_ascii_digit bytes)))
+
+pub run_begun : (bs : List ℕ) → IsRunSoFar bs 0 0
+run_begun bs = record { within = omega arith; size = record { same = λ h. refl; great = λ h. h } }
+
+length_run : (bs : List ℕ) → length (take_while is_ascii_digit bs) ≡ prefix_len is_ascii_digit bs
+length_run bs = omega (arith, length-take (prefix_len is_ascii_digit bs) bs, prefix_len-le-length is_ascii_digit bs)
+
+size_stays : (n a m : ℕ) (ds : List ℕ) → IsSizeOf n a → 2 ^ 63 < a → 2 ^ 63 < m → IsSizeOf n (digits_value_after 10 m ds)
+size_stays n a m ds s h g = record {
+  same = λ l. absurd (omega (arith, s.same l));
+  great = λ l. omega (arith, at_least m ds);
+}
+
+pub run_more : (bs : List ℕ) (i m next : ℕ) → i < length bs → is_ascii_digit (get_or bs i 0) ≡ true
+    → (m ≤ 922337203685477580 → next ≡ m * 10 + (get_or bs i 0 - 48)) → (922337203685477580 < m → 2 ^ 63 < next)
+    → IsRunSoFar bs i m → IsRunSoFar bs (i + 1) next
+run_more bs i m next l t small great r =
+    let n = prefix_len is_ascii_digit bs in
+    let ds = take_while is_ascii_digit bs in
+    let k : i < n = elim (cases_lt i n) [
+      | inl h ↦ h
+      | inr h ↦
+          let e : i ≡ n = omega (arith, r.within) in
+          let f : is_ascii_digit (get_or bs i 0) ≡ false = ap (λ j. is_ascii_digit (get_or bs j 0)) e ∙ prefix_len_stops is_ascii_digit bs 0 (omega arith) in
+          absurd (let c : true ≡ false = sym t ∙ f in cc)
+    ] in
+    let w : i < length ds = omega (arith, length_run bs) in
+    let c : get_or ds i 0 ≡ get_or bs i 0 = get_or-take n bs i 0 k in
+    record {
+      within = omega arith;
+      size = elim (cases_lt 922337203685477580 m) [
+        | inl h ↦ size_stays (digits_value 10 ds) (digits_value_after 10 m (drop i ds)) next (drop (i + 1) ds) r.size (value_above m (drop i ds) h (omega (arith, length-drop i ds))) (great h)
+        | inr h ↦
+            let e : digits_value_after 10 next (drop (i + 1) ds) ≡ digits_value_after 10 m (drop i ds) =
+            ap (λ v. digits_value_after 10 v (drop (i + 1) ds)) (small (omega arith) ∙ ap (λ b. m * 10 + (b - 48)) (sym c)) ∙ value_step m ds i (AllDigits-take_while bs) w in
+            subst (IsSizeOf (digits_value 10 ds)) (sym e) r.size
+      ];
+    }
+
+run_done : (bs : List ℕ) (i m : ℕ) → i ≡ prefix_len is_ascii_digit bs → IsRunSoFar bs i m → IsSizeOf (digits_value 10 (take_while is_ascii_digit bs)) m
+run_done bs i m e r =
+    let ds = take_while is_ascii_digit bs in
+    let none : drop i ds ≡ [] = drop_of_length-le ds (omega (arith, length_run bs)) in
+    subst (λ l. IsSizeOf (digits_value 10 ds) (digits_value_after 10 m l)) none r.size
+
+-- where another byte follows, or none, the run is whole
+pub run_ends : (bs : List ℕ) (i m : ℕ) → i < length bs → is_ascii_digit (get_or bs i 0) ≡ false → IsRunSoFar bs i m → (i ≡ length (take_while is_ascii_digit bs)) × IsSizeOf (digits_value 10 (take_while is_ascii_digit bs)) m
+run_ends bs i m l f r =
+    let n = prefix_len is_ascii_digit bs in
+    let e : i ≡ n = elim (cases_lt i n) [
+      | inl h ↦ absurd (let c : true ≡ false = sym (prefix_len_passes is_ascii_digit bs i 0 h) ∙ f in cc)
+      | inr h ↦ omega (arith, r.within)
+    ] in
+    (e ∙ sym (length_run bs), run_done bs i m e r)
+
+pub run_whole : (bs : List ℕ) (i m : ℕ) → length bs ≤ i → IsRunSoFar bs i m → (i ≡ length (take_while is_ascii_digit bs)) × IsSizeOf (digits_value 10 (take_while is_ascii_digit bs)) m
+run_whole bs i m l r =
+    let e : i ≡ prefix_len is_ascii_digit bs = omega (arith, r.within, prefix_len-le-length is_ascii_digit bs) in
+    (e ∙ sym (length_run bs), run_done bs i m e r)
 
 -- digits of the number 0 are those of no other
 pub none_zero : (ds : List ℕ) (size : ℕ) → size ≤ 2 ^ 63 → ds ≡ decimal size → size ≡ 0 → (n : ℕ) → 0 < n → n ≤ 2 ^ 63 → ds ≢ decimal n

@@ -1,8 +1,8 @@
 -- Decimal numbers at the front of bytes: an optional minus sign and digits.
-use Rattle.std.specs.Prelude.{◌≡◌, ◌≢◌, ◌==◌, ◌<◌, ℕ, false, List, [], ◌∷◌, length, get_or, take, take_while, if◌then◌else◌, Option, None, Some, ℤ, FitsSigned}
+use Rattle.std.specs.Prelude.{◌≡◌, ◌≢◌, ◌==◌, ◌<◌, ◌≤◌, ◌^◌, ℕ, false, List, [], ◌∷◌, length, get_or, take, take_while, if◌then◌else◌, Option, None, Some, ℤ, FitsSigned}
 use Rattle.std.specs.Int.{w64}
 use Rattle.std.specs.Char.{is_ascii_digit}
-use Rattle.std.specs.Fmt.{signed_decimal}
+use Rattle.std.specs.Fmt.{decimal, signed_decimal}
 
 -- the front that is read: a minus sign, if one stands first, and the longest run of digits
 abbrev pub number_front : List ℕ → List ℕ
@@ -12,6 +12,17 @@ number_front (b ∷ bs) = if b == 45 then 45 ∷ take_while is_ascii_digit bs el
 -- there are digits, and the first of several is not 0
 abbrev pub HasNoLeadingZero : List ℕ → Type 0
 HasNoLeadingZero ds = (0 < length ds) × (get_or ds 0 0 ≡ 48 → length ds ≡ 1)
+
+-- m tells a size n: it is n, or both are greater than 2 ^ 63
+pub record IsSizeOf (n m : ℕ) : Type 0 where
+  pub same : n ≤ 2 ^ 63 → m ≡ n
+  pub great : 2 ^ 63 < n → 2 ^ 63 < m
+
+-- the longest run of digits at the front of bytes has this length, and is the spelling of n, which is at most 2 ^ 63
+pub record IsSpelledRun (bytes : List ℕ) (count n : ℕ) : Type 0 where
+  pub fits : n ≤ 2 ^ 63
+  pub spelling : take_while is_ascii_digit bytes ≡ decimal n
+  pub all : count ≡ length (take_while is_ascii_digit bytes)
 
 -- the first n bytes are the decimal spelling of z, a number of 64 bits, and no digit follows
 pub record SpellsNumber (bytes : List ℕ) (z : ℤ) (n : ℕ) : Type 0 where

@@ -1,29 +1,49 @@
 //! Reading a decimal number at the front of bytes.
 //! The spelling is the one that `put_number` writes: a change of it is a change of both and of the specification.
-ghost use Rattle.std.specs.Prelude.{◌≡◌, ◌≢◌, ◌↔◌, IsTrue, ◌≤◌, ◌<◌, ◌^◌, ◌-◌, ℕ, ◌∷◌, negsuc, length, get_or, take_while, decimal, MatchOption};
+ghost use Rattle.std.specs.Prelude.{◌≡◌, ◌≢◌, ◌↔◌, IsTrue, ◌≤◌, ◌<◌, ◌^◌, ◌+◌, ◌-◌, ◌*◌, ℕ, true, ◌∷◌, negsuc, length, get_or, take_while, decimal, MatchOption};
 ghost use Rattle.std.specs.Char.{is_ascii_digit};
-ghost use Rattle.std.specs.Str.Parse.{AllDigits, digits_value};
-ghost use Rattle.shape_desk.specs.Number.{ReadsNumber, HasNoLeadingZero};
+ghost use Rattle.std.specs.Str.Parse.{digits_value};
+ghost use Rattle.shape_desk.specs.Number.{ReadsNumber, HasNoLeadingZero, IsSizeOf, IsSpelledRun};
 
 /// The greatest size of a negative number of 64 bits.
 const MAX_SIZE: u64 = 1 << 63;
 
-// The length of the longest run of digits at the front.
-fn digits_len(bytes: &[u8]) -> usize
-    ensures { result ≡ length (take_while is_ascii_digit bytes.now) }
-{
-    bytes
-        .iter()
-        .take_while(|byte| byte.is_ascii_digit())
-        .count()
+// The longest run of digits at the front of bytes: how many, and their value where it is at most 2 ^ 63, and else any greater number.
+#[derive(Clone, Copy)]
+struct Run {
+    len: usize,
+    value: u64,
 }
 
-// The longest run of digits at the front.
-fn digits_of(bytes: &[u8]) -> &[u8]
-    ensures run { result.now ≡ take_while is_ascii_digit bytes.now }
-    ensures digits { AllDigits 10 result.now }
+// The value with one digit more, where that is not too great; and what is too great stays so.
+fn next_value(value: u64, digit: u8) -> u64
+    requires { is_ascii_digit digit ≡ true }
+    ensures next { value ≤ 922337203685477580 → result ≡ value * 10 + (digit - 48) }
+    ensures great { 922337203685477580 < value → 2 ^ 63 < result }
 {
-    &bytes[..digits_len(bytes)]
+    if value > MAX_SIZE / 10 {
+        MAX_SIZE + 1
+    } else {
+        value * 10 + u64::from(digit - b'0')
+    }
+}
+
+// The run of digits at the front, in one look at its bytes.
+fn run_of(bytes: &[u8]) -> Run
+    ensures len { result.len ≡ length (take_while is_ascii_digit bytes.now) }
+    ensures value { IsSizeOf (digits_value 10 (take_while is_ascii_digit bytes.now)) result.value }
+{
+    let mut value = 0;
+    for i in 0..bytes.len() {
+        if !bytes[i].is_ascii_digit() {
+            return Run { len: i, value };
+        }
+        value = next_value(value, bytes[i]);
+    }
+    Run {
+        len: bytes.len(),
+        value,
+    }
 }
 
 // Whether there are digits, and the first of several is not 0.
@@ -33,30 +53,15 @@ fn has_no_leading_zero(digits: &[u8]) -> bool
     !digits.is_empty() && (digits[0] != b'0' || digits.len() == 1)
 }
 
-// The value of the digits, where it is at most 2 ^ 63.
-fn value_of(digits: &[u8]) -> Option<u64>
-    requires { AllDigits 10 digits.now }
-    ensures { MatchOption result (2 ^ 63 < digits_value 10 digits.now)
-        (λ n. (n ≤ 2 ^ 63) × (digits_value 10 digits.now ≡ n)) }
+// The run of digits at the front, where it is the spelling of a number of at most 2 ^ 63.
+fn size_of(bytes: &[u8]) -> Option<Run>
+    ensures { MatchOption result
+        ((n : ℕ) → n ≤ 2 ^ 63 → take_while is_ascii_digit bytes.now ≢ decimal n)
+        (λ run. IsSpelledRun bytes.now run.len run.value) }
 {
-    let mut value = 0;
-    for digit in digits {
-        if value > MAX_SIZE / 10 {
-            return None;
-        }
-        value = value * 10 + u64::from(*digit - b'0');
-    }
-    if value > MAX_SIZE { None } else { Some(value) }
-}
-
-// The number of at most 2 ^ 63 whose spelling the digits are.
-fn size_of(digits: &[u8]) -> Option<u64>
-    requires { AllDigits 10 digits.now }
-    ensures { MatchOption result ((n : ℕ) → n ≤ 2 ^ 63 → digits.now ≢ decimal n)
-        (λ n. (n ≤ 2 ^ 63) × (digits.now ≡ decimal n)) }
-{
-    if has_no_leading_zero(digits) {
-        value_of(digits)
+    let run = run_of(bytes);
+    if run.value <= MAX_SIZE && has_no_leading_zero(&bytes[..run.len]) {
+        Some(run)
     } else {
         None
     }
@@ -75,14 +80,13 @@ fn negative(size: u64) -> i64
 fn read_negative(bytes: &[u8]) -> Option<(i64, usize)>
     ensures { ReadsNumber (45 ∷ bytes.now) result }
 {
-    let digits = digits_of(bytes);
-    let Some(size) = size_of(digits) else {
+    let Some(found) = size_of(bytes) else {
         return None;
     };
-    if size == 0 {
+    if found.value == 0 {
         None
     } else {
-        Some((negative(size), digits.len() + 1))
+        Some((negative(found.value), found.len + 1))
     }
 }
 
@@ -91,14 +95,13 @@ fn read_unsigned(bytes: &[u8]) -> Option<(i64, usize)>
     requires { get_or bytes.now 0 0 ≢ 45 }
     ensures { ReadsNumber bytes.now result }
 {
-    let digits = digits_of(bytes);
-    let Some(size) = size_of(digits) else {
+    let Some(found) = size_of(bytes) else {
         return None;
     };
-    if size == MAX_SIZE {
+    if found.value == MAX_SIZE {
         None
     } else {
-        Some((size as i64, digits.len()))
+        Some((found.value as i64, found.len))
     }
 }
 

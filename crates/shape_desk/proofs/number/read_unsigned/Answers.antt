@@ -1,18 +1,25 @@
-use Rattle.std.proofs.Common.{◌≡◌, pos, to_z, rules, ◌∙◌, sym, arith}
+use Rattle.std.proofs.Common.{◌≡◌, pos, to_z, rules, ◌∙◌, sym, arith, refl, take_while}
 use Rattle.std.specs.Int.{w64}
+use Rattle.std.specs.Char.{is_ascii_digit}
 use Rattle.shape_desk.specs.Number.{number_front}
-use Rattle.shape_desk.proofs.Numbers.{spells_unsigned, none_unsigned, none_other, number_front-unsigned}
+use Rattle.shape_desk.proofs.Numbers.{AllDigits-take_while, spells_unsigned, none_unsigned, none_other, number_front-unsigned}
 use Rattle.shape_desk.proofs.number.read_unsigned.Goals as goal
 
-pub returns-then-size : goal.returns-then-size
-returns-then-size c =
-    let h = c.in-Some.ensures in
-    let ds = c.digits_of-digits.result.now in
-    let e : number_front c.args.bytes.now ≡ ds = number_front-unsigned c.args.bytes.now c.requires ∙ sym c.digits_of-digits.ensures.run in
-    rw e (none_unsigned ds c.digits_of-digits.ensures.digits (none_other ds c.in-Some.size h.0 h.1 c.if-size.true))
+pub returns-in_default : goal.returns-in_default
+returns-in_default c =
+    let bs = c.args.bytes.now in
+    rw (number_front-unsigned bs c.requires) (none_unsigned (take_while is_ascii_digit bs) (AllDigits-take_while bs) (λ n l. c.in_default.ensures n (omega arith)))
 
-pub returns-else-size : goal.returns-else-size
-returns-else-size c =
+pub returns-then-found : goal.returns-then-found
+returns-then-found c =
     let h = c.in-Some.ensures in
-    let e : to_z w64 c.in-Some.size ≡ pos c.in-Some.size = search rules in
-    rw e (spells_unsigned c.args.bytes.now c.digits_of-digits.result.now c.in-Some.size c.requires c.digits_of-digits.ensures.run (omega (arith, h.0)) h.1)
+    let bs = c.args.bytes.now in
+    let ds = take_while is_ascii_digit bs in
+    rw (number_front-unsigned bs c.requires) (none_unsigned ds (AllDigits-take_while bs) (none_other ds c.in-Some.found.value h.fits h.spelling c.if-found.true))
+
+pub returns-else-found : goal.returns-else-found
+returns-else-found c =
+    let h = c.in-Some.ensures in
+    let run = c.in-Some.found in
+    let e : to_z w64 run.value ≡ pos run.value = search rules in
+    rw (e, h.all) (spells_unsigned c.args.bytes.now (take_while is_ascii_digit c.args.bytes.now) run.value c.requires refl (omega (arith, h.fits)) h.spelling)

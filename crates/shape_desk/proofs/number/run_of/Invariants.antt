@@ -1,0 +1,5 @@
+use Rattle.shape_desk.proofs.Numbers.{IsRunSoFar}
+use Rattle.shape_desk.proofs.number.run_of.Given as goal
+
+abbrev pub invariant-loop-i : goal.invariant-loop-i
+invariant-loop-i l = IsRunSoFar l.bytes l.i l.value
