@@ -8,3 +8,4 @@ pub mod Weighed
 pub mod Certified
 pub mod Refuting
 pub mod Meeting
+pub mod Knowing

@@ -2,7 +2,7 @@
 //! The second slope is eliminated first; then bounds of the first are left.
 ghost use Rattle.std.specs.Prelude.{◌≡◌, ◌≤◌, ◌↔◌, IsTrue, unsigned_abs, ◌<ℤ◌, ◌≤ℤ◌, ◌*ℤ◌, pos, length};
 ghost use Rattle.shape_slope.specs.Rows.{row_at, level as level_of, IsSystem};
-ghost use Rattle.shape_slope.specs.Ranges.{IsInside, IsRange, IsClashing, IsWhole};
+ghost use Rattle.shape_slope.specs.Ranges.{IsInside, IsRange, IsClashing, IsWhole, HasWhole};
 ghost use Rattle.shape_slope.specs.Combinations.{IsCombination};
 ghost use Rattle.shape_slope.specs.Spans.{IsSpan, IsAmid, IsSmallSlope};
 ghost use Rattle.shape_slope.specs.Solutions.{IsSolution, IsExcluded, IsElimination};
@@ -10,7 +10,7 @@ ghost use Rattle.shape_slope.specs.Solutions.{IsSolution, IsExcluded, IsEliminat
 use crate::bound::{leaves_room, overlap, slope_inside, turned};
 use crate::combination::Combination;
 use crate::exact::product;
-use crate::range::{Narrowed, Range, first_slopes};
+use crate::range::{Narrowed, Range};
 use crate::row::Row;
 use crate::span::{Span, bound_of, second_slopes};
 use shape_space::Frac;
@@ -144,12 +144,13 @@ fn decided(rows: &[Row], r: Range) -> Elimination
     }
 }
 
-/// Slopes that meet all rows, or combinations that exclude all slopes.
-pub fn eliminate(rows: &[Row]) -> Elimination
-    requires { IsSystem rows.now }
+/// Slopes that meet all rows, or combinations that exclude all slopes, where the first slopes that are left are known.
+pub fn eliminate(rows: &[Row], first: Narrowed) -> Elimination
+    requires system { IsSystem rows.now }
+    requires whole { HasWhole rows.now (length rows.now) first }
     ensures { IsElimination rows.now result }
 {
-    match first_slopes(rows) {
+    match first {
         Narrowed::Clash(c) => Elimination::Clash(excluded_by_one(rows, c)),
         Narrowed::Room(r) => decided(rows, r),
     }

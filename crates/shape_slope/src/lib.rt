@@ -7,12 +7,16 @@ mod bound;
 mod combination;
 mod eliminate;
 mod exact;
+mod known;
 mod pair;
 mod range;
 mod row;
 mod span;
 mod system;
 mod weights;
+mod whole;
 
-pub use answer::{Slopes, Solved, solve};
+pub use answer::{Slopes, Solved};
+pub use known::{Known, Mark};
 pub use pair::Pair;
+pub use whole::solve;

@@ -1,0 +1,89 @@
+-- What rows say of the first slope, where a row stands behind them.
+-- Which rows are added belongs elsewhere.
+use Rattle.std.proofs.Common.{◌≡◌, ℕ, ◌+◌, ◌<◌, ◌++◌, ◌∷◌, [], List, length, ap, sym, subst, ◌∙◌, arith}
+use Rattle.std.specs.Prelude.{ℤ, pos, ◌<ℤ◌}
+use Rattle.std.proofs.lemmas.List.{get_or_append_left, length-append}
+use Rattle.std.proofs.lemmas.List.Elements.{All-push}
+use Rattle.std.proofs.Math.Seq.{get_or-append_seam}
+use native.Mathlib.Decide.{ℕ_discrete}
+use Rattle.shape_slope.specs.declared.row.Row.{Row}
+use Rattle.shape_slope.specs.declared.combination.Combination.{Combination}
+use Rattle.shape_slope.specs.declared.range.Range.{Range}
+use Rattle.shape_slope.specs.declared.range.Narrowed.{Narrowed}
+use Rattle.shape_slope.specs.declared.range.Narrowed.TheVariants.{Room, Clash}
+use Rattle.shape_slope.specs.Rows.{row_at, level, IsGap, IsSmall, IsRow, IsSystem}
+use Rattle.shape_slope.specs.Combinations.{IsCombination}
+use Rattle.shape_slope.specs.Ranges.{LeaveRoom, IsMet, HasNarrower, IsWhole, HasWhole}
+use Rattle.shape_slope.specs.Knowing.{IsKnown}
+use Rattle.shape_slope.proofs.Narrowing.{whole_more}
+
+-- ---- a row behind others
+
+row_kept : (rows more : List Row) (i : ℕ) → i < length rows → row_at (rows ++ more) i ≡ row_at rows i
+row_kept rows more i l = get_or_append_left rows more _ i l
+
+combination_kept : (rows more : List Row) (c : Combination) → IsCombination rows c → IsCombination (rows ++ more) c
+combination_kept rows more c h =
+    let a = row_kept rows more c.first h.first in
+    let b = row_kept rows more c.second h.second in
+    let e = length-append rows more in
+    record {
+      first = (let l = h.first in omega (arith, e, l));
+      second = (let l = h.second in omega (arith, e, l));
+      first_low = h.first_low;
+      first_high = h.first_high;
+      second_low = h.second_low;
+      second_high = h.second_high;
+      x = rw (a, b) h.x;
+      y = rw (a, b) h.y;
+      z = rw (a, b) h.z;
+      x_small = h.x_small;
+      z_small = h.z_small;
+      kind = rw b h.kind;
+    }
+
+met_kept : (rows more : List Row) (j : ℕ) (p q : ℤ) → j < length rows → IsMet rows j p q → IsMet (rows ++ more) j p q
+met_kept rows more j p q l m = record {
+  flat = subst (λ (r : Row). r.y ≡ pos 0 → level p q r <ℤ pos 0) (sym (row_kept rows more j l)) m.flat;
+  room = λ i a b. subst (λ (r : Row). LeaveRoom p q r (row_at (rows ++ more) j)) (sym (row_kept rows more i (omega (arith, b, l))))
+      (subst (λ (r : Row). LeaveRoom p q (row_at rows i) r) (sym (row_kept rows more j l)) (m.room i a b));
+}
+
+pub whole_kept : (rows more : List Row) (n : Narrowed) → HasWhole rows (length rows) n → HasWhole (rows ++ more) (length rows) n
+whole_kept rows more (Room r) w = record {
+  range = record { lower = combination_kept rows more r.lower w.range.lower; upper = combination_kept rows more r.upper w.range.upper; falls = w.range.falls; rises = w.range.rises };
+  met = λ j l p q h i. met_kept rows more j p q l (w.met j l p q h i);
+}
+whole_kept rows more (Clash c) h = record { combination = combination_kept rows more c h.combination; never = h.never; pair = subst (λ (r : Row). IsGap r.cause) (sym (row_kept rows more c.second h.combination.second)) h.pair }
+
+pub last_row : (rows : List Row) (row : Row) → row_at (rows ++ row ∷ []) (length rows) ≡ row
+last_row rows row = get_or-append_seam rows row [] _
+
+pub system_more : (rows : List Row) (row : Row) → IsSystem rows → IsSmall row → IsGap row.cause → IsSystem (rows ++ row ∷ [])
+system_more rows row s small gap = record {
+  some = (let e = length-append rows (row ∷ []) in let l = s.some in omega (arith, e, l));
+  small = All-push IsSmall rows row s.small small;
+  plus_first = same_row 0 (let l = s.some in omega (arith, l)) s.plus_first;
+  minus_first = same_row 1 (let l = s.some in omega (arith, l)) s.minus_first;
+  plus_second = same_row 2 (let l = s.some in omega (arith, l)) s.plus_second;
+  minus_second = same_row 3 (let l = s.some in omega (arith, l)) s.minus_second;
+  gaps = λ j h l. elim (ℕ_discrete j (length rows)) [
+    | yes e ↦ subst (λ (i : ℕ). IsGap (row_at (rows ++ row ∷ []) i).cause) (sym e) (subst (λ (r : Row). IsGap r.cause) (sym (last_row rows row)) gap)
+    | no e ↦ (let k : j < length rows = below j l e in subst (λ (r : Row). IsGap r.cause) (sym (row_kept rows (row ∷ []) j k)) (s.gaps j h k))
+  ];
+}
+  where
+    same_row : (i : ℕ) → i < length rows → {a b c : ℤ} → IsRow (row_at rows i) a b c → IsRow (row_at (rows ++ row ∷ []) i) a b c
+    same_row i l h = let e = row_kept rows (row ∷ []) i l in record { x = ap (λ (r : Row). r.x) e ∙ h.x; y = ap (λ (r : Row). r.y) e ∙ h.y; z = ap (λ (r : Row). r.z) e ∙ h.z }
+
+    below : (j : ℕ) → j < length (rows ++ row ∷ []) → (j ≡ length rows → ⊥) → j < length rows
+    below j l n = let e = length-append rows (row ∷ []) in omega (arith, e, l, n)
+
+-- ---- what is left once the last row is met
+
+pub narrowed_whole : (rows : List Row) (old : Range) (n : Narrowed) (j : ℕ) → IsWhole rows j old → HasNarrower rows old (IsMet rows j) n → HasWhole rows (j + 1) n
+narrowed_whole rows old (Room new) j w h = whole_more rows old new j w h
+narrowed_whole rows old (Clash c) j w h = h
+
+pub known_more : (rows new : List Row) (row : Row) (n : Narrowed) → new ≡ rows ++ row ∷ [] → IsSystem new → HasWhole new (length rows + 1) n → IsKnown new n
+known_more rows new row n e s h = record { system = s; whole = subst (λ (k : ℕ). HasWhole new k n) (sym (ap length e ∙ length-append rows (row ∷ []))) h }
