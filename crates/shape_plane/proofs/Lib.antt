@@ -1,4 +1,5 @@
 pub mod Holding
+pub mod Deciding
 pub mod Adding
 pub mod Longer
 pub mod Spreading

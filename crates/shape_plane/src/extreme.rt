@@ -1,6 +1,6 @@
 //! The places of the least and of the greatest value of coefficients among a list of points.
 //! Of several such places none is preferred.
-ghost use Rattle.std.specs.Prelude.{◌≡◌, ◌⊎◌, ◌≤◌, ◌<◌, ◌^◌, ◌≤ℤ◌, map, length};
+ghost use Rattle.std.specs.Prelude.{◌≡◌, ◌⊎◌, ◌≤◌, ◌<◌, ◌+◌, ◌^◌, ℕ, ℤ, ◌≤ℤ◌, map, length};
 ghost use Rattle.shape_slope.specs.Pairs.{AreInside, AreSmallCoefficients};
 ghost use Rattle.shape_plane.specs.Extremes.{values_at, AreExtremes, IsExtreme};
 
@@ -39,6 +39,17 @@ fn greater(a: Extreme, b: Extreme) -> Extreme
     if a.value < b.value { b } else { a }
 }
 
+/// The extremes with the value at one more place.
+pub fn widened(old: Extremes, next: Extreme) -> Extremes
+    ensures { (f : ℕ → ℤ) (n i : ℕ) → AreExtremes f n i old → i < n → IsExtreme f i next
+        → AreExtremes f n (i + 1) result }
+{
+    Extremes {
+        low: lesser(old.low, next),
+        high: greater(old.high, next),
+    }
+}
+
 // A place and the value there.
 fn extreme_at<P: Point>(points: &[P], a: &[i64; 3], i: u32) -> Extreme
     requires place { i < length points.now }
@@ -48,7 +59,7 @@ fn extreme_at<P: Point>(points: &[P], a: &[i64; 3], i: u32) -> Extreme
 {
     Extreme {
         place: i,
-        value: value(points, a, i),
+        value: value(a, points[i as usize]),
     }
 }
 
@@ -67,11 +78,7 @@ pub fn least_and_greatest<P: Point>(points: &[P], a: &[i64; 3]) -> Extremes
         high: first,
     };
     for i in 1..points.len() as u32 {
-        let next = extreme_at(points, a, i);
-        best = Extremes {
-            low: lesser(best.low, next),
-            high: greater(best.high, next),
-        };
+        best = widened(best, extreme_at(points, a, i));
     }
     best
 }

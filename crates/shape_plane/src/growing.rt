@@ -1,14 +1,15 @@
 //! A list of points that grows while some line or plane of an axis holds it.
 //! The present line or plane is tried first, so a point that it holds costs no search.
-ghost use Rattle.std.specs.Prelude.{◌≡◌, ◌<◌, ◌^◌, ◌-◌, ◌↔◌, [], ◌∷◌, ◌++◌, IsTrue, IfOk, Some, slice_get, map, length, pos, ◌-ℤ◌};
+ghost use Rattle.std.specs.Prelude.{◌≡◌, ◌<◌, ◌^◌, ◌+◌, ◌-◌, ◌↔◌, [], ◌∷◌, ◌++◌, IsTrue, IfOk, Some, slice_get, map, length, pos, ◌-ℤ◌};
 ghost use Rattle.shape_terms.specs.FramedBox.{IsWithin};
-ghost use Rattle.shape_slope.specs.Pairs.{AreInside, ArePairs};
-ghost use Rattle.shape_plane.specs.Verdicts.{IsHeld, IsFlatFor};
+ghost use Rattle.shape_slope.specs.Pairs.{AreInside, IsPair};
+ghost use Rattle.shape_plane.specs.Verdicts.{IsHeld, IsFlatFor, AreRowsOf};
 ghost use Rattle.shape_plane.specs.Growth.{HasExtended, IsAdded, says_yes};
 
-use crate::verdict::{Verdict, decide_with};
-use shape_refute::{Naive, Refutation, holds};
-use shape_slope::Pair;
+use crate::held::{Held, Tested, try_last};
+use crate::verdict::{Decided, decide_by, decide_with};
+use shape_refute::{Naive, Refutation};
+use shape_slope::{Known, Pair};
 use shape_space::{NoMemory, Point};
 use std::alloc::Global;
 use std::marker::Model;
@@ -24,36 +25,40 @@ pub enum Added {
 
 // Puts a point last, where some line or plane of the axis holds the points with it; else nothing changes.
 //
-// The pairs that a refused point brought are dropped, also those of other points: slopes are found in time by the square of their number.
+// The pair is of the points with this one, and is not met by what holds the others. The pairs that a refused point brought are
+// forgotten, also those of other points: slopes are found in time by the number of pairs.
 fn extend<P: Point>(
-    alloc: Global,
     points: &mut Vec<P>,
-    pairs: &mut Vec<Pair>,
+    known: &mut Known,
     axis: usize,
     p: P,
-) -> Result<Verdict, NoMemory>
+    pair: Pair,
+) -> Result<Decided, NoMemory>
     requires axis { axis < P.DIM }
     requires few { length points.old.items < 2 ^ 31 - 1 }
     requires inside { AreInside P.MAX_SIDE (map P.coords points.old.items) }
     requires point { IsWithin (pos 0) (P.MAX_SIDE -ℤ pos 1) (P.coords p) }
-    requires pairs { ArePairs (length points.old.items) pairs.old.items }
+    requires pair { IsPair (length points.old.items + 1) pair }
+    requires known { AreRowsOf (length points.old.items) axis
+        (map P.coords points.old.items) known.old }
     ensures extended { HasExtended P.coords P.DIM axis
         points.old.items points.new.items p result }
-    ensures pairs { ArePairs (length points.new.items) pairs.new.items }
+    ensures known { AreRowsOf (length points.new.items) axis
+        (map P.coords points.new.items) known.new }
 {
     let count = points.len();
-    let known = pairs.len();
+    let mark = known.mark();
     points.push(p)?;
-    match decide_with(alloc, points, axis, pairs) {
-        Ok(Verdict::Flat(n)) => Ok(Verdict::Flat(n)),
-        Ok(Verdict::Refused(why)) => {
+    match decide_by(points, axis, known, pair) {
+        Ok(Decided::Flat(held)) => Ok(Decided::Flat(held)),
+        Ok(Decided::Refused(why)) => {
             points.truncate(count);
-            pairs.truncate(known);
-            Ok(Verdict::Refused(why))
+            known.reset(mark);
+            Ok(Decided::Refused(why))
         }
         Err(e) => {
             points.truncate(count);
-            pairs.truncate(known);
+            known.reset(mark);
             Err(e)
         }
     }
@@ -62,11 +67,10 @@ fn extend<P: Point>(
 /// Points that some naive line or plane of an axis holds, in the order in which they were taken.
 #[derive(Drop)]
 pub struct Growing<P: Point> {
-    alloc: Global,
     points: Vec<P>,
-    pairs: Vec<Pair>,
+    known: Known,
     axis: usize,
-    plane: Naive,
+    held: Held,
 }
 
 impl<P: Point> Model for Growing<P> {
@@ -78,7 +82,7 @@ impl<P: Point> Model for Growing<P> {
     ghost view = { λ g. record { axis = g.axis; points = map P.coords g.points.items } };
 
     ghost invariant = { λ g. IsGrowing P.DIM P.MAX_SIDE
-        g.axis (map P.coords g.points.items) g.pairs.items g.plane };
+        g.axis (map P.coords g.points.items) g.known g.held };
 }
 
 impl<P: Point> Growing<P> {
@@ -91,16 +95,15 @@ impl<P: Point> Growing<P> {
     {
         let mut points = Vec::new(alloc);
         points.push(p)?;
-        let mut pairs = Vec::new(alloc);
-        match decide_with(alloc, &points, axis, &mut pairs)? {
-            Verdict::Flat(plane) => Ok(Growing {
-                alloc,
+        let mut known = Known::new(alloc, axis)?;
+        match decide_with(&points, axis, &mut known)? {
+            Decided::Flat(held) => Ok(Growing {
                 points,
-                pairs,
+                known,
                 axis,
-                plane,
+                held,
             }),
-            Verdict::Refused(_) => unreachable!(),
+            Decided::Refused(_) => unreachable!(),
         }
     }
 
@@ -131,16 +134,31 @@ impl<P: Point> Growing<P> {
         ensures exactly { IfOk result (λ a. IsTrue (says_yes a)
             ↔ IsFlatFor self.old.axis (self.old.points ++ P.coords p ∷ [])) }
     {
-        if holds(&self.plane, p) {
-            self.points.push(p)?;
-            return Ok(Added::Yes);
-        }
-        match extend(self.alloc, &mut self.points, &mut self.pairs, self.axis, p)? {
-            Verdict::Flat(plane) => {
-                self.plane = plane;
+        match try_last(self.axis, &self.held, self.points.len() as u32, p) {
+            Tested::Holds(held) => {
+                self.points.push(p)?;
+                self.held = held;
                 Ok(Added::Yes)
             }
-            Verdict::Refused(why) => Ok(Added::No(why)),
+            Tested::Breaks(pair) => self.add_by(p, pair),
+        }
+    }
+
+    // The same, where the present line or plane breaks this pair.
+    fn add_by(&mut self, p: P, pair: Pair) -> Result<Added, NoMemory>
+        requires inside { IsWithin (pos 0) (P.MAX_SIDE -ℤ pos 1) (P.coords p) }
+        requires few { length self.old.points < 2 ^ 31 - 1 }
+        requires pair { IsPair (length self.old.points + 1) pair }
+        ensures added { IsAdded P.DIM self.old self.new (P.coords p) result }
+        ensures exactly { IfOk result (λ a. IsTrue (says_yes a)
+            ↔ IsFlatFor self.old.axis (self.old.points ++ P.coords p ∷ [])) }
+    {
+        match extend(&mut self.points, &mut self.known, self.axis, p, pair)? {
+            Decided::Flat(held) => {
+                self.held = held;
+                Ok(Added::Yes)
+            }
+            Decided::Refused(why) => Ok(Added::No(why)),
         }
     }
 
@@ -148,6 +166,6 @@ impl<P: Point> Growing<P> {
     pub fn naive(&self) -> Naive
         ensures { IsHeld P.DIM self.now.axis self.now.points result }
     {
-        self.plane
+        self.held.plane
     }
 }

@@ -7,6 +7,7 @@ mod extreme;
 mod face;
 mod grow;
 mod growing;
+mod held;
 mod parts;
 mod patch;
 mod refusals;

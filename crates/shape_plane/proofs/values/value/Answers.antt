@@ -1,24 +1,22 @@
-use Rattle.std.proofs.Common.{rules, arith, FitsSigned, w64, map, refl}
+use Rattle.std.proofs.Common.{rules, arith, FitsSigned, w64, refl}
 use Rattle.std.proofs.lemmas.Int.{to_z-of_z}
 use Rattle.shape_terms.specs.Points.{coordinate}
-use Rattle.shape_terms.specs.Refutations.{point_at}
 use Rattle.shape_space.proofs.ScalarProducts.{flat_value, solid_value}
-use Rattle.shape_slope.proofs.Gaps.{point_long}
 use Rattle.shape_plane.proofs.values.value.Goals as goal
 
 pub returns-then-DIM-eq2-clause-value : goal.returns-then-DIM-eq2-clause-value
 returns-then-DIM-eq2-clause-value g c =
-    let p = point_at (map g.P.Point.coords c.args.points.now) c.args.i in
+    let p = g.P.Point.coords c.args.p in
     let fp : FitsSigned w64 c.term.result = search rules in
     let fq : FitsSigned w64 c.term-2.result = search rules in
     let fs : FitsSigned w64 c.two-flat.result = search rules in
     let es = simp to_z-of_z at c.two-flat.ensures.value in
     simp to_z-of_z (flat_value c.args.a.now p g.P.Point.DIM c.two-flat.result c.term.result c.term-2.result (coordinate p 0) (coordinate p 1) c.requires.small.three
-    (point_long g.P.Point.coords g.P.Point.DIM g.met.P.Point.axes c.args.points.now c.args.i c.requires.place) (omega (arith, c.DIM.ensures, c.if-DIM-eq2.true)) refl refl c.term.ensures.value c.term-2.ensures.value es)
+    (g.met.P.Point.axes c.args.p) (omega (arith, c.DIM.ensures, c.if-DIM-eq2.true)) refl refl c.term.ensures.value c.term-2.ensures.value es)
 
 pub returns-else-DIM-eq2-clause-value : goal.returns-else-DIM-eq2-clause-value
 returns-else-DIM-eq2-clause-value g c =
-    let p = point_at (map g.P.Point.coords c.args.points.now) c.args.i in
+    let p = g.P.Point.coords c.args.p in
     let fp : FitsSigned w64 c.term.result = search rules in
     let fq : FitsSigned w64 c.term-2.result = search rules in
     let fr : FitsSigned w64 c.term-else-DIM-eq2.result = search rules in
@@ -27,4 +25,4 @@ returns-else-DIM-eq2-clause-value g c =
     let es = simp to_z-of_z at c.two-flat.ensures.value in
     let er = simp to_z-of_z at c.three.ensures.value in
     simp to_z-of_z (solid_value c.args.a.now p g.P.Point.DIM c.three.result c.two-flat.result c.term.result c.term-2.result c.term-else-DIM-eq2.result (coordinate p 0) (coordinate p 1) (coordinate p 2) c.requires.small.three
-    (point_long g.P.Point.coords g.P.Point.DIM g.met.P.Point.axes c.args.points.now c.args.i c.requires.place) (grind (arith, g.met.P.Point.two_or_three, c.DIM.ensures, c.if-DIM-eq2.false)) refl refl refl c.term.ensures.value c.term-2.ensures.value c.term-else-DIM-eq2.ensures.value es er)
+    (g.met.P.Point.axes c.args.p) (grind (arith, g.met.P.Point.two_or_three, c.DIM.ensures, c.if-DIM-eq2.false)) refl refl refl c.term.ensures.value c.term-2.ensures.value c.term-else-DIM-eq2.ensures.value es er)

@@ -2,17 +2,17 @@ use Rattle.std.proofs.Common.{map, length, subst, ℕ}
 use Rattle.std.proofs.lemmas.List.{length-map}
 use Rattle.shape_slope.specs.Pairs.{IsPair}
 use Rattle.shape_plane.specs.Verdicts.{IsBroken, IsTested}
-use Rattle.shape_plane.proofs.Holding.{grown_more}
+use Rattle.shape_plane.proofs.Deciding.{grown_more}
 use Rattle.shape_plane.proofs.verdict.decide_with.Goals as goal
 
 pub returns-in_err-add-in-Breaks-clause-grown : goal.returns-in_err-add-in-Breaks-clause-grown
 returns-in_err-add-in-Breaks-clause-grown g c =
     let b : IsBroken g.P.Point.DIM c.args.axis (map g.P.Point.coords c.args.points.now) c.in-Slopes.s.a c.in-Breaks.pair = subst (IsTested g.P.Point.DIM c.args.axis (map g.P.Point.coords c.args.points.now) c.in-Slopes.s.a) c.in-Breaks.is c.try_slopes.ensures in
     let p = subst (λ (n : ℕ). IsPair n c.in-Breaks.pair) (length-map c.args.points.now g.P.Point.coords) b.places in
-    grown_more (length c.args.points.now) c.args.pairs.now.items c.loop-round.pairs.items c.add.new.pairs.items c.in-Breaks.pair c.loop-round.invariant p c.add.ensures
+    grown_more (length c.args.points.now) c.args.axis (map g.P.Point.coords c.args.points.now) c.args.known.now c.loop-round.known c.add.new.self c.in-Breaks.pair c.loop-round.invariant p c.add.ensures.either
 
 pub loop-round-preserved : goal.loop-round-preserved
 loop-round-preserved g c =
     let b : IsBroken g.P.Point.DIM c.args.axis (map g.P.Point.coords c.args.points.now) c.in-Slopes.s.a c.in-Breaks.pair = subst (IsTested g.P.Point.DIM c.args.axis (map g.P.Point.coords c.args.points.now) c.in-Slopes.s.a) c.in-Breaks.is c.try_slopes.ensures in
     let p = subst (λ (n : ℕ). IsPair n c.in-Breaks.pair) (length-map c.args.points.now g.P.Point.coords) b.places in
-    grown_more (length c.args.points.now) c.args.pairs.now.items c.loop-round.pairs.items c.add.new.pairs.items c.in-Breaks.pair c.loop-round.invariant p c.add.ensures
+    grown_more (length c.args.points.now) c.args.axis (map g.P.Point.coords c.args.points.now) c.args.known.now c.loop-round.known c.add.new.self c.in-Breaks.pair c.loop-round.invariant p c.add.ensures.either

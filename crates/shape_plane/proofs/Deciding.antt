@@ -1,0 +1,81 @@
+-- Rows of pairs of a list of points, while pairs and points are added.
+-- How pairs are found belongs elsewhere.
+use Rattle.std.proofs.Common.{◌≡◌, ℕ, zero, suc, ◌+◌, ◌⊎◌, inl, inr, List, [], ◌∷◌, ◌++◌, length, map, take, refl, ap, sym, subst, ◌∙◌, arith}
+use Rattle.std.proofs.lemmas.List.{get_or_append_left, length-append, map-append, append_assoc, length-map}
+use Rattle.std.proofs.Math.Seq.{take-append_seam}
+use Rattle.std.proofs.lemmas.List.Elements.{All-push}
+use Rattle.shape_terms.specs.Points.{Point}
+use Rattle.shape_terms.specs.Refutations.{point_at}
+use Rattle.shape_slope.specs.declared.pair.Pair.{Pair}
+use Rattle.shape_slope.specs.declared.row.Row.{Row}
+use Rattle.shape_slope.specs.declared.known.Mark.{Mark}
+use Rattle.shape_slope.specs.Pairs.{IsPair, ArePairs, pair_row}
+use Rattle.shape_slope.specs.Systems.{bounding_rows}
+use Rattle.shape_slope.specs.Knowing.{IsMark}
+use Rattle.shape_plane.specs.Verdicts.{AreRowsOf, HasGrown}
+
+-- ---- one pair more
+
+pub rows_more : (n t : ℕ) (points : List Point) (rows new : List Row) (pair : Pair) → AreRowsOf n t points rows → IsPair n pair → new ≡ rows ++ pair_row t points pair ∷ [] → AreRowsOf n t points new
+rows_more n t points rows new pair h p e = record {
+  pairs = h.pairs ++ pair ∷ [];
+  places = All-push (IsPair n) h.pairs pair h.places p;
+  same = e ∙ ap (λ (r : List Row). r ++ pair_row t points pair ∷ []) h.same ∙ ap (λ (r : List Row). bounding_rows t ++ r) (sym (map-append (pair_row t points) h.pairs (pair ∷ [])));
+}
+
+pub grown_none : (n t : ℕ) (points : List Point) (rows : List Row) → AreRowsOf n t points rows → HasGrown n t points rows rows
+grown_none n t points rows h = record { rows = h; more = []; same = empty rows }
+  where
+    empty : (xs : List Row) → xs ≡ xs ++ []
+    empty [] = refl
+    empty (x ∷ xs) = ap (λ (l : List Row). x ∷ l) (empty xs)
+
+pub grown_more : (n t : ℕ) (points : List Point) (old mid new : List Row) (pair : Pair) → HasGrown n t points old mid → IsPair n pair → (new ≡ mid) ⊎ (new ≡ mid ++ pair_row t points pair ∷ []) → HasGrown n t points old new
+grown_more n t points old mid new pair h p (inl e) = subst (HasGrown n t points old) (sym e) h
+grown_more n t points old mid new pair h p (inr e) = record {
+  rows = rows_more n t points mid new pair h.rows p e;
+  more = h.more ++ pair_row t points pair ∷ [];
+  same = e ∙ ap (λ (r : List Row). r ++ pair_row t points pair ∷ []) h.same ∙ append_assoc old h.more (pair_row t points pair ∷ []);
+}
+
+pub grown_through : (n t : ℕ) (points : List Point) (old mid new : List Row) → HasGrown n t points old mid → HasGrown n t points mid new → HasGrown n t points old new
+grown_through n t points old mid new h k = record {
+  rows = k.rows;
+  more = h.more ++ k.more;
+  same = k.same ∙ ap (λ (r : List Row). r ++ k.more) h.same ∙ append_assoc old h.more k.more;
+}
+
+-- ---- one point more
+
+pair_kept : (t : ℕ) (points more : List Point) (pair : Pair) → IsPair (length points) pair → pair_row t (points ++ more) pair ≡ pair_row t points pair
+pair_kept t points more pair h = let a : point_at (points ++ more) pair.low ≡ point_at points pair.low = get_or_append_left points more [] pair.low h.0 in let b : point_at (points ++ more) pair.high ≡ point_at points pair.high = get_or_append_left points more [] pair.high h.1 in rw (a, b) refl
+
+pairs_kept : (t : ℕ) (points more : List Point) (pairs : List Pair) → ArePairs (length points) pairs → map (pair_row t (points ++ more)) pairs ≡ map (pair_row t points) pairs
+pairs_kept t points more [] h = refl
+pairs_kept t points more (pair ∷ pairs) h =
+    ap (λ (r : Row). r ∷ map (pair_row t (points ++ more)) pairs) (pair_kept t points more pair (h zero pair (omega arith)))
+    ∙ ap (λ (r : List Row). pair_row t points pair ∷ r) (pairs_kept t points more pairs (λ k d l. h (suc k) d (omega arith)))
+
+wider : (n : ℕ) (pairs : List Pair) → ArePairs n pairs → ArePairs (n + 1) pairs
+wider n pairs h k d l = let p = h k d l in ((let a = p.0 in omega (arith, a)), (let b = p.1 in omega (arith, b)))
+
+pub rows_longer : (t : ℕ) (points : List Point) (p : Point) (rows : List Row) → AreRowsOf (length points) t points rows → AreRowsOf (length (points ++ p ∷ [])) t (points ++ p ∷ []) rows
+rows_longer t points p rows h = record {
+  pairs = h.pairs;
+  places = subst (λ (n : ℕ). ArePairs n h.pairs) (sym (length-append points (p ∷ []))) (wider (length points) h.pairs h.places);
+  same = h.same ∙ ap (λ (r : List Row). bounding_rows t ++ r) (sym (pairs_kept t points (p ∷ []) h.pairs h.places));
+}
+
+pub rows_pushed : {Q : Type 0} (f : Q → Point) (t : ℕ) (old new : List Q) (p : Q) (rows : List Row) → new ≡ old ++ p ∷ [] → AreRowsOf (length old) t (map f old) rows → AreRowsOf (length new) t (map f new) rows
+rows_pushed f t old new p rows e h =
+    subst (λ (n : ℕ). AreRowsOf n t (map f new) rows) (length-map new f)
+    (subst (λ (l : List Point). AreRowsOf (length l) t l rows) (sym (ap (map f) e ∙ map-append f old (p ∷ [])))
+    (rows_longer t (map f old) (f p) rows (subst (λ (n : ℕ). AreRowsOf n t (map f old) rows) (sym (length-map old f)) h)))
+
+-- ---- back to a mark
+
+pub mark_back : (n t : ℕ) (points : List Point) (old new : List Row) (mark : Mark) → HasGrown n t points old new → IsMark mark old → take mark.count new ≡ old
+mark_back n t points old new mark h m = ap (λ (k : ℕ). take k new) m.count ∙ ap (take (length old)) h.same ∙ take-append_seam old h.more
+
+pub mark_there : (n t : ℕ) (points : List Point) (old new : List Row) (mark : Mark) → HasGrown n t points old new → IsMark mark old → IsMark mark (take mark.count new)
+mark_there n t points old new mark h m = subst (IsMark mark) (sym (mark_back n t points old new mark h m)) m

@@ -1,0 +1,38 @@
+use Rattle.std.proofs.Common.{◌≡◌, ◌<◌, ◌-◌, ◌^◌, ◌++◌, ◌∷◌, [], map, subst, sym, ap, ◌∙◌, List, length, ℕ, true, false, arith}
+use Rattle.std.specs.Prelude.{IsTrue, ◌↔◌}
+use Rattle.std.proofs.lemmas.List.{length-map}
+use Rattle.shape_terms.specs.Points.{Point}
+use Rattle.shape_refute.specs.Weights.{refutation_of}
+use Rattle.shape_plane.specs.Verdicts.{IsHeld, IsRefuted, IsFlatFor, AreRowsOf}
+use Rattle.shape_plane.specs.Growth.{Grown}
+use Rattle.shape_plane.proofs.Adding.{one_more, grows_found, grows_kept, is_flat, not_flat, extended_flat, extended_refused}
+use Rattle.shape_plane.proofs.growing.Growing.add_by.Goals as goal
+
+pub invariant_of-self-in-Flat : goal.invariant_of-self-in-Flat
+invariant_of-self-in-Flat g c =
+    let x = extended_flat g.P.Point.coords g.P.Point.DIM c.self.inside.axis c.self.inside.points.items c.extend.new.points.items c.args.p c.in_ok-held.field-0 c.in-Flat.held c.in-Flat.is c.in_ok-held.ensures.extended in
+    let e : map g.P.Point.coords c.extend.new.points.items ≡ map g.P.Point.coords c.self.inside.points.items ++ g.P.Point.coords c.args.p ∷ [] = ap (map g.P.Point.coords) x.0 ∙ one_more g.P.Point.coords c.self.inside.points.items c.args.p in
+    let few : length (map g.P.Point.coords c.self.inside.points.items) < 2 ^ 31 - 1 = (let v = ap (λ (v : Grown). length v.points) c.self.view_is in let f = c.requires.few in omega (arith, v, f)) in
+    grows_found g.P.Point.DIM g.P.Point.MAX_SIDE c.self.inside.axis (map g.P.Point.coords c.self.inside.points.items) (map g.P.Point.coords c.extend.new.points.items) (g.P.Point.coords c.args.p) c.self.inside.known c.extend.new.known c.self.inside.held c.in-Flat.held
+    c.self.invariant c.requires.inside few e (subst (λ (n : ℕ). AreRowsOf n c.self.inside.axis (map g.P.Point.coords c.extend.new.points.items) c.extend.new.known) (sym (length-map c.extend.new.points.items g.P.Point.coords)) c.extend.ensures.known) x.1
+
+pub invariant_of-self-in-Refused : goal.invariant_of-self-in-Refused
+invariant_of-self-in-Refused g c =
+    let x = extended_refused g.P.Point.coords g.P.Point.DIM c.self.inside.axis c.self.inside.points.items c.extend.new.points.items c.args.p c.in_ok-held.field-0 c.in-Refused.why c.in-Refused.is c.in_ok-held.ensures.extended in
+    grows_kept g.P.Point.DIM g.P.Point.MAX_SIDE c.self.inside.axis (map g.P.Point.coords c.self.inside.points.items) (map g.P.Point.coords c.extend.new.points.items) c.self.inside.known c.extend.new.known c.self.inside.held
+    c.self.invariant (ap (map g.P.Point.coords) x.0) (subst (λ (n : ℕ). AreRowsOf n c.self.inside.axis (map g.P.Point.coords c.extend.new.points.items) c.extend.new.known) (sym (length-map c.extend.new.points.items g.P.Point.coords)) c.extend.ensures.known)
+
+pub returns-in-Flat-clause-exactly : goal.returns-in-Flat-clause-exactly
+returns-in-Flat-clause-exactly g c =
+    let x = extended_flat g.P.Point.coords g.P.Point.DIM c.self.inside.axis c.self.inside.points.items c.extend.new.points.items c.args.p c.in_ok-held.field-0 c.in-Flat.held c.in-Flat.is c.in_ok-held.ensures.extended in
+    let e : map g.P.Point.coords c.extend.new.points.items ≡ map g.P.Point.coords c.self.inside.points.items ++ g.P.Point.coords c.args.p ∷ [] = ap (map g.P.Point.coords) x.0 ∙ one_more g.P.Point.coords c.self.inside.points.items c.args.p in
+    subst (λ (v : Grown). IsTrue true ↔ IsFlatFor v.axis (v.points ++ g.P.Point.coords c.args.p ∷ [])) c.self.view_is
+    (is_flat g.P.Point.DIM c.self.inside.axis (map g.P.Point.coords c.self.inside.points.items ++ g.P.Point.coords c.args.p ∷ []) c.in-Flat.held.plane
+    (subst (λ (l : List Point). IsHeld g.P.Point.DIM c.self.inside.axis l c.in-Flat.held.plane) e x.1.held))
+
+pub returns-in-Refused-clause-exactly : goal.returns-in-Refused-clause-exactly
+returns-in-Refused-clause-exactly g c =
+    let x = extended_refused g.P.Point.coords g.P.Point.DIM c.self.inside.axis c.self.inside.points.items c.extend.new.points.items c.args.p c.in_ok-held.field-0 c.in-Refused.why c.in-Refused.is c.in_ok-held.ensures.extended in
+    subst (λ (v : Grown). IsTrue false ↔ IsFlatFor v.axis (v.points ++ g.P.Point.coords c.args.p ∷ [])) c.self.view_is
+    (not_flat g.P.Point.DIM c.self.inside.axis (map g.P.Point.coords c.self.inside.points.items ++ g.P.Point.coords c.args.p ∷ []) (refutation_of c.in-Refused.why)
+    (subst (λ (l : List Point). IsRefuted g.P.Point.DIM c.self.inside.axis l (refutation_of c.in-Refused.why)) (one_more g.P.Point.coords c.self.inside.points.items c.args.p) x.1))
