@@ -99,10 +99,9 @@ fn first_masked<L: Ledger>(blank: Blank, grid: &MaskedGrid<P2>) -> [bool; 3]
 {
     let mut steps = Steps::<L>::new(blank);
     let mut row = [false; 3];
-    for x in 0..3usize {
-        let p = P2 { x: x as i32, y: 0 };
-        if grid.has(p) {
-            row[x] = grid.is_simple(p, &mut steps);
+    for i in 0..3u32 {
+        if i < grid.sides().count() && grid.has(i) {
+            row[i as usize] = grid.is_simple(i, &mut steps);
         }
     }
     row
@@ -119,11 +118,11 @@ fn masks_of_a_square(rt: HostRuntime) -> Result<(), Fail> {
     Ok(())
 }
 
-// The mask of the middle of a square and its number of near neighbours, where it is object.
+// The mask of the middle of a square of 3 by 3 and its number of near neighbours, where it is object.
 fn middle(masked: &MaskedGrid<P2>) -> Option<(u32, u8)> {
-    let p = P2 { x: 1, y: 1 };
-    if masked.has(p) {
-        Some((masked.mask(p), masked.near_count(p)))
+    let i = 4;
+    if i < masked.sides().count() && masked.has(i) {
+        Some((masked.mask(i), masked.near_count(i)))
     } else {
         None
     }
@@ -133,11 +132,12 @@ fn middle(masked: &MaskedGrid<P2>) -> Option<(u32, u8)> {
 fn masks_after_a_deletion(rt: HostRuntime) -> Result<(), Fail> {
     let mut masked = MaskedGrid::new(rt.alloc(), drawn(rt.alloc(), SQUARE)?)?;
     assert!(rt; middle(&masked) == Some((255, 8)));
-    let top = P2 { x: 1, y: 0 };
-    if masked.sides().inside(top) {
+    let top = 1;
+    if top < masked.sides().count() {
         masked.clear(top);
     }
-    assert!(rt; middle(&masked) == Some((253, 7)) && !masked.has(top));
+    assert!(rt; middle(&masked) == Some((253, 7)));
+    assert!(rt; top < masked.sides().count() && !masked.has(top));
     // the corners of the first row are ends now, and the square has a notch
     assert!(rt; first_masked::<Brand>(Blank::new(1), &masked) == [true, false, true]);
     assert!(rt; masked.grid().count() == 8);
