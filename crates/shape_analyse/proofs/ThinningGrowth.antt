@@ -8,16 +8,16 @@ use Rattle.shape_terms.specs.Parts.{Counts}
 use Rattle.thin_terms.specs.Thinning.{Event, Stage, ThinsTo, IsThinning, opening_stage}
 use Rattle.thin_terms.specs.Following.{IsNextEvent}
 use Rattle.report_terms.specs.Subjects.{Subject}
-use Rattle.report_terms.specs.Lines.{Line, line_text, text_of, IsLineOf}
+use Rattle.report_terms.specs.Lines.{Line, Heading, line_text, text_of, IsLineOf}
 use Rattle.report_terms.specs.ThinningLines.{PartsFact, event_of, events_of, kept_fact, kept_facts, ThinningClaim}
-use Rattle.report_terms.specs.Sections.{Section, section_of, lines_of, GoodAfter}
-use Rattle.report_terms.specs.Holds.{HoldsBy}
+use Rattle.report_terms.specs.Sections.{Section, section_of, lines_of, GoodAfter, GoodSoFar}
 use Rattle.text_terms.proofs.ListPushes.{take_next, filter_map-same, filter_map-push}
 use Rattle.report_terms.proofs.SectionLaws.{none_past, come_more, come_past, good_at, lines_push}
-use Rattle.report_terms.proofs.HeadingFirst.{gives_rule}
+use Rattle.report_terms.proofs.HeadingFirst.{heading_first, gives_rule}
 use Rattle.report_terms.proofs.ThinningShown.{step_at}
 use Rattle.text_terms.proofs.FramedFields.{within_short}
 use Rattle.shape_thin.specs.Runs.{event_point}
+use Rattle.shape_analyse.specs.Analyses.{GivesNumber, IsReportBy}
 use Rattle.shape_analyse.specs.Growing.{Aim, heading_of, IsSurveyed, HasEvents, HasKept, event_line}
 use Rattle.shape_analyse.proofs.Growth.{names_rule, text_push, good_more}
 
@@ -82,16 +82,25 @@ events_kept d X events stage lines n o b h t counts fields =
       all = ap length facts ∙ length-append (kept_facts before) (left ∷ []) ∙ ap (λ fs. length fs + 1) h.early;
     }
 
+-- the text of good lines begins with their heading, which gives its number
+gives_number : (X : Subject) (lines : List Line) (text : List ℕ) (h : Heading) → GoodSoFar X lines → lines_of Section.Heading lines ≡ Line.Shape h ∷ [] → text ≡ text_of lines → GivesNumber text h.number
+gives_number X lines text h good e is =
+    let r = heading_first X lines (Line.Shape h) good e in
+    record { heading = h; rest = text_of r.0; is = is ∙ ap text_of r.1; numbered = refl }
+
 -- and then the report holds
-pub kept_done : (X : Aim) (lines : List Line) (old new : List ℕ) → old ≡ text_of lines → new ≡ old ++ line_text Line.End → HasKept X lines → HoldsBy X.subject X.name new
+pub kept_done : (X : Aim) (lines : List Line) (old new : List ℕ) → old ≡ text_of lines → new ≡ old ++ line_text Line.End → HasKept X lines → IsReportBy X.subject X.name new
 kept_done X lines old new e f h =
     let come = come_past X.subject Section.Thinned Section.End lines refl h.come h.all in
     let good : GoodAfter X.subject lines Line.End = good_at X.subject Section.End lines Line.End come refl (none_past Section.Thinned Section.End lines (omega arith) h.come.order) in
     let all = good_more X lines Line.End h.lines_good h.few tt good in
     let is = text_push old new lines Line.End e f in
     record {
-      holds = (lines, record { split = is ∙ sym (append-nil (text_of (lines ++ Line.End ∷ []))); fields = all.fields; short = all.short; good = all.good });
-      named = gives_rule X.subject (lines ++ Line.End ∷ []) new (heading_of X all.named.sides) X.name all.good all.named.first refl is;
+      by = record {
+        holds = (lines, record { split = is ∙ sym (append-nil (text_of (lines ++ Line.End ∷ []))); fields = all.fields; short = all.short; good = all.good });
+        named = gives_rule X.subject (lines ++ Line.End ∷ []) new (heading_of X all.named.sides) X.name all.good all.named.first refl is;
+      };
+      newest = gives_number X.subject (lines ++ Line.End ∷ []) new (heading_of X all.named.sides) all.good all.named.first is;
     }
 
 -- the line of an event in the framed box
@@ -100,5 +109,5 @@ event_fits d (Event.Del p) axes within = within_short d p axes within
 event_fits d (Event.Tip p) axes within = within_short d p axes within
 
 -- a report by a rule, where the name is known otherwise
-pub renamed : (X : Subject) (v w text : List ℕ) → Some v ≡ Some w → HoldsBy X v text → HoldsBy X w text
-renamed X v w text e h = let same : v ≡ w = cc in subst (λ n. HoldsBy X n text) same h
+pub renamed : (X : Subject) (v w text : List ℕ) → Some v ≡ Some w → IsReportBy X v text → IsReportBy X w text
+renamed X v w text e h = let same : v ≡ w = cc in subst (λ n. IsReportBy X n text) same h

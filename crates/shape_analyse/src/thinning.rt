@@ -6,10 +6,10 @@ ghost use Rattle.shape_terms.specs.Parts.{Counts};
 ghost use Rattle.shape_terms.specs.Distances.{IsField};
 ghost use Rattle.thin_terms.specs.Thinning.{Stage, IsThinning};
 ghost use Rattle.report_terms.specs.Lines.{line_text, IsLineOf};
-ghost use Rattle.report_terms.specs.Holds.{HoldsBy};
 ghost use Rattle.shape_thin.specs.Runs.{IsRunOf, event_of, event_point};
 ghost use Rattle.shape_terms.specs.FramedBox.{IsWithin};
 ghost use Rattle.shape_thin.specs.Laws.{KeepsParts};
+ghost use Rattle.shape_analyse.specs.Analyses.{IsReportBy};
 ghost use Rattle.shape_analyse.specs.Growing.{Aim, IsTextOf, HasSurveyed, HasEvents, HasKept, event_line};
 
 use shape_adj::Parts;
@@ -120,7 +120,7 @@ pub(crate) fn add_thinning<P: Point>(
         → stage.left ≡ thinning.now.left
         → Counts thinning.now.left (length (object_points thinning.now.left))
         counted.object counted.background
-        → HasSurveyed P.DIM X report.old → OnOk result (HoldsBy X.subject X.name report.new) }
+        → HasSurveyed P.DIM X report.old → OnOk result (IsReportBy X.subject X.name report.new) }
 {
     add_events(thinning, report)?;
     add_kept(thinning, counted, report)?;

@@ -8,7 +8,6 @@ use Rattle.text_terms.specs.Reports.{Report, Holds}
 use Rattle.report_terms.specs.Subjects.{subject_of}
 use Rattle.report_terms.specs.Lines.{Line}
 use Rattle.report_terms.specs.Sections.{analysis}
-use Rattle.report_terms.specs.Holds.{HoldsBy}
 use Rattle.report_terms.specs.Shows.{TextShows}
 use Rattle.edge_terms.specs.Lines.{Line as EdgeLine}
 use Rattle.edge_terms.specs.EdgeReports.{edge_report}
@@ -19,6 +18,7 @@ use Rattle.piece_terms.specs.Shown.{PiecesShow}
 use Rattle.ball_terms.specs.Lines.{Line as BallLine}
 use Rattle.ball_terms.specs.Reports.{ball_report}
 use Rattle.ball_terms.specs.Shows.{BallsShow}
+use Rattle.shape_analyse.specs.Analyses.{IsReportBy}
 use Rattle.shape_picture.specs.Answers.{Format}
 use Rattle.shape_cli.specs.Formats.{narrowed}
 use Rattle.shape_cli.specs.Sources.{Kind, Source, IsFlat, format_of}
@@ -118,7 +118,7 @@ ShowsOf shelf ReportKind.Balls X text = BallsShow X text
 
 -- the text is the report of the picture that was wanted
 abbrev pub Makes : List (Named Rule) → Wanted → Picture → List ℕ → Type 0
-Makes shelf (Wanted.Analysis rule) X text = HoldsBy (subject_of X shelf) rule text
+Makes shelf (Wanted.Analysis rule) X text = IsReportBy (subject_of X shelf) rule text
 Makes shelf Wanted.Edges X text = Holds (edge_report X) text
 Makes shelf Wanted.Pieces X text = Holds (piece_report X) text
 Makes shelf Wanted.Balls X text = Holds (ball_report X) text

@@ -9,7 +9,7 @@ use Rattle.shape_cli.proofs.trial.tally_of.Goals as goal
 pub confirm-requires : goal.confirm-requires
 confirm-requires g c =
     let h = c.in_ok-analysis.ensures.analysis.holds _ (last_name c.args.shelf.now c.len-last.result c.len-last.ensures.len c.has_names.ensures.some) in
-    subst (λ rules. Holds (subject_of (picture_of c.in_ok-image.image) rules) c.in_ok-analysis.analysis.report) (sym c.in_ok-analysis.ensures.kept) h.holds
+    subst (λ rules. Holds (subject_of (picture_of c.in_ok-image.image) rules) c.in_ok-analysis.analysis.report) (sym c.in_ok-analysis.ensures.kept) h.by.holds
 
 pub returns : goal.returns
 returns g c =
