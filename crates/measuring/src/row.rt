@@ -33,6 +33,12 @@ pub struct Measures {
 }
 
 impl Clone for Measures {
+    ghost use Rattle.std.specs.Prelude.{◌≡◌, ⊤};
+
+    ghost is_clone = { λ m n. n ≡ m };
+
+    ghost is_infallible = { λ _. ⊤ };
+
     fn clone(&self) -> Result<Measures, AllocError> {
         Ok(*self)
     }
