@@ -9,7 +9,7 @@ use native.Mathlib.Decide.{ℕ_discrete}
 use Rattle.shape_terms.specs.Points.{Point, coordinate, in_box, box_count, box_points, raster_number, raster_point}
 use Rattle.shape_terms.specs.Adjacency.{moved, along}
 use Rattle.shape_terms.specs.Pictures.{Picture, IsPicture, at, with_value, object_points}
-use Rattle.shape_terms.proofs.Boxes.{raster_below, raster_point-raster_number}
+use Rattle.shape_terms.proofs.Boxes.{raster_below, raster_point_in, raster_number-raster_point, raster_point-raster_number}
 use Rattle.shape_terms.proofs.BoxLists.{length-box_points, get_or-box_points}
 use Rattle.shape_terms.proofs.Members.{Contains-filter, Contains-later}
 use Rattle.patch_terms.specs.Patches.{Sense, sense_step, exposed_points}
@@ -89,6 +89,14 @@ pub exposing_kept : (d : ℕ) (X : Picture) (t : ℕ) (sense : Sense) (i : ℕ) 
 exposing_kept d X t sense i L L' p h b e u f = subst (IsExposing d X t sense (i + 1)) (sym f) (exposing_by d X t sense i L L p h b e h.sides h.picture
     (h.rest p (omega (arith, e)) ∙ sym (and_true (at X p) (not (at X (moved p (sense_step t sense)))) (ap not u)))
     (λ q n. refl))
+
+-- a background point is not exposed
+pub exposing_empty : (d : ℕ) (X : Picture) (t : ℕ) (sense : Sense) (i : ℕ) (L : Picture) → IsExposing d X t sense i L → i < box_count X.sides → at X (raster_point X.sides i) ≡ false → IsExposing d X t sense (i + 1) L
+exposing_empty d X t sense i L h l f =
+    let e = raster_number-raster_point X.sides i l in
+    exposing_by d X t sense i L L (raster_point X.sides i) h (raster_point_in X.sides i l) e h.sides h.picture
+    (h.rest (raster_point X.sides i) (omega (arith, e)) ∙ (f ∙ sym (and_first (at X (raster_point X.sides i)) (not (at X (moved (raster_point X.sides i) (sense_step t sense)))) f)))
+    (λ q n. refl)
 
 pub exposing_all : (d : ℕ) (X : Picture) (t : ℕ) (sense : Sense) (n : ℕ) (L : Picture) → IsExposing d X t sense n L → box_count X.sides ≤ n → IsFace X t sense L
 exposing_all d X t sense n L h l = record { each = λ q. go q (in_box X.sides q) refl }

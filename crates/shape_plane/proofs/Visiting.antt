@@ -1,6 +1,6 @@
 -- The points of a face, visited in raster order.
 -- The loop over them stands elsewhere.
-use Rattle.std.proofs.Common.{◌≡◌, ℕ, zero, suc, ◌+◌, ◌<◌, ◌≤◌, ◌⊎◌, inl, inr, List, [], ◌∷◌, ◌++◌, refl, ap, sym, subst, ◌∙◌, arith}
+use Rattle.std.proofs.Common.{◌≡◌, true, false, ℕ, zero, suc, ◌+◌, ◌<◌, ◌≤◌, ◌⊎◌, inl, inr, List, [], ◌∷◌, ◌++◌, refl, ap, sym, subst, ◌∙◌, arith}
 use Rattle.std.specs.Prelude.{IsTrue, Contains, ◌↔◌}
 use Rattle.std.specs.Ordering.{nat_cmp}
 use Rattle.std.specs.Cmp.{nat_cmp_is}
@@ -10,7 +10,7 @@ use Rattle.shape_terms.specs.Points.{Point, in_box, box_count, raster_number, ra
 use Rattle.shape_terms.specs.Pictures.{Picture, at}
 use Rattle.shape_terms.specs.Steps.{Before}
 use Rattle.shape_terms.proofs.RasterOrder.{raster_rises}
-use Rattle.shape_terms.proofs.Boxes.{raster_point-raster_number, raster_below}
+use Rattle.shape_terms.proofs.Boxes.{raster_point_in, raster_number-raster_point, raster_point-raster_number, raster_below}
 use Rattle.std.specs.Prelude.{slice_get, Some}
 use Rattle.std.proofs.Common.{take, drop}
 use Rattle.std.proofs.lemmas.List.{drop-map, length-append}
@@ -59,6 +59,18 @@ visited_part d t first i found found' left tried left' tried' p x h b e el et no
   none = none;
   past = λ q a. passed first left i p q h.left_sides b e (in_sides left q (w.free q a).0) (λ z. n (subst (λ (v : Point). IsTrue (at left' v)) z a)) (h.past q (w.free q a).0);
 })
+
+-- the point with the next raster number is not left
+pub visited_none : (d t : ℕ) (first : Picture) (i : ℕ) (found : List FoundPatch) (left tried : Picture) → IsVisited d t first i found left tried → i < box_count left.sides → at left (raster_point left.sides i) ≡ false → IsVisited d t first (i + 1) found left tried
+visited_none d t first i found left tried h l f = record {
+  parting = h.parting;
+  refusing = h.refusing;
+  few = (let k = h.few in omega (arith, k));
+  left_sides = h.left_sides;
+  tried_sides = h.tried_sides;
+  none = h.none;
+  past = λ q a. passed first left i (raster_point left.sides i) q h.left_sides (raster_point_in left.sides i l) (raster_number-raster_point left.sides i l) (in_sides left q a) (λ z. (let g : false ≡ true = sym f ∙ (ap (at left) (sym z) ∙ a) in cc)) (h.past q a);
+}
 
 -- ---- the beginning and the end
 

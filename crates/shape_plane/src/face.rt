@@ -36,8 +36,8 @@ fn stepped<P: Point>(p: P, axis: usize, sense: Sense) -> P
     p.with(axis, next(p.coord(axis), sense))
 }
 
-// Takes the point with a raster number away, where its neighbour one step on is object.
-fn expose<P: Point>(grid: &Grid<P>, left: &mut Grid<P>, axis: usize, sense: Sense, i: u32)
+// Takes the object point with a raster number away, where its neighbour one step on is object.
+fn expose_object<P: Point>(grid: &Grid<P>, left: &mut Grid<P>, axis: usize, sense: Sense, i: u32)
     requires axis { axis < P.DIM }
     requires place { i < box_count grid.now.sides }
     requires going { IsExposing P.DIM grid.now axis (sense_of sense) i left.old }
@@ -47,6 +47,18 @@ fn expose<P: Point>(grid: &Grid<P>, left: &mut Grid<P>, axis: usize, sense: Sens
     let p = sides.unraster(i);
     if grid.has(stepped(p, axis, sense)) {
         left.clear(p);
+    }
+}
+
+// Takes the point with a raster number away, where its neighbour one step on is object.
+fn expose<P: Point>(grid: &Grid<P>, left: &mut Grid<P>, axis: usize, sense: Sense, i: u32)
+    requires axis { axis < P.DIM }
+    requires place { i < box_count grid.now.sides }
+    requires going { IsExposing P.DIM grid.now axis (sense_of sense) i left.old }
+    ensures { IsExposing P.DIM grid.now axis (sense_of sense) (i + 1) left.new }
+{
+    if grid.has_number(i) {
+        expose_object(grid, left, axis, sense, i);
     }
 }
 

@@ -141,8 +141,8 @@ fn visit<P: Pairing>(
         IsVisited P.DIM axis first (i + 1) found.new.patches left.new tried.new) }
 {
     left.is_picture();
-    let p = left.sides().unraster(i);
-    if left.has(p) {
+    if left.has_number(i) {
+        let p = left.sides().unraster(i);
         let patch = next_patch(alloc, axis, p, left, tried)?;
         found.push(patch)?;
     }
