@@ -9,7 +9,7 @@ use Rattle.report_terms.specs.Lines as Terms
 use Rattle.report_terms.specs.Lines.{split, axes_of, IsLineOf, line_words, spelling}
 use Rattle.report_terms.proofs.LineLaws.{is_table}
 use Rattle.report_terms.proofs.Spelled.{same_words, words_of_line}
-use Rattle.report_text.specs.Reading.{split_words}
+use Rattle.report_text.specs.Reading.{split_words, ReadsBytes}
 use Rattle.report_text.proofs.Claims as Texts
 use Rattle.report_text.proofs.SplitWords.{join-split_words, split_words-join}
 use Rattle.shape_refute.specs.Evidences.{evidence_of}
@@ -44,3 +44,8 @@ from_words d coords bytes (Some line) h =
     let l = line_of coords line in
     let r = read_only (table d) (is_table d) (split_words bytes) (split l) h.0 in
     (r.0, ap (join_with_byte 32) (sym (same_words d l r.0) ∙ r.1) ∙ join-split_words bytes, h.1)
+
+-- and so it is one of the kind of report
+pub read_bytes : {P : Type 0} (d : ℕ) (coords : P → List ℤ) (bytes : List ℕ) (r : Option (Line P)) → ReadsLine d coords (split_words bytes) r → ReadsBytes (Terms.spelled d) (λ l. line_of coords l) bytes r
+read_bytes d coords bytes None h = from_words d coords bytes None h
+read_bytes d coords bytes (Some line) h = let r = from_words d coords bytes (Some line) h in (r.0, r.1)

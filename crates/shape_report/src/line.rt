@@ -3,9 +3,9 @@
 ghost use Rattle.std.specs.Prelude.{◌≡◌};
 ghost use Rattle.report_terms.specs.Sections.{rank, section_of};
 
-use crate::read::read_claim;
+use crate::read::line;
 use crate::spell::spell;
-use report_text::{ReportLine, Text};
+use report_text::{ReportLine, Text, Words};
 use shape_refute::{Bounds, Naive, Refusal, Refutation, Sense};
 use shape_rules::Name;
 use shape_space::Point;
@@ -160,7 +160,7 @@ impl<P: Point> ReportLine for Line<P> {
     ghost last = { Terms.Line.End };
 
     fn read(bytes: &[u8]) -> Option<Line<P>> {
-        read_claim(bytes)
+        line(&mut Words::new(bytes))
     }
 
     fn spell(&self, text: &mut Text) {

@@ -314,7 +314,7 @@ fn fields<P: Point>(word: &[u8], words: &mut Words) -> Option<Line<P>>
 }
 
 // Reads the words of a line.
-fn line<P: Point>(words: &mut Words) -> Option<Line<P>>
+pub(crate) fn line<P: Point>(words: &mut Words) -> Option<Line<P>>
     ensures { ReadsLine P.DIM P.coords words.old result }
 {
     let word = words.next_word()?;
