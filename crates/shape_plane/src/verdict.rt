@@ -40,7 +40,8 @@ pub fn decide_with<P: Point>(
     requires inside { AreInside P.MAX_SIDE (map P.coords points.now) }
     requires known { AreRowsOf (length points.now) axis (map P.coords points.now) known.old }
     ensures decided { IfOk result (IsDecided P.DIM axis (map P.coords points.now)) }
-    ensures grown { HasGrown (length points.now) axis (map P.coords points.now) known.old known.new }
+    ensures grown { HasGrown (length points.now) axis
+        (map P.coords points.now) known.old known.new }
 {
     for _round in 0..u64::MAX {
         match known.solve(points, axis) {
@@ -69,7 +70,8 @@ pub fn decide_by<P: Point>(
     requires pair { IsPair (length points.now) pair }
     requires known { AreRowsOf (length points.now) axis (map P.coords points.now) known.old }
     ensures decided { IfOk result (IsDecided P.DIM axis (map P.coords points.now)) }
-    ensures grown { HasGrown (length points.now) axis (map P.coords points.now) known.old known.new }
+    ensures grown { HasGrown (length points.now) axis
+        (map P.coords points.now) known.old known.new }
 {
     known.add(points, axis, pair)?;
     decide_with(points, axis, known)
