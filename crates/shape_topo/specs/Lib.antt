@@ -1,5 +1,6 @@
 pub mod Bits
 pub mod Masks
 pub mod MaskLists
+pub mod Gaps
 pub mod Compute
 pub mod SimpleTable

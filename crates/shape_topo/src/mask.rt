@@ -1,12 +1,13 @@
 //! The near neighbours of a point that are object, as bits.
 //! What a mask says of the point belongs elsewhere.
-ghost use Rattle.std.specs.Prelude.{ℕ, ◌<◌, ◌^◌, IsTrue, negsuc, pos};
-ghost use Rattle.shape_terms.specs.Points.{in_box, box_count, raster_point};
+ghost use Rattle.std.specs.Prelude.{◌≡◌, ℕ, ◌<◌, ◌≤◌, ◌^◌, IsTrue, length, negsuc, pos};
+ghost use Rattle.shape_terms.specs.Points.{sides_of, in_box, box_count, raster_point};
 ghost use Rattle.shape_terms.specs.FramedBox.{IsWithin};
 ghost use Rattle.shape_terms.specs.Adjacency.{near_point};
 ghost use Rattle.shape_topo.specs.Masks.{IsNearMask};
 
-use shape_adj::{Pairing, is_inner, near_number};
+use crate::near::NearNumbers;
+use shape_adj::{Pairing, is_inner};
 use shape_grid::Grid;
 
 /// The near neighbours that are object: bit k is set where near neighbour k is.
@@ -25,16 +26,18 @@ pub fn mask_of<P: Pairing>(grid: &Grid<P>, p: P) -> u32
 }
 
 // The same of the point with a raster number, where all its near neighbours are in the box.
-fn inner_mask<P: Pairing>(grid: &Grid<P>, i: u32) -> u32
+fn inner_mask<P: Pairing>(grid: &Grid<P>, near: &NearNumbers<P>, i: u32) -> u32
+    requires sides { sides_of (P.coords near.now.sides.lengths) ≡ grid.now.sides }
+    requires known { P.NEAR_COUNT ≤ length near.now.gaps.items }
     requires point { i < box_count grid.now.sides }
     requires inner { (k : ℕ) → k < P.NEAR_COUNT
         → IsTrue (in_box grid.now.sides (near_point (raster_point grid.now.sides i) k)) }
     ensures { IsNearMask grid.now (raster_point grid.now.sides i) result }
 {
-    let sides = grid.sides();
+    grid.is_picture();
     let mut mask = 0;
     for k in 0..P::NEAR_COUNT {
-        if grid.has_number(near_number(&sides, i, k)) {
+        if grid.has_number(near.known(i, k)) {
             mask |= 1u32 << k;
         }
     }
@@ -42,14 +45,14 @@ fn inner_mask<P: Pairing>(grid: &Grid<P>, i: u32) -> u32
 }
 
 // The same of the point with a raster number.
-pub(crate) fn mask_at<P: Pairing>(grid: &Grid<P>, i: u32) -> u32
-    requires { i < box_count grid.now.sides }
+pub(crate) fn mask_at<P: Pairing>(grid: &Grid<P>, near: &NearNumbers<P>, i: u32) -> u32
+    requires sides { sides_of (P.coords near.now.sides.lengths) ≡ grid.now.sides }
+    requires point { i < box_count grid.now.sides }
     ensures { IsNearMask grid.now (raster_point grid.now.sides i) result }
 {
-    let sides = grid.sides();
-    let p = sides.unraster(i);
-    if is_inner(&sides, p) {
-        inner_mask(grid, i)
+    let p = near.sides.unraster(i);
+    if near.all_known() && is_inner(&near.sides, p) {
+        inner_mask(grid, near, i)
     } else {
         mask_of(grid, p)
     }

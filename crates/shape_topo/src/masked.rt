@@ -10,8 +10,9 @@ ghost use Rattle.shape_topo.specs.Masks.{IsNearMask};
 ghost use Rattle.shape_topo.specs.MaskLists.{AreMasks};
 
 use crate::mask::mask_at;
+use crate::near::NearNumbers;
 use crate::simple::SimpleMask;
-use shape_adj::{Pairing, near_number};
+use shape_adj::Pairing;
 use shape_grid::Grid;
 use shape_space::{NoMemory, Sides, Steps};
 use std::alloc::Global;
@@ -21,14 +22,17 @@ use std::sync::ledger::Ledger;
 /// A grid with the mask of each object point.
 ///
 /// Each neighbour is read once, in the beginning: a deletion changes the masks of the near neighbours. It takes five bytes for
-/// each point of the box.
+/// each point of the box, and a few for the neighbours.
 #[derive(Drop)]
 pub struct MaskedGrid<P: Pairing> {
     grid: Grid<P>,
+    near: NearNumbers<P>,
     masks: Vec<u32>,
 }
 
 impl<P: Pairing> Model for MaskedGrid<P> {
+    ghost use Rattle.std.specs.Prelude.{◌≡◌};
+    ghost use Rattle.shape_terms.specs.Points.{sides_of};
     ghost use Rattle.shape_terms.specs.Pictures.{Picture};
     ghost use Rattle.shape_topo.specs.MaskLists.{AreMasks};
 
@@ -36,36 +40,43 @@ impl<P: Pairing> Model for MaskedGrid<P> {
 
     ghost view = { λ m. m.grid };
 
-    ghost invariant = { λ m. AreMasks m.grid m.masks.items };
+    ghost invariant = { λ m. AreMasks m.grid m.masks.items
+        × (sides_of (P.coords m.near.sides.lengths) ≡ m.grid.sides) };
 }
 
 // The masks of the object points, by their raster numbers.
-fn masks_of<P: Pairing>(alloc: Global, grid: &Grid<P>) -> Result<Vec<u32>, NoMemory>
+fn masks_of<P: Pairing>(
+    alloc: Global,
+    grid: &Grid<P>,
+    near: &NearNumbers<P>,
+) -> Result<Vec<u32>, NoMemory>
+    requires { sides_of (P.coords near.now.sides.lengths) ≡ grid.now.sides }
     ensures { IfOk result (λ v. AreMasks grid.now v.items) }
 {
     let sides = grid.sides();
     let mut masks = vec![in alloc; 0u32; sides.count() as usize]?;
     for i in 0..sides.count() {
         if grid.has_number(i) {
-            masks[i as usize] = mask_at(grid, i);
+            masks[i as usize] = mask_at(grid, near, i);
         }
     }
     Ok(masks)
 }
 
 // Takes a point with this mask out of the masks of its object near neighbours.
-fn take_out<P: Pairing>(grid: &Grid<P>, masks: &mut [u32], i: u32, mask: u32)
+fn take_out<P: Pairing>(grid: &Grid<P>, near: &NearNumbers<P>, masks: &mut [u32], i: u32, mask: u32)
+    requires sides { sides_of (P.coords near.now.sides.lengths) ≡ grid.now.sides }
     requires inside { i < box_count grid.now.sides }
     requires masks { AreMasks grid.now masks.old }
     requires mask { IsNearMask grid.now (raster_point grid.now.sides i) mask }
     ensures { AreMasks (without grid.now (raster_point grid.now.sides i)) masks.new }
 {
-    let sides = grid.sides();
+    grid.is_picture();
     let mut rest = mask;
     while rest != 0 {
         let k = rest.trailing_zeros() as usize;
         rest &= !(1u32 << k);
-        let j = near_number(&sides, i, k);
+        let j = near.number(i, k);
         masks[j as usize] &= !(1u32 << (P::NEAR_COUNT - 1 - k));
     }
 }
@@ -75,8 +86,9 @@ impl<P: Pairing> MaskedGrid<P> {
     pub fn new(alloc: Global, grid: Grid<P>) -> Result<MaskedGrid<P>, NoMemory>
         ensures { IfOk result (λ m. m ≡ grid) }
     {
-        let masks = masks_of(alloc, &grid)?;
-        Ok(MaskedGrid { grid, masks })
+        let near = NearNumbers::of(alloc, grid.sides())?;
+        let masks = masks_of(alloc, &grid, &near)?;
+        Ok(MaskedGrid { grid, near, masks })
     }
 
     /// The grid.
@@ -105,10 +117,12 @@ impl<P: Pairing> MaskedGrid<P> {
     pub fn near_number(&self, i: u32, k: usize) -> u32
         requires below { k < P.NEAR_COUNT }
         requires point { i < box_count self.now.sides }
-        requires inside { IsTrue (in_box self.now.sides (near_point (raster_point self.now.sides i) k)) }
-        ensures { result ≡ raster_number self.now.sides (near_point (raster_point self.now.sides i) k) }
+        requires inside { IsTrue (in_box self.now.sides
+            (near_point (raster_point self.now.sides i) k)) }
+        ensures { result ≡ raster_number self.now.sides
+            (near_point (raster_point self.now.sides i) k) }
     {
-        near_number(&self.grid.sides(), i, k)
+        self.near.number(i, k)
     }
 
     /// Whether the point with a raster number is an object point.
@@ -146,7 +160,7 @@ impl<P: Pairing> MaskedGrid<P> {
     {
         if self.grid.has_number(i) {
             let mask = self.mask(i);
-            take_out(&self.grid, &mut self.masks, i, mask);
+            take_out(&self.grid, &self.near, &mut self.masks, i, mask);
             self.grid.clear_number(i);
         }
     }

@@ -76,7 +76,8 @@ pub(crate) fn look_round<P: SimpleMask, L: Ledger>(
         → IsTrue (at free.now (near_point (raster_point left.now.sides place) k)) → In mask k }
     requires boxed { (k : ℕ) → In mask k → (k < P.NEAR_COUNT)
         × IsTrue (in_box left.now.sides (near_point (raster_point left.now.sides place) k)) }
-    ensures waits { IsQueueBut (raster_point left.now.sides place) left.now free.now keys.old.distances (has keys.old)
+    ensures waits { IsQueueBut (raster_point left.now.sides place) left.now free.now
+        keys.old.distances (has keys.old)
         → IsQueue left.now free.now keys.old.distances (has keys.new) }
     ensures distances { keys.new.distances ≡ keys.old.distances }
     ensures few { steps.new ≤ steps.old + P.NEAR_COUNT }

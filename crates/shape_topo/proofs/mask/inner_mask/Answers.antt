@@ -17,7 +17,7 @@ has_number-requires g c =
     let k = c.loop-k.k in
     let q = near_point (raster_point Y.sides c.args.i) k in
     let inside : IsTrue (in_box Y.sides q) = c.requires.inner k (omega (arith, c.NEAR_COUNT-k-end.ensures)) in
-    let e : c.near_number.result ≡ raster_number Y.sides q = c.near_number.ensures ∙ (λ j. raster_number (c.sides-sides.ensures.value j) (near_point (raster_point (c.sides-sides.ensures.value j) c.args.i) k)) in
+    let e : c.known.result ≡ raster_number Y.sides q = c.known.ensures ∙ (λ j. raster_number (c.requires.sides j) (near_point (raster_point (c.requires.sides j) c.args.i) k)) in
     omega (arith, e, raster_below Y.sides q inside)
 
 pub loop-k-preserved : goal.loop-k-preserved
@@ -27,8 +27,8 @@ loop-k-preserved g c =
     let p = raster_point Y.sides c.args.i in
     let few : g.P.Pairing.NEAR_COUNT ≤ 26 = few_neighbours g.P.Point.DIM g.P.Pairing.NEAR_COUNT g.met.P.Point.two_or_three g.met.P.Pairing.near_total in
     let inside : IsTrue (in_box Y.sides (near_point p k)) = c.requires.inner k (omega (arith, c.NEAR_COUNT-k-end.ensures)) in
-    let e : c.near_number.result ≡ raster_number Y.sides (near_point p k) = c.near_number.ensures ∙ (λ j. raster_number (c.sides-sides.ensures.value j) (near_point (raster_point (c.sides-sides.ensures.value j) c.args.i) k)) in
-    let there : raster_point Y.sides c.near_number.result ≡ near_point p k = ap (raster_point Y.sides) e ∙ raster_point-raster_number Y.sides (near_point p k) inside in
+    let e : c.known.result ≡ raster_number Y.sides (near_point p k) = c.known.ensures ∙ (λ j. raster_number (c.requires.sides j) (near_point (raster_point (c.requires.sides j) c.args.i) k)) in
+    let there : raster_point Y.sides c.known.result ≡ near_point p k = ap (raster_point Y.sides) e ∙ raster_point-raster_number Y.sides (near_point p k) inside in
     let value : c.has_number.result ≡ at Y (near_point p k) = c.has_number.ensures ∙ ap (at Y) there in
     elim c.if-has_number.branch [
       | then-has_number w ↦ rw w.mask-is (marks_yes (λ j. at Y (near_point p j) ≡ true) k c.loop-k.mask
@@ -41,6 +41,6 @@ pub returns : goal.returns
 returns g c =
     let Y = c.args.grid.now in
     let p = raster_point Y.sides c.args.i in
-    let axes : length p ≡ g.P.Point.DIM = length-raster_point Y.sides c.args.i ∙ c.sides-sides.ensures.picture.axes in
+    let axes : length p ≡ g.P.Point.DIM = length-raster_point Y.sides c.args.i ∙ c.is_picture.ensures.picture.axes in
     let total : c.loop-k.k ≡ near_total (length p) = omega (arith, c.NEAR_COUNT-k-end.ensures, g.met.P.Pairing.near_total, ap near_total axes) in
     subst (λ n. Marks (λ j. at Y (near_point p j) ≡ true) n c.loop-k.mask) total c.loop-k.invariant

@@ -3,5 +3,5 @@ use Rattle.shape_topo.proofs.mask.mask_at.Goals as goal
 
 pub mask_of-requires : goal.mask_of-requires
 mask_of-requires g c =
-    let s = c.sides-sides.result in
+    let s = c.args.near.now.sides in
     box_point_within g.P.Point.MAX_SIDE (g.P.Point.coords s.lengths) (g.P.Point.coords c.unraster-p.result) s.in_range g.met.P.Point.flat_side c.unraster-p.ensures.inside

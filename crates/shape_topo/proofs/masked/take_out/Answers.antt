@@ -13,31 +13,31 @@ pub loop-rest-init : goal.loop-rest-init
 loop-rest-init g c =
     let Y = c.args.grid.now in
     let p = raster_point Y.sides c.args.i in
-    taking_start Y p c.args.mask c.sides-sides.ensures.picture.filled (raster_point_in Y.sides c.args.i c.requires.inside) c.requires.mask c.args.masks.now c.requires.masks
+    taking_start Y p c.args.mask c.is_picture.ensures.picture.filled (raster_point_in Y.sides c.args.i c.requires.inside) c.requires.mask c.args.masks.now c.requires.masks
 
-pub near_number-j-requires-clause-below : goal.near_number-j-requires-clause-below
-near_number-j-requires-clause-below g c =
+pub number-j-requires-clause-below : goal.number-j-requires-clause-below
+number-j-requires-clause-below g c =
     let Y = c.args.grid.now in
     let p = raster_point Y.sides c.args.i in
-    let axes : length p ≡ g.P.Point.DIM = length-raster_point Y.sides c.args.i ∙ c.sides-sides.ensures.picture.axes in
-    let n = taking_number Y p c.args.mask c.sides-sides.ensures.picture.filled (raster_point_in Y.sides c.args.i c.requires.inside) c.requires.mask
+    let axes : length p ≡ g.P.Point.DIM = length-raster_point Y.sides c.args.i ∙ c.is_picture.ensures.picture.axes in
+    let n = taking_number Y p c.args.mask c.is_picture.ensures.picture.filled (raster_point_in Y.sides c.args.i c.requires.inside) c.requires.mask
     c.loop-rest.rest c.loop-rest.masks c.loop-rest.invariant (omega arith) (omega arith) in
     omega (arith, n, ap near_total axes, g.met.P.Pairing.near_total)
 
-pub near_number-j-requires-clause-inside : goal.near_number-j-requires-clause-inside
-near_number-j-requires-clause-inside g c =
+pub number-j-requires-clause-inside : goal.number-j-requires-clause-inside
+number-j-requires-clause-inside g c =
     let Y = c.args.grid.now in
     let p = raster_point Y.sides c.args.i in
-    let inside = taking_inside Y p c.args.mask c.sides-sides.ensures.picture.filled (raster_point_in Y.sides c.args.i c.requires.inside) c.requires.mask
+    let inside = taking_inside Y p c.args.mask c.is_picture.ensures.picture.filled (raster_point_in Y.sides c.args.i c.requires.inside) c.requires.mask
     c.loop-rest.rest c.loop-rest.masks c.loop-rest.invariant (omega arith) (omega arith) in
-    (λ j. in_box (c.sides-sides.ensures.value j) (near_point (raster_point (c.sides-sides.ensures.value j) c.args.i) (count_trailing_zeros 32 c.loop-rest.rest))) ∙ inside
+    (λ j. in_box (c.requires.sides j) (near_point (raster_point (c.requires.sides j) c.args.i) (count_trailing_zeros 32 c.loop-rest.rest))) ∙ inside
 
 pub overflow_sub-masks-in-loop-rest : goal.overflow_sub-masks-in-loop-rest
 overflow_sub-masks-in-loop-rest g c =
     let Y = c.args.grid.now in
     let p = raster_point Y.sides c.args.i in
-    let axes : length p ≡ g.P.Point.DIM = length-raster_point Y.sides c.args.i ∙ c.sides-sides.ensures.picture.axes in
-    let n = taking_number Y p c.args.mask c.sides-sides.ensures.picture.filled (raster_point_in Y.sides c.args.i c.requires.inside) c.requires.mask
+    let axes : length p ≡ g.P.Point.DIM = length-raster_point Y.sides c.args.i ∙ c.is_picture.ensures.picture.axes in
+    let n = taking_number Y p c.args.mask c.is_picture.ensures.picture.filled (raster_point_in Y.sides c.args.i c.requires.inside) c.requires.mask
     c.loop-rest.rest c.loop-rest.masks c.loop-rest.invariant (omega arith) (omega arith) in
     omega (arith, n, ap near_total axes, g.met.P.Pairing.near_total, c.NEAR_COUNT.ensures)
 
@@ -46,9 +46,9 @@ bounds-masks-j g c =
     let Y = c.args.grid.now in
     let p = raster_point Y.sides c.args.i in
     let k = count_trailing_zeros 32 c.loop-rest.rest in
-    let inside = taking_inside Y p c.args.mask c.sides-sides.ensures.picture.filled (raster_point_in Y.sides c.args.i c.requires.inside) c.requires.mask
+    let inside = taking_inside Y p c.args.mask c.is_picture.ensures.picture.filled (raster_point_in Y.sides c.args.i c.requires.inside) c.requires.mask
     c.loop-rest.rest c.loop-rest.masks c.loop-rest.invariant (omega arith) (omega arith) in
-    let e : c.near_number-j.result ≡ raster_number Y.sides (near_point p k) = c.near_number-j.ensures ∙ (λ j. raster_number (c.sides-sides.ensures.value j) (near_point (raster_point (c.sides-sides.ensures.value j) c.args.i) k)) in
+    let e : c.number-j.result ≡ raster_number Y.sides (near_point p k) = c.number-j.ensures ∙ (λ j. raster_number (c.requires.sides j) (near_point (raster_point (c.requires.sides j) c.args.i) k)) in
     let f = c.loop-rest.invariant.taken.filled in
     omega (arith, e, f, raster_below Y.sides (near_point p k) inside)
 
@@ -57,9 +57,9 @@ bounds-masks-j-in-loop-rest g c =
     let Y = c.args.grid.now in
     let p = raster_point Y.sides c.args.i in
     let k = count_trailing_zeros 32 c.loop-rest.rest in
-    let inside = taking_inside Y p c.args.mask c.sides-sides.ensures.picture.filled (raster_point_in Y.sides c.args.i c.requires.inside) c.requires.mask
+    let inside = taking_inside Y p c.args.mask c.is_picture.ensures.picture.filled (raster_point_in Y.sides c.args.i c.requires.inside) c.requires.mask
     c.loop-rest.rest c.loop-rest.masks c.loop-rest.invariant (omega arith) (omega arith) in
-    let e : c.near_number-j.result ≡ raster_number Y.sides (near_point p k) = c.near_number-j.ensures ∙ (λ j. raster_number (c.sides-sides.ensures.value j) (near_point (raster_point (c.sides-sides.ensures.value j) c.args.i) k)) in
+    let e : c.number-j.result ≡ raster_number Y.sides (near_point p k) = c.number-j.ensures ∙ (λ j. raster_number (c.requires.sides j) (near_point (raster_point (c.requires.sides j) c.args.i) k)) in
     let f = c.loop-rest.invariant.taken.filled in
     omega (arith, e, f, raster_below Y.sides (near_point p k) inside)
 
@@ -71,23 +71,23 @@ loop-rest-preserved g c =
     let Y = c.args.grid.now in
     let p = raster_point Y.sides c.args.i in
     let k = count_trailing_zeros 32 c.loop-rest.rest in
-    let d : length p ≡ g.P.Point.DIM = length-raster_point Y.sides c.args.i ∙ c.sides-sides.ensures.picture.axes in
+    let d : length p ≡ g.P.Point.DIM = length-raster_point Y.sides c.args.i ∙ c.is_picture.ensures.picture.axes in
     let dims = subst (λ d. (d ≡ 2) ⊎ (d ≡ 3)) (sym d) g.met.P.Point.two_or_three in
     let b = raster_point_in Y.sides c.args.i c.requires.inside in
-    let n = taking_number Y p c.args.mask c.sides-sides.ensures.picture.filled b c.requires.mask
+    let n = taking_number Y p c.args.mask c.is_picture.ensures.picture.filled b c.requires.mask
     c.loop-rest.rest c.loop-rest.masks c.loop-rest.invariant (omega arith) (omega arith) in
     let bit = c.NEAR_COUNT.result - 1 - k in
     let way : bit + k + 1 ≡ near_total (length p) = omega (arith, n, c.NEAR_COUNT.ensures, g.met.P.Pairing.near_total, ap near_total d) in
-    let e : c.near_number-j.result ≡ raster_number Y.sides (near_point p k) = c.near_number-j.ensures ∙ (λ j. raster_number (c.sides-sides.ensures.value j) (near_point (raster_point (c.sides-sides.ensures.value j) c.args.i) k)) in
-    taking_more Y p c.args.mask c.sides-sides.ensures.picture.filled b c.requires.mask c.loop-rest.rest c.loop-rest.masks c.loop-rest.invariant (omega arith) (omega arith)
-    dims (length-raster_point Y.sides c.args.i) bit c.near_number-j.result way e
+    let e : c.number-j.result ≡ raster_number Y.sides (near_point p k) = c.number-j.ensures ∙ (λ j. raster_number (c.requires.sides j) (near_point (raster_point (c.requires.sides j) c.args.i) k)) in
+    taking_more Y p c.args.mask c.is_picture.ensures.picture.filled b c.requires.mask c.loop-rest.rest c.loop-rest.masks c.loop-rest.invariant (omega arith) (omega arith)
+    dims (length-raster_point Y.sides c.args.i) bit c.number-j.result way e
 
 pub returns : goal.returns
 returns g c =
     let Y = c.args.grid.now in
     let p = raster_point Y.sides c.args.i in
-    let d : length p ≡ g.P.Point.DIM = length-raster_point Y.sides c.args.i ∙ c.sides-sides.ensures.picture.axes in
+    let d : length p ≡ g.P.Point.DIM = length-raster_point Y.sides c.args.i ∙ c.is_picture.ensures.picture.axes in
     let dims = subst (λ d. (d ≡ 2) ⊎ (d ≡ 3)) (sym d) g.met.P.Point.two_or_three in
     let z : c.loop-rest.rest ≡ 0 = omega arith in
-    taking_end Y p c.args.mask c.sides-sides.ensures.picture.filled (raster_point_in Y.sides c.args.i c.requires.inside) c.requires.mask c.loop-rest.masks dims (length-raster_point Y.sides c.args.i)
+    taking_end Y p c.args.mask c.is_picture.ensures.picture.filled (raster_point_in Y.sides c.args.i c.requires.inside) c.requires.mask c.loop-rest.masks dims (length-raster_point Y.sides c.args.i)
     (rw (← z) c.loop-rest.invariant)

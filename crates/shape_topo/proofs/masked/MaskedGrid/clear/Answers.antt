@@ -10,8 +10,8 @@ invariant_of-self g c =
     let Y = c.self.inside.grid in
     let below : c.args.i < box_count Y.sides = omega (arith, c.requires, ap (λ (Y : Picture). box_count Y.sides) c.self.view_is) in
     let same : c.clear_number.new.self ≡ without Y (raster_point Y.sides c.args.i) = c.clear_number.ensures ∙ cleared_is Y c.args.i below in
-    let full : length c.take_out.new.masks ≡ c.self.inside.masks.len = omega (arith, c.take_out.ensures.filled, c.self.invariant.filled) in
-    rw same (masks_back (without Y (raster_point Y.sides c.args.i)) c.self.inside.masks.len c.take_out.new.masks c.self.inside.masks.items full c.take_out.ensures)
+    let full : length c.take_out.new.masks ≡ c.self.inside.masks.len = omega (arith, c.take_out.ensures.filled, c.self.invariant.0.filled) in
+    (rw same (masks_back (without Y (raster_point Y.sides c.args.i)) c.self.inside.masks.len c.take_out.new.masks c.self.inside.masks.items full c.take_out.ensures), c.self.invariant.1 ∙ sym (ap (λ (Y : Picture). Y.sides) same))
 
 pub returns-then-has_number : goal.returns-then-has_number
 returns-then-has_number g c =

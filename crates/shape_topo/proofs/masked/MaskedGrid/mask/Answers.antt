@@ -16,6 +16,6 @@ returns-clause-few g c =
     let below : i < box_count Y.sides = omega (arith, c.requires.below, ap (λ (Y : Picture). box_count Y.sides) c.self.view_is) in
     let object : Object Y (raster_point Y.sides i) = subst (λ (Y : Picture). Object Y (raster_point Y.sides i)) (sym c.self.view_is) c.requires.object in
     let axes : g.P.Pairing.NEAR_COUNT ≡ near_total (length (raster_point Y.sides i)) = g.met.P.Pairing.near_total ∙ ap near_total (sym (length-raster_point Y.sides i ∙ c.is_picture.ensures.picture.axes)) in
-    let small = mask_small Y (raster_point Y.sides i) (slice_index ms i) g.P.Pairing.NEAR_COUNT (c.self.invariant.each i below object) axes in
+    let small = mask_small Y (raster_point Y.sides i) (slice_index ms i) g.P.Pairing.NEAR_COUNT (c.self.invariant.0.each i below object) axes in
     let read : get_or ms i c.index.result.now ≡ c.index.result.now = search rules in
-    rw (← read, get_or_default ms i c.index.result.now 0 (omega (arith, below, c.self.invariant.filled))) small
+    rw (← read, get_or_default ms i c.index.result.now 0 (omega (arith, below, c.self.invariant.0.filled))) small
