@@ -50,7 +50,8 @@ fn put_point(
     requires below { i < box_count (sides_of (flat sides.lengths)) }
     requires labels { length labels.now ≡ box_count (sides_of (flat sides.lengths)) }
     ensures { (n : ℕ) → HaveRows (sides_of (flat sides.lengths)) labels.now n i all.old.items
-        → OnOk result (HaveRows (sides_of (flat sides.lengths)) labels.now n (i + 1) all.new.items) }
+        → OnOk result
+        (HaveRows (sides_of (flat sides.lengths)) labels.now n (i + 1) all.new.items) }
 {
     let label = labels.label(i) as usize;
     if label == 0 || label > all.len() {

@@ -119,7 +119,8 @@ pub(crate) fn read_further<D: Desk>(
     sides: P2,
     desk: &mut D,
 ) -> Result<Further, OverFault>
-    ensures answer { FurtherInFile (flat sides) name.now (D.state desk.old) (D.state desk.new) result }
+    ensures answer { FurtherInFile (flat sides) name.now
+        (D.state desk.old) (D.state desk.new) result }
     ensures only { OnlyReads (D.state desk.old) (D.state desk.new) }
 {
     match desk.begin(Place::Report, name) {

@@ -30,6 +30,7 @@ pub trait EndRule: Drop {
     /// Whether the point with these facts is marked, and so kept.
     fn keep(&mut self, facts: &Facts) -> bool
         ensures answer { result ≡ (means self.old).marks (state self.old) (facts_of facts.now) }
-        ensures moved { state self.new ≡ (means self.old).next (state self.old) (facts_of facts.now) }
+        ensures moved { state self.new
+            ≡ (means self.old).next (state self.old) (facts_of facts.now) }
         ensures same_rule { means self.new ≡ means self.old };
 }

@@ -16,7 +16,8 @@ use std::test::Fail;
 
 // The squared distance of an object point to the background, and 0 of any other point.
 fn distance_at(scans: &Scans<P2>, p: P2) -> u64
-    ensures { IsTrue (at scans.now (p.x ∷ p.y ∷ [])) → HasDistance scans.now (p.x ∷ p.y ∷ []) result }
+    ensures { IsTrue (at scans.now (p.x ∷ p.y ∷ []))
+        → HasDistance scans.now (p.x ∷ p.y ∷ []) result }
 {
     if scans.grid().has(p) {
         scans.least(p)
