@@ -1,6 +1,6 @@
 -- Exposed points by tests, and which is the first that is left.
 -- Laws over pictures and points.
-use Rattle.std.proofs.Common.{◌≡◌, ℕ, zero, suc, ◌+◌, ◌<◌, Bool, true, false, ap, sym, ◌∙◌, refl, subst, arith, inl, inr, List, [], ◌∷◌, length, take, map}
+use Rattle.std.proofs.Common.{◌≡◌, ℕ, zero, suc, ◌+◌, ◌<◌, Bool, true, false, ap, sym, ◌∙◌, refl, subst, arith, inl, inr, List, [], ◌∷◌, map}
 use Rattle.std.specs.Prelude.{◌↔◌, IsTrue, not, filter, Contains, ℤ, pos, negsuc, ◌+ℤ◌}
 use Rattle.std.proofs.lemmas.Int.{ints}
 use Rattle.std.proofs.lemmas.Bool.{cond-true, cond-false, cases_Bool, and_parts}

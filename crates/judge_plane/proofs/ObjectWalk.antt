@@ -1,6 +1,6 @@
 -- The object points of a picture from a raster number on, as they are walked over: which of them are exposed, and where none stands.
 -- Laws over pictures and points.
-use Rattle.std.proofs.Common.{◌≡◌, ℕ, suc, ◌+◌, ◌-◌, ◌<◌, ◌≤◌, Bool, true, false, ap, sym, ◌∙◌, refl, subst, arith, inl, inr, List, [], ◌∷◌, length, drop, get_or}
+use Rattle.std.proofs.Common.{◌≡◌, ℕ, suc, ◌+◌, ◌-◌, ◌<◌, ◌≤◌, Bool, true, ap, sym, ◌∙◌, refl, subst, arith, inl, inr, List, [], ◌∷◌, length, drop, get_or}
 use Rattle.std.specs.Prelude.{not, filter, Contains}
 use Rattle.std.proofs.lemmas.Bool.{cond-true, cond-false, cases_Bool, cases_lt}
 use Rattle.std.proofs.lemmas.List.{get_or-drop, length-drop}

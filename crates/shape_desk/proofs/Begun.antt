@@ -1,7 +1,6 @@
 -- What is told of the bytes left at a place, told of the file that was begun there.
 -- Laws over plain values, for every program that reads files.
 use Rattle.std.proofs.Common.{ℕ, ◌≤◌, sym, arith, List, Option, None, Some}
-use Rattle.std.specs.Prelude.{◌+◌, ◌-◌, ◌^◌, min}
 use Rattle.shape_desk.specs.Desk.{Files, IsAtFront, Rose}
 use Rattle.shape_desk.specs.Line.{IfTold}
 use Rattle.shape_desk.specs.Files.{OfFile}

@@ -1,6 +1,6 @@
 -- The first LF of a part of bytes that has none before it.
 -- Laws of bytes alone.
-use Rattle.std.proofs.Common.{◌≡◌, ◌+◌, ◌-◌, ◌<◌, ◌≤◌, ℕ, Bool, true, false, not, cond, refl, sym, ap, ◌∙◌, arith, List, length, get_or, take, drop, Option, None, Some, inl, inr}
+use Rattle.std.proofs.Common.{◌≡◌, ◌+◌, ◌-◌, ◌<◌, ◌≤◌, ℕ, Bool, true, false, not, cond, refl, sym, ap, ◌∙◌, arith, List, length, get_or, take, drop, None, Some, inl, inr}
 use Rattle.std.specs.Prelude.{◌==◌, nat_lt, position}
 use Rattle.std.specs.List.{position_or_len}
 use Rattle.std.proofs.lemmas.Bool.{ltb-true, ltb-false, eqb-true, cases_lt}

@@ -1,4 +1,4 @@
-use Rattle.std.proofs.Common.{false, ◌∙◌}
+use Rattle.std.proofs.Common.{◌∙◌}
 use Rattle.judge_plane.specs.Terms.{point_of}
 use Rattle.judge_plane.proofs.Exposing.{exposed_only}
 use Rattle.judge_plane.proofs.face.is_left.Goals as goal

@@ -1,4 +1,4 @@
-use Rattle.std.proofs.Common.{◌≡◌, ◌-◌, ◌+◌, ap, sym, negsuc, to_z, of_z, arith, rules, refl, length, take_while}
+use Rattle.std.proofs.Common.{◌≡◌, ◌-◌, negsuc, to_z, of_z, arith, rules, refl, take_while}
 use Rattle.std.specs.Int.{w64}
 use Rattle.std.specs.Char.{is_ascii_digit}
 use Rattle.shape_desk.proofs.Numbers.{none_negative, none_zero, spells_negative}

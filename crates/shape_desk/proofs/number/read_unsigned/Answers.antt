@@ -1,7 +1,6 @@
-use Rattle.std.proofs.Common.{◌≡◌, pos, to_z, rules, ◌∙◌, sym, arith, refl, take_while}
+use Rattle.std.proofs.Common.{◌≡◌, pos, to_z, rules, arith, refl, take_while}
 use Rattle.std.specs.Int.{w64}
 use Rattle.std.specs.Char.{is_ascii_digit}
-use Rattle.shape_desk.specs.Number.{number_front}
 use Rattle.shape_desk.proofs.Numbers.{AllDigits-take_while, spells_unsigned, none_unsigned, none_other, number_front-unsigned}
 use Rattle.shape_desk.proofs.number.read_unsigned.Goals as goal
 
