@@ -6,6 +6,7 @@
 mod adj;
 #[cfg(test)]
 mod boxes;
+pub mod close;
 #[cfg(test)]
 mod cover;
 #[cfg(test)]

@@ -1,40 +1,11 @@
 //! Segments that grow point by point along runs known from outside, and the reasons for refusals, judged again.
 //! Evidence is judged by `shape_refute`, which knows nothing of how it is found.
-ghost use Rattle.std.specs.Prelude.{IsTrue, ◌≤◌, ◌-ℤ◌, nat_abs};
-ghost use Rattle.shape_terms.specs.Steps.{AreClose};
-ghost use Rattle.shape_refute.specs.Terms.{flat_point};
-ghost use Rattle.shape_refute.specs.PairTerms.{IsSmall};
-
+use crate::close::{is_close, is_small};
 use crate::pictures::at;
 use shape_line::Segment;
 use shape_refute::{holds, is_proper, refuses};
 use shape_space::P2;
 use std::process::Abort;
-
-// Whether the coordinates are small.
-fn is_small(p: P2) -> bool
-    ensures { IsTrue result → IsSmall p }
-{
-    p.x.unsigned_abs() <= 4096 && p.y.unsigned_abs() <= 4096
-}
-
-// Whether two numbers are at most 1 apart.
-fn is_beside(a: i32, b: i32) -> bool
-    ensures { IsTrue result → nat_abs (a -ℤ b) ≤ 1 }
-{
-    (a as i64 - b as i64).unsigned_abs() <= 1
-}
-
-// Whether two points are close.
-#[tactic(auto, using(crate::proofs::GivenRuns::close_flat))]
-fn is_close(p: P2, q: P2) -> bool
-    ensures { IsTrue result → AreClose (flat_point p) (flat_point q) }
-{
-    if !is_beside(p.x, q.x) {
-        return false;
-    }
-    is_beside(p.y, q.y)
-}
 
 // Takes a point that is close to the last one, where it can; any other is a fault of the test.
 fn take(rt: &impl Abort, segment: &mut Segment, p: P2) -> bool {
