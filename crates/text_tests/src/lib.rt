@@ -10,6 +10,7 @@ mod balls;
 mod cover_judge;
 #[cfg(test)]
 mod desk;
+pub mod distances;
 #[cfg(test)]
 mod drawings;
 #[cfg(test)]

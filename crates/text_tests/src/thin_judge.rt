@@ -1,10 +1,6 @@
 //! The judge of thinnings: events of small pictures, found by hand, and the distances that it begins with.
 //! A further list of events is one more row of a table.
-ghost use Rattle.std.specs.Prelude.{[], ◌∷◌, IfOk, IsTrue};
-ghost use Rattle.shape_terms.specs.Pictures.{at};
-ghost use Rattle.thin_terms.specs.Thinning.{HasDistance};
-ghost use Rattle.shape_queue.specs.Distances.{AreDistances};
-
+use crate::distances::distances;
 use crate::grids::full;
 use judge_field::Scans;
 use judge_thin::ThinJudge;
@@ -13,30 +9,6 @@ use shape_rules::{CurveEnds, EndRule, NoEnds};
 use shape_space::P2;
 use std::alloc::Global;
 use std::test::Fail;
-
-// The squared distance of an object point to the background, and 0 of any other point.
-fn distance_at(scans: &Scans<P2>, p: P2) -> u64
-    ensures { IsTrue (at scans.now (p.x ∷ p.y ∷ []))
-        → HasDistance scans.now (p.x ∷ p.y ∷ []) result }
-{
-    if scans.grid().has(p) {
-        scans.least(p)
-    } else {
-        0
-    }
-}
-
-// The squared distances of the object points by raster number.
-fn distances(alloc: Global, scans: &Scans<P2>) -> Result<Vec<u64>, Fail>
-    ensures { IfOk result (λ d. AreDistances scans.now d.items) }
-{
-    let sides = scans.grid().sides();
-    let mut distances = Vec::new(alloc);
-    for i in 0..sides.count() {
-        distances.push(distance_at(scans, sides.unraster(i)))?;
-    }
-    Ok(distances)
-}
 
 // How many of the lines of events are good; where all are, whether they are complete, and how many points are left.
 fn judged(alloc: Global, rule: &mut dyn EndRule, lines: &str) -> Result<(usize, bool, u32), Fail> {
