@@ -1,18 +1,16 @@
--- What the judge keeps of the contour that was begun last: its points twice round, and the places of its segments.
+-- What the judge keeps of the contour that was begun last: its points twice round, and what makes the next segment.
 -- Laws over what the judge is seen as and the lists that it keeps.
-use Rattle.std.proofs.Common.{◌≡◌, ℕ, ◌+◌, ◌-◌, ◌*◌, ◌<◌, ◌≤◌, ◌^◌, List, length, map, take, drop, refl, ap, sym, ◌∙◌, subst, arith}
-use Rattle.std.specs.Prelude.{All, slice_index_or}
-use Rattle.std.proofs.lemmas.List.{length-map, get_or-map}
-use Rattle.std.proofs.lemmas.Option.{slice_get-get_or, slice_get_past}
+use Rattle.std.proofs.Common.{◌≡◌, ℕ, ◌+◌, ◌-◌, ◌*◌, ◌<◌, ◌≤◌, ◌^◌, List, length, map, take, drop, ap, ◌∙◌, subst, arith}
+use Rattle.std.proofs.lemmas.List.{length-map}
 use Rattle.shape_terms.specs.Points.{Point}
 use Rattle.shape_terms.specs.Traces.{Contour}
-use Rattle.shape_terms.specs.Covers.{Stretch, arc, next_first}
+use Rattle.shape_terms.specs.Covers.{Stretch, arc}
 use Rattle.shape_terms.specs.Naive.{Naive, IsNaiveFor}
 use Rattle.shape_terms.specs.Straight.{KeepsSense}
 use Rattle.report_terms.specs.ContourLines.{Standing, open_contour, WantsNone, IsNextSegment}
 use Rattle.shape_terms.proofs.ArcRuns.{length-arc}
-use Rattle.judge_cover.specs.CoverState.{CoverState, IsAround, HasRound}
-use Rattle.judge_cover.specs.Places.{AreNextPlaces}
+use Rattle.shape_refute.specs.Places.{AreNextPlaces}
+use Rattle.judge_cover.specs.CoverState.{CoverState, HasRound}
 use Rattle.judge_cover.proofs.RoundParts.{part_is, two_rounds}
 
 -- ---- the points twice round
@@ -41,23 +39,6 @@ module _ {A : Type 0} (f : A → Point) (n : ℕ) (cs : List Contour) (s : Stand
   arc_few items run first last e order l r few =
       let k = ap length (arc_value items run first last e order l r) in
       omega (arith, k, length-map run f, length-arc (open_contour now.contours now.standing).points first last)
-
--- ---- the places of segments
-
--- an element of the list, seen as its stretch
-pub stretch_at : {A : Type 0} (f : A → Stretch) (xs : List A) (k : ℕ) (x : A) (e : Stretch) → k < length xs → x ≡ slice_index_or xs k x → f x ≡ slice_index_or (map f xs) k e
-stretch_at f xs k x e l here = ap f here ∙ sym (get_or-map f xs k x e l)
-
-pub around_at : {A : Type 0} (f : A → Stretch) (xs : List A) (k : ℕ) (x : A) (n : ℕ) → All (IsAround n) (map f xs) → k < length xs → x ≡ slice_index_or xs k x → IsAround n (f x)
-around_at f xs k x n all l here = subst (IsAround n) (sym (stretch_at f xs k x (f x) l here)) (all k (f x) (omega (arith, length-map xs f)))
-
--- the first place of the next segment, where there is one
-pub next_some : (contour : List Point) (stretches : List Stretch) (k : ℕ) (e : Stretch) → k + 1 < length stretches → (slice_index_or stretches (k + 1) e).first ≡ next_first contour stretches k
-next_some contour stretches k e l = rw (slice_get-get_or stretches (k + 1) e l) refl
-
--- and after the last one
-pub next_none : (contour : List Point) (stretches : List Stretch) (k : ℕ) (e : Stretch) → length stretches ≤ k + 1 → 0 < length stretches → (slice_index_or stretches 0 e).first + length contour ≡ next_first contour stretches k
-next_none contour stretches k e l some = rw (slice_get_past stretches (k + 1) l, slice_get-get_or stretches 0 e some) refl
 
 -- ---- the next segment
 

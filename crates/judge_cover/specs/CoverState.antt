@@ -8,9 +8,10 @@ use Rattle.std.specs.Option.{option_map}
 use Rattle.shape_terms.specs.Covers.{Stretch, arc}
 use Rattle.shape_terms.specs.Naive.{IsNaiveFor}
 use Rattle.report_terms.specs.Lines.{Line}
-use Rattle.judge_cover.specs.declared.places.Places.{Places}
-use Rattle.judge_cover.specs.declared.places.Segment.{Segment as Taken}
-use Rattle.judge_cover.specs.Places.{stretch_of, segment_of}
+use Rattle.shape_refute.specs.declared.places.Places.{Places}
+use Rattle.shape_refute.specs.Places.{stretch_of, IsAround}
+use Rattle.judge_cover.specs.declared.segment.Segment.{Segment as Taken}
+use Rattle.judge_cover.specs.Segments.{segment_of}
 use Rattle.report_terms.specs.ContourFacts.{Segment}
 use Rattle.report_terms.specs.ContourLines.{Standing, standing, open_contour}
 
@@ -67,11 +68,6 @@ pub record StandsFor (X : Picture) (s : CoverState) (lines : List Line) : Type 0
   pub flat : length X.sides ≡ 2
   pub are : AreContours X s.contours
   pub stands : standing lines ≡ s.standing
-
--- the places of a stretch of a contour of n points: the first is one of these, and the last less than one round on
-pub record IsAround (n : ℕ) (s : Stretch) : Type 0 where
-  pub begins : s.first < n
-  pub short : s.last < s.first + n
 
 -- a segment of the contour that was begun last: its places are some of it, and its line, of an axis of the plane, holds it
 pub record IsTaken (contours : List Contour) (s : Standing) (k : Segment) : Type 0 where

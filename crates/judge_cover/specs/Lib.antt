@@ -1,2 +1,2 @@
 pub mod CoverState
-pub mod Places
+pub mod Segments

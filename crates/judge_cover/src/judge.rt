@@ -14,14 +14,14 @@ ghost use Rattle.shape_refute.specs.Terms.{naive_of};
 ghost use Rattle.shape_refute.specs.PairTerms.{IsSmall, pairs_of};
 ghost use Rattle.shape_crack.specs.Terms.{point_of, crack_of};
 ghost use Rattle.judge_cover.specs.CoverState.{StandsFor, IsTaken, LastIsTaken, room_of, open_points, with_contour, with_point, with_segment, with_least, with_gap};
-ghost use Rattle.judge_cover.specs.Places.{segment_of};
+ghost use Rattle.judge_cover.specs.Segments.{segment_of};
 ghost use Rattle.shape_refute.specs.Evidences.{evidence_of};
 
-use crate::places::{Places, Segment, come_next};
 use crate::round::{greatest, load, part};
+use crate::segment::Segment;
 use shape_crack::{Contour, Contours, Crack, contours};
 use shape_grid::Grid;
-use shape_refute::{Bounds, Naive, Refusal, holds_segment, is_least, refuses};
+use shape_refute::{Bounds, Naive, Places, Refusal, come_next, holds_segment, is_least, refuses};
 use shape_report::Line;
 use shape_space::{NoMemory, P2};
 use std::alloc::Global;

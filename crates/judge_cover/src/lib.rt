@@ -3,7 +3,7 @@
 #![tactic(auto)]
 
 mod judge;
-mod places;
 mod round;
+mod segment;
 
 pub use judge::CoverJudge;

@@ -1,35 +1,19 @@
--- What the judge keeps of the cycle that was begun last: its path, and the places of its arcs.
+-- What the judge keeps of the cycle that was begun last: its path, and what makes the next arc.
 -- Laws over what the judge is seen as and the lists that it keeps.
-use Rattle.std.proofs.Common.{◌≡◌, ℕ, ◌+◌, ◌-◌, ◌<◌, ◌≤◌, List, length, map, refl, ap, sym, ◌∙◌, subst, arith}
-use Rattle.std.specs.Prelude.{All, slice_index_or, slice_get, Some}
-use Rattle.std.proofs.lemmas.List.{length-map, get_or-map}
-use Rattle.std.proofs.lemmas.Option.{slice_get-get_or, slice_get_past, get_or_from_slice_get}
+use Rattle.std.proofs.Common.{◌≡◌, ℕ, ◌+◌, ◌-◌, ◌<◌, List, length, ap, sym, ◌∙◌, subst, arith}
+use Rattle.std.specs.Prelude.{slice_index_or, slice_get, Some}
+use Rattle.std.proofs.lemmas.Option.{get_or_from_slice_get}
 use Rattle.shape_terms.specs.Points.{Point}
 use Rattle.shape_terms.specs.Covers.{Stretch, arc, gap_run, next_first}
 use Rattle.edge_terms.specs.EdgeStraight.{Standard, IsStandardFor}
 use Rattle.edge_terms.specs.EdgeCycles.{EdgeCycle, no_cycle}
 use Rattle.edge_terms.specs.CycleLines.{Standing, open_path, IsNextArc}
+use Rattle.shape_refute.specs.Places.{AreNextPlaces}
 use Rattle.judge_edges.specs.EdgeState.{EdgeState}
-use Rattle.judge_edges.specs.Places.{IsAround, AreNextPlaces}
 
 -- the path of the cycle that was begun last, of the judge as it is seen and of its parts
 pub same_open : (cs : List EdgeCycle) (s : Standing) (now : EdgeState) → record { cycles = cs; standing = s } ≡ now → open_path cs s ≡ open_path now.cycles now.standing
 same_open cs s now view = ap (λ (t : EdgeState). open_path t.cycles t.standing) view
-
--- an element of the list, seen as its stretch
-pub stretch_at : {A : Type 0} (f : A → Stretch) (xs : List A) (k : ℕ) (x : A) (e : Stretch) → k < length xs → x ≡ slice_index_or xs k x → f x ≡ slice_index_or (map f xs) k e
-stretch_at f xs k x e l here = ap f here ∙ sym (get_or-map f xs k x e l)
-
-pub around_at : {A : Type 0} (f : A → Stretch) (xs : List A) (k : ℕ) (x : A) (n : ℕ) → All (IsAround n) (map f xs) → k < length xs → x ≡ slice_index_or xs k x → IsAround n (f x)
-around_at f xs k x n all l here = subst (IsAround n) (sym (stretch_at f xs k x (f x) l here)) (all k (f x) (omega (arith, length-map xs f)))
-
--- the first place of the next arc, where there is one
-pub next_some : (path : List Point) (stretches : List Stretch) (k : ℕ) (e : Stretch) → k + 1 < length stretches → (slice_index_or stretches (k + 1) e).first ≡ next_first path stretches k
-next_some path stretches k e l = rw (slice_get-get_or stretches (k + 1) e l) refl
-
--- and after the last one
-pub next_none : (path : List Point) (stretches : List Stretch) (k : ℕ) (e : Stretch) → length stretches ≤ k + 1 → 0 < length stretches → (slice_index_or stretches 0 e).first + length path ≡ next_first path stretches k
-next_none path stretches k e l some = rw (slice_get_past stretches (k + 1) l, slice_get-get_or stretches 0 e some) refl
 
 -- places that come next and a line that holds their arc make the next arc
 pub next_arc : (cycles : List EdgeCycle) (s : Standing) (path : List Point) (n m b e : ℕ) (line : Standard) (before : List Stretch) → path ≡ open_path cycles s → n ≡ length path → m ≡ s.declared → before ≡ s.stretches → length before < m → s.gaps ≡ 0

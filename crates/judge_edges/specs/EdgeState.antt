@@ -1,8 +1,8 @@
 -- What a judge of the lines of corner paths is seen as.
 -- It holds no line: it stands for each list of lines that stands where it does.
 use Rattle.std.specs.Prelude.{ℕ, ◌*◌, ◌<◌, ◌≤◌, ◌^◌, List, map, length, All}
-use Rattle.judge_edges.specs.declared.places.Places.{Places}
-use Rattle.judge_edges.specs.Places.{stretch_of, IsAround}
+use Rattle.shape_refute.specs.declared.places.Places.{Places}
+use Rattle.shape_refute.specs.Places.{stretch_of, IsAround}
 use Rattle.edge_terms.specs.EdgeCycles.{EdgeCycle}
 use Rattle.edge_terms.specs.CycleLines.{Standing, open_path}
 

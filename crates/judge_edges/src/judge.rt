@@ -10,16 +10,16 @@ ghost use Rattle.shape_corner.specs.Arcs.{stretch_of as arc_stretch};
 ghost use Rattle.shape_corner.specs.Gaps.{gap_of};
 ghost use Rattle.edge_terms.specs.EdgeCycles.{AreEdgeCycles};
 ghost use Rattle.edge_terms.specs.CycleLines.{open_path, IsFull, IsCycleHead, IsNextArc, IsNextGap, with_cycle, with_arc, with_gap, nothing_taken};
-ghost use Rattle.judge_edges.specs.Places.{stretch_of};
+ghost use Rattle.shape_refute.specs.Places.{stretch_of};
 ghost use Rattle.judge_edges.specs.Taken.{room_of};
 
 use crate::cycles::{Cycles, all_cycles};
 use crate::gap::shows;
 use crate::line::holds_arc;
-use crate::places::{Places, come_next};
 use shape_corner::{Arc, Corners, EdgeGap};
 use shape_crack::Crack;
 use shape_grid::Grid;
+use shape_refute::{Places, come_next};
 use shape_space::{NoMemory, P2};
 use std::alloc::Global;
 use std::marker::Model;

@@ -10,7 +10,6 @@ mod gap;
 mod judge;
 mod law;
 mod line;
-mod places;
 mod stage;
 mod whole;
 

@@ -20,6 +20,12 @@ pub struct Heading<P: Point> {
 }
 
 impl<P: Point> Clone for Heading<P> {
+    ghost use Rattle.std.specs.Prelude.{⊤};
+
+    ghost is_clone = { λ old new. new ≡ old };
+
+    ghost is_infallible = { λ _. ⊤ };
+
     fn clone(&self) -> Result<Heading<P>, AllocError> {
         Ok(*self)
     }

@@ -2,6 +2,7 @@ pub mod Entries
 pub mod Meet
 pub mod Rows
 pub mod Steps
+pub mod Stretches
 pub mod Ranges
 pub mod Walk
 pub mod PointPairs

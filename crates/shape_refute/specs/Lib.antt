@@ -6,3 +6,4 @@ pub mod Sums
 pub mod Terms
 pub mod Weights
 pub mod PairTerms
+pub mod Places

@@ -1,4 +1,4 @@
-//! Naive lines and planes, the weights that refute them, the turns of runs, the pairs that show a line to be least, and the sense of a face.
+//! Naive lines and planes, the weights that refute them, the turns of runs, the places of stretches, the pairs that show a line to be least, and the sense of a face.
 //! Everything is exact for every value of every field, and takes no memory.
 #![tactic(auto)]
 
@@ -6,6 +6,7 @@ mod bound;
 mod bounds;
 mod exact;
 mod naive;
+mod places;
 mod range;
 mod refusal;
 mod refutation;
@@ -17,6 +18,7 @@ mod turn;
 
 pub use bounds::{Bounds, is_least};
 pub use naive::{Naive, holds, is_proper};
+pub use places::{Places, come_next};
 pub use refusal::{Refusal, refuses};
 pub use refutation::{Refutation, refutation_excludes, refutes};
 pub use segment::holds_segment;

@@ -18,6 +18,12 @@ pub struct Sides<P: Point> {
 }
 
 impl<P: Point> Clone for Sides<P> {
+    ghost use Rattle.std.specs.Prelude.{⊤};
+
+    ghost is_clone = { λ old new. new ≡ old };
+
+    ghost is_infallible = { λ _. ⊤ };
+
     fn clone(&self) -> Result<Sides<P>, AllocError> {
         Ok(*self)
     }

@@ -2,8 +2,9 @@ use Rattle.std.proofs.Common.{◌≤◌, ◌<◌, ◌^◌, length, ap, arith}
 use Rattle.std.proofs.lemmas.List.{length-map}
 use Rattle.report_terms.specs.ContourLines.{open_contour}
 use Rattle.judge_cover.specs.CoverState.{CoverState, standing_of}
-use Rattle.judge_cover.specs.Places.{stretch_of}
-use Rattle.judge_cover.proofs.Steps.{same_open, around_at}
+use Rattle.shape_refute.specs.Places.{stretch_of}
+use Rattle.shape_refute.proofs.Stretches.{around_at}
+use Rattle.judge_cover.proofs.Steps.{same_open}
 use Rattle.judge_cover.proofs.judge.CoverJudge.end.Goals as goal
 
 pub overflow_add-result : goal.overflow_add-result

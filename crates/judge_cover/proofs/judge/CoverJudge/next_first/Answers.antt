@@ -3,8 +3,9 @@ use Rattle.std.proofs.lemmas.List.{length-map}
 use Rattle.shape_terms.specs.Covers.{Stretch, next_first}
 use Rattle.report_terms.specs.ContourLines.{open_contour}
 use Rattle.judge_cover.specs.CoverState.{CoverState, standing_of}
-use Rattle.judge_cover.specs.Places.{stretch_of}
-use Rattle.judge_cover.proofs.Steps.{same_open, around_at, stretch_at, next_some, next_none}
+use Rattle.shape_refute.specs.Places.{stretch_of}
+use Rattle.shape_refute.proofs.Stretches.{around_at, stretch_at, next_some, next_none}
+use Rattle.judge_cover.proofs.Steps.{same_open}
 use Rattle.judge_cover.proofs.judge.CoverJudge.next_first.Goals as goal
 
 abbrev zero_stretch : Stretch

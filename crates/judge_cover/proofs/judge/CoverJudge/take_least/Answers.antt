@@ -1,7 +1,7 @@
 use Rattle.std.proofs.Common.{◌≡◌, refl, ap, sym, ◌∙◌, subst}
 use Rattle.std.specs.Prelude.{Some}
 use Rattle.std.specs.Option.{option_map}
-use Rattle.judge_cover.specs.Places.{segment_of}
+use Rattle.judge_cover.specs.Segments.{segment_of}
 use Rattle.judge_cover.specs.CoverState.{CoverState, LastIsTaken}
 use Rattle.judge_cover.proofs.judge.CoverJudge.take_least.Goals as goal
 

@@ -4,7 +4,7 @@ use Rattle.report_terms.specs.ContourLines.{open_contour}
 use Rattle.shape_refute.specs.Terms.{naive_of}
 use Rattle.shape_crack.specs.Terms.{point_of}
 use Rattle.judge_cover.specs.CoverState.{CoverState}
-use Rattle.judge_cover.specs.Places.{stretch_of}
+use Rattle.shape_refute.specs.Places.{stretch_of}
 use Rattle.judge_cover.proofs.Steps.{next_segment}
 use Rattle.judge_cover.proofs.judge.CoverJudge.take_segment.Goals as goal
 

@@ -2,8 +2,9 @@ use Rattle.std.proofs.Common.{◌≤◌, ◌<◌, ◌^◌, length, map, ap, arit
 use Rattle.std.proofs.lemmas.List.{length-map}
 use Rattle.edge_terms.specs.CycleLines.{Standing, open_path}
 use Rattle.judge_edges.specs.EdgeState.{EdgeState}
-use Rattle.judge_edges.specs.Places.{stretch_of}
-use Rattle.judge_edges.proofs.Standings.{same_open, around_at}
+use Rattle.shape_refute.specs.Places.{stretch_of}
+use Rattle.shape_refute.proofs.Stretches.{around_at}
+use Rattle.judge_edges.proofs.Standings.{same_open}
 use Rattle.judge_edges.proofs.judge.EdgeJudge.end.Goals as goal
 
 pub overflow_add-result : goal.overflow_add-result

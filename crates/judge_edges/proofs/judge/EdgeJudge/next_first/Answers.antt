@@ -3,8 +3,9 @@ use Rattle.std.proofs.lemmas.List.{length-map}
 use Rattle.shape_terms.specs.Covers.{Stretch, next_first}
 use Rattle.edge_terms.specs.CycleLines.{Standing, open_path}
 use Rattle.judge_edges.specs.EdgeState.{EdgeState}
-use Rattle.judge_edges.specs.Places.{stretch_of}
-use Rattle.judge_edges.proofs.Standings.{same_open, around_at, stretch_at, next_some, next_none}
+use Rattle.shape_refute.specs.Places.{stretch_of}
+use Rattle.shape_refute.proofs.Stretches.{around_at, stretch_at, next_some, next_none}
+use Rattle.judge_edges.proofs.Standings.{same_open}
 use Rattle.judge_edges.proofs.judge.EdgeJudge.next_first.Goals as goal
 
 abbrev zero_stretch : Stretch

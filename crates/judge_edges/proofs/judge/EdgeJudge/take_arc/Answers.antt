@@ -2,7 +2,7 @@ use Rattle.std.proofs.Common.{◌≡◌, ◌<◌, length, map, refl, ap, sym, �
 use Rattle.std.proofs.lemmas.List.{length-map}
 use Rattle.shape_corner.specs.Lines.{standard_of}
 use Rattle.judge_edges.specs.EdgeState.{EdgeState}
-use Rattle.judge_edges.specs.Places.{stretch_of}
+use Rattle.shape_refute.specs.Places.{stretch_of}
 use Rattle.judge_edges.proofs.Standings.{next_arc}
 use Rattle.judge_edges.proofs.judge.EdgeJudge.take_arc.Goals as goal
 

@@ -6,7 +6,7 @@ use Rattle.shape_terms.specs.Covers.{arc}
 use Rattle.shape_corner.specs.Gaps.{gap_of}
 use Rattle.edge_terms.specs.CycleLines.{Standing}
 use Rattle.judge_edges.specs.EdgeState.{EdgeState}
-use Rattle.judge_edges.specs.Places.{stretch_of}
+use Rattle.shape_refute.specs.Places.{stretch_of}
 use Rattle.judge_edges.proofs.Standings.{open_is}
 use Rattle.judge_edges.proofs.judge.EdgeJudge.take_gap.Goals as goal
 
