@@ -5,4 +5,5 @@ pub mod FlatSteps
 mod SolidSteps
 pub mod Offsets
 pub mod Inner
+mod GapSteps
 pub mod Neighbours

@@ -90,14 +90,15 @@ axis_bound n r x z j h some most short e =
 pub number_axes : (n : Point) (i : ℕ) → i < box_count (sides_of n) → length (raster_point (sides_of n) i) ≡ length n
 number_axes n i b = in_box_length (sides_of n) (raster_point (sides_of n) i) (raster_point_in (sides_of n) i b) ∙ length-map n nat_abs
 
+pub number_from : (sides : List ℕ) (v : Point) (i : ℕ) → length v ≡ length (raster_point sides i) → i < box_count sides → IsTrue (in_box sides (moved (raster_point sides i) v))
+    → pos (raster_number sides (moved (raster_point sides i) v)) ≡ pos i +ℤ raster_offset sides v
+number_from sides v i e b h =
+    moved_number sides (raster_point sides i) v e (raster_point_in sides i b) h ∙ ap (λ m. pos m +ℤ raster_offset sides v) (raster_number-raster_point sides i b)
+
 module _ (n v : Point) (i : ℕ) (few : box_count (sides_of n) ≤ 8388608) (l : length v ≡ length n) (b : i < box_count (sides_of n)) (h : IsTrue (in_box (sides_of n) (moved (raster_point (sides_of n) i) v))) where
   -- it is the number of the point and the offset of the step
   pub number_is : pos (raster_number (sides_of n) (moved (raster_point (sides_of n) i) v)) ≡ pos i +ℤ raster_offset (sides_of n) v
-  number_is =
-      let there = raster_point_in (sides_of n) i b in
-      let back = raster_number-raster_point (sides_of n) i b in
-      let e = l ∙ sym (number_axes n i b) in
-      moved_number (sides_of n) (raster_point (sides_of n) i) v e there h ∙ ap (λ m. pos m +ℤ raster_offset (sides_of n) v) back
+  number_is = number_from (sides_of n) v i (l ∙ sym (number_axes n i b)) b h
 
   pub number_some : pos 0 ≤ℤ (pos i +ℤ raster_offset (sides_of n) v)
   number_some = let e = number_is in omega (arith, ints)

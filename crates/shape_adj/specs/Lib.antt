@@ -2,3 +2,4 @@ pub mod Flood
 pub mod Labels
 pub mod Offsets
 pub mod Here
+pub mod Gaps

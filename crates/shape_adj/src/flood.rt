@@ -97,7 +97,7 @@ pub fn label_components<P: Point, N: Net<P>>(
     let mut work = Vec::new(alloc);
     let mut count = 0;
     for s in 0..net.places() {
-        if net.has(s) && labels[s as usize] == 0 {
+        if labels[s as usize] == 0 && net.has(s) {
             count += 1;
             fill(net, s, count, &mut labels, &mut work)?;
         }

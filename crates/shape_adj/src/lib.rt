@@ -4,14 +4,17 @@
 
 mod answers;
 mod flood;
+mod near;
 mod net;
 mod number;
 mod pairing;
 mod picture;
 mod places;
+mod side;
 mod solid;
 
 pub use answers::{Labels, Parts};
+pub use near::NearNumbers;
 pub use number::{is_inner, near_number, side_number};
 pub use pairing::Pairing;
 pub use picture::{labels, parts};

@@ -61,6 +61,7 @@ pub trait Net<P: Point> {
     /// The place that a link leads to, or `None` where the neighbour is not in the set.
     fn follow(&self, here: &Here<P>, link: usize) -> Option<u32>
         requires here { IsHere self.now here.now.place (P.coords here.now.point) here.now.inner }
+        requires place { here.now.place < size self.now }
         requires below { link < degree self.now }
         ensures { result ≡ next self.now (spot self.now here.now.place) link };
 

@@ -6,9 +6,11 @@ ghost use Rattle.shape_terms.specs.Parts.{HasParts, Counts, LabelsObject};
 
 use crate::answers::{Labels, Parts};
 use crate::flood::label_components;
+use crate::near::NearNumbers;
 use crate::net::Net;
 use crate::pairing::Pairing;
 use crate::places::{Background, Object};
+use crate::side::SideNumbers;
 use shape_grid::Grid;
 use shape_space::{NoMemory, Point};
 use std::alloc::Global;
@@ -28,8 +30,10 @@ pub fn parts<P: Pairing>(alloc: Global, grid: &Grid<P>) -> Result<Parts, NoMemor
     ensures { IfOk result (λ p. Counts grid.now
         (length (object_points grid.now)) p.object p.background) }
 {
-    let object = component_count(alloc, &Object { grid })?;
-    let background = component_count(alloc, &Background { grid })?;
+    let near = NearNumbers::new(alloc, grid.sides())?;
+    let object = component_count(alloc, &Object { grid, near })?;
+    let side = SideNumbers::new(alloc, grid.sides())?;
+    let background = component_count(alloc, &Background { grid, side })?;
     Ok(Parts { object, background })
 }
 
@@ -39,6 +43,7 @@ pub fn parts<P: Pairing>(alloc: Global, grid: &Grid<P>) -> Result<Parts, NoMemor
 pub fn labels<P: Pairing>(alloc: Global, grid: &Grid<P>) -> Result<Labels, NoMemory>
     ensures { IfOk result (LabelsObject grid.now) }
 {
-    let components = label_components(alloc, &Object { grid })?;
+    let near = NearNumbers::new(alloc, grid.sides())?;
+    let components = label_components(alloc, &Object { grid, near })?;
     Ok(Labels::of(components.labels))
 }

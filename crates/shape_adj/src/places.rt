@@ -1,7 +1,7 @@
 //! The object and the background of a picture as nets of places.
 //! Which places are adjacent, and how they are numbered, stands here; the flood knows neither.
 ghost use Rattle.std.specs.Prelude.{◌≡◌, ◌<◌, ◌↔◌, IsTrue, IfSome, length, negsuc, pos};
-ghost use Rattle.shape_terms.specs.Points.{in_box, box_count, raster_point};
+ghost use Rattle.shape_terms.specs.Points.{sides_of, in_box, box_count, raster_point};
 ghost use Rattle.shape_terms.specs.FramedBox.{framed_sides, framed_point, IsWithin};
 ghost use Rattle.shape_terms.specs.Adjacency.{near_steps, side_steps, near_point, side_point};
 ghost use Rattle.number_terms.specs.Places.{ObjectPlace, NearPlaces, object_place, BackgroundPlace, SidePlaces, background_place};
@@ -9,9 +9,11 @@ ghost use Rattle.shape_adj.specs.Here.{IsInnerNumber, IsPlaced};
 ghost use Rattle.number_terms.proofs.ObjectPlaces.{object_net};
 ghost use Rattle.number_terms.proofs.BackgroundPlaces.{background_net};
 
+use crate::near::NearNumbers;
 use crate::net::{Here, Net};
-use crate::number::{is_inner, near_number, side_number};
+use crate::number::is_inner;
 use crate::pairing::Pairing;
+use crate::side::SideNumbers;
 use shape_grid::Grid;
 
 // The raster number of a point whose near neighbours are all in the box.
@@ -28,14 +30,21 @@ fn inner_number<P: Pairing>(grid: &Grid<P>, p: P) -> Option<u32>
 }
 
 // The place of a near neighbour that is object, where all near neighbours are in the box.
-fn near_object<P: Pairing>(grid: &Grid<P>, i: u32, link: usize) -> Option<u32>
+fn near_object<P: Pairing>(
+    grid: &Grid<P>,
+    near: &NearNumbers<P>,
+    i: u32,
+    link: usize,
+) -> Option<u32>
+    requires sides { sides_of (P.coords near.now.sides.lengths) ≡ grid.now.sides }
     requires below { link < length (near_steps (length grid.now.sides)) }
     requires point { i < box_count grid.now.sides }
     requires inside { IsTrue (in_box grid.now.sides
         (near_point (raster_point grid.now.sides i) link)) }
     ensures { result ≡ object_place grid.now (near_point (raster_point grid.now.sides i) link) }
 {
-    let q = near_number(&grid.sides(), i, link);
+    grid.is_picture();
+    let q = near.number(i, link);
     if grid.has_number(q) { Some(q) } else { None }
 }
 
@@ -55,19 +64,28 @@ fn near_object_in_box<P: Pairing>(grid: &Grid<P>, p: P, link: usize) -> Option<u
 }
 
 // The place of a side neighbour that is background, where all near neighbours are in the box.
-fn side_background<P: Pairing>(grid: &Grid<P>, p: P, i: u32, link: usize) -> Option<u32>
+fn side_background<P: Pairing>(
+    grid: &Grid<P>,
+    side: &SideNumbers<P>,
+    here: &Here<P>,
+    i: u32,
+    link: usize,
+) -> Option<u32>
+    requires sides { sides_of (P.coords side.now.sides.lengths) ≡ grid.now.sides }
     requires below { link < length (side_steps (length grid.now.sides)) }
+    requires place { here.now.place < box_count (framed_sides grid.now.sides) }
+    requires spot { P.coords here.now.point ≡ framed_point grid.now.sides here.now.place }
     requires point { i < box_count grid.now.sides }
-    requires is { raster_point grid.now.sides i ≡ P.coords p }
-    requires within { IsWithin (negsuc 0) (pos 4096) (P.coords p) }
-    requires inside { IsTrue (in_box grid.now.sides (side_point (P.coords p) link)) }
-    ensures { result ≡ background_place grid.now (side_point (P.coords p) link) }
+    requires is { raster_point grid.now.sides i ≡ P.coords here.now.point }
+    requires within { IsWithin (negsuc 0) (pos 4096) (P.coords here.now.point) }
+    requires inside { IsTrue (in_box grid.now.sides (side_point (P.coords here.now.point) link)) }
+    ensures { result ≡ background_place grid.now (side_point (P.coords here.now.point) link) }
 {
-    let sides = grid.sides();
-    if grid.has_number(side_number(&sides, i, link)) {
+    grid.is_picture();
+    if grid.has_number(side.number(i, link)) {
         None
     } else {
-        Some(sides.framed_number(p.side(link)))
+        Some(side.framed_number(here.point, here.place, link))
     }
 }
 
@@ -91,6 +109,9 @@ fn side_background_in_frame<P: Pairing>(grid: &Grid<P>, p: P, link: usize) -> Op
 pub struct Object<'a, P: Pairing> {
     /// The grid.
     pub grid: &'a Grid<P>,
+    /// The near neighbours of its box.
+    pub near: NearNumbers<P>,
+    pub ghost same: { sides_of (P.coords near.sides.lengths) ≡ grid.now.sides },
 }
 
 impl<'a, P: Pairing> Net<P> for Object<'a, P> {
@@ -132,7 +153,7 @@ impl<'a, P: Pairing> Net<P> for Object<'a, P> {
 
     fn follow(&self, here: &Here<P>, link: usize) -> Option<u32> {
         match here.inner {
-            Some(i) => near_object(self.grid, i, link),
+            Some(i) => near_object(self.grid, &self.near, i, link),
             None => near_object_in_box(self.grid, here.point, link),
         }
     }
@@ -145,6 +166,9 @@ impl<'a, P: Pairing> Net<P> for Object<'a, P> {
 pub struct Background<'a, P: Pairing> {
     /// The grid.
     pub grid: &'a Grid<P>,
+    /// The side neighbours of its box.
+    pub side: SideNumbers<P>,
+    pub ghost same: { sides_of (P.coords side.sides.lengths) ≡ grid.now.sides },
 }
 
 impl<'a, P: Pairing> Net<P> for Background<'a, P> {
@@ -186,7 +210,7 @@ impl<'a, P: Pairing> Net<P> for Background<'a, P> {
 
     fn follow(&self, here: &Here<P>, link: usize) -> Option<u32> {
         match here.inner {
-            Some(i) => side_background(self.grid, here.point, i, link),
+            Some(i) => side_background(self.grid, &self.side, here, i, link),
             None => side_background_in_frame(self.grid, here.point, link),
         }
     }

@@ -1,6 +1,5 @@
 pub mod Bits
 pub mod Masks
 pub mod MaskLists
-pub mod Gaps
 pub mod Compute
 pub mod SimpleTable

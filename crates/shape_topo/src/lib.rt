@@ -7,7 +7,6 @@ mod joined;
 mod links;
 mod mask;
 mod masked;
-mod near;
 mod number;
 mod simple;
 mod spread;

@@ -6,8 +6,7 @@ ghost use Rattle.shape_terms.specs.FramedBox.{IsWithin};
 ghost use Rattle.shape_terms.specs.Adjacency.{near_point};
 ghost use Rattle.shape_topo.specs.Masks.{IsNearMask};
 
-use crate::near::NearNumbers;
-use shape_adj::{Pairing, is_inner};
+use shape_adj::{NearNumbers, Pairing, is_inner};
 use shape_grid::Grid;
 
 /// The near neighbours that are object: bit k is set where near neighbour k is.

@@ -10,9 +10,8 @@ ghost use Rattle.shape_topo.specs.Masks.{IsNearMask};
 ghost use Rattle.shape_topo.specs.MaskLists.{AreMasks};
 
 use crate::mask::mask_at;
-use crate::near::NearNumbers;
 use crate::simple::SimpleMask;
-use shape_adj::Pairing;
+use shape_adj::{NearNumbers, Pairing};
 use shape_grid::Grid;
 use shape_space::{NoMemory, Sides, Steps};
 use std::alloc::Global;
@@ -86,7 +85,7 @@ impl<P: Pairing> MaskedGrid<P> {
     pub fn new(alloc: Global, grid: Grid<P>) -> Result<MaskedGrid<P>, NoMemory>
         ensures { IfOk result (λ m. m ≡ grid) }
     {
-        let near = NearNumbers::of(alloc, grid.sides())?;
+        let near = NearNumbers::new(alloc, grid.sides())?;
         let masks = masks_of(alloc, &grid, &near)?;
         Ok(MaskedGrid { grid, near, masks })
     }

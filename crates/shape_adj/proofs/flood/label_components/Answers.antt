@@ -2,21 +2,21 @@ use Rattle.std.proofs.Common.{◌≡◌, rules, arith, ap, ◌∙◌, length}
 use Rattle.std.proofs.lemmas.List.{get_or_default}
 use Rattle.shape_adj.proofs.Labelling.{labelling_more, labelling_skip, labelling_end, take_front}
 use Rattle.shape_adj.proofs.flood.label_components.Goals as goal
-use Rattle.shape_adj.proofs.flood.label_components.Goals.{then-has+then-index-eq0+in_ok-fill, else-has, else-has-via-then-has+else-index-eq0, else-has-via-else-has}
+use Rattle.shape_adj.proofs.flood.label_components.Goals.{then-index-eq0+then-has+in_ok-fill, else-index-eq0, else-index-eq0-via-then-index-eq0+else-has, else-index-eq0-via-else-index-eq0}
 
 pub loop-s-preserved : goal.loop-s-preserved
-loop-s-preserved g c = elim c.if-has.branch [
-  | then-has+then-index-eq0+in_ok-fill w ↦ (
+loop-s-preserved g c = elim c.if-index-eq0.branch [
+  | then-index-eq0+then-has+in_ok-fill w ↦ (
       let d : w.deref_mut.result.now ≡ c.loop-s.labels.items = search rules in
       let n = ap length d in
       let m = w.in_ok-fill.ensures.same in
       let o = c.loop-s.labels.ok.0 in
-      let v : c.if-has.labels.items ≡ w.fill.new.labels = rw w.labels-is (take_front w.fill.new.labels _ c.loop-s.labels.len (omega arith)) in
+      let v : c.if-index-eq0.labels.items ≡ w.fill.new.labels = rw w.labels-is (take_front w.fill.new.labels _ c.loop-s.labels.len (omega arith)) in
       rw (v, w.work-is, w.count-is) (labelling_more _ _ _ _ _ _ _ _ _ c.loop-s.invariant w.in_ok-fill.ensures.flooded (rw d at w.in_ok-fill.ensures.kept) w.in_ok-fill.ensures.seed (rw d at w.in_ok-fill.ensures.same) w.in_ok-fill.ensures.empty))
-  | else-has w ↦ rw w.count-is (labelling_skip _ _ _ _ _ _ _ _ _ c.loop-s.invariant
-      (λ o z. elim w.else-has.branch [
-        | else-has-via-then-has+else-index-eq0 u ↦ (let q = c.loop-s.invariant.same in u.if-index-eq0.false (u.index.ensures ∙ (get_or_default c.loop-s.labels.items c.loop-s.s _ 0 (omega (arith, c.places-s-end.ensures)) ∙ z)))
-        | else-has-via-else-has u ↦ (let t = u.if-has.false in let s = c.has.ensures.1 o in cc)
+  | else-index-eq0 w ↦ rw w.count-is (labelling_skip _ _ _ _ _ _ _ _ _ c.loop-s.invariant
+      (λ o z. elim w.else-index-eq0.branch [
+        | else-index-eq0-via-then-index-eq0+else-has u ↦ (let t = u.if-has.false in let s = u.has.ensures.1 o in cc)
+        | else-index-eq0-via-else-index-eq0 u ↦ (let q = c.loop-s.invariant.same in u.if-index-eq0.false (c.index.ensures ∙ (get_or_default c.loop-s.labels.items c.loop-s.s _ 0 (omega (arith, c.places-s-end.ensures)) ∙ z)))
       ]) (rw w.labels-is) (rw w.work-is))
 ]
 

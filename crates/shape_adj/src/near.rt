@@ -1,20 +1,37 @@
 //! The near neighbours of the points of one box by raster numbers: each is as far from its point as from any other.
 //! What is asked of the neighbours belongs elsewhere.
-ghost use Rattle.std.specs.Prelude.{◌≡◌, ℕ, ◌<◌, ◌≤◌, IsTrue, IfOk, length};
+ghost use Rattle.std.specs.Prelude.{◌≡◌, ℕ, ◌<◌, ◌≤◌, IsTrue, IfOk, IfSome, length};
 ghost use Rattle.shape_terms.specs.Points.{sides_of, in_box, box_count, raster_number, raster_point};
 ghost use Rattle.shape_terms.specs.Adjacency.{near_point};
-ghost use Rattle.shape_topo.specs.Gaps.{AreGaps};
+ghost use Rattle.shape_adj.specs.Gaps.{AreGaps};
 
-use shape_adj::{Pairing, is_inner, near_number};
+use crate::number::{is_inner, near_number};
+use crate::pairing::Pairing;
 use shape_space::{NoMemory, Sides};
 use std::alloc::Global;
 
 /// The sides of a box, and how far the near neighbours are behind a point in raster order: none where the box is too thin.
 #[derive(Drop)]
-pub(crate) struct NearNumbers<P: Pairing> {
-    pub(crate) sides: Sides<P>,
-    pub(crate) gaps: Vec<u32>,
-    ghost fit: { AreGaps (sides_of (P.coords sides.lengths)) gaps.items },
+pub struct NearNumbers<P: Pairing> {
+    /// The sides of the box.
+    pub sides: Sides<P>,
+    /// How far each near neighbour is behind its point. The numbers wrap round, since a neighbour may come before its point.
+    pub gaps: Vec<u32>,
+    pub ghost fit: { AreGaps (sides_of (P.coords sides.lengths)) near_point gaps.items },
+}
+
+// The raster number of a point that has all near neighbours in the box, if any has: the last but one on each axis.
+pub(crate) fn inner_place<P: Pairing>(sides: &Sides<P>) -> Option<u32>
+    ensures { IfSome result (λ i. (i < box_count (sides_of (P.coords sides.now.lengths)))
+        × ((k : ℕ) → k < P.NEAR_COUNT → IsTrue (in_box (sides_of (P.coords sides.now.lengths))
+        (near_point (raster_point (sides_of (P.coords sides.now.lengths)) i) k)))) }
+{
+    let p = sides.unraster(sides.count() - 1).near(0);
+    if is_inner(sides, p) {
+        Some(sides.raster(p))
+    } else {
+        None
+    }
 }
 
 // How far the near neighbours are behind a point that has them all in the box.
@@ -23,7 +40,7 @@ fn gaps_at<P: Pairing>(alloc: Global, sides: &Sides<P>, i: u32) -> Result<Vec<u3
     requires inner { (k : ℕ) → k < P.NEAR_COUNT
         → IsTrue (in_box (sides_of (P.coords sides.now.lengths))
         (near_point (raster_point (sides_of (P.coords sides.now.lengths)) i) k)) }
-    ensures { IfOk result (λ v. AreGaps (sides_of (P.coords sides.now.lengths)) v.items) }
+    ensures { IfOk result (λ v. AreGaps (sides_of (P.coords sides.now.lengths)) near_point v.items) }
 {
     let mut gaps = Vec::new(alloc);
     for k in 0..P::NEAR_COUNT {
@@ -33,28 +50,26 @@ fn gaps_at<P: Pairing>(alloc: Global, sides: &Sides<P>, i: u32) -> Result<Vec<u3
 }
 
 impl<P: Pairing> NearNumbers<P> {
-    // Those of a box. The last point but one on each axis has all near neighbours in the box, if any point has.
-    pub(crate) fn of(alloc: Global, sides: Sides<P>) -> Result<NearNumbers<P>, NoMemory>
+    /// Those of a box.
+    pub fn new(alloc: Global, sides: Sides<P>) -> Result<NearNumbers<P>, NoMemory>
         ensures { IfOk result (λ n. n.sides ≡ sides) }
     {
-        let p = sides.unraster(sides.count() - 1).near(0);
-        let gaps = if sides.inside(p) && is_inner(&sides, p) {
-            gaps_at(alloc, &sides, sides.raster(p))?
-        } else {
-            Vec::new(alloc)
+        let gaps = match inner_place(&sides) {
+            Some(i) => gaps_at(alloc, &sides, i)?,
+            None => Vec::new(alloc),
         };
         Ok(NearNumbers { sides, gaps })
     }
 
-    // Whether the distances of all near neighbours are known.
-    pub(crate) fn all_known(&self) -> bool
+    /// Whether the distances of all near neighbours are known.
+    pub fn all_known(&self) -> bool
         ensures { IsTrue result → P.NEAR_COUNT ≤ length self.now.gaps.items }
     {
         self.gaps.len() >= P::NEAR_COUNT
     }
 
-    // The raster number of a near neighbour that is in the box, where its distance is known.
-    pub(crate) fn known(&self, i: u32, k: usize) -> u32
+    /// The raster number of a near neighbour that is in the box, where its distance is known.
+    pub fn known(&self, i: u32, k: usize) -> u32
         requires known { k < length self.now.gaps.items }
         requires point { i < box_count (sides_of (P.coords self.now.sides.lengths)) }
         requires inside { IsTrue (in_box (sides_of (P.coords self.now.sides.lengths))
@@ -65,8 +80,8 @@ impl<P: Pairing> NearNumbers<P> {
         i.wrapping_add(self.gaps[k])
     }
 
-    // The raster number of a near neighbour that is in the box.
-    pub(crate) fn number(&self, i: u32, k: usize) -> u32
+    /// The raster number of a near neighbour that is in the box.
+    pub fn number(&self, i: u32, k: usize) -> u32
         requires below { k < P.NEAR_COUNT }
         requires point { i < box_count (sides_of (P.coords self.now.sides.lengths)) }
         requires inside { IsTrue (in_box (sides_of (P.coords self.now.sides.lengths))
