@@ -1,6 +1,6 @@
 //! All contours of a picture: each crack is looked at in turn, and where it is not marked yet its cycle is traced and marked.
 //! The order of the cracks' numbers is their own order, so each cycle is met first at its least crack.
-ghost use Rattle.std.specs.Prelude.{◌≡◌, ◌*◌, ◌<◌, IfOk, vec_len};
+ghost use Rattle.std.specs.Prelude.{◌≡◌, ◌*◌, ◌<◌, ◌↔◌, IsTrue, IfOk, vec_len};
 ghost use Rattle.shape_terms.specs.Points.{box_count};
 ghost use Rattle.shape_terms.specs.Contours.{IsCrack};
 ghost use Rattle.shape_terms.specs.Traces.{AreContours};
@@ -37,6 +37,18 @@ fn numbered_crack(grid: &Grid<P2>, i: u32) -> Crack
     }
 }
 
+// Whether a number is that of a crack.
+fn is_number(grid: &Grid<P2>, i: u32) -> bool
+    requires { i < box_count grid.now.sides * 4 }
+    ensures { IsTrue result ↔ IsCrack grid.now (numbered grid.now.sides i) }
+{
+    if grid.has_number(i / 4) {
+        is_crack(grid, numbered_crack(grid, i))
+    } else {
+        false
+    }
+}
+
 // Marks the cracks of the cycle from a crack on.
 fn mark_cycle(grid: &Grid<P2>, start: Crack, marks: &mut CrackMarks)
     requires crack { IsCrack grid.now (crack_of start) }
@@ -68,8 +80,8 @@ pub fn contours(alloc: Global, grid: &Grid<P2>) -> Result<Contours, NoMemory>
     let mut marks = CrackMarks::new(alloc, count as usize)?;
     let mut list = Vec::new(alloc);
     for i in 0..count * 4 {
-        let c = numbered_crack(grid, i);
-        if !marks.has(i) && is_crack(grid, c) {
+        if !marks.has(i) && is_number(grid, i) {
+            let c = numbered_crack(grid, i);
             let contour = trace(alloc, grid, c)?;
             mark_cycle(grid, c, &mut marks);
             list.push(contour)?;

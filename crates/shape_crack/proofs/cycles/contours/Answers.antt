@@ -1,4 +1,4 @@
-use Rattle.std.proofs.Common.{rules, arith, ◌≡◌, ◌<◌, ◌*◌, subst, sym, ◌∙◌, ap, true, false, inl, inr, ◌⊎◌}
+use Rattle.std.proofs.Common.{rules, arith, ◌≡◌, ◌<◌, ◌*◌, subst, ◌∙◌, ap, true, false, inl, inr, ◌⊎◌}
 use Rattle.shape_terms.specs.Points.{box_count}
 use Rattle.shape_terms.specs.Contours.{Crack, IsCrack}
 use Rattle.shape_terms.specs.Traces.{IsContourFrom}
@@ -7,7 +7,7 @@ use Rattle.shape_crack.specs.MarkBits.{is_marked}
 use Rattle.shape_crack.specs.Marked.{IsCycleMarked}
 use Rattle.shape_crack.proofs.Listing.{listing_none, listing_skip, listing_more, listing_all}
 use Rattle.shape_crack.proofs.cycles.contours.Goals as goal
-use Rattle.shape_crack.proofs.cycles.contours.Goals.{then-not-has+then-is_crack+in_ok-contour+in_ok-push, else-not-has, else-not-has-via-then-not-has+else-is_crack, else-not-has-via-else-not-has}
+use Rattle.shape_crack.proofs.cycles.contours.Goals.{then-not-has+then-is_number+in_ok-contour+in_ok-push, else-not-has, else-not-has-via-then-not-has+else-is_number, else-not-has-via-else-not-has}
 
 pub loop-i-init : goal.loop-i-init
 loop-i-init c = record {
@@ -19,12 +19,12 @@ pub loop-i-preserved : goal.loop-i-preserved
 loop-i-preserved c =
     let X = c.args.grid.now in
     let axes = c.sides-sides.ensures.picture.axes in
-    let t = c.numbered_crack-c.ensures in
     let all : c.count-count.result ≡ box_count X.sides = c.count-count.ensures.value ∙ ap box_count c.sides-sides.ensures.value in
     let below : c.loop-i.i < box_count X.sides * 4 = omega arith in
     elim c.if-not-has.branch [
-      | then-not-has+then-is_crack+in_ok-contour+in_ok-push w ↦
-          (let is = subst (IsCrack X) t (w.is_crack.ensures.0 w.if-is_crack.true) in
+      | then-not-has+then-is_number+in_ok-contour+in_ok-push w ↦
+          (let is = w.is_number.ensures.0 w.if-is_number.true in
+          let t = w.numbered_crack-c.ensures in
           let new : is_marked c.loop-i.marks.bytes.items c.loop-i.i ≡ false = search rules in
           let from = subst (λ (d : Crack). IsContourFrom X d w.in_ok-contour.contour) t w.in_ok-contour.ensures in
           let marked = subst (λ (d : Crack). IsCycleMarked X d (is_marked c.loop-i.marks.bytes.items) (is_marked w.mark_cycle.new.marks.bytes.items)) t w.mark_cycle.ensures.marked in
@@ -36,7 +36,7 @@ loop-i-preserved c =
           })
       | else-not-has w ↦
           (let skip : (is_marked c.loop-i.marks.bytes.items c.loop-i.i ≡ true) ⊎ (IsCrack X (numbered X.sides c.loop-i.i) → ⊥) = elim w.else-not-has.branch [
-            | else-not-has-via-then-not-has+else-is_crack u ↦ inr (λ k. let q = u.is_crack.ensures.1 (subst (IsCrack X) (sym t) k) in let n = u.if-is_crack.false in cc)
+            | else-not-has-via-then-not-has+else-is_number u ↦ inr (λ k. let q = u.is_number.ensures.1 k in let n = u.if-is_number.false in cc)
             | else-not-has-via-else-not-has u ↦ inl (search rules)
           ] in
           record {
