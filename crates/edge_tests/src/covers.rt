@@ -35,26 +35,26 @@ fn rows(alloc: Global, cover: &EdgeCover) -> Result<Vec<Row>, Fail> {
     Ok(rows)
 }
 
-#[test]
-fn covers(rt: HostRuntime) -> Result<(), Fail> {
-    let alloc = rt.alloc();
-    let pixel = found(alloc, 1, 1, b"1")?;
-    assert_eq!(rt; pixel.steps(), 4);
-    assert_eq!(rt;
-        rows(alloc, &pixel)?.as_slice(),
-        [
+// Pictures by their sides and values, the steps of their first cycle, and its arcs, as rows.
+const COVERS: [(i32, i32, &[u8], u32, &[Row]); 3] = [
+    (
+        1,
+        1,
+        b"1",
+        4,
+        &[
             (0, 2, 1, 1, false),
             (1, 3, -1, 1, false),
             (2, 4, -1, -1, false),
-            (3, 5, 1, -1, false)
-        ]
-        .as_slice()
-    );
-    let square = found(alloc, 2, 2, b"1111")?;
-    assert_eq!(rt; square.steps(), 8);
-    assert_eq!(rt;
-        rows(alloc, &square)?.as_slice(),
-        [
+            (3, 5, 1, -1, false),
+        ],
+    ),
+    (
+        2,
+        2,
+        b"1111",
+        8,
+        &[
             (0, 3, 1, 1, true),
             (1, 4, 1, 1, false),
             (2, 5, -1, 1, true),
@@ -62,21 +62,29 @@ fn covers(rt: HostRuntime) -> Result<(), Fail> {
             (4, 7, -1, -1, true),
             (5, 8, -1, -1, false),
             (6, 9, 1, -1, true),
-            (7, 10, 1, -1, false)
-        ]
-        .as_slice()
-    );
-    let diagonal = found(alloc, 3, 3, b"100010001")?;
-    assert_eq!(rt; diagonal.steps(), 12);
-    assert_eq!(rt;
-        rows(alloc, &diagonal)?.as_slice(),
-        [
+            (7, 10, 1, -1, false),
+        ],
+    ),
+    (
+        3,
+        3,
+        b"100010001",
+        12,
+        &[
             (0, 6, 1, 1, false),
             (5, 7, -1, 1, false),
             (6, 12, -1, -1, false),
-            (11, 13, 1, -1, false)
-        ]
-        .as_slice()
-    );
+            (11, 13, 1, -1, false),
+        ],
+    ),
+];
+
+#[test]
+fn covers(rt: HostRuntime) -> Result<(), Fail> {
+    for (x, y, values, steps, arcs) in &COVERS {
+        let cover = found(rt.alloc(), *x, *y, values)?;
+        assert!(rt; cover.steps() == *steps, "{steps}");
+        assert!(rt; rows(rt.alloc(), &cover)?.as_slice() == *arcs, "{steps}");
+    }
     Ok(())
 }

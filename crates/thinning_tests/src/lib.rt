@@ -1,7 +1,9 @@
-//! Tests of exact tests, slopes, simple points, rules and thinnings, each crate by its public names alone.
+//! Tests of exact tests, slopes, sets of bits, simple points, rules and thinnings, each crate by its public names alone.
 //! The crates that they call have none of their own: what is proved of them is proved once.
 #![tactic(auto)]
 
+#[cfg(test)]
+mod bits;
 #[cfg(test)]
 mod pictures;
 #[cfg(test)]
