@@ -90,11 +90,11 @@ impl FurtherKind {
     /// The report of the kind about a picture.
     pub(crate) fn make(self, alloc: Global, image: &Image) -> Result<Report, NoMemory>
         requires { IsFit (row_of (read_further self)).about image.now }
-        ensures { IfOk result (Holds ((row_of (read_further self)).report (picture_of image.now))) }
+        ensures { IfOk result ((row_of (read_further self)).Makes (picture_of image.now)) }
     {
         match self {
-            FurtherKind::Edges => edges(alloc, image.flat()),
-            FurtherKind::Pieces => pieces(alloc, image.flat()),
+            FurtherKind::Edges => Ok(edges(alloc, image.flat())?),
+            FurtherKind::Pieces => Ok(pieces(alloc, image.flat())?),
             FurtherKind::Balls => ball_report_of(alloc, image),
         }
     }
@@ -108,7 +108,7 @@ impl FurtherKind {
     ) -> Result<Judgement, CheckFault>
         requires begun { (D.state desk.old).begun ReportPlace ≡ true }
         requires fit { IsFit (row_of (read_further self)).about image.now }
-        ensures checked { HasChecked ((row_of (read_further self)).report (picture_of image.now))
+        ensures checked { (row_of (read_further self)).Checked (picture_of image.now)
             ((D.state desk.old).left ReportPlace) (D.state desk.old) (D.state desk.new) result }
         ensures reads { OnlyReadsAt ReportPlace (D.state desk.old) (D.state desk.new) }
     {
@@ -121,8 +121,7 @@ impl FurtherKind {
 
     /// What a report of the kind that holds shows: what counts is the clause.
     pub(crate) fn shows(self)
-        ensures { (X : Picture) (text : List ℕ) → Holds ((row_of (read_further self)).report X) text
-            → (row_of (read_further self)).Shows X text }
+        ensures { (row_of (read_further self)).Tells }
     {
         match self {
             FurtherKind::Edges => edges_holding_shows(),
