@@ -1,12 +1,10 @@
 //! A ball report as it was made: its text, and the balls that it lists.
 //! How they are found stands in `list`, and how they are spelled in `spell`.
 ghost use Rattle.std.specs.Prelude.{◌≡◌, ◌<◌, length, slice_get, Some};
-ghost use Rattle.shape_desk.specs.Desk.{WritesText};
 ghost use Rattle.judge_balls.specs.LineOf.{ball_of};
 
 use judge_balls::Ball;
-use report_text::{Report, WriteFault, write_report};
-use shape_desk::Desk;
+use report_text::Report;
 use shape_space::Point;
 use std::marker::Model;
 
@@ -46,12 +44,10 @@ impl<P: Point> BallReport<P> {
         self.list[i as usize]
     }
 
-    /// Writes the text. It takes no memory.
-    ///
-    /// A fault comes only from a write that failed; a front of the text was written then.
-    pub fn write<D: Desk>(&self, desk: &mut D) -> Result<(), WriteFault>
-        ensures { WritesText self.now.text (D.state desk.old) (D.state desk.new) result }
+    /// The text, as a report.
+    pub fn into_report(self) -> Report
+        ensures { result ≡ self.text }
     {
-        write_report(&self.report, desk)
+        self.report
     }
 }

@@ -1,5 +1,5 @@
 -- The bytes of a file spell one picture at most or have one fault at most, and not both, for a report of each kind.
--- A further kind of report is a line of `format_is`.
+-- This is so for every bound of the sides.
 use Rattle.std.proofs.Common.{◌≡◌, ◌⊎◌, inl, inr, ℕ, List, [], ◌∷◌, ap, sym, subst, ◌∙◌}
 use Rattle.shape_terms.specs.Pictures.{Picture}
 use Rattle.shape_picture.specs.Answers.{Format, most_side, most_bytes}
@@ -8,8 +8,8 @@ use Rattle.shape_picture.specs.declared.fault.PictureFault.TheVariants.{SideTooL
 use Rattle.shape_picture.proofs.AtMostOne as pbm
 use Rattle.shape_picture.proofs.VolumeSteps.{not_both_volume, one_volume_fault, one_volume_picture}
 use Rattle.shape_cli.specs.Sources.{Source, format_of}
-use Rattle.shape_cli.specs.Formats.{sides_above, HasLargeSide, IsTooLarge, narrowed}
-use Rattle.shape_cli.specs.Kinds.{ReportKind, format_for}
+use Rattle.shape_cli.specs.Formats.{About, sides_above, HasLargeSide, IsTooLarge, narrowed, format_about}
+use Rattle.shape_cli.specs.Kinds.{ReportKind, about_of, format_for}
 
 -- a format gives bytes one answer at most
 pub record IsFormat (F : Format) : Type 0 where
@@ -61,8 +61,11 @@ module _ (most : ℕ) (F : Format) (is : IsFormat F) where
     one_picture = λ X Y bytes s t. is.one_picture X Y bytes s.0 t.0;
   }
 
+-- the pictures that a report may be about
+about_is : (about : About) (F : Format) → IsFormat F → IsFormat (format_about about F)
+about_is About.Every F is = is
+about_is About.Flat F is = is
+about_is (About.FlatUpTo most) F is = narrowed_is most F is
+
 pub format_is : (kind : ReportKind) (source : Source) → IsFormat (format_for kind source)
-format_is ReportKind.Analysis source = format_of_source source
-format_is ReportKind.Edges source = narrowed_is 1000 (format_of source) (format_of_source source)
-format_is ReportKind.Pieces source = format_of_source source
-format_is ReportKind.Balls source = format_of_source source
+format_is kind source = about_is (about_of kind) (format_of source) (format_of_source source)

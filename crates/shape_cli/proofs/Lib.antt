@@ -11,3 +11,4 @@ pub mod Reading
 pub mod Complete
 pub mod NumberWords
 pub mod TriedReports
+pub mod KindRead

@@ -1,5 +1,5 @@
 -- Words spell one command at most, so what `run` says of the words is said of the command.
--- A further kind of report is a line of `again`, of `same_wanted` and of the laws of its words.
+-- That no two first words are the same is found by computing, for all kinds of reports at once.
 use Rattle.std.proofs.Common.{◌≡◌, ◌⊎◌, inl, inr, ℕ, ◌<◌, ◌≤◌, ◌^◌, List, [], ◌∷◌, ◌++◌, None, Some, get_or, refl, ap, sym, subst, ◌∙◌, arith}
 use Rattle.std.specs.Prelude.{◌↔◌}
 use Rattle.std.specs.Fmt.{decimal}
@@ -20,15 +20,7 @@ use Rattle.shape_cli.proofs.SourceWords.{same_source}
 
 -- how words begin is found by their first
 again : (f : First) → begin_with (first_word f) ≡ Some f
-again (First.Make ReportKind.Analysis) = refl
-again (First.Check ReportKind.Analysis) = refl
-again (First.Make ReportKind.Edges) = refl
-again (First.Check ReportKind.Edges) = refl
-again (First.Make ReportKind.Pieces) = refl
-again (First.Check ReportKind.Pieces) = refl
-again (First.Make ReportKind.Balls) = refl
-again (First.Check ReportKind.Balls) = refl
-again First.Trial = refl
+again f = grind arith
 
 pub one_beginning : (f g : First) → first_word f ≡ first_word g → f ≡ g
 one_beginning f g e = let s : Some f ≡ Some g = sym (again f) ∙ ap begin_with e ∙ again g in cc
@@ -51,9 +43,9 @@ same_wanted s t (Wanted.Analysis rule) (Wanted.Analysis rule') k h i e =
     let p = same_source s t (rule ∷ []) (rule' ∷ []) refl h i e in
     let n : rule ≡ rule' = (let l = p.rest in cc) in
     record { source = p.source; wanted = ap (λ r. Wanted.Analysis r) n }
-same_wanted s t Wanted.Edges Wanted.Edges k h i e = record { source = (same_source s t [] [] refl h i e).source; wanted = refl }
-same_wanted s t Wanted.Pieces Wanted.Pieces k h i e = record { source = (same_source s t [] [] refl h i e).source; wanted = refl }
-same_wanted s t Wanted.Balls Wanted.Balls k h i e = record { source = (same_source s t [] [] refl h i e).source; wanted = refl }
+same_wanted s t (Wanted.Further kind) (Wanted.Further other) k h i e =
+    let n : kind ≡ other = cc in
+    record { source = (same_source s t [] [] refl h i e).source; wanted = ap (λ x. Wanted.Further x) n }
 same_wanted s t w v k h i e = absurd (let f = k in cc)
 
 -- the words of trials tell them apart

@@ -1,13 +1,14 @@
 -- What the program reads of the words: the one command that they spell, or that they spell none.
--- Laws of words and of what is read of them, part by part; a further kind is a line of `named` and a law of its words.
-use Rattle.std.proofs.Common.{◌≡◌, ℕ, List, [], ◌∷◌, ◌++◌, length, append-nil, arith, Option, None, Some, refl, ap, sym, subst, ◌∙◌}
+-- Laws of words and of what is read of them, part by part.
+use Rattle.std.proofs.Common.{◌≡◌, ℕ, List, [], ◌∷◌, ◌++◌, append-nil, Option, None, Some, refl, ap, sym, subst, ◌∙◌}
 use Rattle.std.specs.Prelude.{Contains, MatchOption, slice_get}
 use Rattle.std.proofs.lemmas.Option.{slice_get_within, get_or_from_slice_get}
 use Rattle.thin_terms.specs.Thinning.{Rule}
 use Rattle.thin_terms.specs.Shelves.{Named, names_of}
 use Rattle.shape_desk.specs.Desk.{DeskState}
 use Rattle.shape_cli.specs.Sources.{Source, HasSides, kind_at, source_words}
-use Rattle.shape_cli.specs.Kinds.{ReportKind, Wanted, kind_of, last_words, Takes, IsNamed, IsFound, read_wanted}
+use Rattle.shape_cli.specs.Further.{FurtherKind}
+use Rattle.shape_cli.specs.Kinds.{ReportKind, Wanted, Takes, IsNamed, IsFound, read_wanted}
 use Rattle.shape_cli.specs.Commands.{Asked, First, first_of, first_word, words_of, rest_of, IsInRange, IsNoForm, IsNoRest, IsNoSourceFor, IsRead, IsAtHand, Asks, read_command}
 use Rattle.shape_cli.specs.Runs.{Ran}
 use Rattle.shape_cli.specs.declared.command.Command.{Command}
@@ -39,25 +40,12 @@ analysis_by names rest n c i b e = absurd (let f = b in cc)
 pub analysis_by_none : (names rest at : List (List ℕ)) (last : List ℕ) → rest ≡ at ++ last ∷ [] → (Contains names last → ⊥) → IsNoRest names (First.Make ReportKind.Analysis) rest
 analysis_by_none names rest at last w n = analysis_by names rest (λ s rule h t m e. n (subst (Contains names) (sym (same_ends at (source_words s) last rule (sym w ∙ e)).last) m))
 
--- what is wanted of one kind ends in as many words
-same_count : (w v : Wanted) → kind_of w ≡ kind_of v → length (last_words w) ≡ length (last_words v)
-same_count (Wanted.Analysis rule) (Wanted.Analysis rule') k = refl
-same_count Wanted.Edges Wanted.Edges k = refl
-same_count Wanted.Pieces Wanted.Pieces k = refl
-same_count Wanted.Balls Wanted.Balls k = refl
-same_count w v k = absurd (let f = k in cc)
-
-none_behind : (s : Source) (last : List (List ℕ)) → length last ≡ 0 → source_words s ++ last ≡ source_words s
-none_behind s [] n = append-nil (source_words s)
-none_behind s (w ∷ last) n = absurd (omega arith)
-
--- a report for which no more words are wanted than those of a source
-pub plain_of_none : (names : List (List ℕ)) (w : Wanted) (rest : List (List ℕ)) → last_words w ≡ [] → IsNoSourceFor (kind_of w) rest → IsNoRest names (First.Make (kind_of w)) rest
-plain_of_none names w rest l n (Asked.Make s v) i b e =
-    let same : kind_of v ≡ kind_of w = cc in
-    let none : length (last_words v) ≡ 0 = same_count v w same ∙ ap length l in
-    n s i.0 (subst (λ kind. Takes kind (kind_at s)) same i.1) (e ∙ none_behind s (last_words v) none)
-plain_of_none names w rest l n c i b e = absurd (let f = b in cc)
+-- a report of a further kind is told by its source
+pub further_of_none : (names : List (List ℕ)) (kind : FurtherKind) (rest : List (List ℕ)) → IsNoSourceFor (ReportKind.Further kind) rest → IsNoRest names (First.Make (ReportKind.Further kind)) rest
+further_of_none names kind rest n (Asked.Make s (Wanted.Further other)) i b e =
+    let same : ReportKind.Further other ≡ ReportKind.Further kind = cc in
+    n s i.0 (subst (λ k. Takes k (kind_at s)) same i.1) (e ∙ append-nil (source_words s))
+further_of_none names kind rest n c i b e = absurd (let f = b in cc)
 
 -- ---- what was read is in range
 
@@ -67,9 +55,7 @@ named_at names i rule there = (i, slice_get_within names i rule there, get_or_fr
 
 named : (names : List (List ℕ)) (w : ProgramWanted) → IsFound names w → IsNamed names (read_wanted w)
 named names (wanted.Analysis rule which) f = named_at names which rule.now f
-named names wanted.Edges f = tt
-named names wanted.Pieces f = tt
-named names wanted.Balls f = tt
+named names (wanted.Further kind) f = tt
 
 in_range : (names : List (List ℕ)) (c : Command) → IsAtHand names c → IsInRange names (read_command c)
 in_range names (command.Make source wanted) h = (program_sides source, h.0, named names wanted h.1)

@@ -1,10 +1,11 @@
 -- The commands of the program and their words: what is asked for, times where the picture is read.
--- A further kind of report is one more line of the tables of `Kinds`; there are three commands for ever.
-use Rattle.std.specs.Prelude.{◌≡◌, ◌++◌, ◌<◌, ◌≤◌, ◌^◌, ℕ, List, [], ◌∷◌, codes, map, Option, ⊤}
+-- There are three commands for ever; which kinds of reports there are stands in `Kinds`.
+use Rattle.std.specs.Prelude.{◌≡◌, ◌++◌, ◌<◌, ◌≤◌, ◌^◌, ℕ, List, [], ◌∷◌, codes, flat_map, Option, ⊤}
 use Rattle.std.specs.Fmt.{decimal}
 use Rattle.text_terms.specs.Tables.{kind_among}
 use Rattle.shape_cli.specs.Sources.{Kind, Source, kind_at, kind_word, HasSides, source_words, most_side_of, read_kind, read_source}
-use Rattle.shape_cli.specs.Kinds.{ReportKind, Wanted, kind_of, report_kinds, make_word, check_word, last_words, IsNamed, Takes, read_report_kind, read_wanted, IsFound}
+use Rattle.shape_cli.specs.Further.{further_kinds}
+use Rattle.shape_cli.specs.Kinds.{ReportKind, Wanted, kind_of, make_word, check_word, last_words, IsNamed, Takes, read_report_kind, read_wanted, IsFound}
 use Rattle.shape_cli.specs.declared.command.First.{First as ProgramFirst}
 use Rattle.shape_cli.specs.declared.command.First.TheVariants as first
 use Rattle.shape_cli.specs.declared.command.Command.{Command}
@@ -94,13 +95,17 @@ pub record Asks (names words : List (List ℕ)) (P : Asked → Type 0) : Type 0 
 
 -- ---- the program's own
 
--- how words may begin
-abbrev pub firsts : List First
-firsts = map First.Make report_kinds ++ (map First.Check report_kinds ++ First.Trial ∷ [])
+-- how words for a further kind begin
+abbrev pub further_firsts : List First
+further_firsts = flat_map (λ kind. First.Make (ReportKind.Further kind) ∷ First.Check (ReportKind.Further kind) ∷ []) further_kinds
+
+-- how words with this first word begin, where it is that of a further kind
+abbrev pub begin_further : List ℕ → Option First
+begin_further word = kind_among first_word further_firsts word
 
 -- how words with this first word begin
 abbrev pub begin_with : List ℕ → Option First
-begin_with word = kind_among first_word firsts word
+begin_with word = kind_among first_word (First.Make ReportKind.Analysis ∷ First.Check ReportKind.Analysis ∷ First.Trial ∷ further_firsts) word
 
 -- the beginning that the program reads
 abbrev pub read_first : ProgramFirst → First

@@ -1,8 +1,9 @@
-pub mod Outcomes
 pub mod Rules
 pub mod Numbers
 pub mod Sources
 pub mod Formats
+pub mod Further
+pub mod Outcomes
 pub mod Kinds
 pub mod Commands
 pub mod Trials

@@ -1,12 +1,14 @@
 -- What the program shows of each outcome.
 -- The table of statuses, texts and numbers, one case a line.
-use Rattle.std.specs.Prelude.{ℕ, List, [], codes, Option, None, Some}
+use Rattle.std.specs.Prelude.{ℕ, List, [], ◌∷◌, ◌++◌, codes, flat_map, Option, None, Some}
 use Rattle.shape_picture.specs.declared.fault.PictureFault.{PictureFault}
 use Rattle.shape_picture.specs.declared.fault.PictureFault.TheVariants as fault
 use Rattle.shape_picture.specs.declared.fault.PictureError.{PictureError}
 use Rattle.shape_picture.specs.declared.fault.PictureError.TheVariants as error
 use Rattle.report_text.specs.declared.answer.Judgement.{Judgement}
 use Rattle.report_text.specs.declared.answer.Judgement.TheVariants as judgement
+use Rattle.shape_cli.specs.Formats.{About}
+use Rattle.shape_cli.specs.Further.{FurtherKind, further_kinds, row_of}
 use Rattle.shape_cli.specs.declared.outcome.Outcome.{Outcome}
 use Rattle.shape_cli.specs.declared.outcome.Outcome.TheVariants as outcome
 
@@ -31,12 +33,30 @@ fault_message (fault.Short i) = codes "picture ends early at"
 fault_message fault.TooLong = codes "picture is too long"
 fault_message fault.Trailing = codes "bytes after the volume"
 
+-- the words of the sources of such pictures, as they are told to a user
+abbrev pub source_forms : About → List (List ℕ)
+source_forms About.Every = codes " pbm FILE" ∷ codes " raw X Y Z FILE" ∷ []
+source_forms About.Flat = codes " pbm FILE" ∷ []
+source_forms (About.FlatUpTo most) = codes " pbm FILE" ∷ []
+
+-- the forms of the words that begin so, for each of these sources, with these words last
+abbrev pub forms_of : (first last : List ℕ) → About → List ℕ
+forms_of first last about = flat_map (λ source. codes ", " ++ (first ++ (source ++ last))) (source_forms about)
+
+-- the forms of the words for a report of a further kind, and for its check
+abbrev pub further_forms : FurtherKind → List ℕ
+further_forms kind = forms_of (row_of kind).word [] (row_of kind).about ++ forms_of (codes "check" ++ (row_of kind).word) (codes " REPORT") (row_of kind).about
+
+-- the forms of the words of all commands
+abbrev pub usage_text : List ℕ
+usage_text = codes "usage: analyse pbm FILE RULE, analyse raw X Y Z FILE RULE, check pbm FILE REPORT, check raw X Y Z FILE REPORT, trial pbm SEED SIDE, trial raw SEED SIDE" ++ flat_map further_forms further_kinds
+
 -- the text on standard error
 abbrev pub message_of : Outcome → List ℕ
 message_of outcome.Done = []
 message_of outcome.Yes = []
 message_of (outcome.No k) = []
-message_of outcome.Usage = codes "usage: analyse pbm FILE RULE, analyse raw X Y Z FILE RULE, check pbm FILE REPORT, check raw X Y Z FILE REPORT, trial pbm SEED SIDE, trial raw SEED SIDE, edges pbm FILE, checkedges pbm FILE REPORT, pieces pbm FILE, checkpieces pbm FILE REPORT, balls pbm FILE, balls raw X Y Z FILE, checkballs pbm FILE REPORT, checkballs raw X Y Z FILE REPORT"
+message_of outcome.Usage = usage_text
 message_of (outcome.Picture f) = fault_message f
 message_of outcome.ReadFault = codes "read failed"
 message_of outcome.WriteFault = codes "write failed"

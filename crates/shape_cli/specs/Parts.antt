@@ -8,7 +8,6 @@ use Rattle.text_terms.specs.Reports.{FirstBad}
 use Rattle.text_terms.specs.Going.{TakesFew}
 use Rattle.shape_desk.specs.Desk.{DeskState, Rose, IsMissing}
 use Rattle.shape_desk.specs.declared.desk.Place.TheVariants.{Report}
-use Rattle.edge_terms.specs.Corners.{HasSmallSides}
 use Rattle.shape_picture.specs.Answers.{Format}
 use Rattle.shape_picture.specs.declared.fault.PictureFault.{PictureFault}
 use Rattle.shape_picture.specs.declared.fault.PictureError.{PictureError}
@@ -20,10 +19,9 @@ use Rattle.report_text.specs.declared.answer.CheckFault.{CheckFault}
 use Rattle.report_text.specs.declared.answer.CheckFault.TheVariants as check
 use Rattle.shape_cli.specs.declared.picture.Image.{Image}
 use Rattle.shape_cli.specs.declared.picture.Image.TheVariants as image
-use Rattle.shape_cli.specs.declared.making.Made.{Made}
-use Rattle.shape_cli.specs.declared.making.Made.TheVariants as made
-use Rattle.shape_cli.specs.Sources.{Kind, IsFlat}
-use Rattle.shape_cli.specs.Kinds.{ReportKind, report_of}
+use Rattle.shape_cli.specs.Sources.{Kind}
+use Rattle.shape_cli.specs.Formats.{About, IsSuch}
+use Rattle.shape_cli.specs.Kinds.{ReportKind, about_of, report_of}
 use Rattle.shape_desk.specs.Files.{OfFile}
 use Rattle.shape_cli.specs.Runs.{IsRightReport, yes_text, no_text}
 
@@ -42,12 +40,13 @@ abbrev pub image_kind : Image → Kind
 image_kind (image.Flat X) = Kind.Flat
 image_kind (image.Solid X) = Kind.Solid
 
+-- the picture that was read is one of these
+abbrev pub IsFit : About → Image → Type 0
+IsFit about image = IsSuch about (image_kind image) (picture_of image)
+
 -- what is asked of a picture of which a report of the kind is made or checked
 abbrev pub Suits : ReportKind → Image → Type 0
-Suits ReportKind.Analysis image = ⊤
-Suits ReportKind.Edges image = IsFlat (image_kind image) × HasSmallSides (picture_of image)
-Suits ReportKind.Pieces image = IsFlat (image_kind image)
-Suits ReportKind.Balls image = ⊤
+Suits kind image = IsFit (about_of kind) image
 
 -- what the reading of a file in a format gives: its picture, its fault, or the cause of the failure
 abbrev pub Opened : Format → List ℕ → DeskState → DeskState → Result Picture PictureError → Type 0
@@ -60,14 +59,6 @@ Opened F file old new (Err error.NoMemory) = ⊤
 abbrev pub TellsOf : Format → List ℕ → Result Image PictureFault → Type 0
 TellsOf F bytes (Ok v) = F.spells (picture_of v) bytes
 TellsOf F bytes (Err f) = F.has_fault f bytes
-
--- the bytes of a report that was made
-abbrev pub made_text : Made → List ℕ
-made_text (made.Analysis text) = text
-made_text (made.Edges text) = text
-made_text (made.Pieces text) = text
-made_text (made.FlatBalls listed) = listed.text
-made_text (made.SolidBalls listed) = listed.text
 
 -- the verdict line
 abbrev pub verdict_text : Judgement → List ℕ

@@ -3,10 +3,12 @@
 ghost use Rattle.std.specs.Prelude.{◌≡◌, ℕ, List, MatchOption, None, Some, Contains, ◌∷◌, [], slice_get};
 ghost use Rattle.thin_terms.specs.Shelves.{names_of};
 ghost use Rattle.shape_cli.specs.Sources.{source_words, kind_at, read_kind, read_source};
-ghost use Rattle.shape_cli.specs.Kinds.{ReportKind as AskedKind, Takes, IsFound, kind_of, last_words, read_report_kind, read_wanted};
+ghost use Rattle.shape_cli.specs.Further.{read_further};
+ghost use Rattle.shape_cli.specs.Kinds.{ReportKind as AskedKind, Takes, read_report_kind};
 ghost use Rattle.shape_desk.specs.Files.{texts};
 ghost use Rattle.shape_cli.specs.Commands.{First as AskedFirst, AreTrial, IsNoForm, IsNoRest, IsNoSourceFor, IsRead, IsAtHand, begin_with, first_word, trial_words, words_of, read_command, read_first};
 
+use crate::further::{FurtherKind, beginning_further};
 use crate::kind::{ReportKind, Wanted};
 use crate::numbers::number_in;
 use crate::source::{Kind, Source, kind_called, source_of};
@@ -56,28 +58,10 @@ fn beginning(word: &[u8]) -> Option<First>
     if word == b"check".as_slice() {
         return Some(First::Check(ReportKind::Analysis));
     }
-    if word == b"edges".as_slice() {
-        return Some(First::Make(ReportKind::Edges));
-    }
-    if word == b"checkedges".as_slice() {
-        return Some(First::Check(ReportKind::Edges));
-    }
-    if word == b"pieces".as_slice() {
-        return Some(First::Make(ReportKind::Pieces));
-    }
-    if word == b"checkpieces".as_slice() {
-        return Some(First::Check(ReportKind::Pieces));
-    }
-    if word == b"balls".as_slice() {
-        return Some(First::Make(ReportKind::Balls));
-    }
-    if word == b"checkballs".as_slice() {
-        return Some(First::Check(ReportKind::Balls));
-    }
     if word == b"trial".as_slice() {
         return Some(First::Trial);
     }
-    None
+    beginning_further(word)
 }
 
 // The number of the rule that a word names.
@@ -121,15 +105,14 @@ fn read_analysis<'a>(rest: &'a [Vec<u8>], shelf: &Shelf) -> Option<Command<'a>>
     Some(Command::Make { source, wanted })
 }
 
-// A report for which no more words are wanted than those of a source.
-fn read_plain<'a>(wanted: Wanted<'a>, rest: &'a [Vec<u8>]) -> Option<Command<'a>>
-    requires plain { last_words (read_wanted wanted) ≡ [] }
-    requires found { (names : List (List ℕ)) → IsFound names wanted }
+// The report of a further kind that the words behind the first spell: those of a source.
+fn read_further_kind<'a>(kind: FurtherKind, rest: &'a [Vec<u8>]) -> Option<Command<'a>>
     ensures { (names : List (List ℕ)) → MatchOption result
-        (IsNoRest names (AskedFirst.Make (kind_of (read_wanted wanted.entry))) (texts rest.now))
-        (IsRead names (AskedFirst.Make (kind_of (read_wanted wanted.entry))) (texts rest.now)) }
+        (IsNoRest names (AskedFirst.Make (AskedKind.Further (read_further kind))) (texts rest.now))
+        (IsRead names (AskedFirst.Make (AskedKind.Further (read_further kind))) (texts rest.now)) }
 {
-    let source = source_for(wanted.kind(), rest)?;
+    let source = source_for(ReportKind::Further(kind), rest)?;
+    let wanted = Wanted::Further(kind);
     Some(Command::Make { source, wanted })
 }
 
@@ -141,9 +124,7 @@ fn read_making<'a>(kind: ReportKind, rest: &'a [Vec<u8>], shelf: &Shelf) -> Opti
 {
     match kind {
         ReportKind::Analysis => read_analysis(rest, shelf),
-        ReportKind::Edges => read_plain(Wanted::Edges, rest),
-        ReportKind::Pieces => read_plain(Wanted::Pieces, rest),
-        ReportKind::Balls => read_plain(Wanted::Balls, rest),
+        ReportKind::Further(kind) => read_further_kind(kind, rest),
     }
 }
 

@@ -1,34 +1,51 @@
-//! The kinds of reports, and what is wanted of a picture.
-//! A further kind is a variant of each, and an arm of each `match`.
+//! The kinds of reports, the pictures that they are about, and what is wanted of a picture.
+//! The further kinds stand in `further`; nothing here names one.
 ghost use Rattle.std.specs.Prelude.{◌≡◌, ◌↔◌, IsTrue};
 ghost use Rattle.shape_cli.specs.Sources.{read_kind};
-ghost use Rattle.shape_cli.specs.Kinds.{Takes, kind_of, read_report_kind, read_wanted};
+ghost use Rattle.shape_cli.specs.Kinds.{Takes, about_of, kind_of, read_about, read_report_kind, read_wanted};
 
+use crate::further::FurtherKind;
 use crate::source::Kind;
+
+/// The pictures that a report may be about.
+#[derive(Clone, Copy, Debug, PartialEq, Eq)]
+pub enum About {
+    /// All pictures and volumes.
+    Every,
+    /// Flat pictures.
+    Flat,
+    /// Flat pictures whose sides are at most this.
+    FlatUpTo(u32),
+}
 
 /// A kind of report.
 #[derive(Clone, Copy, Debug, PartialEq, Eq)]
 pub enum ReportKind {
     /// The analysis: counts, distances, outline and thinning.
     Analysis,
-    /// The standard segments of the corner paths of a flat picture.
-    Edges,
-    /// The fewest straight pieces of the contours of a flat picture.
-    Pieces,
-    /// The object as a union of balls.
-    Balls,
+    /// A further kind.
+    Further(FurtherKind),
 }
 
 impl ReportKind {
+    /// The pictures that a report of the kind may be about.
+    pub(crate) fn about(self) -> About
+        ensures { read_about result ≡ about_of (read_report_kind self) }
+    {
+        match self {
+            ReportKind::Analysis => About::Every,
+            ReportKind::Further(kind) => kind.about(),
+        }
+    }
+
     /// Whether there are reports of the kind about pictures of a kind.
     pub(crate) fn takes(self, kind: Kind) -> bool
         ensures { IsTrue result ↔ Takes (read_report_kind self) (read_kind kind) }
     {
-        match self {
-            ReportKind::Analysis => true,
-            ReportKind::Edges => kind.is_flat(),
-            ReportKind::Pieces => kind.is_flat(),
-            ReportKind::Balls => true,
+        match self.about() {
+            About::Every => true,
+            About::Flat => kind.is_flat(),
+            About::FlatUpTo(_) => kind.is_flat(),
         }
     }
 }
@@ -38,12 +55,8 @@ impl ReportKind {
 pub enum Wanted<'a> {
     /// The analysis by a rule: its name, and its number on the shelf.
     Analysis { rule: &'a [u8], which: usize },
-    /// The standard segments of its corner paths.
-    Edges,
-    /// The fewest straight pieces of its contours.
-    Pieces,
-    /// Balls whose union is its object.
-    Balls,
+    /// One of a further kind.
+    Further(FurtherKind),
 }
 
 impl Wanted<'_> {
@@ -53,9 +66,7 @@ impl Wanted<'_> {
     {
         match self {
             Wanted::Analysis { .. } => ReportKind::Analysis,
-            Wanted::Edges => ReportKind::Edges,
-            Wanted::Pieces => ReportKind::Pieces,
-            Wanted::Balls => ReportKind::Balls,
+            Wanted::Further(kind) => ReportKind::Further(kind),
         }
     }
 }

@@ -2,7 +2,9 @@
 //! Everything that a user sees is an `Outcome`, or what was written to the desk.
 #![tactic(auto)]
 
+mod balls;
 mod command;
+mod further;
 mod kind;
 mod laws;
 mod making;

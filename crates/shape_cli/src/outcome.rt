@@ -3,6 +3,7 @@
 ghost use Rattle.std.specs.Prelude.{◌≡◌};
 ghost use Rattle.shape_cli.specs.Outcomes.{status_of, message_of, number_of, fault_message, fault_place, refusal_of};
 
+use crate::further::usage;
 use shape_picture::{PictureError, PictureFault};
 
 /// How a run ended.
@@ -51,9 +52,7 @@ impl Outcome {
             Outcome::Done => "",
             Outcome::Yes => "",
             Outcome::No { line: _ } => "",
-            Outcome::Usage => {
-                "usage: analyse pbm FILE RULE, analyse raw X Y Z FILE RULE, check pbm FILE REPORT, check raw X Y Z FILE REPORT, trial pbm SEED SIDE, trial raw SEED SIDE, edges pbm FILE, checkedges pbm FILE REPORT, pieces pbm FILE, checkpieces pbm FILE REPORT, balls pbm FILE, balls raw X Y Z FILE, checkballs pbm FILE REPORT, checkballs raw X Y Z FILE REPORT"
-            }
+            Outcome::Usage => usage(),
             Outcome::Picture(fault) => fault_text(*fault),
             Outcome::ReadFault => "read failed",
             Outcome::WriteFault => "write failed",

@@ -1,16 +1,15 @@
 //! The first step of every command: the picture at its source.
-//! A further source is one more arm of `read_image`; a further kind of report is one more arm of `suited`.
-ghost use Rattle.std.specs.Prelude.{◌≡◌, [], ℕ, List, IfOk, MatchOption, true};
+//! A further source is one more arm of `read_image`.
+ghost use Rattle.std.specs.Prelude.{◌≡◌, ◌≤◌, [], ℕ, List, IfOk, MatchOption, All, true};
 ghost use Rattle.shape_desk.specs.Desk.{OnlyReads, OnlyReadsAt};
 ghost use Rattle.shape_desk.specs.declared.desk.Place.TheVariants.{Picture};
 ghost use Rattle.shape_picture.specs.Answers.{PictureAnswer};
-ghost use Rattle.edge_terms.specs.Corners.{HasSmallSides};
 ghost use Rattle.shape_cli.specs.Sources.{Source as AskedSource, IsFlat, file_of, format_of, kind_at, read_source};
-ghost use Rattle.shape_cli.specs.Formats.{HasLargeSide, sides_above};
-ghost use Rattle.shape_cli.specs.Kinds.{Takes, format_for, read_report_kind};
-ghost use Rattle.shape_cli.specs.Parts.{Opened, TellsOf, Suits, image_kind, picture_of, seen};
+ghost use Rattle.shape_cli.specs.Formats.{HasLargeSide, IsAbout, format_about, sides_above};
+ghost use Rattle.shape_cli.specs.Kinds.{Takes, format_for, read_about, read_report_kind};
+ghost use Rattle.shape_cli.specs.Parts.{IsFit, Opened, TellsOf, Suits, image_kind, picture_of, seen};
 
-use crate::kind::ReportKind;
+use crate::kind::{About, ReportKind};
 use crate::source::Source;
 use shape_corner::flat_sides;
 use shape_desk::{Desk, Place};
@@ -75,16 +74,17 @@ fn read_source_file<D: Desk>(
     }
 }
 
-// The fault of a flat picture with a side above 1000: its width where that is above, else its height.
-fn side_fault(grid: &Grid<P2>) -> Option<PictureFault>
-    ensures { MatchOption result (HasSmallSides grid.now × (sides_above 1000 grid.now ≡ []))
-        (HasLargeSide 1000 grid.now) }
+// The fault of a flat picture with a side above `most`: its width where that is above, else its height.
+fn side_fault(grid: &Grid<P2>, most: u32) -> Option<PictureFault>
+    ensures { MatchOption result
+        (All (λ n. n ≤ most) grid.now.sides × (sides_above most grid.now ≡ []))
+        (HasLargeSide most grid.now) }
 {
     let sides = flat_sides(grid);
-    if sides.width > 1000 {
+    if sides.width > most {
         return Some(PictureFault::SideTooLarge { value: sides.width });
     }
-    if sides.height > 1000 {
+    if sides.height > most {
         return Some(PictureFault::SideTooLarge {
             value: sides.height,
         });
@@ -92,22 +92,21 @@ fn side_fault(grid: &Grid<P2>) -> Option<PictureFault>
     None
 }
 
-// The picture, if a report of the kind may be about one with its sides.
-fn suited(kind: ReportKind, image: Image) -> Result<Image, PictureFault>
-    requires takes { Takes (read_report_kind kind) (image_kind image) }
-    ensures suits { IfOk result (Suits (read_report_kind kind)) }
+// The picture, if it is one of those that a report may be about.
+fn fitting(about: About, image: Image) -> Result<Image, PictureFault>
+    requires about { IsAbout (read_about about) (image_kind image) }
+    ensures fit { IfOk result (IsFit (read_about about)) }
     ensures told { (source : AskedSource) (bytes : List ℕ)
         → (format_of source).spells (picture_of image) bytes
-        → TellsOf (format_for (read_report_kind kind) source) bytes result }
+        → TellsOf (format_about (read_about about) (format_of source)) bytes result }
 {
-    match kind {
-        ReportKind::Edges => match side_fault(image.flat()) {
+    match about {
+        About::Every => Ok(image),
+        About::Flat => Ok(image),
+        About::FlatUpTo(most) => match side_fault(image.flat(), most) {
             Some(fault) => Err(fault),
             None => Ok(image),
         },
-        ReportKind::Analysis => Ok(image),
-        ReportKind::Pieces => Ok(image),
-        ReportKind::Balls => Ok(image),
     }
 }
 
@@ -125,7 +124,7 @@ pub(crate) fn open_picture<D: Desk>(
     ensures only { OnlyReads (D.state desk.old) (D.state desk.new) }
 {
     let image = read_source_file(alloc, source, desk)?;
-    match suited(kind, image) {
+    match fitting(kind.about(), image) {
         Ok(image) => Ok(image),
         Err(fault) => Err(PictureError::Bad(fault)),
     }

@@ -1,15 +1,18 @@
 //! The commands that check a report: the picture, then the report, then the verdict line.
-//! The report is judged line by line; nothing of it is kept. A further kind is an arm of `check_image`.
-ghost use Rattle.std.specs.Prelude.{◌≡◌, ◌≤◌, length, take, true};
+//! The report is judged line by line; nothing of it is kept.
+ghost use Rattle.std.specs.Prelude.{◌≡◌, ◌≤◌, ℕ, List, length, take, true};
+ghost use Rattle.shape_terms.specs.Pictures.{Picture};
+ghost use Rattle.thin_terms.specs.Thinning.{Rule};
+ghost use Rattle.thin_terms.specs.Shelves.{Named};
+ghost use Rattle.text_terms.specs.Reports.{Holds};
 ghost use Rattle.shape_rules.specs.Ruled.{rules_on};
 ghost use Rattle.shape_desk.specs.Desk.{OnlyReads, OnlyReadsAt, WritesText};
 ghost use Rattle.shape_desk.specs.declared.desk.Place.TheVariants.{Report};
 ghost use Rattle.report_text.specs.Checks.{HasChecked};
 ghost use Rattle.report_terms.specs.Subjects.{subject_of};
 ghost use Rattle.report_terms.specs.Sections.{analysis};
-ghost use Rattle.ball_terms.specs.Reports.{ball_report};
 ghost use Rattle.shape_cli.specs.Sources.{kind_at, read_source};
-ghost use Rattle.shape_cli.specs.Kinds.{Takes, report_of, read_report_kind};
+ghost use Rattle.shape_cli.specs.Kinds.{Takes, ShowsOf, report_of, read_report_kind};
 ghost use Rattle.shape_cli.specs.Commands.{Asked};
 ghost use Rattle.shape_cli.specs.Outcomes.{outcome_of};
 ghost use Rattle.shape_cli.specs.Parts.{Suits, Judged, IsCounted, picture_of, verdict_text};
@@ -20,9 +23,7 @@ use crate::kind::ReportKind;
 use crate::outcome::{Outcome, refused};
 use crate::picture::{Image, open_picture};
 use crate::source::Source;
-use judge_balls::check_balls;
-use judge_edges::check_edges;
-use judge_pieces::check_pieces;
+use shape_check::law::holding_shows;
 use shape_check::{CheckFault, Judgement, check_flat, check_solid};
 use shape_desk::{Desk, Failed, Place, put_all, put_number, put_word};
 use shape_rules::Shelf;
@@ -47,23 +48,6 @@ pub(crate) fn check_analysis<D: Desk>(
     }
 }
 
-// Checks the ball report that is begun against a picture.
-fn check_ball_report<D: Desk>(
-    alloc: Global,
-    image: &Image,
-    desk: &mut D,
-) -> Result<Judgement, CheckFault>
-    requires { (D.state desk.old).begun Report ≡ true }
-    ensures checked { HasChecked (ball_report (picture_of image.now))
-        ((D.state desk.old).left Report) (D.state desk.old) (D.state desk.new) result }
-    ensures reads { OnlyReadsAt Report (D.state desk.old) (D.state desk.new) }
-{
-    match image {
-        Image::Flat(grid) => check_balls(alloc, grid, desk),
-        Image::Solid(grid) => check_balls(alloc, grid, desk),
-    }
-}
-
 // Checks the report of a kind that is begun against a picture.
 fn check_image<D: Desk>(
     alloc: Global,
@@ -81,9 +65,19 @@ fn check_image<D: Desk>(
 {
     match kind {
         ReportKind::Analysis => check_analysis(alloc, image, shelf, desk),
-        ReportKind::Edges => check_edges(alloc, image.flat(), desk),
-        ReportKind::Pieces => check_pieces(alloc, image.flat(), desk),
-        ReportKind::Balls => check_ball_report(alloc, image, desk),
+        ReportKind::Further(kind) => kind.check(alloc, image, desk),
+    }
+}
+
+// What a report of a kind that holds shows: what counts is the clause.
+fn shows(kind: ReportKind)
+    ensures { (rules : List (Named Rule)) (X : Picture) (text : List ℕ)
+        → Holds (report_of rules (read_report_kind kind) X) text
+        → ShowsOf rules (read_report_kind kind) X text }
+{
+    match kind {
+        ReportKind::Analysis => holding_shows(),
+        ReportKind::Further(kind) => kind.shows(),
     }
 }
 
@@ -101,6 +95,7 @@ fn judge<D: Desk>(
         (picture_of image.now) report.now (D.state desk.old) (D.state desk.new) result }
     ensures only { OnlyReads (D.state desk.old) (D.state desk.new) }
 {
+    shows(kind);
     desk.begin(Place::Report, report)?;
     check_image(alloc, image, kind, shelf, desk)
 }

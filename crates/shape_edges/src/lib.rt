@@ -16,6 +16,6 @@ mod start;
 mod walk;
 
 pub use list::EdgeCover;
-pub use report::{EdgeReport, edges};
+pub use report::edges;
 pub use shape_corner::{Arc, EdgeGap, Standard};
 pub use walk::edge_cover;

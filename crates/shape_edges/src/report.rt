@@ -4,7 +4,6 @@ ghost use Rattle.std.specs.Prelude.{◌≡◌, ◌<◌, ◌+◌, ℕ, [], IfOk, 
 ghost use Rattle.shape_terms.specs.Pictures.{Picture};
 ghost use Rattle.shape_terms.specs.Contours.{Crack as Term};
 ghost use Rattle.shape_terms.specs.Traces.{AreContours};
-ghost use Rattle.shape_desk.specs.Desk.{WritesText};
 ghost use Rattle.text_terms.specs.Reports.{Holds};
 ghost use Rattle.edge_terms.specs.Corners.{HasSmallSides};
 ghost use Rattle.edge_terms.specs.EdgeReports.{edge_report, State};
@@ -14,14 +13,12 @@ ghost use Rattle.shape_edges.specs.Growing.{Tells, HasTold, IsFoundAt, IsSomeCov
 use crate::list::EdgeCover;
 use crate::walk::edge_cover;
 use edge_text::EdgeLine;
-use report_text::{Report, WriteFault, write_report};
+use report_text::Report;
 use shape_corner::flat_sides;
 use shape_crack::{Contours, Crack, contours};
-use shape_desk::Desk;
 use shape_grid::Grid;
 use shape_space::{NoMemory, P2};
 use std::alloc::Global;
-use std::marker::Model;
 
 // Adds the line of the sides.
 fn add_sides(grid: &Grid<P2>, report: &mut Report) -> Result<(), NoMemory>
@@ -107,38 +104,6 @@ fn add_cycles(
     Ok(())
 }
 
-/// An edge report: its text, every line with its LF.
-#[derive(Drop)]
-pub struct EdgeReport {
-    report: Report,
-}
-
-impl Model for EdgeReport {
-    ghost use Rattle.std.specs.Prelude.{ℕ, List};
-
-    ghost Value = { List ℕ };
-
-    ghost view = { λ r. r.report };
-}
-
-impl EdgeReport {
-    /// The text.
-    pub fn text(&self) -> &[u8]
-        ensures { result.now ≡ self.now }
-    {
-        self.report.text()
-    }
-
-    /// Writes the report. It takes no memory.
-    ///
-    /// A fault comes only from a write that failed; a front of the text was written then.
-    pub fn write<D: Desk>(&self, desk: &mut D) -> Result<(), WriteFault>
-        ensures { WritesText self.now (D.state desk.old) (D.state desk.new) result }
-    {
-        write_report(&self.report, desk)
-    }
-}
-
 /// The edge report of a flat picture whose sides are at most 1000 (`has_small_sides`): for each cycle of its cracks, in the order of their least
 /// cracks, exactly the maximal straight runs of its corner path, each with a standard line that holds it, and the evidence for each gap.
 ///
@@ -147,7 +112,7 @@ impl EdgeReport {
 /// # Errors
 ///
 /// `NoMemory` where there is none for the corners, the arcs or the text.
-pub fn edges(alloc: Global, grid: &Grid<P2>) -> Result<EdgeReport, NoMemory>
+pub fn edges(alloc: Global, grid: &Grid<P2>) -> Result<Report, NoMemory>
     requires { HasSmallSides grid.now }
     ensures { IfOk result (Holds (edge_report grid.now)) }
 {
@@ -156,5 +121,5 @@ pub fn edges(alloc: Global, grid: &Grid<P2>) -> Result<EdgeReport, NoMemory>
     add_sides(grid, &mut report)?;
     add_cycles(alloc, grid, &contours, &mut report)?;
     report.add(&EdgeLine::End)?;
-    Ok(EdgeReport { report })
+    Ok(report)
 }

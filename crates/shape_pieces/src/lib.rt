@@ -10,5 +10,5 @@ mod report;
 mod walk;
 
 pub use list::Split;
-pub use report::{PieceReport, pieces};
+pub use report::pieces;
 pub use walk::split;

@@ -6,46 +6,16 @@ ghost use Rattle.shape_terms.specs.Traces.{Contour as Trace, AreContours};
 ghost use Rattle.text_terms.specs.Reports.{Holds};
 ghost use Rattle.piece_terms.specs.Pieces.{ArePieces};
 ghost use Rattle.piece_terms.specs.PieceReports.{piece_report};
-ghost use Rattle.shape_desk.specs.Desk.{WritesText};
 ghost use Rattle.shape_pieces.specs.Growing.{HasSplits, HasPieces, IsContourAt, IsSomeSplit};
 
 use crate::list::Split;
 use crate::walk::split;
 use judge_pieces::PieceLine;
-use report_text::{Report, WriteFault, write_report};
+use report_text::Report;
 use shape_crack::{Contour, Contours, contours};
-use shape_desk::Desk;
 use shape_grid::Grid;
 use shape_space::{NoMemory, P2};
 use std::alloc::Global;
-use std::marker::Model;
-
-/// The report of the fewest straight pieces of each contour of a flat picture, seen as its text.
-#[derive(Drop)]
-pub struct PieceReport {
-    report: Report,
-}
-
-impl Model for PieceReport {
-    ghost use Rattle.std.specs.Prelude.{ℕ, List};
-
-    ghost Value = { List ℕ };
-
-    ghost view = { λ r. r.report };
-}
-
-impl PieceReport {
-    /// Writes the report. It takes no memory.
-    ///
-    /// # Errors
-    ///
-    /// `WriteFault` only where a write failed; a front of the report was written then.
-    pub fn write<D: Desk>(&self, desk: &mut D) -> Result<(), WriteFault>
-        ensures { WritesText self.now (D.state desk.old) (D.state desk.new) result }
-    {
-        write_report(&self.report, desk)
-    }
-}
 
 // Adds the line of a piece and, where it is not the last, the two lines that tell why it can't be longer.
 fn add_piece(split: &Split, j: u32, report: &mut Report) -> Result<(), NoMemory>
@@ -126,7 +96,7 @@ fn add_splits(alloc: Global, contours: &Contours, report: &mut Report) -> Result
 /// # Errors
 ///
 /// `NoMemory` where there is none for these.
-pub fn pieces(alloc: Global, grid: &Grid<P2>) -> Result<PieceReport, NoMemory>
+pub fn pieces(alloc: Global, grid: &Grid<P2>) -> Result<Report, NoMemory>
     ensures { IfOk result (Holds (piece_report grid.now)) }
 {
     let contours = contours(alloc, grid)?;
@@ -136,5 +106,5 @@ pub fn pieces(alloc: Global, grid: &Grid<P2>) -> Result<PieceReport, NoMemory>
     })?;
     add_splits(alloc, &contours, &mut report)?;
     report.add(&PieceLine::End)?;
-    Ok(PieceReport { report })
+    Ok(report)
 }

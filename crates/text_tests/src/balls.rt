@@ -2,7 +2,7 @@
 //! A further report is one more entry of a table, and its first bad line.
 use crate::grids::{full, grid_of};
 use judge_balls::check_balls;
-use report_text::{Judgement, WriteFault};
+use report_text::{Judgement, WriteFault, write_report};
 use shape_balls::balls;
 use shape_desk::{MemoryDesk, SteadyDesk};
 use shape_grid::Grid;
@@ -73,8 +73,8 @@ fn made<P: Point>(alloc: Global, grid: &Grid<P>, bad_write: u64) -> Result<Vec<u
     let mut bad_writes = Vec::new(alloc);
     bad_writes.push(bad_write)?;
     let mut desk = MemoryDesk::new(alloc, Vec::new(alloc), Vec::new(alloc), bad_writes, 7, 900)?;
-    let report = balls(alloc, grid)?;
-    match report.write(&mut desk) {
+    let report = balls(alloc, grid)?.into_report();
+    match write_report(&report, &mut desk) {
         Ok(()) => Ok(desk.output().to_vec(alloc)?),
         Err(WriteFault) => Ok(Vec::new(alloc)),
     }

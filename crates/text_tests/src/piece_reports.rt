@@ -2,7 +2,7 @@
 //! A further picture, and a further report that does not hold, is one more row of a table.
 use crate::grids::grid_of;
 use judge_pieces::check_pieces;
-use report_text::Judgement;
+use report_text::{Judgement, write_report};
 use shape_desk::{MemoryDesk, SteadyDesk};
 use shape_grid::Grid;
 use shape_pieces::pieces;
@@ -28,7 +28,7 @@ fn written(alloc: Global, grid: &Grid<P2>) -> Result<Vec<u8>, Fail> {
     let report = pieces(alloc, grid)?;
     let (files, reads, writes) = (Vec::new(alloc), Vec::new(alloc), Vec::new(alloc));
     let mut desk = MemoryDesk::new(alloc, files, reads, writes, 7, 1000)?;
-    if report.write(&mut desk).is_err() {
+    if write_report(&report, &mut desk).is_err() {
         return Err(Fail::from(AllocError));
     }
     Ok(desk.output().to_vec(alloc)?)

@@ -3,7 +3,7 @@ use Rattle.shape_desk.specs.declared.desk.Place.TheVariants.{Report}
 use Rattle.report_text.specs.Checks.{HasChecked}
 use Rattle.ball_terms.specs.Reports.{ball_report}
 use Rattle.shape_cli.specs.Parts.{picture_of}
-use Rattle.shape_cli.proofs.verdict.check_ball_report.Goals as goal
+use Rattle.shape_cli.proofs.balls.check_ball_report.Goals as goal
 
 pub returns-in-Flat-clause-checked : goal.returns-in-Flat-clause-checked
 returns-in-Flat-clause-checked g c =

@@ -1,0 +1,20 @@
+-- What is so of a kind of report is so of the kind that the program reads as it.
+-- These laws are of every kind, and name none.
+use Rattle.std.proofs.Common.{◌≡◌, List, ℕ, sym, subst}
+use Rattle.std.specs.Prelude.{Option}
+use Rattle.shape_terms.specs.Pictures.{Picture}
+use Rattle.thin_terms.specs.Thinning.{Rule}
+use Rattle.thin_terms.specs.Shelves.{Named}
+use Rattle.text_terms.specs.Reports.{Holds}
+use Rattle.shape_desk.specs.Desk.{DeskState}
+use Rattle.report_text.specs.Checks.{HasChecked, Answer}
+use Rattle.shape_cli.specs.Kinds.{ReportKind, report_of, ShowsOf, read_report_kind}
+use Rattle.shape_cli.specs.declared.kind.ReportKind.{ReportKind as ProgramReportKind}
+
+module _ (k : ProgramReportKind) (kind : ReportKind) (is : read_report_kind k ≡ kind) where
+  pub checked_as : (shelf : List (Named Rule)) (X : Picture) (text : Option (List ℕ)) (old new : DeskState) (r : Answer) → HasChecked (report_of shelf kind X) text old new r → HasChecked (report_of shelf (read_report_kind k) X) text old new r
+  checked_as shelf X text old new r h = subst (λ j. HasChecked (report_of shelf j X) text old new r) (sym is) h
+
+  pub shown_as : ((shelf : List (Named Rule)) (X : Picture) (text : List ℕ) → Holds (report_of shelf kind X) text → ShowsOf shelf kind X text)
+      → (shelf : List (Named Rule)) (X : Picture) (text : List ℕ) → Holds (report_of shelf (read_report_kind k) X) text → ShowsOf shelf (read_report_kind k) X text
+  shown_as h = subst (λ j. (shelf : List (Named Rule)) (X : Picture) (text : List ℕ) → Holds (report_of shelf j X) text → ShowsOf shelf j X text) (sym is) h
