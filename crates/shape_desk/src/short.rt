@@ -1,0 +1,51 @@
+//! Numbers of at most three digits, each put where it stands.
+//! How every other number is put belongs elsewhere.
+ghost use Rattle.std.specs.Prelude.{◌≡◌, ◌≤◌, ◌<◌, ◌+◌, ◌++◌, [], ◌∷◌, length, take, drop};
+ghost use Rattle.std.specs.Fmt.{decimal};
+
+// Puts a digit at a place of the buffer, and answers the place after it.
+fn put_digit(n: u64, buf: &mut [u8], at: usize) -> usize
+    requires digit { n < 10 }
+    requires room { at + 1 ≤ length buf.old }
+    ensures place { result ≡ at + 1 }
+    ensures text { take result buf.new ≡ take at buf.old ++ (48 + n) ∷ [] }
+    ensures rest { drop result buf.new ≡ drop result buf.old }
+    ensures length { length buf.new ≡ length buf.old }
+{
+    buf[at] = b'0' + n as u8;
+    at + 1
+}
+
+// Puts the digits of a number below 100.
+fn put_two(n: u64, buf: &mut [u8], at: usize) -> usize
+    requires short { n < 100 }
+    requires room { at + 2 ≤ length buf.old }
+    ensures place { result ≡ at + length (decimal n) }
+    ensures few { result ≤ at + 2 }
+    ensures text { take result buf.new ≡ take at buf.old ++ decimal n }
+    ensures rest { drop result buf.new ≡ drop result buf.old }
+    ensures length { length buf.new ≡ length buf.old }
+{
+    if n < 10 {
+        return put_digit(n, buf, at);
+    }
+    let end = put_digit(n / 10, buf, at);
+    put_digit(n % 10, buf, end)
+}
+
+// Puts the digits of a number below 1000 at a place of the buffer, and answers the place after them.
+pub(crate) fn put_short(n: u64, buf: &mut [u8], at: usize) -> usize
+    requires short { n < 1000 }
+    requires room { at + 20 ≤ length buf.old }
+    ensures place { result ≡ at + length (decimal n) }
+    ensures room { result ≤ at + 20 }
+    ensures text { take result buf.new ≡ take at buf.old ++ decimal n }
+    ensures rest { drop result buf.new ≡ drop result buf.old }
+    ensures length { length buf.new ≡ length buf.old }
+{
+    if n < 100 {
+        return put_two(n, buf, at);
+    }
+    let end = put_two(n / 10, buf, at);
+    put_digit(n % 10, buf, end)
+}
