@@ -35,13 +35,12 @@ pub record Row : Type 1 where
   pub report : Picture → Report Line
   -- the text shows what a report of the kind that holds of the picture says of it
   pub Shows : Picture → List ℕ → Type 0
-  -- the text is a report of the kind that holds of the picture
+  -- the program's own: the text holds, a check went so, and what holds shows; each is a type of the kind's own, which a call of the kind gives
   pub Makes : Picture → List ℕ → Type 0
-  -- a check of a report of the kind went so
   pub Checked : Picture → Option (List ℕ) → DeskState → DeskState → Answer → Type 0
-  -- each text that holds shows what it says
   pub Tells : Type 0
-  -- the last two, as what they are for every kind
+  -- what each means, for every kind
+  pub makes : (X : Picture) (text : List ℕ) → Makes X text → Holds (report X) text
   pub checked : (X : Picture) (text : Option (List ℕ)) (old new : DeskState) (r : Answer) → Checked X text old new r → HasChecked (report X) text old new r
   pub tells : Tells → (X : Picture) (text : List ℕ) → Holds (report X) text → Shows X text
 
@@ -56,6 +55,7 @@ row_with word about R Shows = record {
   Makes = λ X text. Holds (R X) text;
   Checked = λ X text old new r. HasChecked (R X) text old new r;
   Tells = (X : Picture) (text : List ℕ) → Holds (R X) text → Shows X text;
+  makes = λ X text h. h;
   checked = λ X text old new r h. h;
   tells = λ h. h;
 }

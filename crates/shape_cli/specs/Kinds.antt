@@ -4,7 +4,7 @@ use Rattle.std.specs.Prelude.{◌≡◌, ◌++◌, ℕ, List, [], ◌∷◌, cod
 use Rattle.shape_terms.specs.Pictures.{Picture}
 use Rattle.thin_terms.specs.Thinning.{Rule}
 use Rattle.thin_terms.specs.Shelves.{Named}
-use Rattle.text_terms.specs.Reports.{Report}
+use Rattle.text_terms.specs.Reports.{Report, Holds}
 use Rattle.report_terms.specs.Subjects.{subject_of}
 use Rattle.report_terms.specs.Lines.{Line}
 use Rattle.report_terms.specs.Sections.{analysis}
@@ -93,7 +93,7 @@ ShowsOf shelf (ReportKind.Further kind) X text = (row_of kind).Shows X text
 -- the text is the report of the picture that was wanted
 abbrev pub Makes : List (Named Rule) → Wanted → Picture → List ℕ → Type 0
 Makes shelf (Wanted.Analysis rule) X text = IsReportBy (subject_of X shelf) rule text
-Makes shelf (Wanted.Further kind) X text = (row_of kind).Makes X text
+Makes shelf (Wanted.Further kind) X text = Holds ((row_of kind).report X) text
 
 -- ---- the program's own
 

@@ -1,11 +1,8 @@
 //! The further kinds of reports: the word that asks for each, the pictures that it is about, and the calls that make, check and explain it.
 //! A further kind is a variant, and an arm or a line of each table; nothing else of this crate's code names one.
-ghost use Rattle.std.specs.Prelude.{◌≡◌, ℕ, List, IfOk, MatchOption, None, true};
-ghost use Rattle.shape_terms.specs.Pictures.{Picture};
-ghost use Rattle.text_terms.specs.Reports.{Holds};
+ghost use Rattle.std.specs.Prelude.{◌≡◌, IfOk, MatchOption, None, true};
 ghost use Rattle.shape_desk.specs.Desk.{OnlyReadsAt};
 ghost use Rattle.shape_desk.specs.declared.desk.Place.TheVariants.{Report as ReportPlace};
-ghost use Rattle.report_text.specs.Checks.{HasChecked};
 ghost use Rattle.shape_cli.specs.Further.{read_further, row_of};
 ghost use Rattle.shape_cli.specs.Kinds.{read_about};
 ghost use Rattle.shape_cli.specs.Commands.{begin_further, first_word, read_first};
