@@ -1,7 +1,7 @@
 //! The patches that the points of a face fall into, each grown from the first point in raster order that is left.
 //! How a patch grows belongs elsewhere.
 ghost use Rattle.std.specs.Prelude.{◌≡◌, ◌<◌, ◌^◌, ◌+◌, ◌++◌, ◌∷◌, [], IsTrue, IfOk, Contains, map, length, ℕ, Some, slice_get};
-ghost use Rattle.shape_terms.specs.Points.{Point as Place, in_box, box_count};
+ghost use Rattle.shape_terms.specs.Points.{Point as Place, in_box, box_count, raster_point};
 ghost use Rattle.shape_terms.specs.Pictures.{Picture, at};
 ghost use Rattle.shape_terms.specs.Steps.{Before};
 ghost use Rattle.shape_plane.specs.Parting.{IsNewPart, AreRefusedOf, IsVisited};
@@ -119,7 +119,36 @@ impl<P: Point> Patches<P> {
     }
 }
 
-// Grows a patch from the point with a raster number, where it is left.
+// Grows a patch from the point with a raster number, which is left.
+fn visit_left<P: Pairing>(
+    alloc: Global,
+    axis: usize,
+    i: u32,
+    left: &mut Grid<P>,
+    tried: &mut Grid<P>,
+    found: &mut Patches<P>,
+) -> Result<(), NoMemory>
+    requires axis { axis < P.DIM }
+    requires place { i < box_count left.old.sides }
+    requires left { IsTrue (at left.old (raster_point left.old.sides i)) }
+    requires of_axis { found.old.axis ≡ axis }
+    requires visited { (first : Picture)
+        × IsVisited P.DIM axis first i found.old.patches left.old tried.old }
+    ensures of_axis { IfOk result (λ _. found.new.axis ≡ axis) }
+    ensures sides { IfOk result (λ _. left.new.sides ≡ left.old.sides) }
+    ensures visited { (first : Picture)
+        → IsVisited P.DIM axis first i found.old.patches left.old tried.old
+        → IfOk result (λ _.
+        IsVisited P.DIM axis first (i + 1) found.new.patches left.new tried.new) }
+{
+    left.is_picture();
+    let p = left.sides().unraster(i);
+    let patch = next_patch(alloc, axis, p, left, tried)?;
+    found.push(patch)?;
+    Ok(())
+}
+
+// The same of any point, where it is left.
 fn visit<P: Pairing>(
     alloc: Global,
     axis: usize,
@@ -142,9 +171,7 @@ fn visit<P: Pairing>(
 {
     left.is_picture();
     if left.has_number(i) {
-        let p = left.sides().unraster(i);
-        let patch = next_patch(alloc, axis, p, left, tried)?;
-        found.push(patch)?;
+        visit_left(alloc, axis, i, left, tried, found)?;
     }
     Ok(())
 }
