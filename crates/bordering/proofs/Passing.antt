@@ -19,10 +19,6 @@ use Rattle.bordering.specs.Cells.{cell_of, no_cell, cell_with, is_between, ArePa
 
 -- ---- places
 
--- no place is from one up to before the same
-none_between : (a i : ℕ) → is_between a a i ≡ false
-none_between a i = grind (arith, nat_tests)
-
 here_between : (a i : ℕ) → a ≤ i → is_between a (i + 1) i ≡ true
 here_between a i h = grind (arith, nat_tests)
 
@@ -41,13 +37,6 @@ second_round : (a b n i : ℕ) → is_between (a - n) (b - n) i ≡ is_between a
 second_round a b n i = grind (arith, nat_tests)
 
 -- ---- one run
-
--- from a place up to before itself nothing is put
-pub passed_none : (ps : List Point) (r : Run) (a : ℕ) (old : List Cell) → ArePassed ps r a a old old
-passed_none ps r a old = record {
-  all = refl;
-  each = λ i h. sym (cond-false (is_between a a i) _ _ (none_between a i));
-}
 
 -- and one place more
 pub passed_more : (ps : List Point) (r : Run) (a i : ℕ) (old new : List Cell) (c : Cell) → a ≤ i → i < length old → ArePassed ps r a i old new
@@ -72,10 +61,6 @@ passed_more ps r a i old new c low high h e = record {
         let now : get_or (set new i c) i no_cell ≡ c = get_or-set_same new i c no_cell within in
         subst (λ j. get_or (set new i c) j no_cell ≡ (if is_between a (i + 1) j then cell_with (get_or old j no_cell) (share r (step_at ps j)) else get_or old j no_cell)) (sym s)
         (now ∙ e ∙ ap (λ x. cell_with x (share r (step_at ps i))) was ∙ sym (cond-true (is_between a (i + 1) i) _ _ (here_between a i low)))
-
--- the step behind those that were put is as it was
-pub still : (ps : List Point) (r : Run) (a i : ℕ) (old new : List Cell) → i < length old → ArePassed ps r a i old new → get_or new i no_cell ≡ get_or old i no_cell
-still ps r a i old new l h = h.each i l ∙ cond-false (is_between a i i) _ _ (not_yet a i)
 
 -- from a place up to another, where what lies beyond the last step was left out
 pub passed_cut : (ps : List Point) (r : Run) (a b n : ℕ) (old new : List Cell) → length old ≡ n → ArePassed ps r (min a (min b n)) (min b n) old new → ArePassed ps r a b old new

@@ -21,13 +21,6 @@ above rows i k p q o h e l =
     let z = end_row (row_at rows k) q e.end in
     record { row = omega (arith, up, y, z); column = λ s. omega (arith, up, y, z, s) }
 
--- none were tried
-pub none_tried : (rows : List Row) (p : Spot) (f : Feret) → AreTried rows p (length rows) f f
-none_tried rows p f = record {
-  most = λ k q l i. (let h = i.place in omega (arith, l, h));
-  same_or_further = inl refl;
-}
-
 pub no_less : (rows : List Row) (p : Spot) (k : ℕ) (old new : Feret) → AreTried rows p k old new → old.square ≤ new.square
 no_less rows p k old new t = elim t.same_or_further [
   | inl e ↦ (let s = ap (λ (f : Feret). f.square) e in omega (arith, s))

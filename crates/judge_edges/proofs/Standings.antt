@@ -26,10 +26,6 @@ next_arc cycles s path n m b e line before same all declared listed more early p
       arc = record { begins = p.begins; rises = p.rises; short = p.short; after = p.after; closes = p.closes; held = subst (λ (l : List Point). IsStandardFor (arc l b e) line) same held };
     }
 
--- the run of a gap by its places
-pub gap_is : (path : List Point) (stretches : List Stretch) (k b e : ℕ) → b ≡ next_first path stretches k - 1 → e ≡ (slice_index_or stretches k (record { first = 0; last = 0 })).last + 1 → arc path b e ≡ gap_run path stretches k
-gap_is path stretches k b e p q = λ i. arc path (p i) (q i)
-
 -- the path of the cycle at that place
 pub open_is : (cs : List EdgeCycle) (s : Standing) (now : EdgeState) (k : EdgeCycle) (path : List Point) → record { cycles = cs; standing = s } ≡ now → slice_get cs (s.begun - 1) ≡ Some k → path ≡ k.path → path ≡ open_path now.cycles now.standing
 open_is cs s now k path view there is = is ∙ (ap (λ (c : EdgeCycle). c.path) (sym (get_or_from_slice_get cs (s.begun - 1) k no_cycle there)) ∙ same_open cs s now view)

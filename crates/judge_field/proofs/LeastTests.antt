@@ -16,10 +16,3 @@ too_far p q k j left s d e l m is h less same =
 -- a background point at the least distance is nearest
 pub least_by : (X : Picture) (p q : Point) (s : ℕ) → IsLeastSquare X p s → IsBackground X q → s ≡ squared_distance p q → Least X p q s
 least_by X p q s t b e = record { background = b; distance = e; least = t.least.least }
-
--- and the distance of a nearest one is the least
-pub same_least : (X : Picture) (p q : Point) (m s : ℕ) → IsLeastSquare X p m → Least X p q s → m ≡ s
-same_least X p q m s t l =
-    let a = t.least.least q l.background in
-    let b = l.least t.q t.least.background in
-    omega (arith, a, b, t.least.distance, l.distance)

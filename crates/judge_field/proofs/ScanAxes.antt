@@ -151,12 +151,6 @@ first_squares X squares h = record {
   reached = λ i l small. first_reached X i (get_or squares i 0) l (h i l) small;
 }
 
-pub first_small : (X : Picture) (i s : ℕ) → IsFirstSquare X i s → s ≤ 2 ^ 26
-first_small X i s h = elim (cases_Bool (at X (framed_point X.sides i))) [
-  | inl t ↦ omega (arith, h.object t)
-  | inr f ↦ omega (arith, h.bare f)
-]
-
 -- ---- behind the last axis
 
 -- the square of a point of the box is the least of the whole space

@@ -26,20 +26,6 @@ claim_test X s lines l b f r = (
   λ (solid, claim). r.1 (subst (λ Y. SurfaceClaim Y s.standing l) (sym f.picture) (subst (λ w. SurfaceClaim X w l) f.stands claim)),
 )
 
--- and all lines stand there where the judge went through all faces
-pub done_test : (X : Picture) (s : PlaneState) (lines : List Line) (b : Bool) → StandsFor X s lines → (IsTrue b ↔ (FacesAreFull s.picture s.standing × (s.standing.begun ≡ 6))) → IsTrue b ↔ AllFaces X lines
-done_test X s lines b f r = (
-  λ t.
-      let h = r.0 t in
-      record {
-        solid = λ solid. (subst (FacesAreFull X) (sym f.stands) (subst (λ Y. FacesAreFull Y s.standing) f.picture h.0), ap (λ (w : FaceStanding). w.begun) f.stands ∙ h.1);
-        other = λ other. absurd (other f.solid);
-      },
-  λ c.
-      let all = c.solid f.solid in
-      r.1 (subst (λ Y. FacesAreFull Y s.standing) (sym f.picture) (subst (FacesAreFull X) f.stands all.0), ap (λ (w : FaceStanding). w.begun) (sym f.stands) ∙ all.1),
-)
-
 -- ---- one more line
 
 pub face_stands : (X : Picture) (s s2 : PlaneState) (lines : List Line) (t : ℕ) (sense : Sense) (n : ℕ) (b : Bool) → StandsFor X s lines → s2.picture ≡ s.picture → OnTrue b (s2.standing ≡ with_face s.standing) → OnTrue b (StandsFor X s2 (lines ++ Line.Face t sense n ∷ []))

@@ -30,7 +30,3 @@ least P D Q E a b c d hb hd he h k l m =
   where
     last : (n b d p q x y : ℤ) → b *ℤ n ≡ p +ℤ q → d *ℤ n ≡ x +ℤ y → p ≤ℤ x → q ≤ℤ y → (n *ℤ b) ≤ℤ (n *ℤ d)
     last n b d p q x y e f g h = omega (arith, ints, rings, e, f, g, h)
-
--- the mediant of the bounds lies strictly between them
-pub mediant : (P D Q E : ℤ) → pos 0 <ℤ (P *ℤ E -ℤ Q *ℤ D) → (((P +ℤ Q) *ℤ D) <ℤ ((D +ℤ E) *ℤ P)) × (((D +ℤ E) *ℤ Q) <ℤ ((P +ℤ Q) *ℤ E))
-mediant P D Q E h = (omega (arith, ints, rings, h), omega (arith, ints, rings, h))

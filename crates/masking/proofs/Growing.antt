@@ -21,16 +21,3 @@ more_numbers f n =
 -- the values of the numbers below n, with one number more
 pub more_values : (f : ℕ → ℕ) (n : ℕ) → map f (range_with_len 0 (n + 1)) ≡ map f (range_with_len 0 n) ++ f n ∷ []
 more_values f n = map-range_with_len_more f 0 n n (omega arith)
-
--- the pieces of the first values of a list, with one value more
-pub more_pieces : (f : ℕ → List ℕ) (xs : List ℕ) (n d : ℕ) → n < length xs → flat_map f (take (n + 1) xs) ≡ flat_map f (take n xs) ++ f (get_or xs n d)
-more_pieces f xs n d h =
-    let e : n + 1 ≡ suc n = omega arith in
-    ap (λ k. flat_map f (take k xs)) e ∙ ap (flat_map f) (take-suc xs n d h)
-    ∙ flat_map-append f (take n xs) (get_or xs n d ∷ []) ∙ ap (λ t. flat_map f (take n xs) ++ t) (append-nil (f (get_or xs n d)))
-
--- what is made of the first values of a list, with one value more
-pub more_mapped : {A : Type 0} (f : A → ℕ) (xs : List A) (n : ℕ) (d : A) → n < length xs → map f (take (n + 1) xs) ≡ map f (take n xs) ++ f (get_or xs n d) ∷ []
-more_mapped f xs n d h =
-    let e : n + 1 ≡ suc n = omega arith in
-    ap (λ k. map f (take k xs)) e ∙ ap (map f) (take-suc xs n d h) ∙ map-append f (take n xs) (get_or xs n d ∷ [])

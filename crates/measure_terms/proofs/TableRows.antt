@@ -44,12 +44,6 @@ length-rows n fs = length-map-range_with_len (λ k. measures_of (facts_of (k + 1
 pub row_is : (n : ℕ) (fs : List Fact) (k : ℕ) (d : Measures) → k < n → get_or (rows n fs) k d ≡ measures_of (facts_of (k + 1) fs)
 row_is n fs k d l = get_or-map-range_with_len (λ k. measures_of (facts_of (k + 1) fs)) 0 n k k d l (omega arith)
 
--- no facts, and so rows without a point
-pub no_facts : (n : ℕ) → replicate n (measures_of []) ≡ rows n []
-no_facts n = same_lists (replicate n (measures_of [])) (rows n []) (length-replicate n (measures_of []) ∙ sym (length-rows n [])) (λ k d l.
-    let m : k < n = omega (arith, length-replicate n (measures_of [])) in
-    get_or-replicate n k (measures_of []) d m ∙ sym (row_is n [] k d m))
-
 -- a point of the background changes no row
 pub background_row : (n : ℕ) (fs : List Fact) (f : Fact) → f.part ≡ 0 → rows n (fs ++ f ∷ []) ≡ rows n fs
 background_row n fs f e = same_lists (rows n (fs ++ f ∷ [])) (rows n fs) (length-rows n (fs ++ f ∷ []) ∙ sym (length-rows n fs)) (λ k d l.

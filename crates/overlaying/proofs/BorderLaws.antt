@@ -46,7 +46,3 @@ pub marks_more : (ms : List Program.Mark) (i : ℕ) (d : Program.Mark) → i < l
 marks_more ms i d l =
     let next : suc i ≡ i + 1 = omega arith in
     ap all_marks (drop-cons ms i d l) ∙ ap (λ j. mark_of (get_or ms i d) ∷ all_marks (drop j ms)) next
-
--- one more border
-pub next_border : (paths : List (List Point)) (n m : ℕ) (even : Bool) (marks : List Mark) → m ≡ n + 1 → strokes_from paths m true marks ≡ strokes_from paths n even (Mark.Border ∷ marks)
-next_border paths n m even marks e = let z : m ≡ suc n = omega (arith, e) in ap (λ k. strokes_from paths k true marks) z

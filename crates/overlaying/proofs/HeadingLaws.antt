@@ -11,7 +11,6 @@ use Rattle.text_terms.specs.Spellings.{IsSpelled}
 use Rattle.text_terms.specs.Progress.{StartsWithLine, StartsWithNoLine}
 use Rattle.text_terms.specs.Reports.{FirstBad}
 use Rattle.text_terms.proofs.Checking.{begins_none, first_bad, same_front, no_line_at_end, no_line_without_lf, no_line_too_long}
-use Rattle.report_text.proofs.NextAnswers.{claim_taken}
 use Rattle.report_text.proofs.Told.{if_told}
 use Rattle.ball_terms.proofs.LineLaws.{spelled_balls}
 use Rattle.piece_terms.proofs.LineLaws.{are_spelled}
@@ -23,11 +22,6 @@ use Rattle.overlaying.specs.declared.kind.Kind.{Kind}
 use Rattle.overlaying.specs.declared.kind.Kind.TheVariants as kind
 
 -- ---- one line
-
--- the line of these bytes was found
-pub heading_found : (K : LineKind) → IsSpelled K.text → (sides : Point) (bytes : List ℕ) (l : K.Line) (b : Bool) → K.text.IsLine l → K.text.spelling l ≡ bytes → IsTrue b ↔ (K.part l ≡ Part.Heading sides) → IsTrue b ↔ IsHeadingLine K sides bytes
-heading_found K is sides bytes l b f e h =
-    (λ t. record { line = l; fields = f; spelled = e; heading = h.0 t }, λ k. h.1 (ap K.part (is.one l k.line f k.fields (e ∙ sym k.spelled)) ∙ k.heading))
 
 -- what a test did not find is not there
 pub not_so : {P : Type 0} (b : Bool) → b ≡ false → IsTrue b ↔ P → P → ⊥
@@ -105,7 +99,3 @@ no_heading sides (Some bytes) (Some rest) line n t none =
     let g = t.taken in
     let e : bytes ≡ (line ++ 10 ∷ []) ++ rest = cc in
     no_further sides bytes (lacks sides bytes line rest e t.no_lf none)
-
--- a first line that is one
-pub heading_taken : (K : LineKind) (sides : Point) (old new : Option (List ℕ)) (line : List ℕ) (n : ℕ) → TakesLine old new line n → IsHeadingLine K sides line → IfTold old (TakesHeading K sides new)
-heading_taken K sides old new line n t h = if_told old (λ bytes c. record { line = h.line; takes = c; heading = h.heading }) (claim_taken K.text old new line n h.line t h.fields h.spelled)

@@ -29,10 +29,3 @@ module _ {S : Type 0} (IsOf : List Line → S → Type 0) (s : Space) where
   pub of_lines : (text : Option (List ℕ)) (r : ℕ) (sketch : S) → IfTold text (IsTextOf (in_order s) (StandsFor IsOf r sketch)) → IfTold text (IsTextOf (in_order s) (λ lines. IsOf lines sketch))
   of_lines None r sketch h = tt
   of_lines (Some text) r sketch h = record { front = h.front; whole = h.whole; follows = h.follows.sketch_is }
-
--- a sketch that took one more line
-pub stands_more : {S : Type 0} (IsOf : List Line → S → Type 0) (r n : ℕ) (old new : S) (lines : List Line) (l : Line) → StandsFor IsOf r old lines → r ≤ n → n ≡ line_rank l → IsOf (lines ++ l ∷ []) new → StandsFor IsOf n new (lines ++ l ∷ [])
-stands_more IsOf r n old new lines l h o e k = record {
-  come = subst (λ m. HasRisenTo m (lines ++ l ∷ [])) (sym e) (risen_more r lines h.come l (subst (λ m. r ≤ m) e o));
-  sketch_is = k;
-}

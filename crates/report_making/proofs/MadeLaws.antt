@@ -70,12 +70,6 @@ refused_behind s known text left heading before now (NotReport k) taken h = behi
 refused_behind s known text left heading before now ReadFault taken h = h
 refused_behind s known text left heading before now NoMemory taken h = tt
 
--- the same where the count of faults stood before
-pub refused_later : (text : Option (List ℕ)) (before mid now : ℕ) (fault : ReportFault) → before ≤ mid → Refused text mid now fault → Refused text before now fault
-refused_later text before mid now (NotReport k) l h = h
-refused_later text before mid now ReadFault l h = omega (arith, l, h)
-refused_later text before mid now NoMemory l h = h
-
 -- why there is no opening, of the bytes that were left
 pub refused_opening : (bytes new text : Option (List ℕ)) (before now : ℕ) (fault : ReportFault) → bytes ≡ text → Lines.OpeningAnswer bytes new before now (Err fault) → Refused text before now fault
 refused_opening bytes new text before now (NotReport k) e h = subst (λ t. IfTold t (λ b. IsNoReport b k)) e (subst (λ j. IfTold bytes (λ t. IsNoReport t j)) (sym h.0) (no_opening bytes h.1))

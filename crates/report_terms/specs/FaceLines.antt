@@ -37,9 +37,6 @@ last_group gs = slice_index_or gs (length gs - 1) []
 abbrev pub open_face : List Line → List Line
 open_face lines = last_group (face_groups lines)
 
-abbrev pub open_patch : List Line → List Line
-open_patch lines = last_group (patch_groups (open_face lines))
-
 -- ---- what the lines of a group give
 
 -- the point that an `on` line gives, and the one that an `off` line gives

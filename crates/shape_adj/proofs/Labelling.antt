@@ -66,11 +66,6 @@ pub record Labelling (O : ℕ → Type 0) (R : ℕ → ℕ → Type 0) (size : �
   pub first : (j : ℕ) → 1 ≤ j → j ≤ count → (i : ℕ) × (i < s) × (slice_index labels i ≡ j)
   pub ordered : InOrder labels
 
-replicate_zero : (n i : ℕ) → slice_index (replicate n 0) i ≡ 0
-replicate_zero zero i = refl
-replicate_zero (suc n) zero = refl
-replicate_zero (suc n) (suc i) = replicate_zero n i
-
 module _ (O : ℕ → Type 0) (R : ℕ → ℕ → Type 0) (size s count : ℕ) (labels labels' work work' : List ℕ) (w : Labelling O R size labels work s count) where
   -- s is in a component of its own
   pub labelling_more : Flooded O R (count + 1) (slice_index labels') → Kept labels labels' → slice_index labels' s ≡ count + 1 → length labels' ≡ length labels → work' ≡ [] → Labelling O R size labels' work' (s + 1) (count + 1)

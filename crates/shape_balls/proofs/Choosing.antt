@@ -20,9 +20,6 @@ use Rattle.shape_balls.specs.Keeping.{fact_at, ball_holds, InKept, IsKeeping}
 use Rattle.shape_balls.specs.Chosen.{ball_at, IsChosen}
 use Rattle.shape_balls.proofs.Facts.{length-facts, fact_object, fact_least, fact_named, facts_rise, centre_held}
 
-pub chosen_none : (X : Picture) (facts : List NearFact) (kept : List Bool) → IsChosen X facts kept 0 []
-chosen_none X facts kept = record { few = omega arith; good = λ k b e. cc; from = λ k b e. cc; all = λ j l. absurd (omega arith) }
-
 below_more : (i j : ℕ) → j < i + 1 → (j < i) ⊎ (j ≡ i)
 below_more i j l = elim (dec_lt j i) [ yes m ↦ inl m | no m ↦ inr (omega arith) ]
 

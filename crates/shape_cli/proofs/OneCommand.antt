@@ -25,9 +25,6 @@ again f = grind arith
 pub one_beginning : (f g : First) → first_word f ≡ first_word g → f ≡ g
 one_beginning f g e = let s : Some f ≡ Some g = sym (again f) ∙ ap begin_with e ∙ again g in cc
 
-pub no_beginning : (word : List ℕ) (f : First) → begin_with word ≡ None → word ≡ first_word f → ⊥
-no_beginning word f n e = let s : None ≡ Some f = sym n ∙ ap begin_with e ∙ again f in cc
-
 pub same_beginning : (c d : Asked) → words_of c ≡ words_of d → first_of c ≡ first_of d
 same_beginning c d e = let w : first_word (first_of c) ≡ first_word (first_of d) = cc in one_beginning (first_of c) (first_of d) w
 

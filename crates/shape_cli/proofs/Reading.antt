@@ -40,13 +40,6 @@ analysis_by names rest n c i b e = absurd (let f = b in cc)
 pub analysis_by_none : (names rest at : List (List ℕ)) (last : List ℕ) → rest ≡ at ++ last ∷ [] → (Contains names last → ⊥) → IsNoRest names (First.Make ReportKind.Analysis) rest
 analysis_by_none names rest at last w n = analysis_by names rest (λ s rule h t m e. n (subst (Contains names) (sym (same_ends at (source_words s) last rule (sym w ∙ e)).last) m))
 
--- a report of a further kind is told by its source
-pub further_of_none : (names : List (List ℕ)) (kind : FurtherKind) (rest : List (List ℕ)) → IsNoSourceFor (ReportKind.Further kind) rest → IsNoRest names (First.Make (ReportKind.Further kind)) rest
-further_of_none names kind rest n (Asked.Make s (Wanted.Further other)) i b e =
-    let same : ReportKind.Further other ≡ ReportKind.Further kind = cc in
-    n s i.0 (subst (λ k. Takes k (kind_at s)) same i.1) (e ∙ append-nil (source_words s))
-further_of_none names kind rest n c i b e = absurd (let f = b in cc)
-
 -- ---- what was read is in range
 
 -- a name at a place is one of the names

@@ -141,9 +141,6 @@ pub record IsRunSoFar (bytes : List ℕ) (i m : ℕ) : Type 0 where
   pub within : i ≤ prefix_len is_ascii_digit bytes
   pub size : IsSizeOf (digits_value 10 (take_while is_ascii_digit bytes)) (digits_value_after 10 m (drop i (take_while is_ascii_digit bytes)))
 
-pub run_begun : (bs : List ℕ) → IsRunSoFar bs 0 0
-run_begun bs = record { within = omega arith; size = record { same = λ h. refl; great = λ h. h } }
-
 length_run : (bs : List ℕ) → length (take_while is_ascii_digit bs) ≡ prefix_len is_ascii_digit bs
 length_run bs = omega (arith, length-take (prefix_len is_ascii_digit bs) bs, prefix_len-le-length is_ascii_digit bs)
 
@@ -193,11 +190,6 @@ run_ends bs i m l f r =
       | inl h ↦ absurd (let c : true ≡ false = sym (prefix_len_passes is_ascii_digit bs i 0 h) ∙ f in cc)
       | inr h ↦ omega (arith, r.within)
     ] in
-    (e ∙ sym (length_run bs), run_done bs i m e r)
-
-pub run_whole : (bs : List ℕ) (i m : ℕ) → length bs ≤ i → IsRunSoFar bs i m → (i ≡ length (take_while is_ascii_digit bs)) × IsSizeOf (digits_value 10 (take_while is_ascii_digit bs)) m
-run_whole bs i m l r =
-    let e : i ≡ prefix_len is_ascii_digit bs = omega (arith, r.within, prefix_len-le-length is_ascii_digit bs) in
     (e ∙ sym (length_run bs), run_done bs i m e r)
 
 -- digits of the number 0 are those of no other

@@ -10,9 +10,6 @@ use Rattle.shape_dist.specs.declared.found.Found.{Found}
 use Rattle.shape_dist.specs.Spreads.{found, IsSpreadAt, HasSpread, HasSpreadTo}
 use Rattle.shape_dist.proofs.AxisSteps.{spread_of_copy}
 
-pub spread_all : (c w rows n : ℕ) (old new : List (Option Found)) → n ≡ c * rows → HasSpreadTo c w rows n old new → HasSpread c w rows old new
-spread_all c w rows n old new e s low x high l h k = s.done low x high l h k (omega (arith, e, number_below c rows low high l k))
-
 pub spread_more : (c w rows t : ℕ) (old mid new : List (Option Found)) → t < c * rows → HasSpreadTo c w rows t old mid
     → ((x : ℕ) → x < w → IsSpreadAt (λ y. found mid ((t % c + c * (w * (t / c))) + y * c)) w x (found new ((t % c + c * (w * (t / c))) + x * c)))
     → ((i : ℕ) → ((x : ℕ) → x < w → i ≡ (t % c + c * (w * (t / c))) + x * c → ⊥) → found new i ≡ found mid i) → HasSpreadTo c w rows (t + 1) old new

@@ -36,10 +36,6 @@ line_of_number c low high t l e =
 pub number_of_line : (c t : ℕ) → t % c + c * (t / c) ≡ t
 number_of_line c t = omega arith
 
--- the number of a line is below that of all lines
-pub number_below : (c rows low high : ℕ) → low < c → high < rows → low + c * high < c * rows
-number_below c rows low high l k = omega (arith, place_below c 1 rows low 0 high l (omega arith) k)
-
 -- a lowest place is a place of the row
 pub lowest_inside : (row : List (Option ℕ)) (x : ℤ) (i : ℕ) → IsLowest row x i → i < length row
 lowest_inside row x i t = elim (cases_lt i (length row)) [

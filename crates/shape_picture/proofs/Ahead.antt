@@ -5,11 +5,6 @@ use Rattle.std.proofs.lemmas.List.{append_assoc}
 use Rattle.shape_desk.specs.Desk.{Takes}
 use Rattle.shape_desk.specs.Line.{ahead_of}
 
--- with nothing ahead, the bytes to come are those left
-pub ahead_none : (old : Option (List ℕ)) → ahead_of [] old ≡ old
-ahead_none None = refl
-ahead_none (Some xs) = refl
-
 -- the bytes taken and those ahead were all taken from the desk
 pub taken_ahead : (all left : Option (List ℕ)) (front ahead : List ℕ) → Takes all (ahead_of ahead left) front → Takes all left (front ++ ahead)
 taken_ahead all None front ahead e = e

@@ -38,13 +38,6 @@ grown_more n t points old mid new pair h p (inr e) = record {
   same = e ∙ ap (λ (r : List Row). r ++ pair_row t points pair ∷ []) h.same ∙ append_assoc old h.more (pair_row t points pair ∷ []);
 }
 
-pub grown_through : (n t : ℕ) (points : List Point) (old mid new : List Row) → HasGrown n t points old mid → HasGrown n t points mid new → HasGrown n t points old new
-grown_through n t points old mid new h k = record {
-  rows = k.rows;
-  more = h.more ++ k.more;
-  same = k.same ∙ ap (λ (r : List Row). r ++ k.more) h.same ∙ append_assoc old h.more k.more;
-}
-
 -- ---- one point more
 
 pair_kept : (t : ℕ) (points more : List Point) (pair : Pair) → IsPair (length points) pair → pair_row t (points ++ more) pair ≡ pair_row t points pair
@@ -73,9 +66,3 @@ rows_pushed f t old new p rows e h =
     (rows_longer t (map f old) (f p) rows (subst (λ (n : ℕ). AreRowsOf n t (map f old) rows) (sym (length-map old f)) h)))
 
 -- ---- back to a mark
-
-pub mark_back : (n t : ℕ) (points : List Point) (old new : List Row) (mark : Mark) → HasGrown n t points old new → IsMark mark old → take mark.count new ≡ old
-mark_back n t points old new mark h m = ap (λ (k : ℕ). take k new) m.count ∙ ap (take (length old)) h.same ∙ take-append_seam old h.more
-
-pub mark_there : (n t : ℕ) (points : List Point) (old new : List Row) (mark : Mark) → HasGrown n t points old new → IsMark mark old → IsMark mark (take mark.count new)
-mark_there n t points old new mark h m = subst (IsMark mark) (sym (mark_back n t points old new mark h m)) m

@@ -204,9 +204,6 @@ declined_later d t s s' q pic box x = (
   λ a. subst (λ (T : Picture). IsTrue (at T q)) (sym x.tried) (at_same d s.tried q true pic box),
 )
 
-pub later_none : (s : Spread) → IsLater s s
-later_none s = record { settled = λ q h. h; more = []; points = sym (append-nil s.points) }
-
 pub later_more : (s s' s'' : Spread) → IsLater s s' → IsLater s' s'' → IsLater s s''
 later_more s s' s'' a b = record { settled = λ q h. b.settled q (a.settled q h); more = a.more ++ b.more; points = b.points ∙ ap (λ (l : List Point). l ++ b.more) a.points ∙ append_assoc s.points a.more b.more }
 

@@ -22,40 +22,6 @@ use Rattle.shape_slope.proofs.Narrowing.{whole_more}
 row_kept : (rows more : List Row) (i : ℕ) → i < length rows → row_at (rows ++ more) i ≡ row_at rows i
 row_kept rows more i l = get_or_append_left rows more _ i l
 
-combination_kept : (rows more : List Row) (c : Combination) → IsCombination rows c → IsCombination (rows ++ more) c
-combination_kept rows more c h =
-    let a = row_kept rows more c.first h.first in
-    let b = row_kept rows more c.second h.second in
-    let e = length-append rows more in
-    record {
-      first = (let l = h.first in omega (arith, e, l));
-      second = (let l = h.second in omega (arith, e, l));
-      first_low = h.first_low;
-      first_high = h.first_high;
-      second_low = h.second_low;
-      second_high = h.second_high;
-      x = rw (a, b) h.x;
-      y = rw (a, b) h.y;
-      z = rw (a, b) h.z;
-      x_small = h.x_small;
-      z_small = h.z_small;
-      kind = rw b h.kind;
-    }
-
-met_kept : (rows more : List Row) (j : ℕ) (p q : ℤ) → j < length rows → IsMet rows j p q → IsMet (rows ++ more) j p q
-met_kept rows more j p q l m = record {
-  flat = subst (λ (r : Row). r.y ≡ pos 0 → level p q r <ℤ pos 0) (sym (row_kept rows more j l)) m.flat;
-  room = λ i a b. subst (λ (r : Row). LeaveRoom p q r (row_at (rows ++ more) j)) (sym (row_kept rows more i (omega (arith, b, l))))
-      (subst (λ (r : Row). LeaveRoom p q (row_at rows i) r) (sym (row_kept rows more j l)) (m.room i a b));
-}
-
-pub whole_kept : (rows more : List Row) (n : Narrowed) → HasWhole rows (length rows) n → HasWhole (rows ++ more) (length rows) n
-whole_kept rows more (Room r) w = record {
-  range = record { lower = combination_kept rows more r.lower w.range.lower; upper = combination_kept rows more r.upper w.range.upper; falls = w.range.falls; rises = w.range.rises };
-  met = λ j l p q h i. met_kept rows more j p q l (w.met j l p q h i);
-}
-whole_kept rows more (Clash c) h = record { combination = combination_kept rows more c h.combination; never = h.never; pair = subst (λ (r : Row). IsGap r.cause) (sym (row_kept rows more c.second h.combination.second)) h.pair }
-
 pub last_row : (rows : List Row) (row : Row) → row_at (rows ++ row ∷ []) (length rows) ≡ row
 last_row rows row = get_or-append_seam rows row [] _
 

@@ -69,13 +69,6 @@ crossed_more rows old best new i j x n = record {
   ];
 }
 
--- a row in which the second slope does not stand
-pub flat_met : (rows : List Row) (old : Range) (c : Combination) (j : ℕ) (n : Narrowed) → (row_at rows j).y ≡ pos 0 → c.bound.x ≡ (row_at rows j).x → c.bound.z ≡ (row_at rows j).z → HasNarrower rows old (λ p q. Meets p q c.bound.x c.bound.z) n → HasNarrower rows old (IsMet rows j) n
-flat_met rows old c j n y ex ez = mapped rows old (λ p q. Meets p q c.bound.x c.bound.z) (IsMet rows j) n (λ p q m. record {
-  flat = λ e. rw (sym ex, sym ez) m;
-  room = λ i a b. (λ u v. absurd (omega (arith, ints, v, y)), λ u v. absurd (omega (arith, ints, u, y)));
-})
-
 pub whole_more : (rows : List Row) (old new : Range) (j : ℕ) → IsWhole rows j old → IsNarrower rows old (IsMet rows j) new → IsWhole rows (j + 1) new
 whole_more rows old new j w x = record {
   range = x.range;

@@ -39,14 +39,6 @@ pub upper_kept : (rows : List Row) (f : Frac) (old : Span) (j : ℕ) → IsSpan 
     → IsTightened rows f old j old
 upper_kept rows f old j s y h = record { span = s; closer = λ n m hm a. a; met = λ n m hm a e. follows_upper n m (row_at rows old.upper).y (level f.num f.den (row_at rows old.upper)) (row_at rows j).y (level f.num f.den (row_at rows j)) hm s.rises y h a.1 }
 
-pub flat_kept : (rows : List Row) (f : Frac) (old : Span) (j : ℕ) → IsSpan rows old → ((row_at rows j).y <ℤ pos 0 → ⊥) → (pos 0 <ℤ (row_at rows j).y → ⊥) → IsTightened rows f old j old
-flat_kept rows f old j s a b = record { span = s; closer = λ n m hm x. x; met = λ n m hm x e. absurd (e (neither (row_at rows j).y a b)) }
-  where
-    neither : (y : ℤ) → (y <ℤ pos 0 → ⊥) → (pos 0 <ℤ y → ⊥) → y ≡ pos 0
-    neither (pos zero) a b = refl
-    neither (pos (suc n)) a b = absurd (b (omega (arith, ints)))
-    neither (negsuc n) a b = absurd (a (omega (arith, ints)))
-
 pub tight_more : (rows : List Row) (f : Frac) (old new : Span) (j : ℕ) → IsTight rows f j old → IsTightened rows f old j new → IsTight rows f (j + 1) new
 tight_more rows f old new j t x = record {
   span = x.span;

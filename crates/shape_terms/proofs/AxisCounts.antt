@@ -42,9 +42,6 @@ before_step ns k c w l b e =
     let t : sides_of (take (k + 1) ns) ≡ sides_of (take k ns) ++ nat_abs (coordinate ns k) ∷ [] = ap sides_of (take_more ns k (pos 0) l) ∙ map-append nat_abs (take k ns) (coordinate ns k ∷ []) in
     rw (t, count_push (sides_of (take k ns)) (nat_abs (coordinate ns k)), e, b) refl
 
-pub before_all : (ns : Point) (k : ℕ) → length ns ≤ k → box_count (framed_sides (sides_of (take k ns))) ≡ box_count (framed_sides (sides_of ns))
-before_all ns k l = rw (take_all k ns l) refl
-
 -- how far points are apart whose digits behind an axis are the same
 pub apart_on_axis : (sides : List ℕ) (ns : Point) (k c w low low2 x y high : ℕ) → sides ≡ sides_of ns → k < length ns → c ≡ box_count (framed_sides (sides_of (take k ns))) → w ≡ nat_abs (coordinate ns k) + 2 → low < c → low2 < c → x < w → y < w
     → apart sides (place c w low x high) (place c w low2 y high) ≡ apart sides (place c w low y high) (place c w low2 y high) + gap x y * gap x y
