@@ -5,31 +5,32 @@ ghost use Rattle.std.specs.Iterator.{YieldsFirstBy, item_count};
 ghost use Rattle.shape_terms.specs.Points.{AreSides, sides_of, in_box, box_count, raster_point};
 ghost use Rattle.shape_terms.specs.Pictures.{IsPicture, at, blank, with_value, object_points, objects_from};
 
+use shape_bits::Bits;
 use shape_space::{NoMemory, Point, Sides};
 use std::alloc::Global;
 use std::marker::Model;
 
 /// A set of object points in a box. Every point outside the box is background.
 ///
-/// It takes one byte for each point of the box.
+/// It takes one bit for each point of the box.
 #[derive(Drop)]
 pub struct Grid<P: Point> {
     sides: Sides<P>,
-    values: Vec<bool>,
+    values: Bits,
     objects: u32,
 }
 
 impl<P: Point> Model for Grid<P> {
-    ghost use Rattle.std.specs.Prelude.{◌≡◌, count_by};
+    ghost use Rattle.std.specs.Prelude.{◌≡◌, length, count_by};
     ghost use Rattle.shape_terms.specs.Points.{sides_of, box_count};
     ghost use Rattle.shape_terms.specs.Pictures.{Picture};
 
     ghost Value = { Picture };
 
-    ghost view = { λ g. record { sides = sides_of (P.coords g.sides.lengths); values = g.values.items } };
+    ghost view = { λ g. record { sides = sides_of (P.coords g.sides.lengths); values = g.values } };
 
-    ghost invariant = { λ g. (g.values.len ≡ box_count (sides_of (P.coords g.sides.lengths)))
-        × (g.objects ≡ count_by (λ b. b) g.values.items) };
+    ghost invariant = { λ g. (length g.values ≡ box_count (sides_of (P.coords g.sides.lengths)))
+        × (g.objects ≡ count_by (λ b. b) g.values) };
 }
 
 impl<P: Point> Grid<P> {
@@ -37,8 +38,7 @@ impl<P: Point> Grid<P> {
     pub fn new(alloc: Global, sides: Sides<P>) -> Result<Grid<P>, NoMemory>
         ensures { IfOk result (λ g. g ≡ blank (sides_of (P.coords sides.lengths))) }
     {
-        let count = sides.count() as usize;
-        let values = vec![in alloc; false; count]?;
+        let values = Bits::new(alloc, sides.count() as usize)?;
         Ok(Grid {
             sides,
             values,
@@ -50,7 +50,7 @@ impl<P: Point> Grid<P> {
     pub fn copy(&self, alloc: Global) -> Result<Grid<P>, NoMemory>
         ensures { IfOk result (λ g. g ≡ self.now) }
     {
-        let values = self.values.as_slice().to_vec(alloc)?;
+        let values = self.values.copy(alloc)?;
         Ok(Grid {
             sides: self.sides,
             values,
@@ -80,7 +80,7 @@ impl<P: Point> Grid<P> {
         ensures { result ≡ at self.now (P.coords p) }
     {
         if self.sides.inside(p) {
-            self.values[self.sides.raster(p) as usize]
+            self.values.get(self.sides.raster(p) as usize)
         } else {
             false
         }
@@ -91,7 +91,7 @@ impl<P: Point> Grid<P> {
         requires { i < box_count self.now.sides }
         ensures { result ≡ at self.now (raster_point self.now.sides i) }
     {
-        self.values[i as usize]
+        self.values.get(i as usize)
     }
 
     /// The number of object points.
@@ -117,8 +117,8 @@ impl<P: Point> Grid<P> {
             ≡ record { sides = self.old.sides; values = slice_set self.old.values i true } }
     {
         let i = i as usize;
-        if !self.values[i] {
-            self.values[i] = true;
+        if !self.values.get(i) {
+            self.values.set(i);
             self.objects += 1;
         }
     }
@@ -139,8 +139,8 @@ impl<P: Point> Grid<P> {
             ≡ record { sides = self.old.sides; values = slice_set self.old.values i false } }
     {
         let i = i as usize;
-        if self.values[i] {
-            self.values[i] = false;
+        if self.values.get(i) {
+            self.values.clear(i);
             self.objects -= 1;
         }
     }
@@ -152,12 +152,9 @@ impl<P: Point> Grid<P> {
         ensures below { IfSome result (λ i. i < box_count self.now.sides) }
         ensures few { box_count self.now.sides ≤ 2 ^ 23 }
     {
-        for i in from..self.sides.count() {
-            if self.values[i as usize] {
-                return Some(i);
-            }
-        }
-        None
+        self.is_picture();
+        let i = self.values.first_from(from as usize)?;
+        Some(i as u32)
     }
 
     /// The object points in raster order.

@@ -1,12 +1,7 @@
-use Rattle.std.proofs.Common.{◌≡◌, ◌<◌, length, sym, rules, subst}
-use Rattle.shape_terms.specs.Points.{sides_of, box_count, raster_point}
-use Rattle.shape_terms.specs.Pictures.{Picture, at}
-use Rattle.shape_grid.proofs.ValueReads.{value_at}
+use Rattle.std.proofs.Common.{false, get_or, sym, ap, ◌∙◌}
+use Rattle.shape_terms.specs.Pictures.{Picture}
+use Rattle.shape_terms.proofs.BoxLists.{at_raster_point}
 use Rattle.shape_grid.proofs.grid.Grid.has_number.Goals as goal
 
 pub returns : goal.returns
-returns g c =
-    let X : Picture = record { sides = sides_of (g.P.Point.coords c.self.inside.sides.lengths); values = c.self.inside.values.items } in
-    let e : length X.values ≡ box_count X.sides = search rules in
-    subst (λ (Y : Picture). c.index.result.now ≡ at Y (raster_point Y.sides c.args.i)) c.self.view_is
-    (value_at X c.args.i c.index.result.now e (subst (λ (Y : Picture). c.args.i < box_count Y.sides) (sym c.self.view_is) c.requires) c.index.ensures)
+returns g c = c.get.ensures ∙ ap (λ (X : Picture). get_or X.values c.args.i false) c.self.view_is ∙ sym (at_raster_point c.args.self.now c.args.i c.requires)
