@@ -1,8 +1,9 @@
 -- A list of balls that a report may hold makes up the object, and none of its balls is needless.
 -- Stated of pictures and lists alone; how balls are found or judged belongs elsewhere.
-use Rattle.std.proofs.Common.{◌≡◌, ◌⊎◌, inl, inr, ℕ, ◌<◌, Bool, true, false, refl, sym, ◌∙◌, subst, arith, List, [], ◌∷◌, ◌++◌, length, take, get_or, Some}
+use Rattle.std.proofs.Common.{◌≡◌, inl, inr, ℕ, ◌<◌, sym, ◌∙◌, subst, arith, List, [], ◌∷◌, ◌++◌, length, take, get_or, Some}
 use Rattle.std.specs.Prelude.{slice_get, IsTrue}
 use Rattle.std.proofs.lemmas.Option.{slice_get-get_or}
+use Rattle.std.proofs.lemmas.Bool.{cases_Bool}
 use native.Mathlib.Decide.{dec_lt}
 use Rattle.shape_terms.specs.Points.{Point}
 use Rattle.shape_terms.specs.Pictures.{Picture, at, Least}
@@ -10,13 +11,9 @@ use Rattle.ball_terms.specs.Balls.{Ball, InBall, BallClaim, AreGood, InUnion, In
 use Rattle.text_terms.proofs.ListPushes.{get_push}
 use Rattle.ball_terms.proofs.BallLists.{all_get, taken_get}
 
-true_or_false : (b : Bool) → (b ≡ true) ⊎ (b ≡ false)
-true_or_false true = inl refl
-true_or_false false = inr refl
-
 -- a ball holds no background point
 pub in_object : (X : Picture) (b : Ball) → Least X b.centre b.near b.s → (p : Point) → InBall X b p → IsTrue (at X p)
-in_object X b c p i = elim (true_or_false (at X p)) [
+in_object X b c p i = elim (cases_Bool (at X p)) [
   | inl t ↦ t
   | inr f ↦ (let l = c.least p (record { point = i.point; value = f }) in let n = i.nearer in absurd (omega arith))
 ]

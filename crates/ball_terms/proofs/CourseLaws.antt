@@ -11,17 +11,10 @@ use Rattle.ball_terms.specs.Reports.{Standing, step, Claim, HasEnded, course}
 
 only_end : (s : Standing) (l : Line) → HasEnded (step s l) → l ≡ Line.End
 only_end s Line.End h = refl
-only_end Standing.Opening (Line.Balls sides m) h = absurd h
-only_end (Standing.Listing n balls) (Line.Balls sides m) h = absurd h
-only_end Standing.Ended (Line.Balls sides m) h = absurd h
+only_end s (Line.Balls sides m) h = absurd h
 only_end Standing.Opening (Line.Ball b) h = absurd h
 only_end (Standing.Listing n balls) (Line.Ball b) h = absurd h
 only_end Standing.Ended (Line.Ball b) h = absurd h
-
-at_end : (s : Standing) → HasEnded (step s Line.End)
-at_end Standing.Opening = tt
-at_end (Standing.Listing n balls) = tt
-at_end Standing.Ended = tt
 
 none_behind : (X : Picture) (s : Standing) (l : Line) → HasEnded s → Claim X s l → ⊥
 none_behind X Standing.Ended (Line.Balls sides m) e h = h
@@ -31,7 +24,7 @@ none_behind X Standing.Opening l e h = e
 none_behind X (Standing.Listing n balls) l e h = e
 
 pub ends_by : (X : Picture) → EndsBy (course X) Line.End HasEnded
-ends_by X = record { late = λ h. h; here = at_end; only = only_end; none = none_behind X }
+ends_by X = record { late = λ h. h; here = λ s. tt; only = only_end; none = none_behind X }
 
 -- no line is good behind the end, however lines are spelled
 pub is_report : (X : Picture) (T : Spelled Line) → IsReport (by_course T Line.End (course X))

@@ -3,15 +3,14 @@
 use Rattle.std.proofs.Common.{◌≡◌, inl, inr, ℕ, zero, suc, ◌<◌, ◌≤◌, refl, ap, sym, ◌∙◌, subst, arith, List, [], ◌∷◌, ◌++◌, length, length-append, append-nil, take, map, pos, Some, Option}
 use Rattle.std.specs.Prelude.{slice_get, All}
 use Rattle.std.specs.Option.{option_map}
-use Rattle.std.proofs.Math.Seq.{take-length}
 use Rattle.std.proofs.lemmas.List.{append_assoc, length-take-le, map-append, take-map}
-use Rattle.std.proofs.lemmas.Option.{slice_get-map, slice_get-get_or, slice_get_within}
+use Rattle.std.proofs.lemmas.Option.{slice_get-map, slice_get_within}
 use Rattle.shape_terms.specs.Pictures.{Picture, object_points}
 use Rattle.text_terms.specs.Spellings.{text_of}
 use Rattle.text_terms.specs.Reports.{GoodSoFar, Holds}
-use Rattle.text_terms.specs.Courses.{after, reached}
-use Rattle.text_terms.proofs.ListPushes.{get_push, take_next}
-use Rattle.text_terms.proofs.CourseLaws.{reached_push}
+use Rattle.text_terms.specs.Courses.{after}
+use Rattle.text_terms.proofs.ListPushes.{get_push}
+use Rattle.text_terms.proofs.CourseLaws.{reached_push, told_all}
 use Rattle.ball_terms.specs.Balls.{Ball, AreGood, AreBalls}
 use Rattle.ball_terms.specs.Lines.{Line, spelled}
 use Rattle.ball_terms.specs.Reports.{Standing, step, Claim, course, ball_report}
@@ -72,28 +71,8 @@ tell_next X Standing.Ended lines (Line.Balls sides n) t c = absurd c
 tell_next X Standing.Ended lines (Line.Ball b) t c = absurd c
 tell_next X Standing.Ended lines Line.End t c = absurd c
 
-module _ (X : Picture) (lines : List Line) (good : GoodSoFar (ball_report X) lines) where
-  tell_front : (n : ℕ) → n ≤ length lines → Tell X (reached (course X) (take n lines)) (take n lines)
-  tell_front zero h = refl
-  tell_front (suc n) h =
-      let l = nth n (omega arith) in
-      let e = take_next lines n l.0 l.1 in
-      let t = tell_next X (reached (course X) (take n lines)) (take n lines) l.0 (tell_front n (omega arith)) (good n l.0 l.1) in
-      subst (λ ls. Tell X (reached (course X) ls) ls) e (subst (λ s. Tell X s (take n lines ++ l.0 ∷ [])) (sym (reached_push (course X) (take n lines) l.0)) t)
-    where
-      nth : (n : ℕ) → n < length lines → (l : Line) × (slice_get lines n ≡ Some l)
-      nth n h = (_, slice_get-get_or lines n Line.End h)
-
-  tell_all : Tell X (reached (course X) lines) lines
-  tell_all = subst (λ ls. Tell X (reached (course X) ls) ls) (take-length lines) (tell_front (length lines) (omega arith))
-
 whole_lines : (X : Picture) (front : List Line) → GoodSoFar (ball_report X) (front ++ Line.End ∷ []) → AreWhole X (front ++ Line.End ∷ [])
-whole_lines X front good = subst (λ s. Tell X s (front ++ Line.End ∷ [])) (reached_push (course X) front Line.End ∙ ended (reached (course X) front)) (tell_all X (front ++ Line.End ∷ []) good)
-  where
-    ended : (s : Standing) → step s Line.End ≡ Standing.Ended
-    ended Standing.Opening = refl
-    ended (Standing.Listing n balls) = refl
-    ended Standing.Ended = refl
+whole_lines X front good = subst (λ s. Tell X s (front ++ Line.End ∷ [])) (reached_push (course X) front Line.End) (told_all (course X) (Tell X) refl (tell_next X) (front ++ Line.End ∷ []) good)
 
 -- a text that holds shows balls that make up the object
 pub holds_shows : (X : Picture) (text : List ℕ) → Holds (ball_report X) text → BallsShow X text

@@ -4,32 +4,19 @@ use Rattle.std.proofs.Common.{◌≡◌, ◌⊎◌, inl, inr, ◌+◌, ◌*◌, 
 use Rattle.std.specs.Prelude.{Some, None}
 use Rattle.std.specs.List.{range_with_len, find}
 use Rattle.std.specs.Option.{unwrap_or}
-use Rattle.std.proofs.lemmas.Bool.{cond-true, cond-false, cases_Bool}
+use Rattle.std.proofs.lemmas.Bool.{cond-true, cond-false, cases_Bool, cases_lt}
 use Rattle.std.proofs.lemmas.Bool.Decides.{nat_tests}
 use Rattle.std.proofs.Math.Nat.{mul-le-mul_left, mul-div-le, lt-mul-div-succ}
 use Rattle.std.proofs.lemmas.Nat.{mul-le}
+use Rattle.shape_terms.proofs.FirstNumbers.{first_found}
 use Rattle.border_terms.specs.Quotients.{is_last, IsRootQuotient, root_quotient}
-
--- the first number that passes a test
-first_found : (p : ℕ → Bool) (a n r : ℕ) → a ≤ r → r < a + n → p r ≡ true → ((m : ℕ) → a ≤ m → m < r → p m ≡ false) → find p (range_with_len a n) ≡ Some r
-first_found p a zero r low high pass fail = absurd (omega arith)
-first_found p a (suc n) r low high pass fail =
-    let split : (a ≡ r) ⊎ (a < r) = grind arith in
-    elim split [
-      | inl e ↦ cond-true (p a) (Some a) (find p (range_with_len (a + 1) n)) (ap p e ∙ pass) ∙ ap Some e
-      | inr l ↦ cond-false (p a) (Some a) (find p (range_with_len (a + 1) n)) (fail a (omega arith) l)
-          ∙ first_found p (a + 1) n r (omega arith) (omega arith) pass (λ m h k. fail m (omega arith) k)
-    ]
 
 -- a number whose square is no greater than another's is no greater
 below_square : (a b : ℕ) → a * a ≤ b * b → a ≤ b
-below_square a b h = elim (split a b) [
-  | inl l ↦ l
-  | inr g ↦ (let k : (b + 1) * (b + 1) ≤ a * a = mul-le (b + 1) (b + 1) a a (omega arith) (omega arith) in absurd (omega (arith, h, k)))
+below_square a b h = elim (cases_lt b a) [
+  | inr l ↦ l
+  | inl g ↦ (let k : (b + 1) * (b + 1) ≤ a * a = mul-le (b + 1) (b + 1) a a (omega arith) (omega arith) in absurd (omega (arith, h, k)))
 ]
-  where
-    split : (a b : ℕ) → (a ≤ b) ⊎ (b < a)
-    split a b = grind arith
 
 -- no quotient by the root of some number is greater than the number divided
 no_greater : (v n q : ℕ) → IsRootQuotient v n q → q ≤ v

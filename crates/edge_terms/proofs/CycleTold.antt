@@ -55,10 +55,6 @@ told_arc t a = record t { arcs = t.arcs ++ a ∷ []; gaps = [] }
 abbrev pub told_gap : Told → EdgeEvidence → Told
 told_gap t e = record t { gaps = t.gaps ++ e ∷ [] }
 
-pub none_there : {A : Type 0} (xs : List A) → length xs ≡ 0 → xs ≡ []
-none_there [] e = refl
-none_there (x ∷ xs) e = absurd (omega arith)
-
 module _ (c : EdgeCycle) (t : Told) (w : SaysCycle c t) where
   pub says_arc : (a : Held) → IsArc c.path t.declared (held_stretches t.arcs) a.stretch.first a.stretch.last a.line → SaysCycle c (told_arc t a)
   says_arc a good = record {

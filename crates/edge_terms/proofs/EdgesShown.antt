@@ -1,16 +1,17 @@
 -- An edge report that holds shows what it tells: the claims of its lines, one after another, are facts about the whole picture.
 -- How the lines of one cycle tell it stands in `CycleTold`.
-use Rattle.std.proofs.Common.{◌≡◌, ◌+◌, ◌<◌, ◌≤◌, ℕ, zero, suc, List, [], ◌∷◌, ◌++◌, length, take, Some, refl, ap, sym, ◌∙◌, subst, arith, append-nil, append_assoc, length-append}
+use Rattle.std.proofs.Common.{◌≡◌, ◌+◌, ℕ, List, [], ◌∷◌, ◌++◌, length, take, Some, refl, ap, sym, ◌∙◌, subst, arith, append-nil, append_assoc, length-append}
 use Rattle.std.specs.Prelude.{slice_get, flat_map, All}
 use Rattle.std.specs.List.{AllZip}
-use Rattle.std.proofs.lemmas.List.{length-map, map-append, take_all}
+use Rattle.std.proofs.lemmas.List.{length-map, map-append, take_all, nil_from_length}
 use Rattle.std.proofs.lemmas.Grind.{flat_map-append}
 use Rattle.shape_terms.specs.Pictures.{Picture}
 use Rattle.shape_terms.specs.Covers.{Stretch, gap_run}
 use Rattle.text_terms.specs.Courses.{reached}
 use Rattle.text_terms.specs.Reports.{Holds, GoodSoFar}
-use Rattle.text_terms.proofs.CourseLaws.{reached_push}
-use Rattle.text_terms.proofs.ListPushes.{take_next, take_front, get_last}
+use Rattle.text_terms.proofs.CourseLaws.{told_all}
+use Rattle.text_terms.proofs.ListPushes.{take_front, get_last, take_more}
+use Rattle.text_terms.proofs.FirstBadOnce.{good_take}
 use Rattle.edge_terms.specs.EdgeEvidence.{IsEdgeEvidence}
 use Rattle.edge_terms.specs.EdgeCovers.{IsArc}
 use Rattle.edge_terms.specs.EdgeCycles.{EdgeCycle, AreEdgeCycles}
@@ -19,7 +20,7 @@ use Rattle.edge_terms.specs.Lines.{Line, spelled}
 use Rattle.edge_terms.specs.EdgeReports.{State, next, CycleClaim, Claim, course, edge_report}
 use Rattle.edge_terms.specs.EdgeFacts.{CycleFact, cycle_lines, edge_lines, CycleShows, EdgesShow}
 use Rattle.edge_terms.proofs.EdgeCycles.{edge_cycles_same, open_path_is}
-use Rattle.edge_terms.proofs.CycleTold.{Held, held_stretches, Told, told_lines, SaysCycle, told_arc, told_gap, says_arc, says_gap, lines_arc, lines_gap, none_there, whole_fact, whole_shows, whole_lines}
+use Rattle.edge_terms.proofs.CycleTold.{Held, held_stretches, Told, told_lines, SaysCycle, told_arc, told_gap, says_arc, says_gap, lines_arc, lines_gap, whole_fact, whole_shows, whole_lines}
 
 -- ---- lists
 
@@ -29,18 +30,8 @@ zip_push R [] (z ∷ ys) x y h r = absurd h
 zip_push R (z ∷ xs) [] x y h r = absurd h
 zip_push R (z ∷ xs) (w ∷ ys) x y h r = (h.0, zip_push R xs ys x y h.1 r)
 
-take_more : {A : Type 0} (xs : List A) (n : ℕ) (x : A) → slice_get xs n ≡ Some x → take n xs ++ x ∷ [] ≡ take (n + 1) xs
-take_more xs n x e = take_next xs n x e ∙ ap (λ k. take k xs) (let q : suc n ≡ n + 1 = omega arith in q)
-
-front_get : {A : Type 0} (xs more : List A) (k : ℕ) (x : A) → slice_get xs k ≡ Some x → (slice_get (xs ++ more) k ≡ Some x) × (take k (xs ++ more) ≡ take k xs)
-front_get [] more k x e = cc
-front_get (y ∷ xs) more zero x e = (e, refl)
-front_get (y ∷ xs) more (suc k) x e = let r = front_get xs more k x e in (r.0, ap (λ l. y ∷ l) r.1)
-
 front_good : (X : Picture) (front more : List Line) → GoodSoFar (edge_report X) (front ++ more) → GoodSoFar (edge_report X) front
-front_good X front more good k l e =
-    let r = front_get front more k l e in
-    subst (λ ls. Claim X (reached (course X) ls) l) r.1 (good k l r.0)
+front_good X front more good = subst (GoodSoFar (edge_report X)) (take_front front more) (good_take (edge_report X) (front ++ more) (length front) good)
 
 -- ---- where lines stand
 
@@ -120,7 +111,7 @@ module _ (X : Picture) (cycles : List EdgeCycle) (are : AreEdgeCycles X cycles) 
       → Says X cycles (lines ++ Line.Arc k line ∷ []) (next (State.Open (standing_of (length front) t)) (Line.Arc k line))
   arc_more lines w h front t k line says g =
       let a : Held = record { stretch = k; line = line } in
-      let none : t.gaps ≡ [] = none_there t.gaps g.early in
+      let none : t.gaps ≡ [] = nil_from_length t.gaps g.early in
       let good = subst (λ p. IsArc p t.declared (held_stretches t.arcs) k.first k.last line) (open_path_is cycles (length front) says.cycle says.there) g.arc in
       Cycles w h front (told_arc t a) (record {
         sides = says.sides;
@@ -182,20 +173,7 @@ module _ (X : Picture) (cycles : List EdgeCycle) (are : AreEdgeCycles X cycles) 
 
   -- good lines, each good after those before it
   says : (lines : List Line) → GoodSoFar (edge_report X) lines → Says X cycles lines (reached (course X) lines)
-  says lines good = subst (λ ls. Says X cycles ls (reached (course X) ls)) (take_all (length lines) lines (omega arith)) (up_to (length lines) (omega arith))
-    where
-      get : (xs : List Line) (n : ℕ) → n < length xs → (x : Line) × (slice_get xs n ≡ Some x)
-      get [] n h = absurd (omega arith)
-      get (x ∷ xs) zero h = (x, refl)
-      get (x ∷ xs) (suc n) h = get xs n (omega arith)
-
-      up_to : (n : ℕ) → n ≤ length lines → Says X cycles (take n lines) (reached (course X) (take n lines))
-      up_to zero h = Nothing refl refl
-      up_to (suc n) h =
-          let x = get lines n (omega arith) in
-          let next_lines : take n lines ++ x.0 ∷ [] ≡ take (suc n) lines = take_next lines n x.0 x.1 in
-          let more = says_more (take n lines) (reached (course X) (take n lines)) x.0 (up_to n (omega arith)) (good n x.0 x.1) in
-          subst (λ ls. Says X cycles ls (reached (course X) ls)) next_lines (subst (Says X cycles (take n lines ++ x.0 ∷ [])) (sym (reached_push (course X) (take n lines) x.0)) more)
+  says lines good = told_all (course X) (λ s ls. Says X cycles ls s) (Nothing refl refl) (λ s ls l h. says_more ls s l h) lines good
 
   -- ---- the whole report
 

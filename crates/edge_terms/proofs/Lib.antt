@@ -1,4 +1,3 @@
-pub mod Coordinates
 pub mod Shearing
 pub mod EdgeRuns
 pub mod EdgeExcludes

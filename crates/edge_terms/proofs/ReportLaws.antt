@@ -8,15 +8,9 @@ use Rattle.text_terms.proofs.CourseLaws.{course_ends}
 use Rattle.edge_terms.specs.Lines.{Line, spelled}
 use Rattle.edge_terms.specs.EdgeReports.{State, next, Claim, HasEnded, course, edge_report}
 
-at_end : (s : State) → HasEnded (next s Line.End)
-at_end State.Opening = tt
-at_end _ = tt
-
 only_end : (s : State) (l : Line) → HasEnded (next s l) → l ≡ Line.End
 only_end s Line.End h = refl
-only_end State.Opening (Line.Edges w k) h = absurd h
-only_end (State.Open t) (Line.Edges w k) h = absurd h
-only_end State.Ended (Line.Edges w k) h = absurd h
+only_end s (Line.Edges w k) h = absurd h
 only_end State.Opening (Line.Cycle c n m) h = absurd h
 only_end (State.Open t) (Line.Cycle c n m) h = absurd h
 only_end State.Ended (Line.Cycle c n m) h = absurd h
@@ -33,7 +27,7 @@ none_behind X State.Opening l e h = e
 none_behind X (State.Open t) l e h = e
 
 pub ends_by : (X : Picture) → EndsBy (course X) Line.End HasEnded
-ends_by X = record { late = λ h. h; here = at_end; only = only_end; none = none_behind X }
+ends_by X = record { late = λ h. h; here = λ s. tt; only = only_end; none = none_behind X }
 
 pub is_report : (X : Picture) → IsReport (edge_report X)
 is_report X = course_ends (course X) Line.End HasEnded (ends_by X) spelled

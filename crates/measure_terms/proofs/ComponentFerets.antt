@@ -1,21 +1,18 @@
 -- Feret diameters by the labels of points are those of components: the same sets of points.
 -- Lists of points, labels and sets alone stand here.
-use Rattle.std.proofs.Common.{◌≡◌, ◌⊎◌, inl, inr, ◌+◌, ◌<◌, ℕ, zero, suc, Bool, true, List, [], ◌∷◌, length, get_or, subst, arith}
+use Rattle.std.proofs.Common.{◌≡◌, inl, inr, ℕ, suc, Bool, true, List, [], ◌∷◌, subst, arith}
 use Rattle.std.specs.Prelude.{filter}
 use Rattle.std.specs.List.{Contains}
 use Rattle.std.proofs.lemmas.Bool.{cond-true, cond-false, cases_Bool}
 use Rattle.shape_terms.specs.Points.{Point}
+use Rattle.shape_terms.proofs.SameCycles.{in_cases}
 use Rattle.measure_terms.specs.Feret.{Feret, IsFeret}
-
-first_or_later : {X : Type 0} (y : X) (xs : List X) (x : X) → Contains (y ∷ xs) x → (y ≡ x) ⊎ Contains xs x
-first_or_later y xs x (zero, h, e) = inl e
-first_or_later y xs x (suc k, h, e) = inr (k, omega arith, e)
 
 -- what comes through a filter is of the list, and passes
 pub filtered : {X : Type 0} (p : X → Bool) (xs : List X) (x : X) → Contains (filter p xs) x → Contains xs x × (p x ≡ true)
 filtered p [] x c = absurd (let h = c.1 in omega (arith, h))
 filtered p (y ∷ xs) x c = elim (cases_Bool (p y)) [
-  | inl t ↦ elim (first_or_later y (filter p xs) x (subst (λ l. Contains l x) (cond-true (p y) (y ∷ filter p xs) (filter p xs) t) c)) [
+  | inl t ↦ elim (in_cases y (filter p xs) x (subst (λ l. Contains l x) (cond-true (p y) (y ∷ filter p xs) (filter p xs) t) c)) [
     | inl e ↦ ((0, omega arith, e), subst (λ z. p z ≡ true) e t)
     | inr d ↦ (let r = filtered p xs x d in let i = r.0 in let h = i.1 in ((suc i.0, omega (arith, h), i.2), r.1))
   ]

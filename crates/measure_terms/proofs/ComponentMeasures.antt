@@ -1,6 +1,6 @@
 -- The measures of the facts of a component are those of its points: bounds that are reached, sums and counts.
 -- Laws of lists alone.
-use Rattle.std.proofs.Common.{◌≡◌, ◌⊎◌, inl, inr, ◌+◌, ◌<◌, ◌≤◌, ℕ, zero, suc, Bool, true, false, List, [], ◌∷◌, map, get_or, refl, sym, ap, ◌∙◌, arith, subst}
+use Rattle.std.proofs.Common.{◌≡◌, ◌⊎◌, inl, inr, ◌+◌, ◌<◌, ◌≤◌, ℕ, Bool, true, false, List, [], ◌∷◌, map, get_or, refl, sym, ap, ◌∙◌, arith, subst}
 use Rattle.std.specs.Prelude.{sum_by, ◌==◌, ◌&&◌, ◌||◌, cond, nat_le, min, nat_abs, Some, None, count_by, sum}
 use Rattle.std.specs.List.{Contains, fold, find, list_any}
 use Rattle.std.specs.Option.{option_map, is_some}
@@ -11,6 +11,7 @@ use Rattle.std.proofs.lemmas.List.Folds.{fold-map}
 use Rattle.shape_terms.specs.Points.{Point, coordinate, raster_number}
 use Rattle.shape_terms.specs.Pictures.{Picture, at}
 use Rattle.shape_terms.proofs.Members.{Contains-later}
+use Rattle.shape_terms.proofs.SameCycles.{head_in, in_cases}
 use Rattle.measure_terms.specs.Facts.{Fact, near_count}
 use Rattle.measure_terms.specs.Measures.{measures_of, least, greatest, span, coordinates, depth, is_left, is_end, is_junction}
 use Rattle.measure_terms.specs.Components.{IsLeastOf, IsGreatestOf, IsSpanOf, AreMeasuresOf}
@@ -18,17 +19,9 @@ use Rattle.measure_terms.proofs.ComponentPoints.{fact}
 
 -- ---- bounds
 
--- the first point of a longer list, and its others
-first : {X : Type 0} (x : X) (xs : List X) → Contains (x ∷ xs) x
-first x xs = (0, omega arith, refl)
-
-cases_of : {X : Type 0} (x : X) (xs : List X) (y : X) → Contains (x ∷ xs) y → (x ≡ y) ⊎ Contains xs y
-cases_of x xs y (zero, l, e) = inl e
-cases_of x xs y (suc k, l, e) = inr (k, omega arith, e)
-
 greatest_bound : (f : Point → ℕ) (ps : List Point) (p : Point) → Contains ps p → f p ≤ greatest (map f ps)
 greatest_bound f [] p c = absurd (omega (arith, c.1))
-greatest_bound f (q ∷ ps) p c = elim (cases_of q ps p c) [
+greatest_bound f (q ∷ ps) p c = elim (in_cases q ps p c) [
   | inl e ↦ (let h = ap f e in omega (arith, h))
   | inr d ↦ (let r = greatest_bound f ps p d in omega (arith, r))
 ]
@@ -39,11 +32,11 @@ reached_more f p q ps r =
     let split : (f p ≤ greatest (map f (q ∷ ps))) ⊎ (greatest (map f (q ∷ ps)) < f p) = grind arith in
     elim split [
       | inl l ↦ (r.0, Contains-later p (q ∷ ps) r.0 r.1, omega (arith, e, l))
-      | inr l ↦ (p, first p (q ∷ ps), omega (arith, l))
+      | inr l ↦ (p, head_in p (q ∷ ps), omega (arith, l))
     ]
 
 greatest_reached : (f : Point → ℕ) (p : Point) (ps : List Point) → (q : Point) × Contains (p ∷ ps) q × (f q ≡ greatest (map f (p ∷ ps)))
-greatest_reached f p [] = (p, first p [], omega arith)
+greatest_reached f p [] = (p, head_in p [], omega arith)
 greatest_reached f p (q ∷ ps) = reached_more f p q ps (greatest_reached f q ps)
 
 is_greatest : (f : Point → ℕ) (p : Point) (ps : List Point) → IsGreatestOf f (p ∷ ps) (greatest (map f (p ∷ ps)))
@@ -55,7 +48,7 @@ fold_bound a (x ∷ xs) = let r = fold_bound (min a x) xs in omega (arith, r)
 
 rest_bound : (a : ℕ) (f : Point → ℕ) (ps : List Point) (p : Point) → Contains ps p → fold min a (map f ps) ≤ f p
 rest_bound a f [] p c = absurd (omega (arith, c.1))
-rest_bound a f (q ∷ ps) p c = elim (cases_of q ps p c) [
+rest_bound a f (q ∷ ps) p c = elim (in_cases q ps p c) [
   | inl e ↦ (let h = ap f e in let r = fold_bound (min a (f q)) (map f ps) in omega (arith, h, r))
   | inr d ↦ rest_bound (min a (f q)) f ps p d
 ]
@@ -67,19 +60,19 @@ rest_reached a f (q ∷ ps) =
     elim (rest_reached (min a (f q)) f ps) [
       | inl e ↦ elim split [
         | inl s ↦ inl (e ∙ s)
-        | inr s ↦ inr (q, first q ps, sym (e ∙ s))
+        | inr s ↦ inr (q, head_in q ps, sym (e ∙ s))
       ]
       | inr r ↦ inr (r.0, Contains-later q ps r.0 r.1, r.2)
     ]
 
 is_least : (f : Point → ℕ) (p : Point) (ps : List Point) → IsLeastOf f (p ∷ ps) (least (map f (p ∷ ps)))
 is_least f p ps = record {
-  bound = λ q c. elim (cases_of p ps q c) [
+  bound = λ q c. elim (in_cases p ps q c) [
     | inl e ↦ (let h = ap f e in let r = fold_bound (f p) (map f ps) in omega (arith, h, r))
     | inr d ↦ rest_bound (f p) f ps q d
   ];
   reached = elim (rest_reached (f p) f ps) [
-    | inl e ↦ (p, first p ps, sym e)
+    | inl e ↦ (p, head_in p ps, sym e)
     | inr r ↦ (r.0, Contains-later p ps r.0 r.1, r.2)
   ];
 }

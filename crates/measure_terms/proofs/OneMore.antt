@@ -4,15 +4,16 @@ use Rattle.std.proofs.Common.{◌≡◌, inl, inr, ◌+◌, ◌<◌, ◌≤◌, 
 use Rattle.std.specs.Prelude.{sum_by, ◌==◌, min, max, Option, Some, None, cond, nat_abs, sum, count_by, ◌||◌, ◌&&◌, nat_le, nat_eq}
 use Rattle.std.specs.List.{fold, find, list_any}
 use Rattle.std.specs.Option.{option_map, is_some, option_or}
-use Rattle.std.proofs.lemmas.Bool.{cond-true, cond-false, cases_Bool}
+use Rattle.std.proofs.lemmas.Bool.{cond-true, cond-false, cases_Bool, and_right, and_from}
 use Rattle.std.proofs.lemmas.List.{map-append, length-map}
-use Rattle.std.proofs.lemmas.List.Sums.{fold-append, sum_by-append}
+use Rattle.std.proofs.lemmas.List.Sums.{fold-append, sum_by_push}
 use Rattle.std.proofs.lemmas.List.Folds.{find-append, list_any-append}
 use Rattle.shape_terms.specs.Points.{coordinate}
 use Rattle.measure_terms.specs.Facts.{Fact}
 use Rattle.measure_terms.specs.Measures.{measures_of, least, greatest, span, coordinates, depth, deepest, is_left, is_end, is_junction}
 use Rattle.measure_terms.specs.OneMore.{span_with, measures_with}
 use Rattle.std.proofs.lemmas.Bool.Decides.{nat_tests}
+use Rattle.std.proofs.Math.Bool.{or-false}
 
 -- ---- numbers in a list
 
@@ -35,12 +36,6 @@ below_greatest (x ∷ xs) (suc i) = let h = below_greatest xs i in omega arith
 
 sum_more : (xs : List ℕ) (x : ℕ) → sum (xs ++ x ∷ []) ≡ sum xs + x
 sum_more xs x = fold-append (λ a y. a + y) 0 xs (x ∷ [])
-
-one_summed : {X : Type 0} (h : X → ℕ) (x : X) → sum_by h (x ∷ []) ≡ h x
-one_summed h x = omega arith
-
-sums_more : {X : Type 0} (h : X → ℕ) (xs : List X) (x : X) → sum_by h (xs ++ x ∷ []) ≡ sum_by h xs + h x
-sums_more h xs x = sum_by-append h xs (x ∷ []) ∙ ap (λ n. sum_by h xs + n) (one_summed h x)
 
 counts_more : {X : Type 0} (p : X → Bool) (xs : List X) (x : X) → count_by p (xs ++ x ∷ []) ≡ count_by p xs + cond (p x) 1 0
 counts_more p xs x = fold-append (λ a y. a + cond (p y) 1 0) 0 xs (x ∷ [])
@@ -89,7 +84,7 @@ first_more (h ∷ fs) f n e = elim (cases_Bool (nat_le f.square (depth (h ∷ fs
       find-append (λ g. g.square == n) (h ∷ fs) (f ∷ [])
       ∙ ap (λ m. option_or (find (λ g. g.square == m) (h ∷ fs)) (find (λ g. g.square == n) (f ∷ []))) s
       ∙ some_first (find (λ g. g.square == depth (h ∷ fs)) (h ∷ fs)) _ o
-      ∙ sym (cond-true _ (find (λ g. g.square == depth (h ∷ fs)) (h ∷ fs)) (Some f) (both_true o t)))
+      ∙ sym (cond-true _ (find (λ g. g.square == depth (h ∷ fs)) (h ∷ fs)) (Some f) (and_from _ _ o t)))
   | inr t ↦ (
       let s : n ≡ f.square = grind (arith, nat_tests) in
       let a : depth (h ∷ fs) < n = grind (arith, nat_tests) in
@@ -97,19 +92,12 @@ first_more (h ∷ fs) f n e = elim (cases_Bool (nat_le f.square (depth (h ∷ fs
       find-append (λ g. g.square == n) (h ∷ fs) (f ∷ [])
       ∙ ap (λ o. option_or o (find (λ g. g.square == n) (f ∷ []))) (none_above (h ∷ fs) n a)
       ∙ cond-true (f.square == n) (Some f) None same
-      ∙ sym (cond-false _ (find (λ g. g.square == depth (h ∷ fs)) (h ∷ fs)) (Some f) (second_false _ _ t)))
+      ∙ sym (cond-false _ (find (λ g. g.square == depth (h ∷ fs)) (h ∷ fs)) (Some f) (and_right _ _ t)))
 ]
   where
     some_first : {X : Type 0} (a b : Option X) → is_some a ≡ true → option_or a b ≡ a
     some_first (Some x) b o = refl
     some_first None b o = cc
-
-    both_true : {a b : Bool} → a ≡ true → b ≡ true → (a && b) ≡ true
-    both_true p q = rw (p, q) refl
-
-    second_false : (a b : Bool) → b ≡ false → (a && b) ≡ false
-    second_false true b q = q
-    second_false false b q = refl
 
 deepest_more : (fs : List Fact) (f : Fact) → deepest (fs ++ f ∷ []) ≡ cond (is_some (deepest fs) && nat_le f.square (depth fs)) (deepest fs) (Some f.point)
 deepest_more fs f =
@@ -146,10 +134,6 @@ measures_more fs f =
     let s = counts_more is_left fs f in
     let e = counts_more (λ g. is_end g.left) fs f in
     let j = counts_more (λ g. is_junction g.left) fs f in
-    let o : sum_by (λ (g : Fact). g.exposed) (fs ++ f ∷ []) ≡ sum_by (λ (g : Fact). g.exposed) fs + f.exposed = sums_more (λ g. g.exposed) fs f in
-    let t : list_any (λ g. g.rim) (fs ++ f ∷ []) ≡ (list_any (λ g. g.rim) fs || f.rim) = list_any-append (λ g. g.rim) fs (f ∷ []) ∙ ap (λ b. list_any (λ g. g.rim) fs || b) (or_false f.rim) in
+    let o : sum_by (λ (g : Fact). g.exposed) (fs ++ f ∷ []) ≡ sum_by (λ (g : Fact). g.exposed) fs + f.exposed = sum_by_push (λ g. g.exposed) fs f in
+    let t : list_any (λ g. g.rim) (fs ++ f ∷ []) ≡ (list_any (λ g. g.rim) fs || f.rim) = list_any-append (λ g. g.rim) fs (f ∷ []) ∙ ap (λ b. list_any (λ g. g.rim) fs || b) (or-false f.rim) in
     λ i. record { area = n i; x = x i; y = y i; z = z i; depth = d i; deepest = p i; skeleton = s i; ends = e i; junctions = j i; exposed = o i; touches = t i }
-  where
-    or_false : (b : Bool) → (b || false) ≡ b
-    or_false true = refl
-    or_false false = refl

@@ -1,42 +1,23 @@
 -- The square root in thousandths that a definition searches for, and the one that a whole root gives.
 -- Numbers alone.
-use Rattle.std.proofs.Common.{◌≡◌, ◌⊎◌, inl, inr, ◌+◌, ◌*◌, ◌/◌, ◌<◌, ◌≤◌, ℕ, zero, suc, Bool, true, false, sym, ap, ◌∙◌, arith}
-use Rattle.std.specs.Prelude.{Some}
-use Rattle.std.specs.List.{range_with_len, find}
+use Rattle.std.proofs.Common.{◌≡◌, inl, inr, ◌+◌, ◌*◌, ◌/◌, ◌<◌, ◌≤◌, ℕ, true, sym, ap, arith}
 use Rattle.std.specs.Option.{unwrap_or}
-use Rattle.std.proofs.lemmas.Bool.{cond-true, cond-false}
+use Rattle.std.proofs.lemmas.Bool.{cases_lt}
 use Rattle.std.proofs.lemmas.Bool.Decides.{nat_tests}
-use Rattle.std.proofs.Math.Nat.{mul-le-mul_left, mul-div-le, lt-mul-div-succ}
+use Rattle.std.proofs.Math.Nat.{mul-div-le, lt-mul-div-succ}
 use Rattle.std.proofs.lemmas.Nat.{mul-le}
+use Rattle.shape_terms.proofs.FirstNumbers.{first_found, at_most_square}
 use Rattle.measure_terms.specs.Rounding.{is_below_half, IsRoot, root, IsMean, mean}
-
--- the first number that passes a test
-first_found : (p : ℕ → Bool) (a n r : ℕ) → a ≤ r → r < a + n → p r ≡ true → ((m : ℕ) → a ≤ m → m < r → p m ≡ false) → find p (range_with_len a n) ≡ Some r
-first_found p a zero r low high pass fail = absurd (omega arith)
-first_found p a (suc n) r low high pass fail =
-    let split : (a ≡ r) ⊎ (a < r) = grind arith in
-    elim split [
-      | inl e ↦ cond-true (p a) (Some a) (find p (range_with_len (a + 1) n)) (ap p e ∙ pass) ∙ ap Some e
-      | inr l ↦ cond-false (p a) (Some a) (find p (range_with_len (a + 1) n)) (fail a (omega arith) l)
-          ∙ first_found p (a + 1) n r (omega arith) (omega arith) pass (λ m h k. fail m (omega arith) k)
-    ]
-
-at_most_square : (s : ℕ) → s ≤ s * s
-at_most_square zero = omega arith
-at_most_square (suc s) = let h : suc s * 1 ≤ suc s * suc s = mul-le-mul_left (suc s) (omega arith) in omega (arith, h)
 
 -- no root has more thousandths than the number has
 small_root : (s r : ℕ) → IsRoot s r → r < 1000 * s + 1
-small_root s r h = elim (split r (1000 * s + 1)) [
+small_root s r h = elim (cases_lt r (1000 * s + 1)) [
   | inl l ↦ l
   | inr g ↦ (
       let low = h.low (1000 * s) (omega arith) in
       let q = at_most_square s in
       absurd (omega (arith, low, q)))
 ]
-  where
-    split : (a b : ℕ) → (a < b) ⊎ (b ≤ a)
-    split a b = grind arith
 
 -- the number that is the root is the one that the definition finds
 pub root_is : (s r : ℕ) → IsRoot s r → r ≡ root s

@@ -1,9 +1,10 @@
 -- The table of a picture has a row for each component, and each row has the measures of its component.
 -- Labels and lists of points alone stand here.
-use Rattle.std.proofs.Common.{◌≡◌, ◌⊎◌, inl, inr, ◌+◌, ◌<◌, ◌≤◌, ℕ, zero, suc, Bool, true, false, List, [], ◌∷◌, length, map, get_or, refl, sym, ap, ◌∙◌, arith, subst}
-use Rattle.std.specs.Prelude.{◌==◌, ◌&&◌}
+use Rattle.std.proofs.Common.{◌≡◌, ◌⊎◌, inl, inr, ◌+◌, ◌<◌, ◌≤◌, ℕ, zero, suc, true, List, [], ◌∷◌, length, map, get_or, refl, sym, ap, ◌∙◌, arith, subst}
+use Rattle.std.specs.Prelude.{◌==◌}
 use Rattle.std.specs.List.{Contains}
 use Rattle.std.proofs.lemmas.Bool.Decides.{nat_tests}
+use Rattle.std.proofs.lemmas.Bool.{and_parts}
 use Rattle.shape_terms.specs.Points.{Point, in_box, box_points, box_count, raster_number, raster_point}
 use Rattle.shape_terms.specs.Pictures.{Picture, at, object_points}
 use Rattle.shape_terms.specs.Parts.{Object, NamesParts, LabelsObject}
@@ -65,13 +66,9 @@ no_fewer X labels (suc n) names =
 
 -- ---- components
 
-and_left : (a b : Bool) → (a && b) ≡ true → a ≡ true
-and_left true b h = refl
-and_left false b h = h
-
 box_has : (X : Picture) (p : Point) → Object X p → Contains (box_points X.sides) p
 box_has X p o =
-    let inside = and_left (in_box X.sides p) _ o in
+    let inside = (and_parts (in_box X.sides p) _ o).0 in
     let l = raster_below X.sides p inside in
     (raster_number X.sides p, omega (arith, length-box_points X.sides, l), get_or-box_points X.sides (raster_number X.sides p) p l ∙ raster_point-raster_number X.sides p inside)
 
@@ -122,7 +119,7 @@ has_label X labels k p c =
     let a = filtered (λ q. label_of X labels q == k + 1) (object_points X) p c in
     let b = filtered (at X) (box_points X.sides) p a.0 in
     let t = a.1 in
-    record { inside = and_left (in_box X.sides p) _ b.1; label = grind (arith, nat_tests) }
+    record { inside = (and_parts (in_box X.sides p) _ b.1).0; label = grind (arith, nat_tests) }
 
 in_component : (X : Picture) (labels : List ℕ) (k : ℕ) (p : Point) → LabelsObject X labels → HasLabel X.sides labels (k + 1) p → Contains (component X labels (k + 1)) p
 in_component X labels k p named h =

@@ -1,7 +1,7 @@
 -- The background of a picture in the framed box as a net of places, and its components as those of the net.
-use Rattle.std.proofs.Common.{◌≡◌, ◌<◌, ℕ, Bool, true, false, length, refl, sym, ◌∙◌, ap, subst}
+use Rattle.std.proofs.Common.{◌≡◌, ◌<◌, ℕ, false, length, sym, ◌∙◌, ap, subst}
 use Rattle.std.specs.Prelude.{◌&&◌, not, IsTrue, Some}
-use Rattle.std.proofs.lemmas.Bool.{and_parts, and_from}
+use Rattle.std.proofs.lemmas.Bool.{and_parts, and_from, not-true, not_from_false}
 use Rattle.shape_terms.specs.Points.{Point, box_count}
 use Rattle.shape_terms.specs.Pictures.{Picture, at}
 use Rattle.shape_terms.specs.FramedBox.{framed_sides, framed_point}
@@ -15,13 +15,6 @@ use Rattle.number_terms.specs.Places.{in_frame, framed_number, BackgroundPlace, 
 use Rattle.shape_terms.proofs.PartsAlong.{parts_along}
 use Rattle.number_terms.proofs.FramedNumbers.{frame_tested, frame_is, framed_number_below, framed_point-framed_number, framed_point_in, framed_number-framed_point}
 use Rattle.number_terms.proofs.ObjectPlaces.{place_there, place_named}
-
-not_false : (b : Bool) → not b ≡ true → b ≡ false
-not_false true e = cc
-not_false false e = refl
-
-not_true : (b : Bool) → b ≡ false → not b ≡ true
-not_true b e = rw e refl
 
 module _ (X : Picture) where
   -- a background point of the framed box and its place
@@ -39,7 +32,7 @@ module _ (X : Picture) where
       let q = side_point p k in
       let t = place_there (in_frame X.sides q && not (at X q)) (framed_number X.sides q) j e in
       let both = and_parts (in_frame X.sides q) (not (at X q)) t.0 in
-      let o = of_framed q both.0 (not_false (at X q) both.1) in
+      let o = of_framed q both.0 (not-true (at X q) both.1) in
       let side : Side p q = side_of_number p k (subst (λ n. k < length (side_steps n)) (sym (length-framed_point X.sides i)) l) in
       (subst (BackgroundPlace X) t.1 o.0, subst (λ r. Side p r) (sym o.1 ∙ ap (framed_point X.sides) t.1) side)
 
@@ -47,7 +40,7 @@ module _ (X : Picture) where
   background_complete i j a b side =
       let q = framed_point X.sides j in
       let n = side_number (framed_point X.sides i) q side in
-      let there = and_from (in_frame X.sides q) (not (at X q)) (framed_point_in X.sides j b.0) (not_true (at X q) b.1) in (
+      let there = and_from (in_frame X.sides q) (not (at X q)) (framed_point_in X.sides j b.0) (not_from_false (at X q) b.1) in (
         n.0,
         subst (λ m. n.0 < length (side_steps m)) (length-framed_point X.sides i) n.1,
         ap (background_place X) n.2 ∙ (place_named (in_frame X.sides q && not (at X q)) (framed_number X.sides q) there ∙ ap (λ m. Some m) (framed_number-framed_point X.sides j b.0)),

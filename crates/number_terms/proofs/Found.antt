@@ -1,10 +1,11 @@
 -- The cycles of the cracks that were passed by number, and their marks; once all were passed they are those of the picture.
 -- How a cycle is traced and marked belongs elsewhere.
-use Rattle.std.proofs.Common.{◌≡◌, ◌≢◌, ℕ, zero, suc, ◌+◌, ◌*◌, ◌<◌, ◌≤◌, Bool, true, false, refl, ap, sym, ◌∙◌, subst, arith, List, [], ◌∷◌, ◌++◌, length, get_or, ◌⊎◌, inl, inr}
+use Rattle.std.proofs.Common.{◌≡◌, ◌≢◌, ℕ, zero, suc, ◌+◌, ◌*◌, ◌<◌, ◌≤◌, Bool, true, false, ap, sym, ◌∙◌, subst, arith, List, [], ◌∷◌, ◌++◌, length, get_or, ◌⊎◌, inl, inr}
 use Rattle.std.specs.Prelude.{AllPairs, All, Contains, flat_map}
 use Rattle.std.proofs.lemmas.List.Elements.{All-push, All-append, All-contains, All-nil, All-weaker, Contains-get_or, Contains-append_left, Contains-append_right, Contains-append_cases}
 use Rattle.std.proofs.lemmas.List.Concat.{flat_map-append}
 use Rattle.std.proofs.lemmas.List.Quantifiers.{all_pairs_push}
+use Rattle.std.proofs.lemmas.List.{append-nil}
 use native.Mathlib.Decide.{dec_lt, ℕ_discrete}
 use Rattle.shape_terms.specs.Points.{box_count}
 use Rattle.shape_terms.specs.Pictures.{Picture}
@@ -30,10 +31,6 @@ pairs-append R (x ∷ xs) ys h k f = pairs-cons R x (xs ++ ys)
 
 joined-push : {A : Type 0} (xss : List (List A)) (ys : List A) → flat_map (λ c. c) (xss ++ ys ∷ []) ≡ flat_map (λ c. c) xss ++ (ys ++ [])
 joined-push xss ys = flat_map-append (λ (c : List _). c) xss (ys ∷ [])
-
-append-none : {A : Type 0} (xs : List A) → xs ++ [] ≡ xs
-append-none [] = refl
-append-none (x ∷ xs) = ap (λ l. x ∷ l) (append-none xs)
 
 -- all cracks of a list that follows from a crack are cracks
 follow_cracks : (X : Picture) → length X.sides ≡ 2 → (f c : Crack) (xs : List Crack) → IsCrack X c → Follow X f (c ∷ xs) → (x : Crack) → Contains (c ∷ xs) x → IsCrack X x
@@ -135,7 +132,7 @@ module _ (X : Picture) (axes : length X.sides ≡ 2) where
         first_in (d ∷ ys) c = head_in d ys
 
     all_is : flat_map (λ c. c) (cycles ++ (s ∷ xs) ∷ []) ≡ flat_map (λ c. c) cycles ++ (s ∷ xs)
-    all_is = joined-push cycles (s ∷ xs) ∙ ap (λ (l : List Crack). flat_map (λ c. c) cycles ++ l) (append-none (s ∷ xs))
+    all_is = joined-push cycles (s ∷ xs) ∙ ap (λ (l : List Crack). flat_map (λ c. c) cycles ++ l) (append-nil (s ∷ xs))
 
     split : (x : Crack) → Contains (flat_map (λ c. c) (cycles ++ (s ∷ xs) ∷ [])) x → Contains (flat_map (λ c. c) cycles) x ⊎ Contains (s ∷ xs) x
     split x j = Contains-append_cases (flat_map (λ c. c) cycles) (s ∷ xs) x (subst (λ (l : List Crack). Contains l x) all_is j)

@@ -2,17 +2,14 @@
 -- They rest on the laws of raster numbers alone.
 use Rattle.std.proofs.Common.{◌≡◌, ℕ, ◌*◌, ◌/◌, ◌%◌, ◌<◌, ap, sym, ◌∙◌, arith, List, inl, inr}
 use Rattle.std.specs.Prelude.{IsTrue}
-use Rattle.std.specs.Ordering.{nat_cmp}
-use Rattle.std.specs.declared.cmp.Ordering.TheVariants.{Less}
 use Rattle.std.proofs.lemmas.Bool.{and_parts}
-use Rattle.std.proofs.lemmas.Bool.Decides.{nat_tests}
 use native.Mathlib.Decide.{dec_lt}
 use Rattle.shape_terms.specs.Points.{Point, in_box, box_count, raster_number, raster_point}
 use Rattle.shape_terms.specs.Pictures.{Picture, at}
 use Rattle.shape_terms.specs.Contours.{Crack, IsCrack, CrackBefore}
 use Rattle.number_terms.specs.CrackNumbers.{crack_number, numbered}
 use Rattle.shape_terms.proofs.Boxes.{raster_below, raster_number-raster_point, raster_point-raster_number}
-use Rattle.shape_terms.proofs.RasterOrder.{raster_rises}
+use Rattle.shape_terms.proofs.RasterOrder.{raster_rises, nat_less}
 
 -- an object point lies in the box
 pub object_in_box : (X : Picture) (p : Point) → IsTrue (at X p) → IsTrue (in_box X.sides p)
@@ -35,9 +32,6 @@ is_numbered X c k =
 
 pub number_once : (X : Picture) (c d : Crack) → IsCrack X c → IsCrack X d → crack_number X.sides c ≡ crack_number X.sides d → c ≡ d
 number_once X c d k l e = is_numbered X c k ∙ (ap (numbered X.sides) e ∙ sym (is_numbered X d l))
-
-nat_less : (a b : ℕ) → a < b → nat_cmp a b ≡ Less
-nat_less a b l = grind (arith, nat_tests)
 
 -- of two cracks the one with the smaller number stands first
 pub number_rises : (X : Picture) (c d : Crack) → IsCrack X c → IsCrack X d → crack_number X.sides c < crack_number X.sides d → CrackBefore c d

@@ -1,27 +1,18 @@
 -- Lists of points no two of which are equal: whether a point is among them, and how many they are.
 -- Laws of lists alone; what the points are does not matter here.
-use Rattle.std.proofs.Common.{◌≡◌, ◌<◌, ◌≤◌, refl, ap, subst, arith, List, [], ◌∷◌, ◌++◌, length, inl, inr}
+use Rattle.std.proofs.Common.{◌≡◌, ◌<◌, ◌≤◌, ap, subst, arith, List, [], ◌∷◌, ◌++◌, length, inl, inr}
 use Rattle.std.specs.Prelude.{◌≢◌, AllPairs, Contains}
 use Rattle.std.proofs.lemmas.List.{length-append}
 use Rattle.std.proofs.lemmas.List.Elements.{All-contains, Contains-append_left, Contains-append_right, Contains-append_cases}
 use Rattle.std.proofs.Math.IntN.{ℤ_discrete}
+use mathlib.Core.List.{List-discrete}
 use Rattle.shape_terms.specs.Points.{Point}
 use Rattle.shape_terms.proofs.SameCycles.{head_in, later_in, in_cases, in_none, pairs-head, pairs-tail}
-
--- two points are equal or not
-pub same_point : (p q : Point) → Dec (p ≡ q)
-same_point [] [] = yes refl
-same_point [] (y ∷ q) = no (λ e. cc)
-same_point (x ∷ p) [] = no (λ e. cc)
-same_point (x ∷ p) (y ∷ q) = elim (ℤ_discrete x y) [
-  | yes e ↦ elim (same_point p q) [ yes f ↦ yes (λ i. e i ∷ f i) | no n ↦ no (λ f. n (let g : p ≡ q = cc in g)) ]
-  | no n ↦ no (λ f. n (let g : x ≡ y = cc in g))
-]
 
 -- a point stands in a list or not
 pub is_there : (points : List Point) (p : Point) → Dec (Contains points p)
 is_there [] p = no (λ c. in_none p c)
-is_there (q ∷ points) p = elim (same_point q p) [
+is_there (q ∷ points) p = elim (List-discrete ℤ_discrete q p) [
   | yes e ↦ yes (subst (Contains (q ∷ points)) e (head_in q points))
   | no n ↦ elim (is_there points p) [
     | yes c ↦ yes (later_in q points p c)

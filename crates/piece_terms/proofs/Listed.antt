@@ -10,6 +10,7 @@ use Rattle.shape_terms.specs.Contours.{Crack}
 use Rattle.shape_terms.specs.Traces.{Contour}
 use Rattle.shape_terms.specs.Covers.{Evidence, IsEvidence, arc}
 use Rattle.shape_terms.specs.Naive.{Naive}
+use Rattle.text_terms.proofs.ListPushes.{drop_here}
 use Rattle.piece_terms.specs.Pieces.{Piece, piece_at, place_after, IsPiece, IsRefusedPiece, ArePieces}
 use Rattle.piece_terms.specs.SplitLines.{SplitLine, Standing, after_line, no_contour, open_contour, IsNextChain, IsNextPiece, IsNextLine, AllListed}
 use Rattle.piece_terms.specs.Shown.{pieces_of, facts_of, first_reason, second_reason, SplitShows}
@@ -83,12 +84,6 @@ whole_pieces points m pieces some few h = record {
     whole : (n : ℕ) → length pieces ≡ n → 1 ≤ n → place_after pieces (length pieces) ≡ length points
     whole zero e l = absurd (omega arith)
     whole (suc n) e l = ap (place_after pieces) e ∙ h.ends n (let q = h.count in omega arith)
-
--- the list from a place on that has an element
-drop_here : (xs : List Contour) (n : ℕ) (x : Contour) → slice_get xs n ≡ Some x → drop n xs ≡ x ∷ drop (suc n) xs
-drop_here [] n x e = cc
-drop_here (y ∷ xs) zero x e = let h : y ≡ x = cc in ap (λ z. z ∷ xs) h
-drop_here (y ∷ xs) (suc n) x e = drop_here xs n x e
 
 drop_next : (xs : List Contour) (n : ℕ) (x : Contour) → slice_get xs n ≡ Some x → drop n xs ≡ x ∷ drop (n + 1) xs
 drop_next xs n x e = drop_here xs n x e ∙ ap (λ k. x ∷ drop k xs) (let q : suc n ≡ n + 1 = omega arith in q)

@@ -1,10 +1,10 @@
 -- The groups of lines of contours, when one more line comes: it begins a group, or belongs to the last.
 -- Laws of lists of lines; which contours a picture has does not matter here.
 use Rattle.std.proofs.Common.{◌≡◌, ℕ, ◌+◌, ◌-◌, ◌<◌, Bool, true, false, List, [], ◌∷◌, ◌++◌, length, refl, ap, sym, ◌∙◌, arith, inl, inr}
-use Rattle.std.specs.Prelude.{◌≤◌, ℤ, not, filter_map, take_while, slice_index_or, Some, None}
+use Rattle.std.specs.Prelude.{ℤ, not, filter_map, take_while, slice_index_or, Some, None}
 use Rattle.least_terms.specs.Least.{Pairs}
 use Rattle.std.proofs.lemmas.Bool.{cond-true, cond-false, cases_Bool, cases_lt}
-use Rattle.std.proofs.lemmas.List.{length-append, map-append}
+use Rattle.std.proofs.lemmas.List.{length-append, map-append, nil_from_length}
 use Rattle.std.proofs.lemmas.List.Sums.{take_while-cons}
 use Rattle.std.proofs.Math.Seq.{get_or-append_seam}
 use Rattle.shape_terms.specs.Points.{Point}
@@ -12,7 +12,7 @@ use Rattle.report_terms.specs.Lines.{Line}
 use Rattle.shape_terms.specs.Covers.{Evidence}
 use Rattle.report_terms.specs.ContourFacts.{Segment, stretches_of, GapFact, kind_of}
 use Rattle.report_terms.specs.ContourLines.{groups, is_contour, contour_groups, open_group, point_of, segment_of, gap_of, declared_of, last_segment, standing, standing_with}
-use Rattle.text_terms.proofs.ListPushes.{filter_map-same, filter_map-push}
+use Rattle.text_terms.proofs.ListPushes.{filter_map-same, filter_map-push, with_last}
 
 module _ (test : Line → Bool) where
   rest : List Line → List Line
@@ -101,12 +101,6 @@ module _ (test : Line → Bool) where
 
 -- ---- where the lines stand
 
--- a list that is not empty has a last element
-pub last_of : {A : Type 0} (xs : List A) → 0 < length xs → (front : List A) × (x : A) × (xs ≡ front ++ x ∷ [])
-last_of [] h = absurd (omega arith)
-last_of (x ∷ []) h = ([], x, refl)
-last_of (x ∷ y ∷ xs) h = let r = last_of (y ∷ xs) (omega arith) in (x ∷ r.0, r.1, ap (λ l. x ∷ l) r.2)
-
 -- the group that was begun last
 pub open_is : (lines : List Line) (front : List (List Line)) (g : List Line) → contour_groups lines ≡ front ++ g ∷ [] → open_group lines ≡ g
 open_is lines front g e =
@@ -116,13 +110,9 @@ open_is lines front g e =
 -- where segments are declared, a contour was begun
 pub declared_begun : (lines : List Line) → 0 < (standing lines).declared → 0 < (standing lines).begun
 declared_begun lines h = elim (cases_lt 0 (length (contour_groups lines))) [
-  | inr e ↦ absurd (let g : open_group lines ≡ [] = (let n = none (contour_groups lines) e in rw n refl) in let d : declared_of (open_group lines) ≡ 0 = ap declared_of g in omega arith)
+  | inr e ↦ absurd (let g : open_group lines ≡ [] = (let n = nil_from_length (contour_groups lines) (omega arith) in rw n refl) in let d : declared_of (open_group lines) ≡ 0 = ap declared_of g in omega arith)
   | inl p ↦ p
 ]
-  where
-    none : (xs : List (List Line)) → length xs ≤ 0 → xs ≡ []
-    none [] e = refl
-    none (x ∷ xs) e = absurd (omega arith)
 
 -- a `contour` line begins the next contour
 pub standing_begun : (lines : List Line) (p : Point) (side n m : ℕ) → standing (lines ++ Line.Contour p side n m ∷ []) ≡ record { begun = (standing lines).begun + 1; points = 0; declared = m; stretches = []; last = None; gaps = 0 }
@@ -148,7 +138,7 @@ last_push (x ∷ y ∷ g) l = last_push (y ∷ g) l
 -- any other line belongs to the contour that was begun last
 grown : (lines : List Line) (l : Line) → is_contour l ≡ false → 0 < (standing lines).begun → standing (lines ++ l ∷ []) ≡ standing_with (standing lines).begun (open_group lines ++ l ∷ [])
 grown lines l t h =
-    let r = last_of (contour_groups lines) h in
+    let r = with_last (contour_groups lines) h in
     let e = group_more is_contour lines l r.0 r.1 t r.2 in
     let a : length (contour_groups (lines ++ l ∷ [])) ≡ length (contour_groups lines) = ap length e ∙ length-append r.0 ((r.1 ++ l ∷ []) ∷ []) ∙ sym (ap length r.2 ∙ length-append r.0 (r.1 ∷ [])) in
     let b : open_group (lines ++ l ∷ []) ≡ open_group lines ++ l ∷ [] = open_is (lines ++ l ∷ []) r.0 (r.1 ++ l ∷ []) e ∙ ap (λ g. g ++ l ∷ []) (sym (open_is lines r.0 r.1 r.2)) in

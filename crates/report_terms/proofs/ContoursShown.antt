@@ -1,8 +1,8 @@
 -- What good lines of contours say, one after another: the first contours of the picture with their covers, and what was given of the last one.
 -- Laws of the lines of this section alone; what the lines of one contour say stands in `ContourSaid`.
-use Rattle.std.proofs.Common.{◌≡◌, ℕ, zero, suc, ◌+◌, ◌-◌, ◌*◌, ◌<◌, ◌≤◌, false, List, [], ◌∷◌, ◌++◌, length, take, map, Some, refl, ap, sym, ◌∙◌, subst, arith}
+use Rattle.std.proofs.Common.{◌≡◌, ℕ, ◌+◌, ◌-◌, ◌*◌, ◌<◌, false, List, [], ◌∷◌, ◌++◌, length, take, map, Some, refl, ap, sym, ◌∙◌, subst, arith}
 use Rattle.std.specs.Prelude.{◌/◌, ◌%◌, All, None, filter_map, slice_get, slice_index_or}
-use Rattle.std.proofs.lemmas.List.{length-append, map-append, take_all}
+use Rattle.std.proofs.lemmas.List.{length-append, map-append, take_all, nil_from_length}
 use Rattle.std.proofs.lemmas.List.Elements.{All-nil, All-push, All-map}
 use Rattle.std.proofs.lemmas.Option.{get_or_from_slice_get}
 use Rattle.shape_terms.specs.Pictures.{Picture}
@@ -15,13 +15,10 @@ use Rattle.report_terms.specs.Lines.{Line, IsLineOf}
 use Rattle.report_terms.specs.ContourLines.{last_segment, WantsNone, is_contour, contour_groups, open_group, point_of, segment_of, gap_of, declared_of, standing, no_contour, open_contour, IsFull, IsNextGap, OutlineClaim, ContourClaim, ContoursComplete}
 use Rattle.report_terms.specs.Shows.{outline_of, contour_fact}
 use Rattle.shape_terms.proofs.ContourLists.{contours_same}
-use Rattle.text_terms.proofs.ListPushes.{take_next}
+use Rattle.text_terms.proofs.ListPushes.{take_more, by_fronts}
 use Rattle.report_terms.proofs.CoverTaken.{refused_by}
 use Rattle.report_terms.proofs.ContourGroups.{group_begun, group_more, open_is, declared_begun}
 use Rattle.report_terms.proofs.ContourSaid.{SaysContour, said_head, said_point, said_segment, said_least, said_refusal, said_whole}
-
-take_more : {A : Type 0} (xs : List A) (n : ℕ) (x : A) → slice_get xs n ≡ Some x → take n xs ++ x ∷ [] ≡ take (n + 1) xs
-take_more xs n x e = take_next xs n x e ∙ ap (λ k. take k xs) (let q : suc n ≡ n + 1 = omega arith in q)
 
 module _ (number : ℕ) where
   -- the lines show the contours before the last one that was begun, and say something of that one
@@ -150,29 +147,12 @@ module _ (number : ℕ) where
 
   -- good lines of contours, each good after those before it
   pub says : (d : ℕ) (contours : List Contour) (lines : List Line) → ((k : ℕ) (l : Line) → slice_get lines k ≡ Some l → IsLineOf d l × OutlineClaim number contours (standing (take k lines)) l) → Says contours lines
-  says d contours lines good = subst (Says contours) (take_all (length lines) lines (omega arith)) (up_to (length lines) (omega arith))
-    where
-      get : (xs : List Line) (n : ℕ) → n < length xs → (x : Line) × (slice_get xs n ≡ Some x)
-      get [] n h = absurd (omega arith)
-      get (x ∷ xs) zero h = (x, refl)
-      get (x ∷ xs) (suc n) h = get xs n (omega arith)
-
-      up_to : (n : ℕ) → n ≤ length lines → Says contours (take n lines)
-      up_to zero h = SaysNone refl
-      up_to (suc n) h =
-          let x = get lines n (omega arith) in
-          let next : take n lines ++ x.0 ∷ [] ≡ take (suc n) lines = take_next lines n x.0 x.1 in
-          let g = good n x.0 x.1 in
-          subst (Says contours) next (says_more d contours (take n lines) x.0 (up_to n (omega arith)) g.0 g.1)
+  says d contours lines good = by_fronts (Says contours) lines (SaysNone refl) (λ k l e s. let g = good k l e in says_more d contours (take k lines) l s g.0 g.1)
 
   -- where the section is complete, the lines say all contours, and show the cover of each
   pub says_all : (contours : List Contour) (lines : List Line) → Says contours lines → IsFull contours (standing lines) → (standing lines).begun ≡ length contours
       → (map outline_of (contour_groups lines) ≡ contours) × All (λ h. ContourShows number (contour_fact h)) (contour_groups lines)
-  says_all contours lines (SaysNone e) full all = (ap (map outline_of) e ∙ none contours (sym all ∙ ap length e), subst (All (λ h. ContourShows number (contour_fact h))) (sym e) (All-nil (λ h. ContourShows number (contour_fact h))))
-    where
-      none : (xs : List Contour) → length xs ≡ 0 → [] ≡ xs
-      none [] h = refl
-      none (x ∷ xs) h = absurd (omega arith)
+  says_all contours lines (SaysNone e) full all = (ap (map outline_of) e ∙ sym (nil_from_length contours (sym all ∙ ap length e)), subst (All (λ h. ContourShows number (contour_fact h))) (sym e) (All-nil (λ h. ContourShows number (contour_fact h))))
   says_all contours lines (SaysSome front g w) full all =
       let s = standing_is contours lines front g w in
       let f = whole contours lines front g w full in

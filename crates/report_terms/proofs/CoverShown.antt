@@ -1,35 +1,31 @@
 -- All the segments of a contour, with two good refusals for each gap, show its cover.
 -- Lists of segments and refusals alone; how the lines of a report give them stands in `ContourSaid`.
-use Rattle.std.proofs.Common.{◌≡◌, inl, inr, ℕ, zero, suc, ◌+◌, ◌-◌, ◌*◌, ◌<◌, ◌≤◌, refl, ap, sym, ◌∙◌, subst, arith, List, [], ◌∷◌, ◌++◌, length, take, get_or, Some}
+use Rattle.std.proofs.Common.{◌≡◌, ℕ, zero, suc, ◌+◌, ◌-◌, ◌*◌, ◌<◌, ◌≤◌, refl, ap, sym, ◌∙◌, subst, arith, List, [], ◌∷◌, ◌++◌, length, take, get_or, Some}
 use Rattle.std.specs.Prelude.{◌/◌, ◌%◌, pos, slice_get, IfSome, Option, None, option_map}
 use Rattle.std.proofs.lemmas.List.{length-map, length-take-le, take-map, take_all, take_more, get_or_default}
 use Rattle.std.proofs.lemmas.List.Elements.{All-from_get_or}
 use Rattle.std.proofs.lemmas.Option.{slice_get-map, slice_get-get_or, get_or_from_slice_get}
 use Rattle.shape_terms.specs.Points.{Point}
 use Rattle.shape_terms.specs.Naive.{Naive}
-use Rattle.shape_terms.specs.Straight.{IsStraightFor, IsStraight}
+use Rattle.shape_terms.specs.Straight.{IsStraightFor}
 use Rattle.shape_terms.specs.Contours.{Crack}
 use Rattle.shape_terms.specs.Covers.{Stretch, IsSegment, Evidence, IsEvidence, arc, gap_run}
 use Rattle.shape_terms.specs.GapCover.{stretch_at, AreGapped}
 use Rattle.report_terms.specs.ContourFacts.{Segment, stretches_of, GapKind, GapFact, in_pairs, SegmentShows, RefusalShows, ContourShows}
 use Rattle.shape_terms.proofs.ArcRuns.{length-arc}
-use Rattle.shape_terms.proofs.CoverOf.{covers}
-use Rattle.shape_terms.proofs.Senses.{sense_no_turn}
+use Rattle.shape_terms.proofs.Senses.{sense_no_turn, straight_for}
+use Rattle.shape_terms.proofs.Members.{slice_get-taken}
+use Rattle.walk_terms.proofs.ContourCovers.{covers}
 use Rattle.report_terms.proofs.CoverTaken.{CoverSoFar, IsListed, AreLeast}
 
 -- ---- straight segments
 
-straight_for : (points : List Point) (m : ℕ) (before : List Stretch) (b e t : ℕ) (line : Naive) → IsSegment points m before b e t line → IsStraightFor t (arc points b e)
-straight_for points m before b e t line s = record {
+arc_straight : (points : List Point) (m : ℕ) (before : List Stretch) (b e t : ℕ) (line : Naive) → IsSegment points m before b e t line → IsStraightFor t (arc points b e)
+arc_straight points m before b e t line s = record {
   some = let r = s.rises in omega (arith, length-arc points b e);
   no_turn = sense_no_turn t (arc points b e) s.sense;
   line = (line, s.naive);
 }
-
-of_axis : (t : ℕ) (run : List Point) → t < 2 → IsStraightFor t run → IsStraight run
-of_axis zero run h s = inl s
-of_axis (suc zero) run h s = inr s
-of_axis (suc (suc t)) run h s = absurd (omega arith)
 
 -- ---- the gaps in pairs
 
@@ -53,11 +49,6 @@ pairs_length (a ∷ b ∷ gaps) zero e = absurd (omega arith)
 pairs_length (a ∷ b ∷ gaps) (suc m) e = ap suc (pairs_length gaps m (omega arith))
 
 -- ---- all segments, and two refusals for each
-
-slice_get-taken : {A : Type 0} (xs : List A) (k : ℕ) → slice_get (take (suc k) xs) k ≡ slice_get xs k
-slice_get-taken [] k = refl
-slice_get-taken (x ∷ xs) zero = refl
-slice_get-taken (x ∷ xs) (suc k) = slice_get-taken xs k
 
 no_segment : Segment
 no_segment = record { stretch = record { first = 0; last = 0 }; axis = 0; line = record { a = []; mu = pos 0 } }
@@ -144,7 +135,7 @@ module _ (number : ℕ) (points : List Point) (m : ℕ) (segments : List Segment
     straight = λ k h.
         let s = nth k (omega (arith, length-stretches)) in
         let g = s.listed.good in
-        rw s.at (of_axis s.segment.axis (arc points s.segment.stretch.first s.segment.stretch.last) s.listed.axis (straight_for points m (stretches_of (take k segments)) s.segment.stretch.first s.segment.stretch.last s.segment.axis s.segment.line g));
+        rw s.at (straight_for s.segment.axis (arc points s.segment.stretch.first s.segment.stretch.last) s.listed.axis (arc_straight points m (stretches_of (take k segments)) s.segment.stretch.first s.segment.stretch.last s.segment.axis s.segment.line g));
     evidence_x = λ k h. (let a = halves k in evidence_at (2 * k) k 0 a.0 a.1 (omega (arith, length-stretches)));
     evidence_y = λ k h. (let a = halves k in evidence_at (2 * k + 1) k 1 a.2 a.3 (omega (arith, length-stretches)));
   }

@@ -10,7 +10,7 @@ use Rattle.least_terms.specs.Least.{Pairs, ShowsLeast}
 use Rattle.least_terms.proofs.LeastLines.{shows_least}
 use Rattle.report_terms.specs.ContourFacts.{Segment, stretches_of, GapKind, GapFact, kind_of, SegmentIsLeast, RefusalShows}
 use Rattle.shape_terms.proofs.Exclusion.{excludes}
-use Rattle.shape_terms.proofs.CoverOf.{evidence_shows}
+use Rattle.shape_terms.proofs.Evidences.{evidence_shows}
 use Rattle.text_terms.proofs.ListPushes.{get_push, get_last}
 
 -- the segment is good after those before it, among m of the contour

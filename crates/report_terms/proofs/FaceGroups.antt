@@ -1,17 +1,17 @@
 -- Where the lines of faces stand when one more line comes.
 -- Laws of lists of lines; which faces a picture has does not matter here.
-use Rattle.std.proofs.Common.{◌≡◌, ℕ, ◌+◌, ◌-◌, ◌<◌, ◌≤◌, false, List, [], ◌∷◌, ◌++◌, length, refl, ap, sym, ◌∙◌, arith, inl, inr}
+use Rattle.std.proofs.Common.{◌≡◌, ℕ, ◌+◌, ◌-◌, ◌<◌, false, List, [], ◌∷◌, ◌++◌, length, refl, ap, sym, ◌∙◌, arith, inl, inr}
 use Rattle.std.specs.Prelude.{ℤ, filter_map, slice_index_or}
 use Rattle.std.proofs.lemmas.Bool.{cases_lt}
-use Rattle.std.proofs.lemmas.List.{length-append}
+use Rattle.std.proofs.lemmas.List.{length-append, nil_from_length}
 use Rattle.std.proofs.Math.Seq.{get_or-append_seam}
 use Rattle.shape_terms.specs.Points.{Point}
 use Rattle.shape_terms.specs.Refutations.{Refutation}
 use Rattle.patch_terms.specs.Patches.{Sense}
 use Rattle.report_terms.specs.Lines.{Line}
 use Rattle.report_terms.specs.FaceLines.{is_face, is_patch, face_groups, patch_groups, last_group, open_face, on_point, off_point, count_of, plane_of, given_patch, face_standing_with, face_standing}
-use Rattle.text_terms.proofs.ListPushes.{filter_map-same, filter_map-push}
-use Rattle.report_terms.proofs.ContourGroups.{group_begun, group_more, last_of}
+use Rattle.text_terms.proofs.ListPushes.{filter_map-same, filter_map-push, with_last}
+use Rattle.report_terms.proofs.ContourGroups.{group_begun, group_more}
 
 -- the last of some groups
 pub last_is : (gs front : List (List Line)) (g : List Line) → gs ≡ front ++ g ∷ [] → last_group gs ≡ g
@@ -19,22 +19,18 @@ last_is gs front g e =
     let n : length (front ++ g ∷ []) - 1 ≡ length front = omega (arith, length-append front (g ∷ [])) in
     rw e (ap (λ k. slice_index_or (front ++ g ∷ []) k []) n ∙ get_or-append_seam front g [] [])
 
-none : (xs : List (List Line)) → length xs ≤ 0 → xs ≡ []
-none [] e = refl
-none (x ∷ xs) e = absurd (omega arith)
-
 -- where points are declared, a patch was begun
 pub declared_some : (face : List Line) → 0 < count_of (last_group (patch_groups face)) → 0 < length (patch_groups face)
 declared_some face h = elim (cases_lt 0 (length (patch_groups face))) [
   | inl l ↦ l
-  | inr e ↦ absurd (let d : count_of (last_group (patch_groups face)) ≡ 0 = ap (λ gs. count_of (last_group gs)) (none (patch_groups face) e) in omega arith)
+  | inr e ↦ absurd (let d : count_of (last_group (patch_groups face)) ≡ 0 = ap (λ gs. count_of (last_group gs)) (nil_from_length (patch_groups face) (omega arith)) in omega arith)
 ]
 
 -- and so was a face
 pub declared_begun : (lines : List Line) → 0 < (face_standing lines).patch.declared → 0 < (face_standing lines).begun
 declared_begun lines h = elim (cases_lt 0 (length (face_groups lines))) [
   | inl l ↦ l
-  | inr e ↦ absurd (let d : (face_standing lines).patch.declared ≡ 0 = ap (λ gs. count_of (last_group (patch_groups (last_group gs)))) (none (face_groups lines) e) in omega arith)
+  | inr e ↦ absurd (let d : (face_standing lines).patch.declared ≡ 0 = ap (λ gs. count_of (last_group (patch_groups (last_group gs)))) (nil_from_length (face_groups lines) (omega arith)) in omega arith)
 ]
 
 -- what the first line of a patch gives stays as it is
@@ -57,7 +53,7 @@ patch_begun face k a mu =
 
 pub patch_more : (face : List Line) (l : Line) → is_patch l ≡ false → 0 < count_of (last_group (patch_groups face)) → last_group (patch_groups (face ++ l ∷ [])) ≡ last_group (patch_groups face) ++ l ∷ []
 patch_more face l t h =
-    let r = last_of (patch_groups face) (declared_some face h) in
+    let r = with_last (patch_groups face) (declared_some face h) in
     last_is (patch_groups (face ++ l ∷ [])) r.0 (r.1 ++ l ∷ []) (group_more is_patch face l r.0 r.1 t r.2) ∙ ap (λ g. g ++ l ∷ []) (sym (last_is (patch_groups face) r.0 r.1 r.2))
 
 -- a `patch` line begins a patch
@@ -102,7 +98,7 @@ standing_face lines t sense n =
 -- any other line belongs to the face that was begun last
 grown : (lines : List Line) (l : Line) → is_face l ≡ false → 0 < (face_standing lines).begun → face_standing (lines ++ l ∷ []) ≡ face_standing_with (face_standing lines).begun (open_face lines ++ l ∷ [])
 grown lines l t h =
-    let r = last_of (face_groups lines) h in
+    let r = with_last (face_groups lines) h in
     let e = group_more is_face lines l r.0 r.1 t r.2 in
     let a : length (face_groups (lines ++ l ∷ [])) ≡ length (face_groups lines) = ap length e ∙ length-append r.0 ((r.1 ++ l ∷ []) ∷ []) ∙ sym (ap length r.2 ∙ length-append r.0 (r.1 ∷ [])) in
     let b : open_face (lines ++ l ∷ []) ≡ open_face lines ++ l ∷ [] = last_is (face_groups (lines ++ l ∷ [])) r.0 (r.1 ++ l ∷ []) e ∙ ap (λ g. g ++ l ∷ []) (sym (last_is (face_groups lines) r.0 r.1 r.2)) in

@@ -1,9 +1,9 @@
 -- What good lines of faces say, one after another: the first faces of the volume with their partitions, and what was given of the last one.
 -- Laws of the lines of this section alone; what the lines of one face say stands in `FaceSaid`.
-use Rattle.std.proofs.Common.{◌≡◌, ℕ, zero, suc, ◌+◌, ◌-◌, ◌<◌, ◌≤◌, false, List, [], ◌∷◌, ◌++◌, length, take, get_or, map, Some, refl, ap, sym, ◌∙◌, subst, arith, inl, inr}
+use Rattle.std.proofs.Common.{◌≡◌, ℕ, suc, ◌+◌, ◌-◌, ◌<◌, false, List, [], ◌∷◌, ◌++◌, length, take, get_or, map, Some, refl, ap, sym, ◌∙◌, subst, arith, inl, inr}
 use Rattle.std.specs.Prelude.{slice_get}
 use Rattle.std.specs.List.{range_with_len}
-use Rattle.std.proofs.lemmas.List.{length-append, take_all}
+use Rattle.std.proofs.lemmas.List.{length-append}
 use Rattle.std.proofs.lemmas.List.Elements.{All-map, All-from_get_or}
 use Rattle.std.proofs.lemmas.Option.{slice_get-get_or}
 use Rattle.shape_terms.specs.Pictures.{Picture}
@@ -12,7 +12,7 @@ use Rattle.report_terms.specs.Lines.{Line}
 use Rattle.report_terms.specs.FaceFacts.{face_axis, face_sense, FaceFact, FaceShows, FacesShow}
 use Rattle.report_terms.specs.FaceLines.{is_face, face_groups, face_standing_with, face_standing, FaceIsFull, FacesAreFull, IsFaceHead, SurfaceClaim, FaceClaim, FacesComplete}
 use Rattle.report_terms.specs.Shows.{face_fact}
-use Rattle.text_terms.proofs.ListPushes.{get_push, take_next}
+use Rattle.text_terms.proofs.ListPushes.{get_push, by_fronts}
 use Rattle.report_terms.proofs.ContourGroups.{group_begun, group_more}
 use Rattle.report_terms.proofs.FaceGroups.{last_is, declared_begun}
 use Rattle.report_terms.proofs.FaceSaid.{SaysFace, said_face, said_more, said_full}
@@ -94,18 +94,7 @@ says_more X lines l s c = absurd c
 
 -- good lines of faces, each good after those before it
 says : (X : Picture) (lines : List Line) → ((k : ℕ) (l : Line) → slice_get lines k ≡ Some l → FaceClaim X (take k lines) l) → Says X lines
-says X lines good = subst (Says X) (take_all (length lines) lines (omega arith)) (up_to (length lines) (omega arith))
-  where
-    get : (xs : List Line) (n : ℕ) → n < length xs → (x : Line) × (slice_get xs n ≡ Some x)
-    get [] n h = absurd (omega arith)
-    get (x ∷ xs) zero h = (x, refl)
-    get (x ∷ xs) (suc n) h = get xs n (omega arith)
-
-    up_to : (n : ℕ) → n ≤ length lines → Says X (take n lines)
-    up_to zero h = SaysNone refl
-    up_to (suc n) h =
-        let x = get lines n (omega arith) in
-        subst (Says X) (take_next lines n x.0 x.1) (says_more X (take n lines) x.0 (up_to n (omega arith)) (good n x.0 x.1))
+says X lines good = by_fronts (Says X) lines (SaysNone refl) (λ k l e s. says_more X (take k lines) l s (good k l e))
 
 -- where the section is complete, all faces are shown
 says_all : (X : Picture) (lines : List Line) → Says X lines → FacesAreFull X (face_standing lines) → AreShown X (face_groups lines)

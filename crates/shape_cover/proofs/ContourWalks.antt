@@ -6,22 +6,18 @@ use Rattle.shape_terms.specs.Points.{Point}
 use Rattle.shape_terms.specs.Straight.{IsStraight}
 use Rattle.shape_terms.specs.Covers.{Stretch, IsSegment, arc}
 use Rattle.shape_terms.specs.GapCover.{AreGapped}
-use Rattle.shape_terms.proofs.ArcRuns.{part_straight}
-use Rattle.shape_terms.proofs.CoverOf.{covers}
 use Rattle.walk_terms.specs.RunCovers.{AreRunsWithGaps}
 use Rattle.walk_terms.specs.RunWalks.{IsWalk}
-use Rattle.walk_terms.proofs.RunArcs.{IsStraightness, IsWalkKind}
+use Rattle.walk_terms.proofs.RunArcs.{IsWalkKind}
 use Rattle.walk_terms.proofs.PlacedRuns.{IsPlaced, placed, few}
 use Rattle.walk_terms.proofs.WalkSteps.{length-stretches}
 use Rattle.walk_terms.proofs.WalkEnds.{some_found, runs_with_gaps, gap_bent}
+use Rattle.walk_terms.proofs.ContourCovers.{covers, straightness}
 use Rattle.shape_cover.specs.Found.{Found, stretches_of, found_at, IsCoverOf}
 use Rattle.shape_cover.specs.Walking.{contour_walk}
 use Rattle.shape_cover.proofs.ShortArcs.{short_arc}
 use Rattle.shape_cover.proofs.Senses.{keeps_sense}
-use Rattle.shape_cover.proofs.Verdicts.{straight_some, arc_straight, bent_shows}
-
-pub straightness : IsStraightness IsStraight
-straightness = record { some = straight_some; part = part_straight }
+use Rattle.shape_cover.proofs.Verdicts.{arc_straight, bent_shows}
 
 pub contour_walks : IsWalkKind contour_walk
 contour_walks = record { straightness = straightness; short = short_arc; bent = λ f run h. bent_shows run f.x f.y h }

@@ -3,7 +3,7 @@
 use Rattle.std.specs.Prelude.{not, ◌&&◌, ◌==◌}
 use Rattle.std.specs.Ordering.{int_eq}
 use Rattle.std.proofs.Common.{rules, ◌≡◌, Bool, true, false, cond, refl, ap, sym, ◌∙◌, List, [], ◌∷◌, ◌++◌, length, map}
-use Rattle.std.proofs.lemmas.List.{map-append}
+use Rattle.std.proofs.lemmas.List.{map-append, append-nil}
 use Rattle.shape_space.specs.declared.point.P2.{P2}
 use Rattle.shape_terms.specs.Points.{Point, coordinate}
 use Rattle.shape_terms.specs.Pictures.{Picture}
@@ -34,12 +34,8 @@ cracks_differ a b r e f g = let h = crack_once a b g in differ a b r e f h
     differ : (a b : Program.Crack) (r : Bool) → r ≡ not ((int_eq a.p.y b.p.y && int_eq a.p.x b.p.x) && (a.side == b.side)) → r ≡ true → a ≡ b → ⊥
     differ a b r e f h = search rules
 
-append-none : {A : Type 0} (xs : List A) → xs ++ [] ≡ xs
-append-none [] = refl
-append-none (x ∷ xs) = ap (λ l. x ∷ l) (append-none xs)
-
 by_stays : (X : Picture) (c : Crack) (b : Bool) → stays X c ≡ b → (l m : List Point) → (b ≡ true → m ≡ l) → (b ≡ false → m ≡ l ++ c.pixel ∷ []) → m ≡ l ++ cond (stays X c) [] (c.pixel ∷ [])
-by_stays X c true e l m f g = rw e (f refl ∙ sym (append-none l))
+by_stays X c true e l m f g = rw e (f refl ∙ sym (append-nil l))
 by_stays X c false e l m f g = rw e (g refl)
 
 -- a pixel was put last, since it was left

@@ -2,25 +2,20 @@
 -- Laws over numbers and rows alone.
 use Rattle.std.proofs.Common.{◌≡◌, ℕ, ◌+◌, ◌*◌, ◌/◌, ◌%◌, ◌<◌, inl, inr, List, length, sym, ap, ◌∙◌, arith, mul_comm}
 use Rattle.std.specs.Prelude.{ℤ, Option, None}
-use Rattle.std.proofs.lemmas.Bool.{cases_lt, cases_eq}
+use Rattle.std.proofs.lemmas.Bool.{cases_lt}
 use Rattle.std.proofs.lemmas.List.{get_or_past}
 use Rattle.std.proofs.lemmas.Nat.{div_below, div-mul-add, mod-mul-add}
 use Rattle.shape_terms.specs.AxisLines.{place}
 use Rattle.shape_terms.specs.Rows.{cell, IsLowest}
 use Rattle.shape_terms.proofs.AxisPlaces.{place_below}
-
-some_factor : (a b i : ℕ) → i < a * b → 0 < a
-some_factor a b i l = elim (cases_eq a 0) [
-  | inl z ↦ absurd (omega (arith, ap (λ n. n * b) z))
-  | inr some ↦ omega arith
-]
+use Rattle.shape_terms.proofs.Boxes.{some_side}
 
 -- the line with a number
 pub line_low : (c rows t : ℕ) → t < c * rows → t % c < c
-line_low c rows t l = let s = some_factor c rows t l in omega arith
+line_low c rows t l = let s = some_side c rows t l in omega arith
 
 pub line_high : (c rows t : ℕ) → t < c * rows → t / c < rows
-line_high c rows t l = div_below t c rows (some_factor c rows t l) (omega (arith, mul_comm c rows))
+line_high c rows t l = div_below t c rows (some_side c rows t l) (omega (arith, mul_comm c rows))
 
 pub line_place : (c w t x : ℕ) → (t % c + c * (w * (t / c))) + x * c ≡ place c w (t % c) x (t / c)
 line_place c w t x = omega arith

@@ -14,8 +14,8 @@ use Rattle.shape_terms.proofs.Exclusion.{excludes}
 use Rattle.shape_refute.specs.declared.naive.Naive.{Naive}
 use Rattle.shape_refute.specs.Terms.{flat_point, naive_of}
 use Rattle.shape_line.specs.Slopes.{span_refutation}
-use Rattle.shape_line.proofs.OneWay.{no_turn}
 use Rattle.shape_terms.proofs.Products.{rings}
+use Rattle.shape_terms.proofs.Senses.{sense_no_turn}
 use Rattle.shape_line.specs.Frames.{IsSense, along, IsRunOf, line_points, end_point}
 use Rattle.shape_refute.specs.PairTerms.{IsSmall}
 use Rattle.shape_line.specs.Grown.{IsGrown, segment_of}
@@ -48,7 +48,7 @@ naive_holds s =
 pub segment_straight : (s : Segment) → IsStraightFor s.axis (points_of s)
 segment_straight s = record {
   some = points_some s;
-  no_turn = no_turn s.axis (points_of s) (keeps s.axis s.sense s.grown.axis s.grown.sense (seg_of s).x0 (points_of s) (run_of_segment s).place);
+  no_turn = sense_no_turn s.axis (points_of s) (keeps s.axis s.sense s.grown.axis s.grown.sense (seg_of s).x0 (points_of s) (run_of_segment s).place);
   line = (naive_of 2 s.line, naive_holds s);
 }
 

@@ -1,7 +1,7 @@
 -- Why a point is refused: two pairs of points whose bounds of the slope leave no room.
 -- And how a run goes on below, and begins with two points.
 use Rattle.std.proofs.Common.{◌≡◌, refl, ap, subst, arith}
-use Rattle.std.proofs.Math.IntN.{ℤ, pos, ◌+ℤ◌, ◌-ℤ◌, ◌*ℤ◌, neg_ℤ}
+use Rattle.std.proofs.Math.IntN.{ℤ, pos, ◌+ℤ◌, ◌-ℤ◌, ◌*ℤ◌, neg_ℤ, neg_ℤ-neg_ℤ}
 use lib.Signed.{◌<ℤ◌, ◌≤ℤ◌}
 use Rattle.std.proofs.lemmas.Int.{ints, by_lt_z}
 use Rattle.shape_terms.proofs.Products.{rings}
@@ -12,9 +12,6 @@ use Rattle.shape_line.specs.Segments.{Seg, rest, IsTaken, IsSegment, raised, low
 
 -- ---- the point has the remainder mu + b: by the mirror
 
-twice : (y : ℤ) → neg_ℤ (neg_ℤ y) ≡ y
-twice y = omega (arith, ints)
-
 less_twice : (y z : ℤ) → neg_ℤ (neg_ℤ y -ℤ neg_ℤ z) ≡ y -ℤ z
 less_twice y z = omega (arith, ints)
 
@@ -22,10 +19,10 @@ mirrored_mu : (my ly b lx : ℤ) → pos 1 -ℤ rest (neg_ℤ my -ℤ neg_ℤ ly
 mirrored_mu my ly b lx = omega (arith, ints, rings)
 
 mirrored : (s : Seg) (mx my : ℤ) → flip (raised (flip s) mx (neg_ℤ my)) ≡ lowered s mx my
-mirrored s mx my = λ i. record { a = less_twice my s.ly i; b = mx -ℤ s.lx; mu = mirrored_mu my s.ly (mx -ℤ s.lx) s.lx i; x0 = s.x0; x1 = mx; ux = s.vx; uy = twice s.vy i; vx = s.vx; vy = twice s.vy i; lx = s.lx; ly = twice s.ly i; kx = mx; ky = twice my i }
+mirrored s mx my = λ i. record { a = less_twice my s.ly i; b = mx -ℤ s.lx; mu = mirrored_mu my s.ly (mx -ℤ s.lx) s.lx i; x0 = s.x0; x1 = mx; ux = s.vx; uy = neg_ℤ-neg_ℤ s.vy i; vx = s.vx; vy = neg_ℤ-neg_ℤ s.vy i; lx = s.lx; ly = neg_ℤ-neg_ℤ s.ly i; kx = mx; ky = neg_ℤ-neg_ℤ my i }
 
 to_flip : (r : Seg) (x y : ℤ) → IsTaken r x (neg_ℤ y) → IsTaken (flip r) x y
-to_flip r x y h = subst (λ (z : ℤ). IsTaken (flip r) x z) (twice y) (flip_taken r x (neg_ℤ y) h)
+to_flip r x y h = subst (λ (z : ℤ). IsTaken (flip r) x z) (neg_ℤ-neg_ℤ y) (flip_taken r x (neg_ℤ y) h)
 
 pub lowers : (s : Seg) → IsSegment s → (y1 mx my : ℤ) → IsTaken s s.x1 y1 → mx ≡ s.x1 +ℤ pos 1 → y1 ≤ℤ (my +ℤ pos 1) → rest s.a s.b mx my ≡ s.mu +ℤ s.b → IsLonger s mx my (lowered s mx my)
 lowers s is y1 mx my t next step hm =

@@ -4,6 +4,7 @@ use Rattle.std.proofs.Common.{◌≡◌, ℕ, zero, suc, ◌+◌, ◌<◌, [], l
 use Rattle.std.specs.Prelude.{ℤ, pos, negsuc, ◌+ℤ◌, ◌-ℤ◌, ◌*ℤ◌, neg_ℤ, ◌≤ℤ◌, ◌<ℤ◌, nat_abs}
 use Rattle.std.proofs.lemmas.Int.{ints}
 use Rattle.std.proofs.lemmas.List.FromFn.{length-map-range_with_len, get_or-map-range_with_len}
+use Rattle.std.proofs.Math.IntN.{neg_ℤ-neg_ℤ}
 use Rattle.shape_terms.specs.Points.{Point, coordinate}
 use Rattle.shape_terms.specs.Refutations.{point_at}
 use Rattle.shape_terms.specs.Turns.{other_axis}
@@ -38,15 +39,12 @@ back : (s x : ℤ) → (s ≡ pos 1) ⊎ (s ≡ negsuc 0) → s *ℤ (s *ℤ x) 
 back s x (inl e) = subst (λ (s : ℤ). s *ℤ (s *ℤ x) ≡ x) (sym e) (omega (arith, ints, rings))
 back s x (inr e) = subst (λ (s : ℤ). s *ℤ (s *ℤ x) ≡ x) (sym e) (omega (arith, ints, rings))
 
-twice : (y : ℤ) → neg_ℤ (neg_ℤ y) ≡ y
-twice y = omega (arith, ints)
-
 module _ (t : ℕ) (s : ℤ) (l : t < 2) (sense : IsSense s) (seg : Seg) (some : pos 0 <ℤ seg.b) (order : seg.x0 ≤ℤ seg.x1) where
   point_along : (i : ℕ) → along t s (line_point t s seg i) ≡ seg.x0 +ℤ pos i
   point_along i = ap (λ (z : ℤ). s *ℤ z) (row_other t _ _ l) ∙ back s (seg.x0 +ℤ pos i) (which s sense)
 
   point_height : (i : ℕ) → height t (line_point t s seg i) ≡ floor_div (seg.a *ℤ (seg.x0 +ℤ pos i) -ℤ seg.mu) seg.b
-  point_height i = ap neg_ℤ (row_main t (s *ℤ (seg.x0 +ℤ pos i)) _ l) ∙ twice (floor_div (seg.a *ℤ (seg.x0 +ℤ pos i) -ℤ seg.mu) seg.b)
+  point_height i = ap neg_ℤ (row_main t (s *ℤ (seg.x0 +ℤ pos i)) _ l) ∙ neg_ℤ-neg_ℤ (floor_div (seg.a *ℤ (seg.x0 +ℤ pos i) -ℤ seg.mu) seg.b)
 
   point_taken : (i : ℕ) → i < nat_abs (seg.x1 -ℤ seg.x0) + 1 → IsTaken seg (along t s (line_point t s seg i)) (height t (line_point t s seg i))
   point_taken i m =

@@ -8,20 +8,10 @@ use Rattle.shape_terms.specs.Points.{Point, coordinate}
 use Rattle.shape_terms.specs.Adjacency.{moved, along}
 use Rattle.shape_terms.specs.Vectors.{times, unit, difference}
 use Rattle.shape_terms.specs.Refutations.{Share, StepShare, Step, step_of, IsStepOf, weighted_points, weighted_steps, total_weight}
+use Rattle.shape_terms.proofs.Coordinates.{coordinate-moved, coordinate-times}
 use Rattle.shape_refute.specs.Sums.{shares_sum, steps_sum}
 
 -- ---- coordinates
-
-pub coordinate-moved : (p v : Point) (k : ℕ) → coordinate (moved p v) k ≡ coordinate p k +ℤ coordinate v k
-coordinate-moved [] v k = omega (arith, ints)
-coordinate-moved (x ∷ p) [] k = omega (arith, ints)
-coordinate-moved (x ∷ p) (y ∷ v) zero = refl
-coordinate-moved (x ∷ p) (y ∷ v) (suc k) = coordinate-moved p v k
-
-pub coordinate-times : (n : ℤ) (v : Point) (k : ℕ) → coordinate (times n v) k ≡ n *ℤ coordinate v k
-coordinate-times n [] k = omega (arith, ints)
-coordinate-times n (x ∷ v) zero = refl
-coordinate-times n (x ∷ v) (suc k) = coordinate-times n v k
 
 pub coordinate-difference : (p q : Point) (k : ℕ) → coordinate (difference p q) k ≡ coordinate p k -ℤ coordinate q k
 coordinate-difference p q k =

@@ -4,6 +4,7 @@ use Rattle.std.proofs.Common.{◌≡◌, ◌⊎◌, inl, inr, ℕ, ◌<◌, ◌�
 use Rattle.std.specs.Prelude.{ℤ, pos, ◌≤ℤ◌, nat_abs}
 use Rattle.std.proofs.lemmas.Int.{ints}
 use Rattle.std.proofs.lemmas.List.{get_or-take, get_or_past, length-take-le}
+use Rattle.std.proofs.lemmas.Bool.{cases_lt}
 use Rattle.shape_terms.specs.Points.{coordinate}
 
 pub few_axes : (d : ℕ) → (d ≡ 2) ⊎ (d ≡ 3) → d ≤ 3
@@ -20,10 +21,7 @@ coordinate_within a d u h = get_or-take d a u (pos 0) h
 -- no coefficient is greater in size than the bound, where none of an axis is
 pub all_within : (a : List ℤ) (d : ℕ) (b : ℤ) → d ≤ length a → pos 1 ≤ℤ b → ((u : ℕ) → u < d → pos (nat_abs (coordinate a u)) ≤ℤ b)
     → (u : ℕ) → pos (nat_abs (coordinate (take d a) u)) ≤ℤ b
-all_within a d b l h each u = by_order u d (λ (m : u < d). rw (coordinate_within a d u m) (each u m)) (λ (m : d ≤ u). rw (coordinate_past a d u l m) (omega (arith, ints)))
-  where
-    by_order : (u d : ℕ) {G : Type 0} → (u < d → G) → (d ≤ u → G) → G
-    by_order u d f g = elim (order u d) [ inl m ↦ f m | inr m ↦ g m ]
-      where
-        order : (u d : ℕ) → (u < d) ⊎ (d ≤ u)
-        order u d = grind arith
+all_within a d b l h each u = elim (cases_lt u d) [
+  | inl m ↦ rw (coordinate_within a d u m) (each u m)
+  | inr m ↦ rw (coordinate_past a d u l m) (omega (arith, ints))
+]

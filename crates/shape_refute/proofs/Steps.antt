@@ -10,9 +10,10 @@ use Rattle.shape_terms.specs.Points.{Point, coordinate}
 use Rattle.shape_terms.specs.Adjacency.{moved}
 use Rattle.shape_terms.specs.Vectors.{times, unit, difference}
 use Rattle.shape_terms.specs.Refutations.{Share, StepShare, Refutation, step_of, IsStepOf, point_at, weighted_points, weighted_steps, total_weight, Refutes}
+use Rattle.shape_terms.proofs.Coordinates.{coordinate-moved}
 use Rattle.shape_refute.specs.Sums.{shares_sum, steps_sum, ArePlaces, AreSteps, axis_value, low_side, high_side}
 use Rattle.shape_refute.proofs.Entries.{drop_read}
-use Rattle.shape_refute.proofs.Meet.{coordinate-moved, coordinate-difference, coordinate-points, coordinate-steps, length-times, length-along, length-moved, length-points, length-steps, same_point}
+use Rattle.shape_refute.proofs.Meet.{coordinate-difference, coordinate-points, coordinate-steps, length-times, length-along, length-moved, length-points, length-steps, same_point}
 
 -- ---- facts of each entry
 

@@ -1,6 +1,6 @@
--- The straight arcs of a contour: a part of a straight arc is straight, and an arc one round on is the same arc.
--- What follows from these two alone stands in `Gaps`.
-use Rattle.std.proofs.Common.{◌≡◌, ℕ, zero, suc, pred, ◌+◌, ◌-◌, ◌<◌, ◌≤◌, ◌%◌, List, [], ◌∷◌, length, map, refl, ap, sym, subst, ◌∙◌, arith, inl, inr}
+-- Arcs of a contour: a part of an arc is one, a part of a straight run is straight, and an arc one round on is the same arc.
+-- What follows from these alone stands in `Gaps`.
+use Rattle.std.proofs.Common.{◌≡◌, ℕ, zero, suc, ◌+◌, ◌-◌, ◌<◌, ◌≤◌, ◌%◌, List, [], ◌∷◌, length, map, refl, ap, sym, subst, ◌∙◌, arith, inl, inr}
 use Rattle.std.specs.Prelude.{◌-ℤ◌}
 use Rattle.std.specs.List.{range_with_len}
 use Rattle.std.proofs.lemmas.List.{length-map}
@@ -12,8 +12,7 @@ use Rattle.shape_terms.specs.Naive.{Naive, HoldsPoint, IsNaiveFor}
 use Rattle.shape_terms.specs.Refutations.{point_at}
 use Rattle.shape_terms.specs.Turns.{change_at, other_axis, IsTurn}
 use Rattle.shape_terms.specs.Straight.{IsStraightFor, IsStraight}
-use Rattle.shape_terms.specs.Covers.{arc, IsMaximal}
-use Rattle.shape_terms.proofs.Stretches.{Runs, Maximal}
+use Rattle.shape_terms.specs.Covers.{arc}
 
 -- ys are the points of xs from place s on
 pub record IsPart (xs ys : List Point) (s : ℕ) : Type 0 where
@@ -79,29 +78,3 @@ module _ (contour : List Point) where
 
   pub arc-round : (b e : ℕ) → arc contour (b + length contour) (e + length contour) ≡ arc contour b e
   arc-round b e = ap (λ k. map (λ i. point_at contour (i % length contour)) (range_with_len (b + length contour) k)) (let q : e + length contour + 1 - (b + length contour) ≡ e + 1 - b = omega arith in q) ∙ round (e + 1 - b) b
-
-  abbrev pub Straight : ℕ → ℕ → Type 0
-  Straight b e = IsStraight (arc contour b e)
-
-  straight_ordered : (a b : ℕ) → Straight a b → a ≤ b
-  straight_ordered a b (inl h) = let l = h.some in omega (arith, length-arc a b)
-  straight_ordered a b (inr h) = let l = h.some in omega (arith, length-arc a b)
-
-  pub arc_runs : Runs (length contour) Straight
-  arc_runs = record {
-    ordered = straight_ordered;
-    part = λ a b c d s h k l. part_straight (arc contour a b) (arc contour c d) (c - a) (arc_part a b c d h k l) (omega (arith, length-arc c d)) s;
-    on = λ a b s. subst IsStraight (sym (arc-round a b)) s;
-    off = λ a b s. subst IsStraight (arc-round a b) s;
-  }
-
-  -- the two forms of maximal arcs
-  pub maximal_from : (b e : ℕ) → IsMaximal contour b e → Maximal (length contour) Straight b e
-  maximal_from b e m = (m.straight, (λ s. m.before (subst (λ v. Straight v (e + length contour)) (let q : pred (b + length contour) ≡ b + length contour - 1 = omega arith in q) s)), λ s. m.after (subst (Straight b) (let q : suc e ≡ e + 1 = omega arith in q) s))
-
-  pub maximal_to : (b e : ℕ) → Maximal (length contour) Straight b e → IsMaximal contour b e
-  maximal_to b e m = record {
-    straight = m.0;
-    before = λ s. m.1 (subst (λ v. Straight v (e + length contour)) (let q : b + length contour - 1 ≡ pred (b + length contour) = omega arith in q) s);
-    after = λ s. m.2 (subst (Straight b) (let q : e + 1 ≡ suc e = omega arith in q) s);
-  }

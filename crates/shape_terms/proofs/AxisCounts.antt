@@ -3,7 +3,7 @@
 use Rattle.std.proofs.Common.{◌≡◌, ◌⊎◌, inl, inr, ℕ, suc, ◌+◌, ◌*◌, ◌/◌, ◌^◌, ◌<◌, ◌≤◌, List, [], ◌∷◌, ◌++◌, length, take, drop, refl, sym, ap, ◌∙◌, subst, arith, mul_comm}
 use Rattle.std.specs.Prelude.{ℤ, pos, negsuc, ◌≤ℤ◌, nat_abs}
 use Rattle.std.proofs.lemmas.Nat.{div-mul-add, mul-le}
-use Rattle.std.proofs.lemmas.List.{drop_more, map-append, take-append-drop, take_all, take_more, length-map}
+use Rattle.std.proofs.lemmas.List.{drop_more, map-append, take-append-drop, take_more, length-map}
 use Rattle.shape_terms.specs.Points.{Point, coordinate, AreSides, sides_of, box_count, squared_distance}
 use Rattle.shape_terms.specs.FramedBox.{framed_sides, framed_point, IsWithin}
 use Rattle.shape_terms.proofs.SquaredDistances.{squared_distance-cons, square_apart}

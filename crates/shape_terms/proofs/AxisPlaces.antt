@@ -1,8 +1,9 @@
 -- Numbers and their digits before an axis, on it and behind it: each number has them once.
 -- Plain variables alone stand here.
-use Rattle.std.proofs.Common.{◌≡◌, ℕ, zero, suc, ◌+◌, ◌*◌, ◌/◌, ◌%◌, ◌<◌, ◌≤◌, refl, ap, arith, mul_comm}
+use Rattle.std.proofs.Common.{◌≡◌, ℕ, ◌+◌, ◌*◌, ◌/◌, ◌%◌, ◌<◌, ◌≤◌, refl, ap, arith, mul_comm}
 use Rattle.std.proofs.lemmas.Nat.{div-mul-add, div_below, same_from_place, mul-le}
 use Rattle.shape_terms.specs.AxisLines.{place}
+use Rattle.shape_terms.proofs.Boxes.{some_side}
 
 -- the digits of a number
 pub record HasPlace (c w rows i : ℕ) : Type 0 where
@@ -14,15 +15,11 @@ pub record HasPlace (c w rows i : ℕ) : Type 0 where
   pub high_below : high < rows
   pub is : i ≡ place c w low x high
 
-some_factor : (a b i : ℕ) → i < a * b → 0 < a
-some_factor zero b i l = absurd (omega (arith, mul_comm zero b))
-some_factor (suc a) b i l = omega arith
-
 pub place_of : (c w rows i : ℕ) → i < c * (w * rows) → HasPlace c w rows i
 place_of c w rows i l =
-    let s = some_factor c (w * rows) i l in
+    let s = some_side c (w * rows) i l in
     let b : i / c < w * rows = div_below i c (w * rows) s (omega (arith, mul_comm c (w * rows))) in
-    let t = some_factor w rows (i / c) b in
+    let t = some_side w rows (i / c) b in
     let e : c * (i / c) + i % c ≡ i = omega arith in
     let f : w * (i / c / w) + (i / c) % w ≡ i / c = omega arith in
     record {

@@ -1,24 +1,17 @@
 -- The list of the points of a box, in raster order, and the object points among them.
-use Rattle.std.proofs.Common.{◌≡◌, ◌+◌, ◌*◌, ◌/◌, ◌%◌, ◌<◌, ◌≤◌, ℕ, zero, suc, Bool, true, false, pos, List, [], ◌∷◌, ◌++◌, length, get_or, drop, drop-cons, map, inl, inr, refl, sym, ap, ◌∙◌, arith, mul_comm}
+use Rattle.std.proofs.Common.{◌≡◌, ◌+◌, ◌*◌, ◌<◌, ◌≤◌, ℕ, zero, suc, Bool, true, false, pos, List, [], ◌∷◌, ◌++◌, length, get_or, drop, drop-cons, map, inl, inr, refl, sym, ap, ◌∙◌, arith, mul_comm}
 use Rattle.std.specs.Prelude.{filter, count_by, IsTrue, All}
 use Rattle.std.specs.List.{range_with_len, flat_map}
-use Rattle.std.proofs.Math.Nat.{add-mul-mod_self_left, mod-eq_of_lt, add-mul-div_left, div-eq_of_lt}
-use Rattle.std.proofs.lemmas.Bool.{cond-true, cond-false, cond_both, cases_Bool}
+use Rattle.std.proofs.lemmas.Bool.{cond-true, cond-false, cases_Bool}
 use Rattle.std.proofs.lemmas.List.{map-append, get_or_default, same_lists, length-map, get_or-map}
 use Rattle.std.proofs.lemmas.List.FromFn.{length-map-range_with_len, get_or-map-range_with_len}
 use Rattle.std.proofs.lemmas.List.Sums.{length-filter, count_by-le-length}
-use Rattle.std.proofs.lemmas.List.Elements.{All-nil, All-cons}
+use Rattle.std.proofs.lemmas.List.Elements.{filter_passes}
 use Rattle.shape_terms.specs.Points.{Point, raster_point, box_points, box_count}
 use Rattle.shape_terms.specs.Pictures.{Picture, at, object_points, objects_from}
-use Rattle.shape_terms.proofs.Boxes.{raster_point_in, raster_number-raster_point}
+use Rattle.shape_terms.proofs.Boxes.{raster_point_in, raster_number-raster_point, mod_of, div_of}
 
 -- ---- the list of the points
-
-mod_of : (n x m : ℕ) → x < n → (x + n * m) % n ≡ x
-mod_of n x m l = add-mul-mod_self_left x n m ∙ mod-eq_of_lt l
-
-div_of : (n x m : ℕ) → x < n → (x + n * m) / n ≡ m
-div_of n x m l = add-mul-div_left x m (omega arith) ∙ omega (arith, div-eq_of_lt l)
 
 range-append : (a j k : ℕ) → range_with_len a (j + k) ≡ range_with_len a j ++ range_with_len (a + j) k
 range-append a zero k = let e : 0 + k ≡ k = omega arith in let f : a + 0 ≡ a = omega arith in rw (e, f) refl
@@ -102,14 +95,8 @@ count_map p (x ∷ xs) =
 pub object_count : (X : Picture) → length X.values ≡ box_count X.sides → length (object_points X) ≡ count_by (λ b. b) X.values
 object_count X e = count_map (at X) (box_points X.sides) ∙ length-filter (λ b. b) (map (at X) (box_points X.sides)) ∙ ap (count_by (λ b. b)) (values_are X e)
 
-all_pass : {A : Type 0} (p : A → Bool) (xs : List A) → All (λ x. IsTrue (p x)) (filter p xs)
-all_pass p [] = All-nil (λ x. IsTrue (p x))
-all_pass p (x ∷ xs) = cond_both (p x) (x ∷ filter p xs) (filter p xs) (All (λ y. IsTrue (p y)))
-    (λ t. All-cons (λ y. IsTrue (p y)) x (filter p xs) t (all_pass p xs))
-    (λ f. all_pass p xs)
-
 pub objects_are : (X : Picture) → All (λ p. IsTrue (at X p)) (object_points X)
-objects_are X = all_pass (at X) (box_points X.sides)
+objects_are X = filter_passes (at X) (box_points X.sides)
 
 -- no more points are object than the box has
 pub few_objects : (X : Picture) → length (object_points X) ≤ box_count X.sides

@@ -81,7 +81,7 @@ raster_below (n ∷ sides) (x ∷ p) h =
     let b : n * (raster_number sides p + 1) ≤ n * box_count sides = mul-le n (raster_number sides p + 1) n (box_count sides) (omega arith) (omega arith) in
     omega (arith, b, mul_comm n (raster_number sides p), mul_comm n (raster_number sides p + 1))
 
-some_side : (n m i : ℕ) → i < n * m → 0 < n
+pub some_side : (n m i : ℕ) → i < n * m → 0 < n
 some_side zero m i l = absurd (omega (arith, mul_comm zero m))
 some_side (suc n) m i l = omega arith
 
@@ -101,10 +101,10 @@ raster_number-raster_point (n ∷ sides) i l =
     let r = raster_number-raster_point sides (i / n) (div_below i n (box_count sides) some (turned n (box_count sides) i l)) in
     rw r (omega arith)
 
-mod_of : (n x m : ℕ) → x < n → (x + n * m) % n ≡ x
+pub mod_of : (n x m : ℕ) → x < n → (x + n * m) % n ≡ x
 mod_of n x m l = add-mul-mod_self_left x n m ∙ mod-eq_of_lt l
 
-div_of : (n x m : ℕ) → x < n → (x + n * m) / n ≡ m
+pub div_of : (n x m : ℕ) → x < n → (x + n * m) / n ≡ m
 div_of n x m l = add-mul-div_left x m (omega arith) ∙ omega (arith, div-eq_of_lt l)
 
 pub raster_point-raster_number : (sides : List ℕ) (p : Point) → IsTrue (in_box sides p) → raster_point sides (raster_number sides p) ≡ p
@@ -123,7 +123,7 @@ some_points g [] h = omega arith
 some_points g (n ∷ ns) h =
     mul-le 1 1 (nat_abs n) (box_count (sides_of ns)) (abs_low n 1 (h 0 (omega arith)).0) (some_points g ns (λ k l. h (suc k) (omega arith)))
 
-side_at_most : (greatest : ℤ) (m : ℕ) (n : Point) (k : ℕ) → AreSides greatest n → greatest ≤ℤ pos m → k < length n → nat_abs (coordinate n k) ≤ m
+pub side_at_most : (greatest : ℤ) (m : ℕ) (n : Point) (k : ℕ) → AreSides greatest n → greatest ≤ℤ pos m → k < length n → nat_abs (coordinate n k) ≤ m
 side_at_most g m n k h b l =
     let f = h k l in
     abs_high (coordinate n k) m (omega (arith, ints, f.0)) (omega (arith, ints, f.1))

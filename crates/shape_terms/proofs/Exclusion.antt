@@ -6,12 +6,13 @@ use Rattle.std.specs.List.{AllByRecursion}
 use Rattle.std.proofs.lemmas.Int.{ints}
 use Rattle.std.proofs.lemmas.List.Sums.{sum_by-cons}
 use Rattle.std.proofs.lemmas.List.Elements.{recursion_from_All}
-use Rattle.shape_terms.proofs.Ring.{*ℤ-+ℤ, +ℤ-*ℤ, *ℤ-≤ℤ}
+use Rattle.shape_terms.proofs.Ring.{*ℤ-+ℤ, +ℤ-*ℤ}
 use Rattle.shape_terms.proofs.Linear.{dot-moved, dot-times, dot-unit, dot-difference, dot_none}
 use Rattle.shape_terms.specs.Points.{Point}
 use Rattle.shape_terms.specs.Vectors.{times, unit, difference, dot}
 use Rattle.shape_terms.specs.Naive.{Naive, IsProper, HoldsAll, IsNaiveFor}
 use Rattle.shape_terms.specs.Refutations.{Share, Step, StepShare, Refutation, step_of, IsStepOf, point_at, weighted_points, weighted_steps, total_weight, Refutes}
+use Rattle.shape_terms.proofs.Order.{mul-le_ℤ}
 
 -- a row that is at least m at each point of the shares is at least the weight times m at their sum
 pub at_least : (a : List ℤ) (m : ℤ) (f : ℕ → Point) (shares : List Share) → AllByRecursion (λ s. m ≤ℤ dot a (f s.place)) shares
@@ -21,7 +22,7 @@ at_least a m f (s ∷ shares) h =
     let ih = at_least a m f shares h.1 in
     let e = dot-moved a (times (pos s.weight) (f s.place)) (weighted_points f shares) in
     let t = dot-times a (pos s.weight) (f s.place) in
-    let k : (pos s.weight *ℤ m) ≤ℤ (pos s.weight *ℤ dot a (f s.place)) = *ℤ-≤ℤ (pos s.weight) m (dot a (f s.place)) (omega (arith, ints)) h.0 in
+    let k : (pos s.weight *ℤ m) ≤ℤ (pos s.weight *ℤ dot a (f s.place)) = mul-le_ℤ (pos s.weight) m (dot a (f s.place)) (omega (arith, ints)) h.0 in
     let d : pos (total_weight (s ∷ shares)) *ℤ m ≡ pos s.weight *ℤ m +ℤ pos (total_weight shares) *ℤ m = ap (λ x. pos x *ℤ m) (sum_by-cons (λ (x : Share). x.weight) s shares) ∙ +ℤ-*ℤ (pos s.weight) (pos (total_weight shares)) m in
     omega (arith, ints)
 
@@ -32,7 +33,7 @@ at_most a m f (s ∷ shares) h =
     let ih = at_most a m f shares h.1 in
     let e = dot-moved a (times (pos s.weight) (f s.place)) (weighted_points f shares) in
     let t = dot-times a (pos s.weight) (f s.place) in
-    let k : (pos s.weight *ℤ dot a (f s.place)) ≤ℤ (pos s.weight *ℤ m) = *ℤ-≤ℤ (pos s.weight) (dot a (f s.place)) m (omega (arith, ints)) h.0 in
+    let k : (pos s.weight *ℤ dot a (f s.place)) ≤ℤ (pos s.weight *ℤ m) = mul-le_ℤ (pos s.weight) (dot a (f s.place)) m (omega (arith, ints)) h.0 in
     let d : pos (total_weight (s ∷ shares)) *ℤ m ≡ pos s.weight *ℤ m +ℤ pos (total_weight shares) *ℤ m = ap (λ x. pos x *ℤ m) (sum_by-cons (λ (x : Share). x.weight) s shares) ∙ +ℤ-*ℤ (pos s.weight) (pos (total_weight shares)) m in
     omega (arith, ints)
 
@@ -59,7 +60,7 @@ steps_not_negative d t n proper (s ∷ steps) h =
     let ih = steps_not_negative d t n proper steps h.1 in
     let e = dot-moved n.a (times (pos s.weight) (step_of t s.step)) (weighted_steps t steps) in
     let f = dot-times n.a (pos s.weight) (step_of t s.step) in
-    let k : (pos s.weight *ℤ pos 0) ≤ℤ (pos s.weight *ℤ dot n.a (step_of t s.step)) = *ℤ-≤ℤ (pos s.weight) (pos 0) (dot n.a (step_of t s.step)) (omega (arith, ints)) (step_not_negative d t n proper s.step h.0) in
+    let k : (pos s.weight *ℤ pos 0) ≤ℤ (pos s.weight *ℤ dot n.a (step_of t s.step)) = mul-le_ℤ (pos s.weight) (pos 0) (dot n.a (step_of t s.step)) (omega (arith, ints)) (step_not_negative d t n proper s.step h.0) in
     omega (arith, ints)
 
 low_points : (t : ℕ) (points : List Point) (n : Naive) → HoldsAll t n points → (shares : List Share) → AllByRecursion (λ s. s.place < length points) shares

@@ -6,16 +6,11 @@ use Rattle.std.proofs.lemmas.Int.{ints, by_lt_z}
 use Rattle.std.proofs.lemmas.Nat.{mul-le}
 use Rattle.std.proofs.lemmas.List.{drop_more, append-nil, take_all, drop_all, take_more_set, append_assoc, length-map}
 use Rattle.shape_terms.specs.Points.{Point, coordinate, AreSides, sides_of, in_box, raster_number, box_count, squared_distance}
-use Rattle.shape_terms.proofs.Boxes.{abs_is, in_box_first, in_box_more, in_box_length, in_box_coordinate, raster_below, raster_point-raster_number, abs_high}
+use Rattle.shape_terms.proofs.Boxes.{abs_is, in_box_first, in_box_more, in_box_length, in_box_coordinate, raster_below, raster_point-raster_number, side_at_most}
 use Rattle.shape_terms.specs.FramedBox.{framed_sides, framed_point, IsWithin}
 use Rattle.shape_terms.proofs.SquaredDistances.{squared_distance-cons}
 
 -- ---- the count
-
-side_at_most : (greatest : ℤ) (m : ℕ) (n : Point) (k : ℕ) → AreSides greatest n → greatest ≤ℤ pos m → k < length n → nat_abs (coordinate n k) ≤ m
-side_at_most g m n k h b l =
-    let f = h k l in
-    abs_high (coordinate n k) m (omega (arith, ints, f.0)) (omega (arith, ints, f.1))
 
 pub framed_count_step : (ns : Point) (k j n w : ℕ) → k ≡ j + 1 → j < length ns → n ≡ box_count (framed_sides (sides_of (drop k ns))) → w ≡ nat_abs (coordinate ns j) + 2 → n * w ≡ box_count (framed_sides (sides_of (drop j ns)))
 framed_count_step ns k j n w e l h is =

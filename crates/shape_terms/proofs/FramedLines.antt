@@ -1,6 +1,6 @@
 -- The lines of a framed box along an axis: the numbers of their points, and how far these are from other points.
 -- Laws over sides and numbers alone, for each number of axes.
-use Rattle.std.proofs.Common.{◌≡◌, ℕ, zero, suc, ◌+◌, ◌*◌, ◌/◌, ◌%◌, ◌<◌, List, [], ◌∷◌, ◌++◌, length, refl, sym, ap, ◌∙◌, arith, mul_comm}
+use Rattle.std.proofs.Common.{◌≡◌, ℕ, ◌+◌, ◌*◌, ◌/◌, ◌%◌, ◌<◌, List, [], ◌∷◌, ◌++◌, length, refl, sym, ap, ◌∙◌, arith, mul_comm}
 use Rattle.std.specs.Prelude.{ℤ, pos, ◌-ℤ◌, nat_abs}
 use Rattle.std.proofs.lemmas.Int.{ints}
 use Rattle.std.proofs.lemmas.Nat.{div-mul-add, mod-mul-add, div_below}
@@ -10,12 +10,9 @@ use Rattle.shape_terms.specs.FramedBox.{framed_sides, framed_point}
 use Rattle.shape_terms.proofs.SquaredDistances.{squared_distance-cons}
 use Rattle.shape_terms.proofs.FramedBoxes.{length-framed_point}
 use Rattle.shape_terms.specs.AxisLines.{place, gap, apart}
+use Rattle.shape_terms.proofs.Boxes.{some_side}
 
 -- ---- numbers
-
-some_side : (a c low : ℕ) → low < a * c → 0 < a
-some_side zero c low l = absurd (omega (arith, mul_comm zero c))
-some_side (suc a) c low l = omega arith
 
 -- one axis before the line's: its digit is that of the low part
 before : (a c low y : ℕ) → 0 < a → ((low + (a * c) * y) % a ≡ low % a) × ((low + (a * c) * y) / a ≡ low / a + c * y)

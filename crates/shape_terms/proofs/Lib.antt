@@ -13,6 +13,7 @@ pub mod NearNeighbours
 pub mod SideNeighbours
 pub mod NeighbourNumbers
 pub mod ShiftedSteps
+pub mod Coordinates
 pub mod CrackOrder
 pub mod Turning
 pub mod Edges
@@ -28,7 +29,7 @@ pub mod Exclusion
 pub mod Stretches
 pub mod Gaps
 pub mod ArcRuns
-pub mod CoverOf
+pub mod Evidences
 pub mod Products
 pub mod Order
 pub mod Triples
@@ -38,3 +39,4 @@ pub mod AxisPlaces
 pub mod AxisCounts
 pub mod ContourLists
 pub mod Senses
+pub mod FirstNumbers

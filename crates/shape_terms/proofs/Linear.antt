@@ -13,6 +13,12 @@ pub dot_none : (a : List ℤ) → dot a [] ≡ pos 0
 dot_none [] = refl
 dot_none (a ∷ row) = refl
 
+-- at a point of the plane
+pub dot-flat : (a : List ℤ) (x y : ℤ) → dot a (x ∷ y ∷ []) ≡ coordinate a 0 *ℤ x +ℤ coordinate a 1 *ℤ y
+dot-flat [] x y = omega (arith, ints)
+dot-flat (a ∷ []) x y = omega (arith, ints)
+dot-flat (a ∷ b ∷ row) x y = let e = dot_none row in omega (arith, ints)
+
 pub dot-moved : (a : List ℤ) (p v : Point) → dot a (moved p v) ≡ dot a p +ℤ dot a v
 dot-moved [] p v = refl
 dot-moved (a ∷ row) [] v = omega (arith, ints)

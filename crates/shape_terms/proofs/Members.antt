@@ -1,7 +1,7 @@
 -- What stands in a list that is made of another one.
 -- Laws over any list alone.
-use Rattle.std.proofs.Common.{◌≡◌, ℕ, zero, suc, ◌<◌, ap, sym, ◌∙◌, subst, arith, List, [], ◌∷◌, map, Bool, true, false, cond}
-use Rattle.std.specs.Prelude.{Contains, filter}
+use Rattle.std.proofs.Common.{◌≡◌, ℕ, zero, suc, ◌<◌, ap, sym, ◌∙◌, subst, refl, arith, List, [], ◌∷◌, take, map, Bool, true, false, cond}
+use Rattle.std.specs.Prelude.{Contains, filter, slice_get}
 use Rattle.std.specs.List.{range_with_len, flat_map}
 use Rattle.std.proofs.lemmas.List.Elements.{Contains-append_left, Contains-append_right}
 use Rattle.std.proofs.lemmas.List.FromFn.{get_or-range_with_len, length-range_with_len}
@@ -28,3 +28,9 @@ Contains-filter p (y ∷ xs) x (zero, h, e) t = rw (ap p e ∙ t) (0, omega arit
 Contains-filter p (y ∷ xs) x (suc k, h, e) t =
     let rest = Contains-filter p xs x (k, omega arith, e) t in
     elim (p y) as (λ b. Contains (cond b (y ∷ filter p xs) (filter p xs)) x) [ true ↦ Contains-later y (filter p xs) x rest | false ↦ rest ]
+
+-- the last of the first elements
+pub slice_get-taken : {A : Type 0} (xs : List A) (k : ℕ) → slice_get (take (suc k) xs) k ≡ slice_get xs k
+slice_get-taken [] k = refl
+slice_get-taken (x ∷ xs) zero = refl
+slice_get-taken (x ∷ xs) (suc k) = slice_get-taken xs k

@@ -5,9 +5,10 @@ use Rattle.std.specs.Prelude.{ℤ, pos, negsuc, ◌+ℤ◌, ◌-ℤ◌, ◌*ℤ�
 use Rattle.std.proofs.lemmas.Int.{ints}
 use Rattle.std.proofs.lemmas.Bool.{cases_lt}
 use Rattle.std.proofs.lemmas.Nat.{mul-le, le-div}
-use Rattle.shape_terms.proofs.Ring.{+ℤ-*ℤ, *ℤ-≤ℤ}
+use Rattle.shape_terms.proofs.Ring.{+ℤ-*ℤ}
 use Rattle.shape_terms.proofs.Products.{rings}
 use Rattle.shape_terms.specs.Rows.{height, IsFirstBetter}
+use Rattle.shape_terms.proofs.Order.{mul-le_ℤ}
 
 square_is : (u : ℤ) → pos (nat_abs u * nat_abs u) ≡ u *ℤ u
 square_is (pos n) = omega (arith, ints)
@@ -109,7 +110,7 @@ better_from f i g j x y l h k =
     let t = j - i in
     let e : j ≡ i + t = omega arith in
     let a = better_is f i g j t x e h.better in
-    let m = *ℤ-≤ℤ (pos t) x y (omega (arith, ints)) k in
+    let m = mul-le_ℤ (pos t) x y (omega (arith, ints)) k in
     is_better f i g j t y e (omega (arith, ints, a, m))
 
 -- and before it the earlier one is lower

@@ -1,24 +1,13 @@
 -- A set has one number of components.
 -- Laws over any set and adjacency alone.
-use Rattle.std.proofs.Common.{◌≡◌, ℕ, zero, suc, ◌-◌, ◌≤◌, ◌<◌, refl, ◌∙◌, ap, arith, List, [], ◌∷◌, length, map, Bool, true, false, eqb, inl, inr}
-use Rattle.std.specs.Prelude.{◌⊎◌, ◌||◌}
+use Rattle.std.proofs.Common.{◌≡◌, ℕ, zero, suc, ◌-◌, ◌≤◌, ◌<◌, refl, ◌∙◌, ap, arith, List, [], ◌∷◌, length, map, true, false, eqb, inl, inr}
+use Rattle.std.specs.Prelude.{◌⊎◌}
 use Rattle.std.specs.List.{AllByRecursion, IsDistinct, list_any}
 use Rattle.std.proofs.Math.ListN.{length-map}
 use Rattle.std.proofs.lemmas.Map.Steps.{length-le_from_distinct_below}
-use Rattle.std.proofs.lemmas.Bool.{eqb-true}
+use Rattle.std.proofs.lemmas.Bool.{eqb-true, or_cases, ne_eqb}
 use Rattle.shape_terms.specs.Parts.{Connected, NamesParts, HasParts}
 use Rattle.shape_terms.proofs.Paths.{starts_in}
-
-or_cases : (a b : Bool) → (a || b) ≡ true → (a ≡ true) ⊎ (b ≡ true)
-or_cases true b h = inl refl
-or_cases false b h = inr h
-
-not_equal : (a b : ℕ) → (a ≡ b → ⊥) → eqb a b ≡ false
-not_equal a b h = by_test (eqb a b) refl
-  where
-    by_test : (t : Bool) → eqb a b ≡ t → eqb a b ≡ false
-    by_test true e = absurd (h (eqb-true a b e))
-    by_test false e = e
 
 -- a label is the same along a path
 pub along_path : {A : Type 0} {R : A → A → Type 0} {Y : A → Type 0} {p q : A} → (f : A → ℕ) → ((x y : A) → Y x → Y y → R x y → f x ≡ f y) → Connected R Y p q → f p ≡ f q
@@ -50,7 +39,7 @@ module _ {A : Type 0} (R : A → A → Type 0) (Y : A → Type 0) (n m : ℕ) (f
       → AllByRecursion (λ l. eqb (g x - 1) l ≡ false) (map (λ y. g y - 1) xs)
   fresh x yx k e [] a = tt
   fresh x yx k e (y ∷ xs) a = (
-    not_equal (g x - 1) (g y - 1) (λ q. let c = G.connected x y yx a.0.0 (omega (arith, G.in_range x yx, G.in_range y a.0.0)) in
+    ne_eqb (g x - 1) (g y - 1) (λ q. let c = G.connected x y yx a.0.0 (omega (arith, G.in_range x yx, G.in_range y a.0.0)) in
         let d = along_path f F.adjacent c in omega (arith, a.0.1)),
     fresh x yx k e xs a.1,
   )

@@ -1,5 +1,5 @@
 -- Raster numbers rise with the raster order of points.
-use Rattle.std.proofs.Common.{◌≡◌, inl, inr, ◌+◌, ◌*◌, ◌<◌, ◌≤◌, ℕ, ℤ, pos, ◌≤ℤ◌, ◌<ℤ◌, List, [], ◌∷◌, refl, sym, ◌∙◌, arith, mul_comm}
+use Rattle.std.proofs.Common.{◌≡◌, inl, inr, ◌+◌, ◌*◌, ◌<◌, ◌≤◌, ℕ, ℤ, pos, ◌≤ℤ◌, List, [], ◌∷◌, refl, sym, ◌∙◌, arith, mul_comm}
 use Rattle.std.specs.Prelude.{nat_abs, IsTrue}
 use Rattle.std.specs.declared.cmp.Ordering.TheVariants.{Less, Equal, Greater}
 use Rattle.std.specs.Ordering.{ordering_then, int_cmp, nat_cmp}
@@ -7,11 +7,15 @@ use Rattle.std.proofs.lemmas.Int.{ints, by_lt_z}
 use Rattle.std.proofs.lemmas.Nat.{mul-le}
 use Rattle.std.proofs.lemmas.Bool.{cases_lt}
 use Rattle.std.proofs.lemmas.Bool.Decides.{nat_tests}
+use Rattle.std.specs.Cmp.{int_cmp_is}
 use Rattle.shape_terms.specs.Points.{Point, in_box, raster_number, raster_cmp}
 use Rattle.shape_terms.proofs.Boxes.{in_box_first, abs_is}
 
-nat_less : (a b : ℕ) → a < b → nat_cmp a b ≡ Less
+pub nat_less : (a b : ℕ) → a < b → nat_cmp a b ≡ Less
 nat_less a b l = grind (arith, nat_tests)
+
+pub less_from_cmp : (a b : ℕ) → nat_cmp a b ≡ Less → a < b
+less_from_cmp a b e = grind (arith, nat_tests)
 
 nat_same : (a b : ℕ) → a ≡ b → nat_cmp a b ≡ Equal
 nat_same a b l = grind (arith, nat_tests)
@@ -19,24 +23,15 @@ nat_same a b l = grind (arith, nat_tests)
 nat_more : (a b : ℕ) → b < a → nat_cmp a b ≡ Greater
 nat_more a b l = grind (arith, nat_tests)
 
-int_less : (x y : ℤ) → x <ℤ y → int_cmp x y ≡ Less
-int_less x y l = grind (arith, ints)
-
-int_same : (x y : ℤ) → x ≤ℤ y → y ≤ℤ x → int_cmp x y ≡ Equal
-int_same x y l m = grind (arith, ints)
-
-int_more : (x y : ℤ) → y <ℤ x → int_cmp x y ≡ Greater
-int_more x y l = grind (arith, ints)
-
 int_is : (x y : ℤ) → pos 0 ≤ℤ x → pos 0 ≤ℤ y → int_cmp x y ≡ nat_cmp (nat_abs x) (nat_abs y)
 int_is x y a b =
     let u = abs_is x a in
     let v = abs_is y b in
     by_lt_z x y
-    (λ l. int_less x y l ∙ sym (nat_less (nat_abs x) (nat_abs y) (omega (arith, ints))))
+    (λ l. sym (int_cmp_is x y Less l) ∙ sym (nat_less (nat_abs x) (nat_abs y) (omega (arith, ints))))
     (λ m. by_lt_z y x
-    (λ l. int_more x y l ∙ sym (nat_more (nat_abs x) (nat_abs y) (omega (arith, ints))))
-    (λ l. int_same x y l m ∙ sym (nat_same (nat_abs x) (nat_abs y) (omega (arith, ints)))))
+    (λ l. sym (int_cmp_is x y Greater l) ∙ sym (nat_more (nat_abs x) (nat_abs y) (omega (arith, ints))))
+    (λ l. sym (int_cmp_is x y Equal (omega (arith, ints))) ∙ sym (nat_same (nat_abs x) (nat_abs y) (omega (arith, ints)))))
 
 above : (n a b x y : ℕ) → x < n → a < b → x + n * a < y + n * b
 above n a b x y h l =

@@ -1,10 +1,9 @@
 -- Laws of products of whole numbers.
 -- Plain variables alone stand here.
 use Rattle.std.proofs.Common.{◌≡◌, ◌*◌, ap, arith}
-use Rattle.std.specs.Prelude.{ℤ, pos, negsuc, ◌+ℤ◌, ◌*ℤ◌, ◌≤ℤ◌}
+use Rattle.std.specs.Prelude.{ℤ, ◌+ℤ◌, ◌*ℤ◌}
 use Rattle.std.proofs.lemmas.Int.{ints}
-use Rattle.std.proofs.Math.Nat.{mul-le-mul_left}
-use borrow.Author.Differences.{up, down, sum_is_lem, product_is, le_out}
+use borrow.Author.Differences.{up, down, sum_is_lem, product_is}
 
 -- a product distributes over a sum
 pub *ℤ-+ℤ : (a b c : ℤ) → a *ℤ (b +ℤ c) ≡ a *ℤ b +ℤ a *ℤ c
@@ -35,10 +34,3 @@ pub *ℤ_assoc : (a b c : ℤ) → (a *ℤ b) *ℤ c ≡ a *ℤ (b *ℤ c)
     let u' = ap (λ n. up a * n) t.1 in
     let v' = ap (λ n. down a * n) t.1 in
     omega (arith, ints)
-
--- a factor that is not negative keeps the order
-pub *ℤ-≤ℤ : (a b c : ℤ) → pos 0 ≤ℤ a → b ≤ℤ c → (a *ℤ b) ≤ℤ (a *ℤ c)
-*ℤ-≤ℤ (pos n) b c h k =
-    let m = mul-le-mul_left n (le_out b c k) in
-    omega (arith, ints)
-*ℤ-≤ℤ (negsuc n) b c h k = absurd (omega (arith, ints))

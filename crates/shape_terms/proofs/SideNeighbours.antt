@@ -11,25 +11,19 @@ use Rattle.shape_terms.specs.Adjacency.{moved, along, origin, city_distance, sid
 use native.Mathlib.Decide.{ℕ_discrete}
 use Rattle.shape_terms.proofs.ApartLists.{Apart, apart_points, apart_pairs}
 use Rattle.shape_terms.proofs.Members.{Contains-map, Contains-flat_map, Contains-range}
+use Rattle.shape_terms.proofs.ShiftedSteps.{length-origin, moved-origin}
 
 -- ---- distances
 
 pub city-cons : (x y : ℤ) (p q : Point) → city_distance (x ∷ p) (y ∷ q) ≡ nat_abs (x -ℤ y) + city_distance p q
 city-cons x y p q = sum_by-cons (λ g. g) (nat_abs (x -ℤ y)) (axis_distances p q)
 
-at_origin : (p : Point) → moved p (origin (length p)) ≡ p
-at_origin [] = refl
-at_origin (x ∷ p) =
-    let e : x +ℤ pos 0 ≡ x = omega (arith, ints) in
-    let r = at_origin p in
-    λ i. e i ∷ r i
-
-no_step : (u : Point) → moved u [] ≡ u
+pub no_step : (u : Point) → moved u [] ≡ u
 no_step [] = refl
 no_step (x ∷ u) = refl
 
 stays : (p : Point) → moved p (moved (origin (length p)) []) ≡ p
-stays p = ap (moved p) (no_step (origin (length p))) ∙ at_origin p
+stays p = ap (moved p) (no_step (origin (length p))) ∙ moved-origin p
 
 pub none_apart : (p : Point) → city_distance p p ≡ 0
 none_apart [] = refl
@@ -193,11 +187,7 @@ apart_steps d a (suc m) h = (
 
 length_step : (d k : ℕ) (n : ℤ) → k < d → length (moved (origin d) (along k n)) ≡ d
 length_step zero k n h = absurd (omega arith)
-length_step (suc d) zero n h = ap suc (ap length (no_step (origin d)) ∙ length_origin d)
-  where
-    length_origin : (d : ℕ) → length (origin d) ≡ d
-    length_origin zero = refl
-    length_origin (suc d) = ap suc (length_origin d)
+length_step (suc d) zero n h = ap suc (ap length (no_step (origin d)) ∙ length-origin d)
 length_step (suc d) (suc k) n h = ap suc (length_step d k n (omega arith))
 
 step_lengths : (d a m : ℕ) → a + m ≤ d → AllByRecursion (λ v. length v ≡ d) (flat_map (axis_steps d) (range_with_len a m))

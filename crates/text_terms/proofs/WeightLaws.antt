@@ -2,7 +2,7 @@
 -- A further kind of step is one more clause of each.
 use Rattle.std.proofs.Common.{◌≡◌, ◌≤◌, ℕ, true, length, refl, ap, arith, lit<}
 use Rattle.std.proofs.lemmas.Bool.{ltb-true, lt-ltb}
-use Rattle.shape_terms.specs.Refutations.{Step}
+use Rattle.shape_terms.specs.Refutations.{Step, IsStepOf}
 use Rattle.text_terms.specs.Forms.{IsWord, IsForm, ◌⨾◌, counted}
 use Rattle.text_terms.specs.Fields.{count, weight}
 use Rattle.text_terms.specs.Weights.{step_word, IsStepIn, step, step_value, is_step_in, share, step_share, why}
@@ -39,6 +39,12 @@ step_form d = one_form (IsStepIn d) (is_step_in d) step_word step_value 4 (recor
     few Step.Up = omega arith
     few (Step.Plus u) = omega arith
     few (Step.Minus u) = omega arith
+
+-- a step of an axis names one of the axes, if any
+pub step_in : (d t : ℕ) (s : Step) → IsStepOf d t s → IsStepIn d s
+step_in d t Step.Up h = tt
+step_in d t (Step.Plus u) h = h.0
+step_in d t (Step.Minus u) h = h.0
 
 -- ---- weights
 

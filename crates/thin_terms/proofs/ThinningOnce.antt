@@ -1,15 +1,12 @@
 -- A picture has one thinning by a rule.
 -- Laws over the definitions alone.
-use Rattle.std.proofs.Common.{◌≡◌, ℕ, ◌<◌, refl, ap, sym, ◌∙◌, subst, arith, List, [], ◌∷◌, inl, inr, Bool, true, false, cond}
-use Rattle.std.specs.Prelude.{◌⊎◌, ℤ, int_lt}
-use Rattle.std.specs.Ordering.{int_cmp, ordering_then, ordering_reverse}
-use Rattle.std.specs.declared.cmp.Ordering.{Ordering}
-use Rattle.std.specs.declared.cmp.Ordering.TheVariants.{Less, Equal, Greater}
+use Rattle.std.proofs.Common.{◌≡◌, ℕ, ◌<◌, refl, ap, sym, ◌∙◌, subst, arith, List, [], ◌∷◌, inl, inr}
+use Rattle.std.specs.Prelude.{◌⊎◌}
 use Rattle.std.specs.List.{FoldsTo}
-use Rattle.std.proofs.lemmas.Int.{ints}
-use Rattle.shape_terms.specs.Points.{Point, raster_cmp}
+use Rattle.shape_terms.specs.Points.{Point}
 use Rattle.shape_terms.specs.Steps.{Before}
 use Rattle.shape_terms.specs.Pictures.{Picture}
+use Rattle.shape_terms.proofs.CrackOrder.{before_once}
 use Rattle.thin_terms.specs.Thinning.{near_count, Rule, Event, Stage, Facts, IsNext, IsCandidate, HasDistance, ThinStep, IsThinned, IsThinning, opening_stage, event_at, stage_after}
 
 -- the distance to the background is one
@@ -20,30 +17,6 @@ one_distance X p s t (q, a) (r, b) =
     let e = a.distance in
     let f = b.distance in
     omega arith
-
-turned_then : (a b : Ordering) → ordering_then (ordering_reverse a) (ordering_reverse b) ≡ ordering_reverse (ordering_then a b)
-turned_then Less b = refl
-turned_then Equal b = refl
-turned_then Greater b = refl
-
-turned_int : (x y : ℤ) → int_cmp y x ≡ ordering_reverse (int_cmp x y)
-turned_int x y = by_tests (int_lt x y) (int_lt y x) refl refl
-  where
-    by_tests : (a b : Bool) → int_lt x y ≡ a → int_lt y x ≡ b → cond b Less (cond a Greater Equal) ≡ ordering_reverse (cond a Less (cond b Greater Equal))
-    by_tests true true e f = absurd (omega (arith, ints))
-    by_tests true false e f = refl
-    by_tests false true e f = refl
-    by_tests false false e f = refl
-
-turned_raster : (p q : Point) → raster_cmp q p ≡ ordering_reverse (raster_cmp p q)
-turned_raster [] [] = refl
-turned_raster [] (y ∷ q) = refl
-turned_raster (x ∷ p) [] = refl
-turned_raster (x ∷ p) (y ∷ q) =
-    (λ i. ordering_then (turned_raster p q i) (turned_int x y i)) ∙ turned_then (raster_cmp p q) (int_cmp x y)
-
-pub never_both : (p q : Point) → Before p q → Before q p → ⊥
-never_both p q a b = let e : Less ≡ Greater = sym b ∙ turned_raster p q ∙ ap ordering_reverse a in cc
 
 -- the least candidate is one, and so are its facts
 one_next : (X : Picture) (s : Stage) (p q : Point) (f g : Facts) → IsNext X s p f → IsNext X s q g → (p ≡ q) × (f ≡ g)
@@ -57,7 +30,7 @@ one_next X s p q f g a b = (
 )
   where
     in_raster : f.distance ≡ g.distance → (Before p q) ⊎ (p ≡ q) → (Before q p) ⊎ (q ≡ p) → p ≡ q
-    in_raster e (inl h) (inl k) = absurd (never_both p q h k)
+    in_raster e (inl h) (inl k) = absurd (before_once p q h k)
     in_raster e (inl h) (inr k) = sym k
     in_raster e (inr h) k = h
 

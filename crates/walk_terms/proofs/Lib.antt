@@ -7,3 +7,4 @@ pub mod WalkStarts
 pub mod WalkSteps
 pub mod WalkEnds
 pub mod BackArcs
+pub mod ContourCovers

@@ -7,6 +7,7 @@ use Rattle.std.proofs.lemmas.Option.{slice_get-get_or}
 use Rattle.shape_terms.specs.Points.{Point}
 use Rattle.shape_terms.specs.Covers.{Stretch}
 use Rattle.shape_terms.specs.GapCover.{stretch_at}
+use Rattle.shape_terms.proofs.Members.{slice_get-taken}
 use Rattle.walk_terms.specs.RunCovers.{AreRunsWithGaps}
 use Rattle.walk_terms.proofs.RunArcs.{IsStraightness, run_arcs}
 
@@ -71,11 +72,6 @@ module _ (S : List Point → Type 0) (is : IsStraightness S) (path : List Point)
       let a = at_least (length stretches - 1) l in
       let b = g.begins (length stretches - 1) l in
       omega arith
-
-slice_get-taken : {A : Type 0} (xs : List A) (k : ℕ) → slice_get (take (suc k) xs) k ≡ slice_get xs k
-slice_get-taken [] k = λ i. slice_get [] k
-slice_get-taken (x ∷ xs) zero = λ i. Some x
-slice_get-taken (x ∷ xs) (suc k) = slice_get-taken xs k
 
 module _ (path : List Point) (stretches : List Stretch) (some : 1 ≤ length stretches) (each : (k : ℕ) → k < length stretches → IsPlaced path (length stretches) (take k stretches) (stretch_at stretches k)) where
   pub placed_rise : (k : ℕ) → k + 1 < length stretches → ((stretch_at stretches k).first < (stretch_at stretches (k + 1)).first) × ((stretch_at stretches k).last < (stretch_at stretches (k + 1)).last)
