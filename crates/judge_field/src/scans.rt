@@ -175,11 +175,11 @@ impl<P: Point> Scans<P> {
     }
 
     /// The squared distance of an object point and a nearest background point of the whole space.
-    pub fn least(&self, p: P) -> u64
+    pub fn least(&self, p: P) -> u32
         requires { IsTrue (at self.now (P.coords p)) }
         ensures { IsLeastSquare self.now (P.coords p) result }
     {
         let sides = self.grid.sides();
-        self.squares[sides.framed_number(p) as usize] as u64
+        self.squares[sides.framed_number(p) as usize]
     }
 }

@@ -32,7 +32,7 @@ impl<P: SimpleMask> ThinJudge<P> {
 
     /// A judge that has taken no event, by whatever rule they come. The rule is to begin anew
     /// before the first.
-    pub fn new(alloc: Global, grid: &Grid<P>, distances: Vec<u64>) -> Result<ThinJudge<P>, NoMemory>
+    pub fn new(alloc: Global, grid: &Grid<P>, distances: Vec<u32>) -> Result<ThinJudge<P>, NoMemory>
         requires { AreDistances grid.now distances.items }
         ensures stands { IfOk result (λ j. (by : Rule) → StandsFor by grid.now [] by.opening j) }
         ensures room { IfOk result (λ j. room_of j ≡ length (object_points grid.now)) }

@@ -17,7 +17,7 @@ use thin_steps::{Next, Thinner};
 pub(crate) fn begun<P: SimpleMask, L: Ledger>(
     alloc: Global,
     grid: &Grid<P>,
-    distances: Vec<u64>,
+    distances: Vec<u32>,
     blank: Blank,
 ) -> Result<Thinner<P>, NoMemory>
     requires name { blank.name ≡ L.name }

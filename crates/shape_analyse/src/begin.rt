@@ -76,7 +76,7 @@ fn add_nears<P: Point>(
         let line = Line::Near {
             p: near.p,
             q: near.q,
-            s: near.s,
+            s: u64::from(near.s),
         };
         report.add(&line)?;
     }

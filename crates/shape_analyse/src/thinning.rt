@@ -6,6 +6,7 @@ ghost use Rattle.shape_terms.specs.Parts.{Counts};
 ghost use Rattle.shape_terms.specs.Distances.{IsField};
 ghost use Rattle.thin_terms.specs.Thinning.{Stage, IsThinning};
 ghost use Rattle.report_terms.specs.Lines.{line_text, IsLineOf};
+ghost use Rattle.shape_queue.specs.Distances.{AreDistances};
 ghost use Rattle.shape_thin.specs.Runs.{IsRunOf, event_of, event_point};
 ghost use Rattle.shape_terms.specs.FramedBox.{IsWithin};
 ghost use Rattle.shape_thin.specs.Laws.{KeepsParts};
@@ -18,45 +19,57 @@ use shape_grid::Grid;
 use shape_report::{Line, Report};
 use shape_rules::EndRule;
 use shape_space::{NoMemory, Point, Steps};
-use shape_thin::{Event, Thinning, thin};
+use shape_thin::{Event, Thinning, distances_of, thin_by_distances};
 use shape_topo::SimpleMask;
 use std::alloc::Global;
 use std::marker::Brand;
 use std::sync::ledger::{Blank, Ledger};
+
+// The squared distances of a field. The field goes, since a thinning wants nothing else of it.
+pub(crate) fn into_distances<P: Point>(
+    alloc: Global,
+    grid: &Grid<P>,
+    field: Field<P>,
+) -> Result<Vec<u32>, NoMemory>
+    requires { IsField grid.now field }
+    ensures { IfOk result (λ d. AreDistances grid.now d.items) }
+{
+    distances_of(alloc, grid, &field)
+}
 
 // The thinning of a picture, with a counter on this ledger.
 fn counted<P: SimpleMask, L: Ledger>(
     alloc: Global,
     blank: Blank,
     grid: &Grid<P>,
-    field: &Field<P>,
+    distances: Vec<u32>,
     rule: &mut Box<dyn EndRule>,
 ) -> Result<Thinning<P>, NoMemory>
     requires name { blank.name ≡ L.name }
     requires parts { blank.parts ≡ L.parts }
     requires whole { blank.parts ≡ 1 }
-    requires field { IsField grid.now field.now }
+    requires distances { AreDistances grid.now distances.items }
     ensures thinning { IfOk result (IsRunOf (means rule.old) grid.now (state rule.new)) }
     ensures kept { IfOk result (λ t. KeepsParts grid.now t.left) }
     ensures same_rule { means rule.new ≡ means rule.old }
 {
     let mut steps = Steps::<L>::new(blank);
-    thin(alloc, grid, field, rule, &mut steps)
+    thin_by_distances(alloc, grid, distances, rule, &mut steps)
 }
 
-// The thinning of a picture by a rule.
+// The thinning of a picture with these squared distances by a rule.
 pub(crate) fn thinned<P: SimpleMask>(
     alloc: Global,
     grid: &Grid<P>,
-    field: &Field<P>,
+    distances: Vec<u32>,
     rule: &mut Box<dyn EndRule>,
 ) -> Result<Thinning<P>, NoMemory>
-    requires { IsField grid.now field.now }
+    requires { AreDistances grid.now distances.items }
     ensures thinning { IfOk result (IsRunOf (means rule.old) grid.now (state rule.new)) }
     ensures kept { IfOk result (λ t. KeepsParts grid.now t.left) }
     ensures same_rule { means rule.new ≡ means rule.old }
 {
-    counted::<P, Brand>(alloc, Blank::new(1), grid, field, rule)
+    counted::<P, Brand>(alloc, Blank::new(1), grid, distances, rule)
 }
 
 // Adds the line of an event.

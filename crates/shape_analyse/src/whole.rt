@@ -8,7 +8,7 @@ ghost use Rattle.shape_analyse.specs.Analyses.{IsAnalysisOf};
 use crate::begin::begin;
 use crate::outline::Outline;
 use crate::tally::{Analysis, Tally};
-use crate::thinning::{add_thinning, thinned};
+use crate::thinning::{add_thinning, into_distances, thinned};
 use shape_adj::parts;
 use shape_dist::nearest;
 use shape_grid::Grid;
@@ -32,8 +32,9 @@ fn analyse<P: Outline>(
     let counted = parts(alloc, grid)?;
     let field = nearest(alloc, grid)?;
     let mut report = begin(alloc, grid, &field, shelf.name(which), counted)?;
+    let distances = into_distances(alloc, grid, field)?;
     let extent = P::add_outline(alloc, grid, &mut report)?;
-    let thinning = thinned(alloc, grid, &field, shelf.rule(which))?;
+    let thinning = thinned(alloc, grid, distances, shelf.rule(which))?;
     add_thinning(&thinning, counted, &mut report)?;
     let tally = Tally {
         points: grid.count(),

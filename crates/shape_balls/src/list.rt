@@ -40,7 +40,7 @@ fn listed<P: Point>(
             balls.push(Ball {
                 centre: f.p,
                 near: f.q,
-                s: f.s,
+                s: u64::from(f.s),
                 own: f.p,
             })?;
         }

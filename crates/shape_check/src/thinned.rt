@@ -34,7 +34,7 @@ pub struct ThinnedJudge<P: SimpleMask> {
 }
 
 // The squared distance of an object point, and 0 of any other.
-fn distance_at<P: Point>(scans: &Scans<P>, p: P) -> u64
+fn distance_at<P: Point>(scans: &Scans<P>, p: P) -> u32
     ensures { IsTrue (at scans.now (P.coords p)) → HasDistance scans.now (P.coords p) result }
 {
     if scans.grid().has(p) {
@@ -45,7 +45,7 @@ fn distance_at<P: Point>(scans: &Scans<P>, p: P) -> u64
 }
 
 /// The squared distances of the object points by raster number, from the least ones that were scanned.
-pub(crate) fn distances_of<P: Point>(alloc: Global, scans: &Scans<P>) -> Result<Vec<u64>, NoMemory>
+pub(crate) fn distances_of<P: Point>(alloc: Global, scans: &Scans<P>) -> Result<Vec<u32>, NoMemory>
     ensures { IfOk result (λ d. AreDistances scans.now d.items) }
 {
     let sides = scans.grid().sides();

@@ -23,7 +23,7 @@ pub struct Near<P> {
     /// A background point of the whole space, which may lie outside the box. Where several are nearest, it is one of them.
     pub q: P,
     /// The sum of the squared differences of their coordinates.
-    pub s: u64,
+    pub s: u32,
 }
 
 /// A nearest background point for each object point of a grid, in raster order.
@@ -59,7 +59,7 @@ fn near_of<P: Point>(grid: &Grid<P>, cells: &[Option<Found>], p: P) -> Near<P>
         Some(f) => Near {
             p,
             q: sides.framed_point(f.q),
-            s: f.s as u64,
+            s: f.s,
         },
         None => unreachable!(),
     }

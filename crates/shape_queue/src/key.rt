@@ -5,7 +5,7 @@
 #[derive(Clone, Copy, Debug)]
 pub struct Key {
     /// The squared distance to the background of the opening picture.
-    pub distance: u64,
+    pub distance: u32,
     /// The raster number.
     pub place: u32,
 }

@@ -15,7 +15,7 @@ use std::marker::Model;
 /// The places that wait, by the ranks of all places.
 #[derive(Drop)]
 pub struct Queue {
-    distances: Vec<u64>,
+    distances: Vec<u32>,
     ranks: Vec<u32>,
     places: Vec<u32>,
     waiting: Numbers,
@@ -34,16 +34,12 @@ impl Model for Queue {
 
 impl Queue {
     /// An empty queue of places with these squared distances. It takes all memory that it ever needs.
-    pub fn new(alloc: Global, distances: Vec<u64>) -> Result<Queue, NoMemory>
+    pub fn new(alloc: Global, distances: Vec<u32>) -> Result<Queue, NoMemory>
         requires { length distances.items ≤ 2 ^ 23 }
         ensures none { IfOk result (λ q. (k : Key) → has q k ≡ false) }
         ensures distances { IfOk result (λ q. q.distances ≡ distances.items) }
     {
         let greatest = distances.iter().copied().max().unwrap_or(0);
-        // in no box is a point so far from the background, and no table is so long
-        if greatest >= 0x1_0000_0000 {
-            return Err(NoMemory);
-        }
         let bound = greatest as usize + 1;
         let ranks = ranks_of(alloc, distances.as_slice(), bound)?;
         let places = places_of(alloc, distances.as_slice(), ranks.as_slice())?;

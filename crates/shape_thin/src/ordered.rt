@@ -3,6 +3,7 @@
 ghost use Rattle.std.specs.Prelude.{◌≡◌, ◌+◌, ◌*◌, ◌≤◌, length, IfOk};
 ghost use Rattle.shape_terms.specs.Pictures.{object_points};
 ghost use Rattle.shape_terms.specs.Distances.{IsField};
+ghost use Rattle.shape_queue.specs.Distances.{AreDistances};
 ghost use Rattle.shape_thin.specs.Runs.{IsRunOf};
 ghost use Rattle.shape_thin.specs.Laws.{KeepsParts};
 
@@ -17,10 +18,39 @@ use std::alloc::Global;
 use std::sync::ledger::Ledger;
 use thin_steps::Thinner;
 
-/// The thinning of a picture by a rule, which begins anew.
+/// The thinning of a picture by a rule, which begins anew, where the squared distances of its object points are known.
 ///
 /// Each object point is tested once, and after a deletion each near neighbour: a step each. The rule is asked once for each
 /// event, and is in the last state afterwards.
+pub fn thin_by_distances<P: SimpleMask, L: Ledger>(
+    alloc: Global,
+    grid: &Grid<P>,
+    distances: Vec<u32>,
+    rule: &mut Box<dyn EndRule>,
+    steps: &mut Steps<L>,
+) -> Result<Thinning<P>, NoMemory>
+    requires { AreDistances grid.now distances.items }
+    ensures thinning { IfOk result (IsRunOf (means rule.old) grid.now (state rule.new)) }
+    ensures kept { IfOk result (λ t. KeepsParts grid.now t.left) }
+    ensures few { IfOk result (λ t. steps.new ≤ steps.old
+        + length (object_points grid.now) + P.NEAR_COUNT * length t.events) }
+    ensures same_rule { means rule.new ≡ means rule.old }
+{
+    begin(rule);
+    let mut thinner = Thinner::begin(alloc, grid, distances, steps)?;
+    let mut events = Vec::new(alloc);
+    while let Some(next) = thinner.next() {
+        let tips = ask(rule, &next.facts);
+        let place = next.place;
+        put_event(&mut events, Done { place, tips })?;
+        thinner.settle(&next, tips, steps);
+    }
+    Ok(Thinning::of(thinner.into_left(), events))
+}
+
+/// The thinning of a picture by a rule, which begins anew, where a field of the picture is known.
+///
+/// Its steps, and what it asks of the rule, are those of `thin_by_distances`.
 pub fn thin<P: SimpleMask, L: Ledger>(
     alloc: Global,
     grid: &Grid<P>,
@@ -35,15 +65,6 @@ pub fn thin<P: SimpleMask, L: Ledger>(
         + length (object_points grid.now) + P.NEAR_COUNT * length t.events) }
     ensures same_rule { means rule.new ≡ means rule.old }
 {
-    begin(rule);
     let distances = distances_of(alloc, grid, field)?;
-    let mut thinner = Thinner::begin(alloc, grid, distances, steps)?;
-    let mut events = Vec::new(alloc);
-    while let Some(next) = thinner.next() {
-        let tips = ask(rule, &next.facts);
-        let place = next.place;
-        put_event(&mut events, Done { place, tips })?;
-        thinner.settle(&next, tips, steps);
-    }
-    Ok(Thinning::of(thinner.into_left(), events))
+    thin_by_distances(alloc, grid, distances, rule, steps)
 }

@@ -10,7 +10,7 @@ use shape_space::{NoMemory, P2};
 use std::alloc::Global;
 
 // The squared distance of an object point to the background, and 0 of any other point.
-fn distance_at(scans: &Scans<P2>, p: P2) -> u64
+fn distance_at(scans: &Scans<P2>, p: P2) -> u32
     ensures { IsTrue (at scans.now (p.x ∷ p.y ∷ []))
         → HasDistance scans.now (p.x ∷ p.y ∷ []) result }
 {
@@ -22,7 +22,7 @@ fn distance_at(scans: &Scans<P2>, p: P2) -> u64
 }
 
 /// The squared distances of the object points by raster number, 0 for the others.
-pub fn distances(alloc: Global, scans: &Scans<P2>) -> Result<Vec<u64>, NoMemory>
+pub fn distances(alloc: Global, scans: &Scans<P2>) -> Result<Vec<u32>, NoMemory>
     ensures { IfOk result (λ d. AreDistances scans.now d.items) }
 {
     let sides = scans.grid().sides();

@@ -39,7 +39,7 @@ fn look_at<P: SimpleMask, L: Ledger>(
 pub(crate) fn look_at_all<P: SimpleMask, L: Ledger>(
     alloc: Global,
     left: &MaskedGrid<P>,
-    distances: Vec<u64>,
+    distances: Vec<u32>,
     steps: &mut Steps<L>,
 ) -> Result<Queue, NoMemory>
     requires { length distances.items ≡ box_count left.now.sides }

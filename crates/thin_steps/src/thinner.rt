@@ -34,7 +34,7 @@ impl<P: SimpleMask> Thinner<P> {
     pub fn begin<L: Ledger>(
         alloc: Global,
         grid: &Grid<P>,
-        distances: Vec<u64>,
+        distances: Vec<u32>,
         steps: &mut Steps<L>,
     ) -> Result<Thinner<P>, NoMemory>
         requires { AreDistances grid.now distances.items }
@@ -59,7 +59,7 @@ impl<P: SimpleMask> Thinner<P> {
         let point = self.left.sides().unraster(key.place);
         let facts = Facts {
             neighbours: self.left.near_count(key.place),
-            distance: key.distance,
+            distance: u64::from(key.distance),
         };
         Some(Next {
             point,

@@ -13,5 +13,5 @@ returns g c =
     let q = g.P.Point.coords c.args.q in
     let axes = g.met.P.Point.axes c.args.q ∙ sym (g.met.P.Point.axes c.args.p) ∙ in_box_length X.sides p (and_parts _ _ c.requires).0 in
     let value : at X q ≡ false = ap (λ Y. at Y q) (sym c.grid.ensures) ∙ sym c.has.ensures ∙ c.if-has.false in
-    let least = subst (IsLeastSquare X p) c.if-least-s.false c.least.ensures in
+    let least = subst (IsLeastSquare X p) (sym c.from.ensures ∙ c.if-from-s.false) c.least.ensures in
     (λ t. least_by X p q c.args.s least (record { point = axes; value = value }) (c.is_distance.ensures.0 t), λ l. c.is_distance.ensures.1 l.distance)

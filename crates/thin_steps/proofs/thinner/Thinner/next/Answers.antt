@@ -15,8 +15,8 @@ pub returns : goal.returns
 returns g c =
     let s = c.sides.result in
     record {
-      there = c.in_ok-key.ensures.there;
-      least = c.in_ok-key.ensures.least;
+      there = rw c.from.ensures c.in_ok-key.ensures.there;
+      least = rw c.from.ensures c.in_ok-key.ensures.least;
       inside = fits_place c.args.self.now.fits c.in_ok-key.key c.in_ok-key.ensures.there;
       place = c.unraster-point.ensures.value ∙ ap (λ n. raster_point n c.in_ok-key.key.place) c.sides.ensures.value;
       within = box_point_within g.P.Point.MAX_SIDE (g.P.Point.coords s.lengths) (g.P.Point.coords c.unraster-point.result) s.in_range g.met.P.Point.flat_side c.unraster-point.ensures.inside;

@@ -13,7 +13,7 @@ use Rattle.thin_steps.specs.Standing.{StandsFor}
 use Rattle.shape_thin.specs.EventLists.{events_at}
 use Rattle.shape_thin.specs.declared.thinning.Done.{Done}
 use Rattle.shape_thin.proofs.EventSteps.{events_push}
-use Rattle.shape_thin.proofs.ordered.thin.Goals as goal
+use Rattle.shape_thin.proofs.ordered.thin_by_distances.Goals as goal
 
 pub loop-next-init : goal.loop-next-init
 loop-next-init g c =
