@@ -38,7 +38,7 @@ pub fn thin_by_distances<P: SimpleMask, L: Ledger>(
 {
     begin(rule);
     let mut thinner = Thinner::begin(alloc, grid, distances, steps)?;
-    let mut events = Vec::new(alloc);
+    let mut events = Vec::with_capacity(alloc, grid.count() as usize)?;
     while let Some(next) = thinner.next() {
         let tips = ask(rule, &next.facts);
         let place = next.place;

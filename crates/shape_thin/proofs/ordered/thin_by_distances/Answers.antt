@@ -21,9 +21,9 @@ loop-next-init g c =
     let X = c.args.grid.now in
     record {
       same = search rules;
-      stands = rw c.new-events.ensures.items (subst (λ s. StandsFor rule X [] s c.in_ok-thinner.thinner) (sym c.begin.ensures.opened) (c.in_ok-thinner.ensures.stands rule));
-      places = rw c.new-events.ensures.items (All-nil (λ (d : Done). d.place < box_count X.sides));
-      count = rw c.new-events.ensures.items (let r = c.in_ok-thinner.ensures.room in omega arith);
+      stands = rw c.in_ok-events.ensures.items (subst (λ s. StandsFor rule X [] s c.in_ok-thinner.thinner) (sym c.begin.ensures.opened) (c.in_ok-thinner.ensures.stands rule));
+      places = rw c.in_ok-events.ensures.items (All-nil (λ (d : Done). d.place < box_count X.sides));
+      count = rw c.in_ok-events.ensures.items (let r = c.in_ok-thinner.ensures.room in omega arith);
       few = let f = c.in_ok-thinner.ensures.few in omega arith;
     }
 
