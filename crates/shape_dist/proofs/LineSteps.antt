@@ -5,7 +5,7 @@ use Rattle.std.specs.Prelude.{Option}
 use Rattle.std.proofs.lemmas.Bool.{cases_eq}
 use Rattle.shape_terms.specs.AxisLines.{place}
 use Rattle.shape_terms.proofs.AxisPlaces.{same_place}
-use Rattle.shape_envelope.proofs.LineNumbers.{line_low, line_high, line_place, line_of_number, number_of_line, number_below}
+use Rattle.shape_envelope.proofs.LineNumbers.{line_low, line_high, line_place, line_of_number, number_of_line}
 use Rattle.shape_dist.specs.declared.found.Found.{Found}
 use Rattle.shape_dist.specs.Spreads.{found, IsSpreadAt, HasSpread, HasSpreadTo}
 use Rattle.shape_dist.proofs.AxisSteps.{spread_of_copy}
