@@ -108,7 +108,7 @@ line_more cells line out base step x o apart inside is old = below_more _ x
     (get_or-set_same cells (base + x * step) o None inside ∙ is)
 
 -- a lowest place of the row gives the least of the line
-square_found : (o : Option Found) (s : ℕ) → square_in o ≡ Some s → (f : Found) × (o ≡ Some f) × (f.s ≡ s)
+pub square_found : (o : Option Found) (s : ℕ) → square_in o ≡ Some s → (f : Found) × (o ≡ Some f) × (f.s ≡ s)
 square_found None s e = cc
 square_found (Some f) s e = (f, refl, same_Some f.s s e)
 

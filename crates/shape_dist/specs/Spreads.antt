@@ -62,3 +62,9 @@ AreSmall cells = (i : ℕ) (f : Found) → found cells i ≡ Some f → f.s ≤ 
 pub record HasSpreadTo (c w rows t : ℕ) (old new : List (Option Found)) : Type 0 where
   pub done : (low x high : ℕ) → low < c → x < w → high < rows → low + c * high < t → IsSpreadAt (λ y. found old (place c w low y high)) w x (found new (place c w low x high))
   pub rest : (low x high : ℕ) → low < c → x < w → high < rows → t ≤ low + c * high → found new (place c w low x high) ≡ found old (place c w low x high)
+
+-- the places of a line before x have spread, and those from x on are as they were; x stands at an end of the line, or behind a place that is bare, with the square 0
+pub record HasSpreadBefore (line now : ℕ → Option Found) (w x : ℕ) : Type 0 where
+  pub done : (z : ℕ) → z < x → IsSpreadAt line w z (now z)
+  pub rest : (z : ℕ) → x ≤ z → z < w → now z ≡ line z
+  pub bare : (z : ℕ) → z + 1 ≡ x → x < w → (square_in (line z) ≡ Some 0) × (now z ≡ line z)

@@ -1,131 +1,47 @@
-//! One axis: along each of its lines the cells spread by the lower envelope of their squares.
-ghost use Rattle.std.specs.Prelude.{◌≡◌, ◌+◌, ◌*◌, ◌<◌, ◌≤◌, ◌^◌, ℕ, IfSome, IfOk, Option, Some, List, length, slice_index};
-ghost use Rattle.shape_terms.specs.Rows.{cell};
+//! One axis: along each of its lines the cells spread, part by part.
+//! A bare place, which has the square 0, stays as it is, and hides the places behind it: parts end at bare places.
+ghost use Rattle.std.specs.Prelude.{◌≡◌, ◌+◌, ◌*◌, ◌<◌, ◌≤◌, ◌^◌, ◌↔◌, ℕ, IsTrue, IfOk, Some, List, length};
 ghost use Rattle.shape_dist.specs.declared.found.Found.{Found};
-ghost use Rattle.shape_dist.specs.Spreads.{found, moved, square_in, AreSmall, IsSpreadAt, HasSpread};
+ghost use Rattle.shape_dist.specs.Spreads.{found, square_in, AreSmall, IsSpreadAt, HasSpread};
 
 use crate::found::Found;
-use shape_envelope::{envelope, line_count, line_start};
-use shape_space::{NoMemory, Row, Steps};
+use crate::part::spread_part;
+use shape_envelope::{line_count, line_start};
+use shape_space::{NoMemory, Steps};
 use std::alloc::Global;
 use std::sync::ledger::Ledger;
 
-// The cells of a line, in order.
-fn line_of(
-    alloc: Global,
-    cells: &[Option<Found>],
-    base: usize,
-    step: usize,
-    n: u32,
-) -> Result<Vec<Option<Found>>, NoMemory>
+// So many bare places in a row end a part of a line. To take in fewer of them costs less than to begin another part.
+const REST: u32 = 4;
+
+// Whether a cell holds the square 0.
+fn is_bare(o: Option<Found>) -> bool
+    ensures { IsTrue result ↔ (square_in o ≡ Some 0) }
+{
+    match o {
+        Some(f) => f.s == 0,
+        None => false,
+    }
+}
+
+// The end of the part of a line that goes on at x: a bare place, or the end of the line.
+fn part_end(cells: &[Option<Found>], base: usize, step: usize, n: u32, x: u32) -> u32
+    requires there { x < n }
     requires inside { (y : ℕ) → y < n → base + y * step < length cells.now }
     requires few { length cells.now < 2 ^ 32 }
-    ensures long { IfOk result (λ v. length v.items ≡ n) }
-    ensures same { IfOk result (λ v. (y : ℕ) → y < n
-        → found v.items y ≡ found cells.now (base + y * step)) }
+    ensures later { x ≤ result }
+    ensures most { result ≤ n }
+    ensures bare { result < n → square_in (found cells.now (base + result * step)) ≡ Some 0 }
 {
-    let mut line = Vec::with_capacity(alloc, n as usize)?;
-    for y in 0..n {
-        line.push(cells[base + y as usize * step])?;
+    let mut end = x;
+    for y in x..n {
+        if !is_bare(cells[base + y as usize * step]) {
+            end = y + 1;
+        } else if y - end + 1 == REST {
+            return end;
+        }
     }
-    Ok(line)
-}
-
-// The square that a cell holds.
-fn square(o: Option<Found>) -> Option<u64>
-    ensures value { result ≡ square_in o }
-    ensures small { IfSome result (λ s. s < 2 ^ 32) }
-{
-    match o {
-        Some(f) => Some(f.s as u64),
-        None => None,
-    }
-}
-
-// The squares of a line as a row.
-fn row_of(alloc: Global, line: &[Option<Found>]) -> Result<Row, NoMemory>
-    requires some { 1 ≤ length line.now }
-    requires few { length line.now ≤ 4096 }
-    ensures long { IfOk result (λ r. length r ≡ length line.now) }
-    ensures same { IfOk result (λ r. (y : ℕ) → y < length line.now
-        → cell r y ≡ square_in (found line.now y)) }
-{
-    let n = line.len() as u32;
-    let mut row = Row::new(alloc, n)?;
-    for y in 0..n {
-        row.set(y, square(line[y as usize]));
-    }
-    Ok(row)
-}
-
-// What a cell gives another one: the square of the way is added.
-fn move_by(o: Option<Found>, x: u32, y: u32) -> Option<Found>
-    requires small { IfSome o (λ f. f.s ≤ 2 ^ 30) }
-    requires x_near { x < 4096 }
-    requires y_near { y < 4096 }
-    ensures { result ≡ moved o x y }
-{
-    let way = x.abs_diff(y);
-    match o {
-        Some(f) => Some(Found {
-            q: f.q,
-            s: f.s + way * way,
-        }),
-        None => None,
-    }
-}
-
-// Gives each place of a line what the cell at its lowest place gives it.
-fn store(cells: &mut [Option<Found>], base: usize, step: usize, line: &[Option<Found>], out: &[u32])
-    requires apart { 0 < step }
-    requires inside { (y : ℕ) → y < length line.now → base + y * step < length cells.old }
-    requires few { length cells.old < 2 ^ 32 }
-    requires near { length line.now ≤ 4096 }
-    requires many { length out.now ≡ length line.now }
-    requires there { (x : ℕ) → x < length line.now → slice_index out.now x < length line.now }
-    requires small { AreSmall line.now }
-    ensures on_line { (x : ℕ) → x < length line.now
-        → found cells.new (base + x * step) ≡ moved (found line.now (slice_index out.now x)) x
-        (slice_index out.now x) }
-    ensures others { (i : ℕ) → ((x : ℕ) → x < length line.now → i ≡ base + x * step → ⊥)
-        → found cells.new i ≡ found cells.old i }
-{
-    for x in 0..line.len() {
-        let y = out[x];
-        cells[base + x * step] = move_by(line[y as usize], x as u32, y);
-    }
-}
-
-// Lets the cells of one line spread along it, of which there is a copy.
-fn spread_copy<L: Ledger>(
-    alloc: Global,
-    cells: &mut [Option<Found>],
-    base: usize,
-    step: usize,
-    line: &[Option<Found>],
-    steps: &mut Steps<L>,
-) -> Result<(), NoMemory>
-    requires apart { 0 < step }
-    requires some { 1 ≤ length line.now }
-    requires near { length line.now ≤ 4096 }
-    requires inside { (y : ℕ) → y < length line.now → base + y * step < length cells.old }
-    requires few { length cells.old < 2 ^ 32 }
-    requires small { AreSmall line.now }
-    requires same { (y : ℕ) → y < length line.now
-        → found line.now y ≡ found cells.old (base + y * step) }
-    ensures on_line { IfOk result (λ _. (x : ℕ) → x < length line.now
-        → IsSpreadAt (found line.now) (length line.now) x (found cells.new (base + x * step))) }
-    ensures others { IfOk result (λ _. (i : ℕ)
-        → ((x : ℕ) → x < length line.now → i ≡ base + x * step → ⊥)
-        → found cells.new i ≡ found cells.old i) }
-{
-    let row = row_of(alloc, line)?;
-    let mut out = vec![in alloc; 0u32; line.len()]?;
-    if !envelope(alloc, &row, &mut out, steps)? {
-        return Ok(());
-    }
-    store(cells, base, step, line, &out);
-    Ok(())
+    end
 }
 
 // Lets the cells of one line spread along it.
@@ -150,8 +66,19 @@ fn spread_line<L: Ledger>(
     ensures others { IfOk result (λ _. (i : ℕ) → ((x : ℕ) → x < n → i ≡ base + x * step → ⊥)
         → found cells.new i ≡ found cells.old i) }
 {
-    let line = line_of(alloc, cells, base, step, n)?;
-    spread_copy(alloc, cells, base, step, &line, steps)
+    let mut x: u32 = 0;
+    while x < n {
+        if is_bare(cells[base + x as usize * step]) {
+            x += 1;
+        } else {
+            let end = part_end(cells, base, step, n, x);
+            let from = x.saturating_sub(1);
+            let to = n.min(end + 1);
+            spread_part(alloc, cells, base + from as usize * step, step, to - from, steps)?;
+            x = to;
+        }
+    }
+    Ok(())
 }
 
 /// Lets the cells spread along one axis, where `before` numbers the points on the axes before it, and `behind` those on the axes behind it.

@@ -1,6 +1,6 @@
 use Rattle.std.proofs.Common.{◌≡◌, ℕ, ◌+◌, ◌*◌, ◌<◌, length}
 use Rattle.shape_dist.specs.Spreads.{found}
-use Rattle.shape_dist.proofs.spread.line_of.Given as goal
+use Rattle.shape_dist.proofs.part.line_of.Given as goal
 
 abbrev pub invariant-loop-y : goal.invariant-loop-y
 invariant-loop-y l = record {

@@ -2,7 +2,7 @@ use Rattle.std.proofs.Common.{◌≡◌, true, length, get_or, pos, subst, sym, 
 use Rattle.std.proofs.lemmas.List.{take_at}
 use Rattle.shape_terms.specs.Rows.{IsLowest}
 use Rattle.shape_dist.proofs.AxisSteps.{line_spreads}
-use Rattle.shape_dist.proofs.spread.spread_copy.Goals as goal
+use Rattle.shape_dist.proofs.part.spread_copy.Goals as goal
 
 pub returns-clause-on_line : goal.returns-clause-on_line
 returns-clause-on_line g c =

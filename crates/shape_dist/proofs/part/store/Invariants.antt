@@ -1,6 +1,6 @@
 use Rattle.std.proofs.Common.{◌≡◌, ℕ, ◌+◌, ◌*◌, ◌<◌, length, get_or}
 use Rattle.shape_dist.specs.Spreads.{found, moved}
-use Rattle.shape_dist.proofs.spread.store.Given as goal
+use Rattle.shape_dist.proofs.part.store.Given as goal
 
 abbrev pub invariant-loop-x : goal.invariant-loop-x
 invariant-loop-x l = record {

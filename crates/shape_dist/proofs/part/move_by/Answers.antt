@@ -1,6 +1,6 @@
 use Rattle.std.proofs.Common.{◌≤◌, ◌^◌, arith}
 use Rattle.std.proofs.lemmas.Nat.{mul-le}
-use Rattle.shape_dist.proofs.spread.move_by.Goals as goal
+use Rattle.shape_dist.proofs.part.move_by.Goals as goal
 
 pub overflow_add-result : goal.overflow_add-result
 overflow_add-result c =

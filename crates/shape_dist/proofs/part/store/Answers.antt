@@ -1,6 +1,6 @@
 use Rattle.std.proofs.Common.{◌+◌, ◌*◌, ◌∙◌, get_or-set_other, arith, None}
 use Rattle.shape_dist.proofs.AxisSteps.{line_more}
-use Rattle.shape_dist.proofs.spread.store.Goals as goal
+use Rattle.shape_dist.proofs.part.store.Goals as goal
 
 pub loop-x-preserved : goal.loop-x-preserved
 loop-x-preserved c =
