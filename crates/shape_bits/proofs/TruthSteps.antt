@@ -43,7 +43,7 @@ module _ (words words' : List ℕ) (n i b : ℕ) (p : IsPut words words' i b) (l
       let k_in : k < n = omega (arith, length-truths words' n) in
       value_of words' n k d k_in ∙ elim (ℕ_discrete k i) [
         | yes e ↦ ap (is_in words') e ∙ ap (λ b. b == 1) p.here
-          ∙ sym (ap (λ k. get_or (set (truths words n) i (b == 1)) k d) e ∙ get_or-set_same (truths words n) i (b == 1) d (omega (arith, length-truths words n)))
+            ∙ sym (ap (λ k. get_or (set (truths words n) i (b == 1)) k d) e ∙ get_or-set_same (truths words n) i (b == 1) d (omega (arith, length-truths words n)))
         | no e ↦ ap (λ b. b == 1) (p.others k e) ∙ sym (get_or-set_other (truths words n) i k (b == 1) d e ∙ value_of words n k d k_in)
       ])
 
