@@ -27,13 +27,17 @@ fn a_grid_of_several_words(rt: HostRuntime) -> Result<(), Fail> {
         }
     }
     let copy = grid.copy(rt.alloc())?;
-    assert!(rt; copy.has(at(3, 2)) && !copy.has(at(4, 2)) && copy.has(at(5, 2)) && copy.has(at(29, 9)));
+    assert!(rt;
+        copy.has(at(3, 2)) && !copy.has(at(4, 2)) && copy.has(at(5, 2)) && copy.has(at(29, 9))
+    );
     assert!(rt; copy.first_from(0) == Some(63) && copy.first_from(63) == Some(63));
     assert!(rt; copy.first_from(64) == Some(65) && copy.first_from(66) == Some(299));
     if 65 < grid.sides().count() {
         grid.clear_number(65);
     }
-    assert!(rt; grid.first_from(64) == Some(299) && grid.first_from(300).is_none() && grid.count() == 2);
+    assert!(rt;
+        grid.first_from(64) == Some(299) && grid.first_from(300).is_none() && grid.count() == 2
+    );
     assert!(rt; copy.first_from(64) == Some(65) && copy.count() == 3);
     Ok(())
 }

@@ -43,10 +43,11 @@ module _ (words words' : List ℕ) (n i b : ℕ) (p : IsPut words words' i b) (l
       let k_in : k < n = omega (arith, length-truths words' n) in
       value_of words' n k d k_in ∙ elim (ℕ_discrete k i) [
         | yes e ↦ ap (is_in words') e ∙ ap (λ b. b == 1) p.here
-          ∙ sym (ap (λ k. get_or (set (truths words n) i (b == 1)) k d) e ∙ get_or-set_same (truths words n) i (b == 1) d (omega (arith, length-truths words n)))
+            ∙ sym (ap (λ k. get_or (set (truths words n) i (b == 1)) k d) e ∙ get_or-set_same (truths words n) i (b == 1) d (omega (arith, length-truths words n)))
         | no e ↦ ap (λ b. b == 1) (p.others k e) ∙ sym (get_or-set_other (truths words n) i k (b == 1) d e ∙ value_of words n k d k_in)
       ])
 
+  -- behind the row there is still no bit
   pub put_are : AreTruths words n → AreTruths words' n
   put_are a = record {
     few = a.few;
@@ -66,6 +67,7 @@ module _ (words : List ℕ) (n : ℕ) (a : AreTruths words n) where
         first = λ j m k. value_of words n j false (omega arith) ∙ absent words j (λ h. let g = l.least j h m in omega arith);
       }
 
+  -- no number from a place on: no value there is true
   none_from : (from : ℕ) → ((i : ℕ) → In words i → from ≤ i → ⊥) → (k : ℕ) → from ≤ k → get_or (truths words n) k false ≡ false
   none_from from none k l = elim (dec_lt k n) [
     | yes m ↦ value_of words n k false m ∙ absent words k (λ h. none k h l)

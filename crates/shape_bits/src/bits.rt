@@ -33,10 +33,7 @@ impl Bits {
         ensures { IfOk result (λ b. b ≡ replicate len false) }
     {
         let words = no_bits(alloc, len / 64 + 1)?;
-        Ok(Bits {
-            words,
-            len,
-        })
+        Ok(Bits { words, len })
     }
 
     /// A row of its own with the same values.

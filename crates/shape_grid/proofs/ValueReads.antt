@@ -25,7 +25,7 @@ found X from k e f =
     let n : from + (k - from) ≡ k = omega arith in
     passed X (k - from) from (omega arith) (λ j l h. f.first j l (omega arith)) ∙ ap (objects_from X) n ∙ objects_next X k (omega arith) f.there
 
-pub none_left : (X : Picture) (i : ℕ) → box_count X.sides ≤ i → objects_from X i ≡ []
+none_left : (X : Picture) (i : ℕ) → box_count X.sides ≤ i → objects_from X i ≡ []
 none_left X i l = ap (filter (at X)) (drop_all i (box_points X.sides) (omega (arith, length-box_points X.sides)))
 
 -- no value is true from there on
