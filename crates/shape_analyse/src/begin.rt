@@ -76,7 +76,7 @@ fn add_nears<P: Point>(
         let line = Line::Near {
             p: near.p,
             q: near.q,
-            s: u64::from(near.s),
+            s: near.s as u64,
         };
         report.add(&line)?;
     }

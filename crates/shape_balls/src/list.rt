@@ -40,7 +40,7 @@ fn listed<P: Point>(
             balls.push(Ball {
                 centre: f.p,
                 near: f.q,
-                s: u64::from(f.s),
+                s: f.s as u64,
                 own: f.p,
             })?;
         }
