@@ -1,4 +1,6 @@
 pub mod Pixels
+pub mod Rows
+pub mod Beginnings
 pub mod MarkSteps
 pub mod CrackValues
 pub mod Rounds

@@ -1,8 +1,8 @@
 -- The contours found so far, one for each cycle of the cracks that were passed by number.
 -- Stated of the values alone; how contours and marks are kept belongs elsewhere.
-use Rattle.std.proofs.Common.{ℕ, ◌+◌, ◌*◌, ◌<◌, ◌≤◌, ◌≡◌, Bool, true, false, refl, ap, sym, ◌∙◌, subst, arith, List, [], ◌∷◌, ◌++◌, length, length-append, map, ◌⊎◌}
+use Rattle.std.proofs.Common.{ℕ, ◌+◌, ◌*◌, ◌/◌, ◌%◌, ◌<◌, ◌≤◌, ◌≡◌, Bool, true, false, refl, ap, sym, ◌∙◌, subst, arith, List, [], ◌∷◌, ◌++◌, length, length-append, map, ◌⊎◌, inl, inr}
 use Rattle.std.proofs.lemmas.List.{map-append}
-use Rattle.shape_terms.specs.Points.{box_count}
+use Rattle.shape_terms.specs.Points.{box_count, raster_point}
 use Rattle.shape_terms.specs.Pictures.{Picture}
 use Rattle.shape_terms.specs.Contours.{Crack, IsCrack, IsCycle, first_of_cycle}
 use Rattle.shape_terms.specs.Traces.{Contour, contour_of, IsContourFrom, AreContours}
@@ -10,7 +10,11 @@ use Rattle.number_terms.specs.CrackNumbers.{crack_number, numbered, MarksCycle}
 use Rattle.shape_terms.proofs.SameCycles.{cycle_same}
 use Rattle.number_terms.proofs.Found.{Found, found_none, found_skip, found_more, found_all}
 use Rattle.number_terms.proofs.Numbered.{numbered_back}
-use Rattle.shape_crack.specs.Marked.{IsCycleMarked}
+use Rattle.shape_crack.specs.Marked.{IsCycleMarked, IsTaken}
+use Rattle.shape_crack.specs.Terms.{side_of}
+use Rattle.shape_crack.proofs.Rows.{crack_or_not}
+use Rattle.shape_crack.proofs.Beginnings.{right_marked, left_marked}
+use Rattle.shape_terms.proofs.Boxes.{raster_number-raster_point}
 
 -- the contours of the cycles of all cracks with numbers below i, and the marks of these
 pub record Listing (X : Picture) (i : ℕ) (marks : ℕ → Bool) (list : List Contour) : Type 0 where
@@ -32,10 +36,10 @@ module _ (X : Picture) (axes : length X.sides ≡ 2) where
   pub listing_none : (marks : ℕ → Bool) → ((j : ℕ) → marks j ≡ false) → Listing X 0 marks []
   listing_none marks h = record { cycles = []; found = found_none X axes marks h; contours_are = refl; few = omega arith }
 
-  pub listing_skip : (i : ℕ) (marks : ℕ → Bool) (list : List Contour) → Listing X i marks list → (marks i ≡ true) ⊎ (IsCrack X (numbered X.sides i) → ⊥) → Listing X (i + 1) marks list
+  listing_skip : (i : ℕ) (marks : ℕ → Bool) (list : List Contour) → Listing X i marks list → (marks i ≡ true) ⊎ (IsCrack X (numbered X.sides i) → ⊥) → Listing X (i + 1) marks list
   listing_skip i marks list l s = record { cycles = l.cycles; found = found_skip X axes i marks l.cycles l.found s; contours_are = l.contours_are; few = (let f = l.few in omega arith) }
 
-  pub listing_more : (i : ℕ) (marks marks' : ℕ → Bool) (list : List Contour) (k : Contour) → i < box_count X.sides * 4 → Listing X i marks list → IsCrack X (numbered X.sides i) → marks i ≡ false
+  listing_more : (i : ℕ) (marks marks' : ℕ → Bool) (list : List Contour) (k : Contour) → i < box_count X.sides * 4 → Listing X i marks list → IsCrack X (numbered X.sides i) → marks i ≡ false
       → IsContourFrom X (numbered X.sides i) k → IsCycleMarked X (numbered X.sides i) marks marks' → Listing X (i + 1) marks' (list ++ k ∷ [])
   listing_more i marks marks' list k b l is new p m = go m.cracks m.cycle m.first m.marks (same_cracks X (numbered X.sides i) p.cracks m.cracks p.cycle p.first m.cycle m.first)
     where
@@ -50,3 +54,38 @@ module _ (X : Picture) (axes : length X.sides ≡ 2) where
 
   pub listing_all : (i : ℕ) (marks : ℕ → Bool) (list : List Contour) → Listing X i marks list → box_count X.sides * 4 ≤ i → AreContours X list
   listing_all i marks list l e = record { cycles = l.cycles; are = found_all X axes i marks l.cycles l.found e; contours_are = l.contours_are }
+
+  -- ---- one side of a pixel after the other
+
+  module _ (i s n : ℕ) (l : i < box_count X.sides) (side : s < 4) (at_side : n ≡ i * 4 + s) (marks : ℕ → Bool) (list : List Contour) (found : Listing X n marks list) where
+    numbered_is : numbered X.sides n ≡ side_of X.sides i s
+    numbered_is =
+        let p : n / 4 ≡ i = omega arith in
+        let q : n % 4 ≡ s = omega arith in
+        λ k. record { pixel = raster_point X.sides (p k); side = q k }
+
+    number_is : crack_number X.sides (side_of X.sides i s) ≡ n
+    number_is = let e = raster_number-raster_point X.sides i l in omega arith
+
+    pub listing_no_crack : (IsCrack X (side_of X.sides i s) → ⊥) → Listing X (n + 1) marks list
+    listing_no_crack none = listing_skip n marks list found (inr (λ k. none (subst (IsCrack X) numbered_is k)))
+
+    pub listing_taken : (marks' : ℕ → Bool) (list' : List Contour) → IsCrack X (side_of X.sides i s) → IsTaken X (side_of X.sides i s) marks marks' list list' → Listing X (n + 1) marks' list'
+    listing_taken marks' list' k (inl (m, e, f)) =
+        subst (λ (l : List Contour). Listing X (n + 1) marks' l) (sym f)
+        (subst (λ (v : ℕ → Bool). Listing X (n + 1) v list) (sym e) (listing_skip n marks list found (inl (subst (λ j. marks j ≡ true) number_is m))))
+    listing_taken marks' list' k (inr a) =
+        let c = sym numbered_is in
+        subst (λ (l : List Contour). Listing X (n + 1) marks' l) (sym a.last)
+        (listing_more n marks marks' list a.contour (omega arith) found (subst (IsCrack X) c k) (subst (λ j. marks j ≡ false) number_is a.unmarked) (subst (λ (d : Crack). IsContourFrom X d a.contour) c a.from) (subst (λ (d : Crack). IsCycleMarked X d marks marks') c a.marked))
+
+    -- a right or a left side, whose crack is marked where it is one
+    pub listing_passed : (s ≡ 1) ⊎ (s ≡ 3) → Listing X (n + 1) marks list
+    listing_passed o = go (crack_or_not X (side_of X.sides i s) side)
+      where
+        go : IsCrack X (side_of X.sides i s) ⊎ (IsCrack X (side_of X.sides i s) → ⊥) → Listing X (n + 1) marks list
+        go (inr none) = listing_no_crack none
+        go (inl k) = listing_skip n marks list found (inl (elim o [
+          | inl e ↦ right_marked X axes n marks found.cycles found.found (side_of X.sides i s) k e number_is
+          | inr e ↦ left_marked X axes n marks found.cycles found.found (side_of X.sides i s) k e number_is
+        ]))

@@ -1,14 +1,15 @@
 -- A walk along the cracks that came back to its start: the contour that it gives, and the cycle that it marked.
 -- Stated of the pixels that were put down on the way; how they are kept belongs elsewhere.
-use Rattle.std.proofs.Common.{Bool, ◌≡◌, ◌<◌, ◌≤◌, ◌^◌, ℕ, suc, pos, refl, ap, sym, ◌∙◌, subst, arith, List, [], ◌∷◌, ◌++◌, length, map}
+use Rattle.std.proofs.Common.{Bool, ◌≡◌, ◌<◌, ◌≤◌, ◌^◌, ℕ, cond, pos, refl, ap, sym, ◌∙◌, subst, arith, List, [], ◌∷◌, length, map}
+use Rattle.std.specs.Prelude.{◌==◌, if◌then◌else◌}
 use Rattle.std.proofs.lemmas.Int.{ints}
 use Rattle.shape_space.specs.declared.point.P2.{P2}
 use Rattle.shape_terms.specs.Points.{Point, AreSides, box_count}
 use Rattle.shape_terms.specs.Pictures.{Picture}
-use Rattle.shape_terms.specs.Contours.{Crack, IsCrack, contour_points}
+use Rattle.shape_terms.specs.Contours.{Crack, IsCrack, successor, stays, contour_points}
 use Rattle.shape_terms.specs.Traces.{IsClosedPath, IsContourFrom}
-use Rattle.number_terms.proofs.Walks.{walk}
-use Rattle.number_terms.proofs.Tracing.{Reached, Tracing, reached_few, reached_cycle, first-walk, traced_some, traced_none}
+use Rattle.number_terms.proofs.Walks.{walk, left_pixels-push}
+use Rattle.number_terms.proofs.Tracing.{Reached, Tracing, reached_first, reached_few, reached_cycle, first-walk, not_zero, traced_some, traced_none}
 use Rattle.number_terms.proofs.ClosedPaths.{closed_path}
 use Rattle.number_terms.proofs.Marking.{Marking, marking_end}
 use Rattle.shape_crack.specs.Terms.{point_of}
@@ -18,22 +19,16 @@ use Rattle.shape_crack.specs.Marked.{IsCycleMarked}
 pub few_steps : (X : Picture) → length X.sides ≡ 2 → box_count X.sides ≤ 2 ^ 23 → (start c : Crack) (steps : ℕ) → IsCrack X start → Reached X start c steps → (c ≡ start → ⊥) → steps < 33554432
 few_steps X axes few start c steps k r away = let l = reached_few X axes start c steps k r away in omega arith
 
-length-pixels : (xs : List P2) → length (map point_of xs) ≡ length xs
-length-pixels [] = refl
-length-pixels (x ∷ xs) = ap suc (length-pixels xs)
+-- after the first crack
+pub traced_first : (X : Picture) (start : Crack) → Tracing X start (successor X start) 1 (cond (stays X start) [] (start.pixel ∷ []))
+traced_first X start = record { reached = reached_first X start; points_are = sym (left_pixels-push X [] start) }
 
-none_left : (xs : List P2) (p : P2) → length xs ≡ 0 → xs ++ p ∷ [] ≡ p ∷ []
-none_left [] p e = refl
-none_left (x ∷ xs) p e = absurd (omega arith)
-
--- the points of the contour where some pixels were left
-pub some_points : (X : Picture) (start c : Crack) (steps : ℕ) (points : List P2) → Tracing X start c steps (map point_of points) → 1 ≤ length points → map point_of points ≡ contour_points X (walk X start steps)
-some_points X start c steps points t l = traced_some X start steps (map point_of points) t.points_are (omega (arith, length-pixels points))
-
--- and where none were
-pub one_point : (X : Picture) (start c : Crack) (steps : ℕ) (points : List P2) (p : P2) → Tracing X start c steps (map point_of points) → length points ≡ 0 → start.pixel ≡ point_of p → map point_of (points ++ p ∷ []) ≡ contour_points X (walk X start steps)
-one_point X start c steps points p t l e =
-    ap (map point_of) (none_left points p l) ∙ (ap (λ (x : Point). x ∷ []) (sym e) ∙ traced_none X start steps (map point_of points) t.points_are (length-pixels points ∙ l) t.reached.some)
+-- the points of the contour: those that were left, or the first pixel where none was
+pub filled : (X : Picture) (start c : Crack) (steps : ℕ) (points : List P2) (p : P2) → Tracing X start c steps (map point_of points) → start.pixel ≡ point_of p
+    → (if (length points == 0) then (point_of p ∷ []) else map point_of points) ≡ contour_points X (walk X start steps)
+filled X start c steps [] p t e =
+    ap (λ (x : Point). x ∷ []) (sym e) ∙ traced_none X start steps [] t.points_are refl t.reached.some
+filled X start c steps (q ∷ points) p t e = rw (not_zero (length points)) (traced_some X start steps (map point_of (q ∷ points)) t.points_are (omega arith))
 
 module _ (X : Picture) (axes : length X.sides ≡ 2) (start c : Crack) (steps : ℕ) (k : IsCrack X start) (r : Reached X start c steps) (same : c ≡ start) where
   pub contour_from : (points : List Point) → points ≡ contour_points X (walk X start steps) → IsContourFrom X start (record { start = start; points = points })

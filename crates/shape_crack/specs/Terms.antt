@@ -1,9 +1,9 @@
 -- What the program's pixels and cracks mean.
 -- A crack's pixel is seen as the list of its coordinates.
-use Rattle.std.specs.Prelude.{[], ◌∷◌, pos, negsuc, ◌≤ℤ◌}
+use Rattle.std.specs.Prelude.{ℕ, List, [], ◌∷◌, pos, negsuc, ◌≤ℤ◌}
 use Rattle.shape_space.specs.declared.point.P2.{P2}
 use Rattle.shape_crack.specs.declared.crack.Crack.{Crack}
-use Rattle.shape_terms.specs.Points.{Point}
+use Rattle.shape_terms.specs.Points.{Point, raster_point}
 use Rattle.shape_terms.specs.Contours as Terms
 
 -- the coordinates of a pixel
@@ -20,3 +20,7 @@ pub record LeavesRoom (p : P2) : Type 0 where
   pub x_high : p.x ≤ℤ pos 4098
   pub y_low : negsuc 1 ≤ℤ p.y
   pub y_high : p.y ≤ℤ pos 4098
+
+-- the side of the pixel with a raster number, which need not be a crack
+abbrev pub side_of : List ℕ → ℕ → ℕ → Terms.Crack
+side_of sides i s = record { pixel = raster_point sides i; side = s }

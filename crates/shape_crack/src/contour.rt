@@ -1,11 +1,16 @@
 //! One contour: the points of the cycle of cracks that begins with a crack, found by following it round.
 //! Another way of keeping the points changes nothing outside this file.
-ghost use Rattle.std.specs.Prelude.{◌≡◌, ◌<◌, ◌++◌, [], ◌∷◌, map, if◌then◌else◌, Some, slice_get, IfOk, OnOk, length};
+ghost use Rattle.std.specs.Prelude.{◌≡◌, ◌==◌, ◌*◌, ◌<◌, ◌++◌, [], ◌∷◌, map, if◌then◌else◌, Some, slice_get, IfOk, OnOk, length, vec_len};
+ghost use Rattle.shape_terms.specs.Points.{box_count};
 ghost use Rattle.shape_terms.specs.Contours.{IsCrack, stays, successor as successor_of};
 ghost use Rattle.shape_terms.specs.Traces.{IsContourFrom, IsClosedPath};
+ghost use Rattle.number_terms.specs.CrackNumbers.{crack_number};
 ghost use Rattle.shape_crack.specs.Terms.{point_of, crack_of};
+ghost use Rattle.shape_crack.specs.MarkBits.{is_marked};
+ghost use Rattle.shape_crack.specs.Marked.{IsCycleMarked};
 
 use crate::crack::{Crack, successor};
+use crate::marks::CrackMarks;
 use shape_grid::Grid;
 use shape_space::{NoMemory, P2, Point};
 use std::alloc::Global;
@@ -90,6 +95,17 @@ fn advance(points: &mut Vec<P2>, grid: &Grid<P2>, c: Crack) -> Result<Crack, NoM
     Ok(next)
 }
 
+// Puts a pixel where no pixel was left.
+fn fill(points: &mut Vec<P2>, p: P2) -> Result<(), NoMemory>
+    ensures { OnOk result (map point_of points.new.items
+        ≡ (if (length points.old.items == 0) then (point_of p ∷ []) else map point_of points.old.items)) }
+{
+    if points.is_empty() {
+        points.push(p)?;
+    }
+    Ok(())
+}
+
 /// The contour that begins with a crack, which need not be the least of its cycle.
 ///
 /// It takes memory for the points alone, and time by the number of cracks.
@@ -106,8 +122,43 @@ pub fn trace(alloc: Global, grid: &Grid<P2>, start: Crack) -> Result<Contour, No
         c = advance(&mut points, grid, c)?;
         steps += 1;
     }
-    if points.is_empty() {
-        points.push(start.p)?;
+    fill(&mut points, start.p)?;
+    Ok(Contour { start, points })
+}
+
+// The number of a crack: four for each pixel, in raster order.
+fn number(grid: &Grid<P2>, c: Crack) -> u32
+    requires { IsCrack grid.now (crack_of c) }
+    ensures value { result ≡ crack_number grid.now.sides (crack_of c) }
+    ensures below { result < box_count grid.now.sides * 4 }
+{
+    grid.sides().raster(c.p) * 4 + c.side as u32
+}
+
+// The contour that `trace` finds, with the cracks of its cycle marked on the way.
+pub(crate) fn trace_marked(
+    alloc: Global,
+    grid: &Grid<P2>,
+    start: Crack,
+    marks: &mut CrackMarks,
+) -> Result<Contour, NoMemory>
+    requires crack { IsCrack grid.now (crack_of start) }
+    requires room { vec_len marks.old.bytes ≡ box_count grid.now.sides }
+    ensures contour { IfOk result (IsContourFrom grid.now (crack_of start)) }
+    ensures marked { OnOk result (IsCycleMarked grid.now (crack_of start) (is_marked marks.old.bytes.items)
+        (is_marked marks.new.bytes.items)) }
+    ensures len { vec_len marks.new.bytes ≡ vec_len marks.old.bytes }
+{
+    grid.is_picture();
+    let mut points = Vec::new(alloc);
+    marks.mark(number(grid, start));
+    let mut c = advance(&mut points, grid, start)?;
+    let mut steps: u32 = 1;
+    while c != start {
+        marks.mark(number(grid, c));
+        c = advance(&mut points, grid, c)?;
+        steps += 1;
     }
+    fill(&mut points, start.p)?;
     Ok(Contour { start, points })
 }

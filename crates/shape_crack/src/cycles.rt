@@ -1,72 +1,66 @@
-//! All contours of a picture: each crack is looked at in turn, and where it is not marked yet its cycle is traced and marked.
-//! The order of the cracks' numbers is their own order, so each cycle is met first at its least crack.
-ghost use Rattle.std.specs.Prelude.{◌≡◌, ◌*◌, ◌<◌, ◌↔◌, IsTrue, IfOk, vec_len};
+//! All contours of a picture: its pixels are looked at in raster order, and where a crack is not marked yet its cycle is traced and marked.
+//! The least crack of a cycle is over an upper or a lower side, so that no other side is looked at.
+ghost use Rattle.std.specs.Prelude.{◌≡◌, ◌<◌, ◌↔◌, IsTrue, IfOk, OnOk, vec_len};
 ghost use Rattle.shape_terms.specs.Points.{box_count};
 ghost use Rattle.shape_terms.specs.Contours.{IsCrack};
 ghost use Rattle.shape_terms.specs.Traces.{AreContours};
-ghost use Rattle.number_terms.specs.CrackNumbers.{crack_number, numbered};
-ghost use Rattle.shape_crack.specs.Terms.{crack_of};
+ghost use Rattle.shape_crack.specs.Terms.{side_of};
 ghost use Rattle.shape_crack.specs.MarkBits.{is_marked};
-ghost use Rattle.shape_crack.specs.Marked.{IsCycleMarked};
+ghost use Rattle.shape_crack.specs.Marked.{IsTaken};
 
-use crate::contour::trace;
-use crate::crack::{Crack, is_crack, successor};
+use crate::contour::{Contour, trace_marked};
+use crate::crack::Crack;
 use crate::list::Contours;
 use crate::marks::CrackMarks;
 use shape_grid::Grid;
 use shape_space::{NoMemory, P2};
 use std::alloc::Global;
 
-// The number of a crack: four for each pixel, in raster order.
-fn number(grid: &Grid<P2>, c: Crack) -> u32
-    requires { IsCrack grid.now (crack_of c) }
-    ensures value { result ≡ crack_number grid.now.sides (crack_of c) }
-    ensures below { result < box_count grid.now.sides * 4 }
+// Whether a pixel is object and the one over it background.
+fn is_top(grid: &Grid<P2>, i: u32) -> bool
+    requires { i < box_count grid.now.sides }
+    ensures { IsTrue result ↔ IsCrack grid.now (side_of grid.now.sides i 0) }
 {
-    grid.sides().raster(c.p) * 4 + c.side as u32
+    let width = grid.sides().side(0) as u32;
+    grid.has_number(i) && (i < width || !grid.has_number(i - width))
 }
 
-// The pixel and the side that have a number.
-fn numbered_crack(grid: &Grid<P2>, i: u32) -> Crack
-    requires { i < box_count grid.now.sides * 4 }
-    ensures { crack_of result ≡ numbered grid.now.sides i }
+// Whether a pixel is object and the one under it background.
+fn is_bottom(grid: &Grid<P2>, i: u32) -> bool
+    requires { i < box_count grid.now.sides }
+    ensures { IsTrue result ↔ IsCrack grid.now (side_of grid.now.sides i 2) }
 {
-    Crack {
-        p: grid.sides().unraster(i / 4),
-        side: (i % 4) as u8,
-    }
+    let sides = grid.sides();
+    let below = i + sides.side(0) as u32;
+    grid.has_number(i) && (below >= sides.count() || !grid.has_number(below))
 }
 
-// Whether a number is that of a crack.
-fn is_number(grid: &Grid<P2>, i: u32) -> bool
-    requires { i < box_count grid.now.sides * 4 }
-    ensures { IsTrue result ↔ IsCrack grid.now (numbered grid.now.sides i) }
-{
-    if grid.has_number(i / 4) {
-        is_crack(grid, numbered_crack(grid, i))
-    } else {
-        false
-    }
-}
-
-// Marks the cracks of the cycle from a crack on.
-fn mark_cycle(grid: &Grid<P2>, start: Crack, marks: &mut CrackMarks)
-    requires crack { IsCrack grid.now (crack_of start) }
+// Puts the contour from a side of a pixel last and marks its cycle, where the side is not marked yet.
+fn take(
+    alloc: Global,
+    grid: &Grid<P2>,
+    i: u32,
+    side: u8,
+    marks: &mut CrackMarks,
+    list: &mut Vec<Contour>,
+) -> Result<(), NoMemory>
+    requires pixel { i < box_count grid.now.sides }
+    requires crack { IsCrack grid.now (side_of grid.now.sides i side) }
     requires room { vec_len marks.old.bytes ≡ box_count grid.now.sides }
-    ensures marked { IsCycleMarked grid.now (crack_of start) (is_marked marks.old.bytes.items)
-        (is_marked marks.new.bytes.items) }
+    ensures taken { OnOk result (IsTaken grid.now (side_of grid.now.sides i side)
+        (is_marked marks.old.bytes.items) (is_marked marks.new.bytes.items) list.old.items list.new.items) }
     ensures len { vec_len marks.new.bytes ≡ vec_len marks.old.bytes }
 {
-    grid.is_picture();
-    marks.mark(number(grid, start));
-    let mut c = successor(grid, start);
-    // No crack comes twice before the first one, so the steps are at most as many as there are cracks.
-    let mut steps: u32 = 1;
-    while c != start {
-        marks.mark(number(grid, c));
-        c = successor(grid, c);
-        steps += 1;
+    let sides = grid.sides();
+    if !marks.has(i * 4 + side as u32) {
+        let start = Crack {
+            p: sides.unraster(i),
+            side,
+        };
+        let contour = trace_marked(alloc, grid, start, marks)?;
+        list.push(contour)?;
     }
+    Ok(())
 }
 
 /// The contours of a picture: one for each cycle of its cracks, from the least crack of it, in the order of these.
@@ -75,16 +69,15 @@ fn mark_cycle(grid: &Grid<P2>, start: Crack, marks: &mut CrackMarks)
 pub fn contours(alloc: Global, grid: &Grid<P2>) -> Result<Contours, NoMemory>
     ensures { IfOk result (AreContours grid.now) }
 {
-    let sides = grid.sides();
-    let count = sides.count();
+    let count = grid.sides().count();
     let mut marks = CrackMarks::new(alloc, count as usize)?;
     let mut list = Vec::new(alloc);
-    for i in 0..count * 4 {
-        if !marks.has(i) && is_number(grid, i) {
-            let c = numbered_crack(grid, i);
-            let contour = trace(alloc, grid, c)?;
-            mark_cycle(grid, c, &mut marks);
-            list.push(contour)?;
+    for i in 0..count {
+        if is_top(grid, i) {
+            take(alloc, grid, i, 0, &mut marks, &mut list)?;
+        }
+        if is_bottom(grid, i) {
+            take(alloc, grid, i, 2, &mut marks, &mut list)?;
         }
     }
     Ok(Contours::from_list(list))

@@ -1,13 +1,10 @@
-use Rattle.std.proofs.Common.{rules, arith, ◌≡◌, ◌≤◌, refl, ap, map, length}
-use Rattle.shape_terms.specs.Contours.{contour_points}
-use Rattle.number_terms.proofs.Walks.{walk}
+use Rattle.std.proofs.Common.{arith, ◌∙◌, refl, ap, map}
 use Rattle.number_terms.proofs.Tracing.{reached_crack, traced_more}
 use Rattle.shape_crack.specs.declared.contour.TheConstants.{GREATEST_SIDE}
 use Rattle.shape_crack.specs.Terms.{point_of, crack_of}
 use Rattle.shape_crack.proofs.CrackValues.{cracks_equal, cracks_differ}
-use Rattle.shape_crack.proofs.Rounds.{few_steps, some_points, one_point, contour_from, path_from}
+use Rattle.shape_crack.proofs.Rounds.{few_steps, filled, contour_from, path_from}
 use Rattle.shape_crack.proofs.contour.trace.Goals as goal
-use Rattle.shape_crack.proofs.contour.trace.Goals.{Joined-is_empty, then-is_empty+in_ok-push, else-is_empty}
 
 pub advance-requires-in-loop-c : goal.advance-requires-in-loop-c
 advance-requires-in-loop-c c = reached_crack c.args.grid.now c.is_picture.ensures.picture.axes (crack_of c.args.start) (crack_of c.loop-c.c) c.loop-c.steps c.requires c.loop-c.invariant.reached
@@ -30,22 +27,14 @@ loop-c-preserved c =
     rw (c.in_ok-c-2.ensures.next, c.in_ok-c-2.ensures.points)
     (traced_more c.args.grid.now c.is_picture.ensures.picture.axes (crack_of c.args.start) (crack_of c.loop-c.c) c.loop-c.steps (map point_of c.loop-c.points.items) c.requires c.loop-c.invariant away)
 
-points_are : (c : Joined-is_empty) → map point_of c.if-is_empty.points.items ≡ contour_points c.args.grid.now (walk c.args.grid.now (crack_of c.args.start) c.loop-c.steps)
-points_are c = elim c.if-is_empty.branch [
-  | then-is_empty+in_ok-push w ↦
-      (let none : length c.loop-c.points.items ≡ 0 = search rules in
-      rw (w.points-is, w.in_ok-push.ensures.items) (one_point c.args.grid.now (crack_of c.args.start) (crack_of c.loop-c.c) c.loop-c.steps c.loop-c.points.items c.args.start.p c.loop-c.invariant none refl))
-  | else-is_empty w ↦
-      (let some : 1 ≤ length c.loop-c.points.items = search rules in
-      rw w.points-is (some_points c.args.grid.now (crack_of c.args.start) (crack_of c.loop-c.c) c.loop-c.steps c.loop-c.points.items c.loop-c.invariant some))
-]
-
 pub invariant_of-result : goal.invariant_of-result
 invariant_of-result c =
     let same = ap crack_of (cracks_equal c.loop-c.c c.args.start c.ne.result c.ne.ensures c.loop-c-test.false) in
-    path_from c.args.grid.now c.is_picture.ensures.picture.axes (crack_of c.args.start) (crack_of c.loop-c.c) c.loop-c.steps c.requires c.loop-c.invariant.reached same GREATEST_SIDE c.is_picture.ensures.in_range (omega arith) (map point_of c.if-is_empty.points.items) (points_are c)
+    let points = c.in_ok-fill.ensures ∙ filled c.args.grid.now (crack_of c.args.start) (crack_of c.loop-c.c) c.loop-c.steps c.loop-c.points.items c.args.start.p c.loop-c.invariant refl in
+    path_from c.args.grid.now c.is_picture.ensures.picture.axes (crack_of c.args.start) (crack_of c.loop-c.c) c.loop-c.steps c.requires c.loop-c.invariant.reached same GREATEST_SIDE c.is_picture.ensures.in_range (omega arith) (map point_of c.fill.new.points.items) points
 
 pub returns : goal.returns
 returns c =
     let same = ap crack_of (cracks_equal c.loop-c.c c.args.start c.ne.result c.ne.ensures c.loop-c-test.false) in
-    contour_from c.args.grid.now c.is_picture.ensures.picture.axes (crack_of c.args.start) (crack_of c.loop-c.c) c.loop-c.steps c.requires c.loop-c.invariant.reached same (map point_of c.if-is_empty.points.items) (points_are c)
+    let points = c.in_ok-fill.ensures ∙ filled c.args.grid.now (crack_of c.args.start) (crack_of c.loop-c.c) c.loop-c.steps c.loop-c.points.items c.args.start.p c.loop-c.invariant refl in
+    contour_from c.args.grid.now c.is_picture.ensures.picture.axes (crack_of c.args.start) (crack_of c.loop-c.c) c.loop-c.steps c.requires c.loop-c.invariant.reached same (map point_of c.fill.new.points.items) points

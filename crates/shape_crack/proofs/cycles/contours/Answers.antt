@@ -1,53 +1,58 @@
-use Rattle.std.proofs.Common.{rules, arith, ◌≡◌, ◌<◌, ◌*◌, subst, ◌∙◌, ap, true, false, inl, inr, ◌⊎◌}
+use Rattle.std.proofs.Common.{arith, ◌≡◌, ◌<◌, ◌+◌, ◌*◌, refl, subst, ◌∙◌, ap, vec_len, inl, inr}
 use Rattle.shape_terms.specs.Points.{box_count}
-use Rattle.shape_terms.specs.Contours.{Crack, IsCrack}
-use Rattle.shape_terms.specs.Traces.{IsContourFrom}
-use Rattle.number_terms.specs.CrackNumbers.{numbered}
 use Rattle.shape_crack.specs.MarkBits.{is_marked}
-use Rattle.shape_crack.specs.Marked.{IsCycleMarked}
-use Rattle.shape_crack.proofs.Listing.{listing_none, listing_skip, listing_more, listing_all}
+use Rattle.shape_crack.proofs.Listing.{Listing, listing_none, listing_no_crack, listing_taken, listing_passed, listing_all}
 use Rattle.shape_crack.proofs.cycles.contours.Goals as goal
-use Rattle.shape_crack.proofs.cycles.contours.Goals.{then-not-has+then-is_number+in_ok-contour+in_ok-push, else-not-has, else-not-has-via-then-not-has+else-is_number, else-not-has-via-else-not-has}
+use Rattle.shape_crack.proofs.cycles.contours.Goals.{then-is_top+in_ok-take, else-is_top, then-is_bottom+in_ok-take-2, else-is_bottom}
 
 pub loop-i-init : goal.loop-i-init
 loop-i-init c = record {
-  listing = rw c.new-list.ensures.items (listing_none c.args.grid.now c.sides-sides.ensures.picture.axes (is_marked c.in_ok-marks.marks.bytes.items) c.in_ok-marks.ensures.none);
+  listing = rw c.new-list.ensures.items (listing_none c.args.grid.now c.sides.ensures.picture.axes (is_marked c.in_ok-marks.marks.bytes.items) c.in_ok-marks.ensures.none);
   room = c.in_ok-marks.ensures.len;
 }
 
 pub loop-i-preserved : goal.loop-i-preserved
 loop-i-preserved c =
     let X = c.args.grid.now in
-    let axes = c.sides-sides.ensures.picture.axes in
-    let all : c.count-count.result ≡ box_count X.sides = c.count-count.ensures.value ∙ ap box_count c.sides-sides.ensures.value in
-    let below : c.loop-i.i < box_count X.sides * 4 = omega arith in
-    elim c.if-not-has.branch [
-      | then-not-has+then-is_number+in_ok-contour+in_ok-push w ↦
-          (let is = w.is_number.ensures.0 w.if-is_number.true in
-          let t = w.numbered_crack-c.ensures in
-          let new : is_marked c.loop-i.marks.bytes.items c.loop-i.i ≡ false = search rules in
-          let from = subst (λ (d : Crack). IsContourFrom X d w.in_ok-contour.contour) t w.in_ok-contour.ensures in
-          let marked = subst (λ (d : Crack). IsCycleMarked X d (is_marked c.loop-i.marks.bytes.items) (is_marked w.mark_cycle.new.marks.bytes.items)) t w.mark_cycle.ensures.marked in
-          record {
-            listing =
-                rw (w.list-is, w.marks-is, w.in_ok-push.ensures.items)
-                (listing_more X axes c.loop-i.i (is_marked c.loop-i.marks.bytes.items) (is_marked w.mark_cycle.new.marks.bytes.items) c.loop-i.list.items w.in_ok-contour.contour below c.loop-i.invariant.listing is new from marked);
-            room = rw w.marks-is (w.mark_cycle.ensures.len ∙ c.loop-i.invariant.room);
-          })
-      | else-not-has w ↦
-          (let skip : (is_marked c.loop-i.marks.bytes.items c.loop-i.i ≡ true) ⊎ (IsCrack X (numbered X.sides c.loop-i.i) → ⊥) = elim w.else-not-has.branch [
-            | else-not-has-via-then-not-has+else-is_number u ↦ inr (λ k. let q = u.is_number.ensures.1 k in let n = u.if-is_number.false in cc)
-            | else-not-has-via-else-not-has u ↦ inl (search rules)
-          ] in
-          record {
-            listing = rw (w.list-is, w.marks-is) (listing_skip X axes c.loop-i.i (is_marked c.loop-i.marks.bytes.items) c.loop-i.list.items c.loop-i.invariant.listing skip);
-            room = rw w.marks-is c.loop-i.invariant.room;
-          })
-    ]
+    let axes = c.sides.ensures.picture.axes in
+    let i = c.loop-i.i in
+    let all : c.count-count.result ≡ box_count X.sides = c.count-count.ensures.value ∙ ap box_count c.sides.ensures.value in
+    let l : i < box_count X.sides = omega arith in
+    let found = c.loop-i.invariant.listing in
+    let upper : Listing X (i * 4 + 1) (is_marked c.if-is_top.marks.bytes.items) c.if-is_top.list.items = elim c.if-is_top.branch [
+      | then-is_top+in_ok-take w ↦
+          rw (w.marks-is, w.list-is)
+          (listing_taken X axes i 0 (i * 4) l (omega arith) (omega arith) (is_marked c.loop-i.marks.bytes.items) c.loop-i.list.items found (is_marked w.take.new.marks.bytes.items) w.take.new.list.items (c.is_top.ensures.0 w.if-is_top.true) w.in_ok-take.ensures.taken)
+      | else-is_top w ↦
+          rw (w.marks-is, w.list-is)
+          (listing_no_crack X axes i 0 (i * 4) l (omega arith) (omega arith) (is_marked c.loop-i.marks.bytes.items) c.loop-i.list.items found (λ k. let t = c.is_top.ensures.1 k in let f = w.if-is_top.false in cc))
+    ] in
+    let right = listing_passed X axes i 1 (i * 4 + 1) l (omega arith) (omega arith) (is_marked c.if-is_top.marks.bytes.items) c.if-is_top.list.items upper (inl refl) in
+    let lower : Listing X (i * 4 + 1 + 1 + 1) (is_marked c.if-is_bottom.marks.bytes.items) c.if-is_bottom.list.items = elim c.if-is_bottom.branch [
+      | then-is_bottom+in_ok-take-2 w ↦
+          rw (w.marks-is, w.list-is)
+          (listing_taken X axes i 2 (i * 4 + 1 + 1) l (omega arith) (omega arith) (is_marked c.if-is_top.marks.bytes.items) c.if-is_top.list.items right (is_marked w.take-then-is_bottom.new.marks.bytes.items) w.take-then-is_bottom.new.list.items (c.is_bottom.ensures.0 w.if-is_bottom.true) w.in_ok-take-2.ensures.taken)
+      | else-is_bottom w ↦
+          rw (w.marks-is, w.list-is)
+          (listing_no_crack X axes i 2 (i * 4 + 1 + 1) l (omega arith) (omega arith) (is_marked c.if-is_top.marks.bytes.items) c.if-is_top.list.items right (λ k. let t = c.is_bottom.ensures.1 k in let f = w.if-is_bottom.false in cc))
+    ] in
+    let left = listing_passed X axes i 3 (i * 4 + 1 + 1 + 1) l (omega arith) (omega arith) (is_marked c.if-is_bottom.marks.bytes.items) c.if-is_bottom.list.items lower (inr refl) in
+    let next : i * 4 + 1 + 1 + 1 + 1 ≡ (i + 1) * 4 = omega arith in
+    let above : vec_len c.if-is_top.marks.bytes ≡ c.count-count.result = elim c.if-is_top.branch [
+      | then-is_top+in_ok-take w ↦ rw w.marks-is (w.take.ensures.len ∙ c.loop-i.invariant.room)
+      | else-is_top w ↦ rw w.marks-is c.loop-i.invariant.room
+    ] in
+    record {
+      listing = subst (λ n. Listing X n (is_marked c.if-is_bottom.marks.bytes.items) c.if-is_bottom.list.items) next left;
+      room = elim c.if-is_bottom.branch [
+        | then-is_bottom+in_ok-take-2 w ↦ rw w.marks-is (w.take-then-is_bottom.ensures.len ∙ above)
+        | else-is_bottom w ↦ rw w.marks-is above
+      ];
+    }
 
 pub returns : goal.returns
 returns c =
     let X = c.args.grid.now in
-    let all : c.count-count.result ≡ box_count X.sides = c.count-count.ensures.value ∙ ap box_count c.sides-sides.ensures.value in
+    let all : c.count-count.result ≡ box_count X.sides = c.count-count.ensures.value ∙ ap box_count c.sides.ensures.value in
     rw c.from_list.ensures
-    (listing_all X c.sides-sides.ensures.picture.axes c.loop-i.i (is_marked c.loop-i.marks.bytes.items) c.loop-i.list.items c.loop-i.invariant.listing (let f = c.loop-i-test.false in omega arith))
+    (listing_all X c.sides.ensures.picture.axes (c.loop-i.i * 4) (is_marked c.loop-i.marks.bytes.items) c.loop-i.list.items c.loop-i.invariant.listing (let f = c.loop-i-test.false in omega arith))
