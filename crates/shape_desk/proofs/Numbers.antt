@@ -103,10 +103,6 @@ at_least : (n : ℕ) (ds : List ℕ) → n ≤ digits_value_after 10 n ds
 at_least n [] = omega arith
 at_least n (c ∷ cs) = omega (arith, at_least (n * 10 + digit_value c) cs)
 
--- digits of a value above 2 ^ 63 spell no number up to it
-pub none_large : (ds : List ℕ) (n : ℕ) → n ≤ 2 ^ 63 → 2 ^ 63 < digits_value 10 ds → ds ≢ decimal n
-none_large ds n l h e = omega (arith, (decimal_is_IsNumeral n (omega arith)).1, ap (digits_value 10) e)
-
 -- one digit more
 pub value_step : (size : ℕ) (ds : List ℕ) (k : ℕ) → AllDigits 10 ds → k < length ds → digits_value_after 10 (size * 10 + (get_or ds k 0 - 48)) (drop (k + 1) ds) ≡ digits_value_after 10 size (drop k ds)
 value_step size ds k d l =
@@ -127,12 +123,11 @@ spells_size ds m d z l s = elim (cases_lt (2 ^ 63) (digits_value 10 ds)) [
   | inr h ↦ spelled ds m d z l (sym (s.same (omega arith)))
 ]
 
--- and where that size is too great, they spell no number up to 2 ^ 63
-pub none_great : (ds : List ℕ) (m : ℕ) → 2 ^ 63 < m → IsSizeOf (digits_value 10 ds) m → (n : ℕ) → n ≤ 2 ^ 63 → ds ≢ decimal n
-none_great ds m g s n l = none_large ds n l (elim (cases_lt (2 ^ 63) (digits_value 10 ds)) [
-  | inl h ↦ h
-  | inr h ↦ absurd (omega (arith, s.same (omega arith)))
-])
+-- and where that size is above a greatest one, they spell no number up to it
+pub none_above : (ds : List ℕ) (m most : ℕ) → most ≤ 2 ^ 63 → most < m → IsSizeOf (digits_value 10 ds) m → (n : ℕ) → n ≤ most → ds ≢ decimal n
+none_above ds m most f g s n l e =
+    let v : digits_value 10 ds ≡ n = ap (digits_value 10) e ∙ (decimal_is_IsNumeral n (omega arith)).1 in
+    omega (arith, s.same (omega arith))
 
 -- ---- the run, digit by digit
 
@@ -176,6 +171,17 @@ run_more bs i m next l t small great r =
       ];
     }
 
+-- the first digit of a run is one so far
+pub run_begun : (bs : List ℕ) → 0 < length (take_while is_ascii_digit bs) → IsRunSoFar bs 1 (get_or bs 0 0 - 48)
+run_begun bs some =
+    let n = prefix_len is_ascii_digit bs in
+    let l : 0 < length bs = omega (arith, length_run bs, prefix_len-le-length is_ascii_digit bs) in
+    let digit : is_ascii_digit (get_or bs 0 0) ≡ true = prefix_len_passes is_ascii_digit bs 0 0 (omega (arith, length_run bs)) in
+    run_more bs 0 0 (get_or bs 0 0 - 48) l digit (λ h. omega arith) (λ h. absurd (omega arith)) (record {
+      within = omega arith;
+      size = record { same = λ h. refl; great = λ h. h };
+    })
+
 run_done : (bs : List ℕ) (i m : ℕ) → i ≡ prefix_len is_ascii_digit bs → IsRunSoFar bs i m → IsSizeOf (digits_value 10 (take_while is_ascii_digit bs)) m
 run_done bs i m e r =
     let ds = take_while is_ascii_digit bs in
@@ -195,10 +201,6 @@ run_ends bs i m l f r =
 -- digits of the number 0 are those of no other
 pub none_zero : (ds : List ℕ) (size : ℕ) → size ≤ 2 ^ 63 → ds ≡ decimal size → size ≡ 0 → (n : ℕ) → 0 < n → n ≤ 2 ^ 63 → ds ≢ decimal n
 none_zero ds size f e z n some l d = omega (arith, decimal_injective size n (omega arith) (omega arith) (sym e ∙ d))
-
--- digits of the number 2 ^ 63 are those of no smaller one
-pub none_other : (ds : List ℕ) (size : ℕ) → size ≤ 2 ^ 63 → ds ≡ decimal size → size ≡ 2 ^ 63 → (n : ℕ) → n < 2 ^ 63 → ds ≢ decimal n
-none_other ds size f e z n l d = omega (arith, decimal_injective size n (omega arith) (omega arith) (sym e ∙ d))
 
 -- ---- a spelling
 

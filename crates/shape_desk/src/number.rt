@@ -28,13 +28,14 @@ fn next_value(value: u64, digit: u8) -> u64
     }
 }
 
-// The run of digits at the front, in one look at its bytes.
+// The run of digits at the front, whose first byte is a digit, in one look at its bytes.
 fn run_of(bytes: &[u8]) -> Run
+    requires { 0 < length (take_while is_ascii_digit bytes.now) }
     ensures len { result.len ≡ length (take_while is_ascii_digit bytes.now) }
     ensures value { IsSizeOf (digits_value 10 (take_while is_ascii_digit bytes.now)) result.value }
 {
-    let mut value = 0;
-    for i in 0..bytes.len() {
+    let mut value = u64::from(bytes[0] - b'0');
+    for i in 1..bytes.len() {
         if !bytes[i].is_ascii_digit() {
             return Run { len: i, value };
         }
@@ -46,25 +47,29 @@ fn run_of(bytes: &[u8]) -> Run
     }
 }
 
-// Whether there are digits, and the first of several is not 0.
-fn has_no_leading_zero(digits: &[u8]) -> bool
-    ensures { IsTrue result ↔ HasNoLeadingZero digits.now }
+// Whether there are digits at the front, and the first of several is not 0.
+fn has_no_leading_zero(bytes: &[u8]) -> bool
+    ensures { IsTrue result ↔ HasNoLeadingZero (take_while is_ascii_digit bytes.now) }
 {
-    !digits.is_empty() && (digits[0] != b'0' || digits.len() == 1)
+    match bytes {
+        [b'0', b'0'..=b'9', ..] => false,
+        [b'0'..=b'9', ..] => true,
+        _ => false,
+    }
 }
 
-// The run of digits at the front, where it is the spelling of a number of at most 2 ^ 63.
-fn size_of(bytes: &[u8]) -> Option<Run>
+// The run of digits at the front, where it is the spelling of a number up to a greatest one.
+fn size_of(bytes: &[u8], greatest: u64) -> Option<Run>
+    requires { greatest ≤ 2 ^ 63 }
     ensures { MatchOption result
-        ((n : ℕ) → n ≤ 2 ^ 63 → take_while is_ascii_digit bytes.now ≢ decimal n)
-        (λ run. IsSpelledRun bytes.now run.len run.value) }
+        ((n : ℕ) → n ≤ greatest → take_while is_ascii_digit bytes.now ≢ decimal n)
+        (λ run. (run.value ≤ greatest) × IsSpelledRun bytes.now run.len run.value) }
 {
-    let run = run_of(bytes);
-    if run.value <= MAX_SIZE && has_no_leading_zero(&bytes[..run.len]) {
-        Some(run)
-    } else {
-        None
+    if !has_no_leading_zero(bytes) {
+        return None;
     }
+    let run = run_of(bytes);
+    if run.value <= greatest { Some(run) } else { None }
 }
 
 // The negative number of a size.
@@ -80,7 +85,7 @@ fn negative(size: u64) -> i64
 fn read_negative(bytes: &[u8]) -> Option<(i64, usize)>
     ensures { ReadsNumber (45 ∷ bytes.now) result }
 {
-    let Some(found) = size_of(bytes) else {
+    let Some(found) = size_of(bytes, MAX_SIZE) else {
         return None;
     };
     if found.value == 0 {
@@ -95,13 +100,9 @@ fn read_unsigned(bytes: &[u8]) -> Option<(i64, usize)>
     requires { get_or bytes.now 0 0 ≢ 45 }
     ensures { ReadsNumber bytes.now result }
 {
-    let Some(found) = size_of(bytes) else {
-        return None;
-    };
-    if found.value == MAX_SIZE {
-        None
-    } else {
-        Some((found.value as i64, found.len))
+    match size_of(bytes, MAX_SIZE - 1) {
+        Some(found) => Some((found.value as i64, found.len)),
+        None => None,
     }
 }
 
@@ -109,6 +110,7 @@ fn read_unsigned(bytes: &[u8]) -> Option<(i64, usize)>
 ///
 /// The front that is considered is a minus sign, if one stands first, and the longest run of digits. There is one
 /// spelling of each number: no plus sign, no leading zero, no minus before 0.
+#[inline(always)]
 pub fn read_number(bytes: &[u8]) -> Option<(i64, usize)>
     ensures { ReadsNumber bytes.now result }
 {

@@ -1,9 +1,8 @@
-use Rattle.std.proofs.Common.{sym, ◌∙◌}
 use Rattle.shape_desk.proofs.FirstLf.{first_lf, no_lf}
 use Rattle.shape_desk.proofs.line.find_lf.Goals as goal
 
 pub returns-in-Some : goal.returns-in-Some
-returns-in-Some c = first_lf c.args.bytes.now c.args.from c.args.to c.in-Some.k c.requires.order c.requires.within c.requires.none (sym c.lf_at.ensures ∙ c.in-Some.is)
+returns-in-Some c = first_lf c.args.bytes.now c.args.from c.args.to c.in-Some.k c.requires.order c.requires.within c.requires.none c.in-Some.ensures
 
 pub returns-in-None : goal.returns-in-None
-returns-in-None c = no_lf c.args.bytes.now c.args.from c.args.to c.requires.order c.requires.within c.requires.none (sym c.lf_at.ensures ∙ c.in-None.is)
+returns-in-None c = no_lf c.args.bytes.now c.args.from c.args.to c.requires.order c.requires.within c.requires.none c.in-None.ensures
