@@ -6,7 +6,7 @@ use Rattle.std.proofs.lemmas.Nat.{mul-le, mod-mul-add, mod_below}
 use Rattle.std.proofs.Math.Nat.{mod-le}
 use Rattle.shape_terms.specs.AxisLines.{gap}
 use Rattle.judge_field.specs.Scanned.{IsLeastAlong, IsScannedAt, IsWay}
-use Rattle.judge_field.proofs.ScanSteps.{gap_up, gap_down, gap_none}
+use Rattle.shape_envelope.proofs.Fences.{gap_up, gap_down, gap_none}
 
 -- ---- one place on
 

@@ -2,7 +2,6 @@
 -- Laws over lines, rows and numbers alone.
 use Rattle.std.proofs.Common.{◌≡◌, ◌≢◌, inl, inr, ℕ, ◌+◌, ◌*◌, ◌/◌, ◌%◌, ◌<◌, ◌≤◌, List, length, set, get_or, below_more, get_or-set_same, get_or-set_other, sym, ap, ◌∙◌, subst, arith}
 use Rattle.std.specs.Prelude.{Option, Some, pos}
-use Rattle.std.proofs.lemmas.Int.{ints}
 use Rattle.std.proofs.lemmas.Bool.{cases_eq}
 use Rattle.std.proofs.lemmas.Nat.{mul-le}
 use Rattle.std.proofs.lemmas.Option.{same_Some}
@@ -10,16 +9,8 @@ use Rattle.shape_terms.specs.Rows.{cell, IsLowest}
 use Rattle.shape_terms.specs.AxisLines.{place, gap}
 use Rattle.shape_terms.proofs.AxisPlaces.{same_place}
 use Rattle.shape_envelope.proofs.LineNumbers.{line_low, line_high, line_place, line_of_number, number_of_line, lowest_inside}
+use Rattle.shape_envelope.proofs.Fences.{gap_none}
 use Rattle.judge_field.specs.Scanned.{IsLeastAlong, HasScannedTo}
-
-pub gap_up : (x y d : ℕ) → x + d ≡ y → gap x y ≡ d
-gap_up x y d e = grind (arith, ints)
-
-pub gap_down : (x y d : ℕ) → y + d ≡ x → gap x y ≡ d
-gap_down x y d e = grind (arith, ints)
-
-pub gap_none : (x : ℕ) → gap x x ≡ 0
-gap_none x = gap_up x x 0 (omega arith)
 
 -- the least is no more than the place's own square
 pub along_small : (line : ℕ → ℕ) (w x s m : ℕ) → IsLeastAlong line w x s → x < w → line x ≤ m → s ≤ m

@@ -17,6 +17,11 @@ pub record IsLeastAlong (line : ℕ → ℕ) (w x s : ℕ) : Type 0 where
   pub reached : s ≡ line y + gap x y * gap x y
   pub least : (z : ℕ) → z < w → s ≤ line z + gap x z * gap x z
 
+-- the places of a line before x were scanned; x stands at an end of the line, or behind a place with 0
+pub record HasScannedBefore (line now : ℕ → ℕ) (w x : ℕ) : Type 0 where
+  pub done : (z : ℕ) → z < x → IsLeastAlong line w z (now z)
+  pub bare : (z : ℕ) → z + 1 ≡ x → x < w → line z ≡ 0
+
 -- the digit of i on an axis with c numbers before it and w on it, and the number of the first place of its line
 abbrev pub digit : ℕ → ℕ → ℕ → ℕ
 digit c w i = (i / c) % w

@@ -1,68 +1,35 @@
-//! The lines of one axis: along each the least that its places give each of them, which the lower envelope of their squares tells.
-ghost use Rattle.std.specs.Prelude.{◌≡◌, ◌+◌, ◌*◌, ◌<◌, ◌≤◌, ◌^◌, ℕ, IfOk, Some, length, slice_index};
-ghost use Rattle.shape_terms.specs.Rows.{cell};
-ghost use Rattle.shape_terms.specs.AxisLines.{gap};
+//! The lines of one axis: along each the least that its places give each of them, part by part.
+//! A place with the square 0 keeps it, and hides the places behind it: parts end at such places.
+ghost use Rattle.std.specs.Prelude.{◌≡◌, ◌+◌, ◌*◌, ◌<◌, ◌≤◌, ◌^◌, ℕ, IfOk, length, slice_index};
 ghost use Rattle.judge_field.specs.Scanned.{IsLeastAlong, HasScanned};
 
-use shape_envelope::{envelope, line_count, line_start};
-use shape_space::{NoMemory, Row, Steps};
+use crate::part::scan_part;
+use shape_envelope::{line_count, line_start};
+use shape_space::{NoMemory, Steps};
 use std::alloc::Global;
 use std::sync::ledger::Ledger;
 
-// The squares of a line as a row.
-fn row_of(
-    alloc: Global,
-    squares: &[u32],
-    start: usize,
-    step: usize,
-    side: u32,
-) -> Result<Row, NoMemory>
-    requires some { 1 ≤ side }
-    requires near { side ≤ 4096 }
+// So many places with 0 in a row end a part of a line. To take in fewer of them costs less than to begin another part.
+const REST: u32 = 4;
+
+// The end of the part of a line that goes on at x: a place with 0, or the end of the line.
+fn part_end(squares: &[u32], start: usize, step: usize, side: u32, x: u32) -> u32
+    requires there { x < side }
     requires inside { (y : ℕ) → y < side → start + y * step < length squares.now }
     requires few { length squares.now < 2 ^ 32 }
-    ensures long { IfOk result (λ r. length r ≡ side) }
-    ensures same { IfOk result (λ r. (y : ℕ) → y < side
-        → cell r y ≡ Some (slice_index squares.now (start + y * step))) }
+    ensures later { x ≤ result }
+    ensures most { result ≤ side }
+    ensures bare { result < side → slice_index squares.now (start + result * step) ≡ 0 }
 {
-    let mut row = Row::new(alloc, side)?;
-    for y in 0..side {
-        row.set(y, Some(squares[start + y as usize * step] as u64));
+    let mut end = x;
+    for y in x..side {
+        if squares[start + y as usize * step] != 0 {
+            end = y + 1;
+        } else if y - end + 1 == REST {
+            return end;
+        }
     }
-    Ok(row)
-}
-
-// What the place y of a line gives its place x.
-fn given(square: u32, x: u32, y: u32) -> u32
-    requires small { square ≤ 2 ^ 26 }
-    requires x_near { x < 4096 }
-    requires y_near { y < 4096 }
-    ensures { result ≡ square + gap x y * gap x y }
-{
-    let way = x.abs_diff(y);
-    square + way * way
-}
-
-// Gives each place of a line what its lowest place gives it.
-fn store(next: &mut [u32], squares: &[u32], start: usize, step: usize, lowest: &[u32])
-    requires apart { 0 < step }
-    requires near { length lowest.now ≤ 4096 }
-    requires inside { (y : ℕ) → y < length lowest.now → start + y * step < length squares.now }
-    requires few { length squares.now < 2 ^ 32 }
-    requires long { length next.old ≡ length squares.now }
-    requires there { (x : ℕ) → x < length lowest.now
-        → slice_index lowest.now x < length lowest.now }
-    requires small { (i : ℕ) → slice_index squares.now i ≤ 2 ^ 26 }
-    ensures on_line { (x : ℕ) → x < length lowest.now → slice_index next.new (start + x * step)
-        ≡ slice_index squares.now (start + slice_index lowest.now x * step)
-        + gap x (slice_index lowest.now x) * gap x (slice_index lowest.now x) }
-    ensures others { (i : ℕ) → ((x : ℕ) → x < length lowest.now → i ≡ start + x * step → ⊥)
-        → slice_index next.new i ≡ slice_index next.old i }
-{
-    for x in 0..lowest.len() {
-        let y = lowest[x];
-        next[start + x * step] = given(squares[start + y as usize * step], x as u32, y);
-    }
+    end
 }
 
 // Gives each place of a line the least of what its places give it.
@@ -88,12 +55,20 @@ fn scan_line<L: Ledger>(
     ensures others { IfOk result (λ _. (i : ℕ) → ((x : ℕ) → x < side → i ≡ start + x * step → ⊥)
         → slice_index next.new i ≡ slice_index next.old i) }
 {
-    let row = row_of(alloc, squares, start, step, side)?;
-    let mut lowest = vec![in alloc; 0u32; side as usize]?;
-    if !envelope(alloc, &row, &mut lowest, steps)? {
-        unreachable!();
+    let mut x: u32 = 0;
+    while x < side {
+        let at = start + x as usize * step;
+        if squares[at] == 0 {
+            next[at] = 0;
+            x += 1;
+        } else {
+            let end = part_end(squares, start, step, side, x);
+            let from = x.saturating_sub(1);
+            let to = side.min(end + 1);
+            scan_part(alloc, next, squares, start + from as usize * step, step, to - from, steps)?;
+            x = to;
+        }
     }
-    store(next, squares, start, step, &lowest);
     Ok(())
 }
 

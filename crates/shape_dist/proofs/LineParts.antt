@@ -6,7 +6,7 @@ use Rattle.std.proofs.lemmas.Bool.{cases_lt, cases_eq}
 use Rattle.std.proofs.lemmas.Nat.{mul-le}
 use Rattle.std.proofs.lemmas.Option.{same_Some}
 use Rattle.shape_terms.specs.AxisLines.{gap}
-use Rattle.shape_envelope.proofs.Fences.{gap_none, gap_shift, gap_zero, farther_down, farther_up}
+use Rattle.shape_envelope.proofs.Fences.{IsPart, part_least, gap_none, gap_shift, gap_zero}
 use Rattle.shape_dist.specs.declared.found.Found.{Found}
 use Rattle.shape_dist.specs.Spreads.{IsLeastOfLine, IsSpreadAt, HasSpreadBefore, square_in, found}
 use Rattle.shape_dist.proofs.AxisSteps.{square_found, spread_of_copy}
@@ -47,48 +47,21 @@ bare_stays line w x (Some g) l bare t =
 
 -- ---- a part of a line
 
--- the places from a on up to b, where the first one is bare or that of the line, and so the last one
-pub record IsPart (line : ℕ → Option Found) (w a b : ℕ) : Type 0 where
-  pub some : a < b
-  pub within : b ≤ w
-  pub first : 0 < a → square_in (line a) ≡ Some 0
-  pub last : (z : ℕ) → z + 1 ≡ b → b < w → square_in (line z) ≡ Some 0
+-- the square that a place of the line holds
+abbrev pub holds : (ℕ → Option Found) → ℕ → ℕ → Type 0
+holds line y s = square_in (line y) ≡ Some s
 
--- what a place of the line gives is no less than the least of the part
-module _ (line : ℕ → Option Found) (w a b x : ℕ) (p : IsPart line w a b) (inside : a + x < b) (g : Found) (t : IsLeastOfLine (λ y. line (a + y)) (b - a) x g) where
-  -- the square of the way is the least that a place with the square 0 gives
-  over : (y : ℕ) → a ≤ y → y < b → square_in (line y) ≡ Some 0 → g.s ≤ gap (a + x) y * gap (a + x) y
-  over y l h bare =
-      let f = square_found (line y) 0 bare in
-      let at : a + (y - a) ≡ y = omega arith in
-      let least = t.least (y - a) f.0 (omega arith) (ap line at ∙ f.1) in
-      let way : gap x (y - a) ≡ gap (a + x) y = sym (gap_shift a x (y - a)) ∙ ap (gap (a + x)) at in
-      omega (arith, rw way at least, f.2)
-
-  beyond : (z : ℕ) (h : Found) → z < w → line z ≡ Some h → g.s ≤ h.s + gap (a + x) z * gap (a + x) z
-  beyond z h l there = elim (cases_lt z a) [
-    | inl low ↦
-        let f = over a (omega arith) p.some (p.first (omega arith)) in
-        let d = farther_down (a + x) a z (omega arith) (omega arith) in
-        omega (arith, f, d)
-    | inr from ↦ elim (cases_lt z b) [
-      | inl in_part ↦
-          let at : a + (z - a) ≡ z = omega arith in
-          let least = t.least (z - a) h (omega arith) (ap line at ∙ there) in
-          let way : gap x (z - a) ≡ gap (a + x) z = sym (gap_shift a x (z - a)) ∙ ap (gap (a + x)) at in
-          rw way at least
-      | inr high ↦
-          let some = p.some in
-          let f = over (b - 1) (omega arith) (omega arith) (p.last (b - 1) (omega arith) (omega arith)) in
-          let d = farther_up (a + x) (b - 1) z (omega arith) (omega arith) in
-          omega (arith, f, d)
-    ]
-  ]
+-- the least of the part is the least of the line
+module _ (line : ℕ → Option Found) (w a b x : ℕ) (p : IsPart (holds line) w a b) (inside : a + x < b) (g : Found) (t : IsLeastOfLine (λ y. line (a + y)) (b - a) x g) where
+  least_held : (y h : ℕ) → y < b - a → holds line (a + y) h → g.s ≤ h + gap x y * gap x y
+  least_held y h l there =
+      let f = square_found (line (a + y)) h there in
+      omega (arith, t.least y f.0 l f.1, f.2)
 
   least_of_line : IsLeastOfLine line w (a + x) g
   least_of_line =
       let within = p.within in
-      let inside = t.inside in
+      let here = t.inside in
       record {
         y = a + t.y;
         f = t.f;
@@ -96,11 +69,11 @@ module _ (line : ℕ → Option Found) (w a b x : ℕ) (p : IsPart line w a b) (
         there = t.there;
         point = t.point;
         square = rw (gap_shift a x t.y) t.square;
-        least = beyond;
+        least = λ z h l there. part_least (holds line) w a b x g.s p inside least_held z h.s l (ap square_in there);
       }
 
 -- nothing in a part is nothing in the line
-none_of_line : (line : ℕ → Option Found) (w a b : ℕ) → IsPart line w a b → ((y : ℕ) → y < b - a → line (a + y) ≡ None) → (z : ℕ) → z < w → line z ≡ None
+none_of_line : (line : ℕ → Option Found) (w a b : ℕ) → IsPart (holds line) w a b → ((y : ℕ) → y < b - a → line (a + y) ≡ None) → (z : ℕ) → z < w → line z ≡ None
 none_of_line line w a b p none z l =
     let some = p.some in
     let free : (y : ℕ) → a ≤ y → y < b → square_in (line y) ≡ Some 0 → ⊥ =
@@ -116,7 +89,7 @@ none_of_line line w a b p none z l =
       ]
     ]
 
-part_spreads : (line : ℕ → Option Found) (w a b x : ℕ) (o : Option Found) → IsPart line w a b → a + x < b → IsSpreadAt (λ y. line (a + y)) (b - a) x o → IsSpreadAt line w (a + x) o
+part_spreads : (line : ℕ → Option Found) (w a b x : ℕ) (o : Option Found) → IsPart (holds line) w a b → a + x < b → IsSpreadAt (λ y. line (a + y)) (b - a) x o → IsSpreadAt line w (a + x) o
 part_spreads line w a b x None p l t = none_of_line line w a b p t
 part_spreads line w a b x (Some g) p l t = least_of_line line w a b x p l g t
 
@@ -159,7 +132,7 @@ module _ (line now new : ℕ → Option Found) (w x a b : ℕ) (s : HasSpreadBef
   as_before : (z : ℕ) → a ≤ z → z < w → now z ≡ line z
   as_before = as_before_part line now w x a s first (omega arith)
 
-  is_part : IsPart line w a b
+  is_part : IsPart (holds line) w a b
   is_part = record {
     some = omega arith;
     within = within;

@@ -1,15 +1,36 @@
-use Rattle.std.proofs.Common.{◌≡◌, true, length, get_or, pos, ◌+◌, ◌*◌, subst, sym, ◌∙◌, arith, rules}
-use Rattle.std.proofs.lemmas.List.{take_at}
-use Rattle.shape_terms.specs.Rows.{IsLowest}
-use Rattle.judge_field.proofs.ScanSteps.{lowest_along}
+use Rattle.std.proofs.Common.{◌≡◌, ◌+◌, ◌*◌, ◌<◌, ◌≤◌, ◌-◌, arith, get_or, get_or-set_other, ◌∙◌}
+use Rattle.judge_field.proofs.LineParts.{on_places, bare_written, squares_more, others_more}
 use Rattle.judge_field.proofs.line.scan_line.Goals as goal
 
-pub returns-clause-on_line : goal.returns-clause-on_line
-returns-clause-on_line g c =
-    let long : length c.envelope.new.out ≡ c.in_ok-lowest.lowest.len = omega (arith, c.envelope.auto.out, c.deref_mut.ensures.len) in
-    let same : c.deref.result.now ≡ c.envelope.new.out = c.deref.ensures.value ∙ take_at c.envelope.new.out _ c.in_ok-lowest.lowest.len long in
-    let count : length c.deref.result.now ≡ c.args.side = search rules in
-    let some : c.in_ok-envelope.field-0 ≡ true = search rules in
-    λ x l.
-    let lowest = subst (λ out. IsLowest c.in_ok-row.row (pos x) (get_or out x 0)) (sym same) (c.in_ok-envelope.ensures.lowest some x (omega (arith, c.in_ok-row.ensures.long))) in
-    lowest_along (λ y. get_or c.args.squares.now (c.args.start + y * c.args.step) 0) c.in_ok-row.row c.args.side x (get_or c.deref.result.now x 0) _ c.in_ok-row.ensures.long c.in_ok-row.ensures.same lowest (c.store.ensures.on_line x (omega arith))
+pub scan_part-requires-clause-inside : goal.scan_part-requires-clause-inside
+scan_part-requires-clause-inside g c = λ y l.
+    let a = c.saturating_sub-from.result in
+    let at = c.requires.inside (a + y) (omega (arith, c.min-to.ensures)) in
+    omega (arith, at, on_places c.args.start c.args.step a y)
+
+pub loop-x-preserved : goal.loop-x-preserved
+loop-x-preserved g c =
+    let a = c.saturating_sub-from.result in
+    let b = c.min-to.result in
+    let h = c.in_ok-scan_part.ensures in
+    let from : a ≡ c.loop-x.x - 1 = omega (arith, c.saturating_sub-from.ensures) in
+    let some : c.loop-x.x < b = omega (arith, c.min-to.ensures, c.part_end-end.ensures.later) in
+    let within : b ≤ c.args.side = omega (arith, c.min-to.ensures) in
+    record {
+      within = within;
+      scanned = squares_more c.args.squares.now c.loop-x.next c.scan_part.new.next c.args.start c.args.step c.args.side c.loop-x.x a b c.requires.apart c.loop-x.invariant.scanned from some within
+      (λ z e l.
+      let end : c.part_end-end.result ≡ z = omega (arith, c.min-to.ensures) in
+      rw end at (c.part_end-end.ensures.bare (omega (arith, c.min-to.ensures))))
+      h.on_line h.others;
+      others = others_more c.args.next.now c.loop-x.next c.scan_part.new.next c.args.start c.args.step c.args.side a b within h.others c.loop-x.invariant.others;
+    }
+
+pub loop-x-preserved-then-squares-at-eq0 : goal.loop-x-preserved-then-squares-at-eq0
+loop-x-preserved-then-squares-at-eq0 g c =
+    let i = c.loop-x.invariant in
+    record {
+      within = omega arith;
+      scanned = bare_written c.args.squares.now c.loop-x.next c.args.start c.args.step c.args.side c.loop-x.x c.requires.apart (omega (arith, c.requires.inside c.loop-x.x (omega arith), c.loop-x.auto.next, c.requires.long)) i.scanned (omega arith) c.if-squares-at-eq0.true;
+      others = λ j apart. get_or-set_other c.loop-x.next (c.args.start + c.loop-x.x * c.args.step) j 0 0 (apart c.loop-x.x (omega arith)) ∙ i.others j apart;
+    }

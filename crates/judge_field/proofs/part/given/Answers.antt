@@ -1,6 +1,6 @@
 use Rattle.std.proofs.Common.{arith}
 use Rattle.std.proofs.lemmas.Nat.{mul-le}
-use Rattle.judge_field.proofs.line.given.Goals as goal
+use Rattle.judge_field.proofs.part.given.Goals as goal
 
 pub overflow_add-result : goal.overflow_add-result
 overflow_add-result c =

@@ -1,6 +1,6 @@
 use Rattle.std.proofs.Common.{◌≡◌, ℕ, ◌+◌, ◌*◌, ◌<◌, length, get_or}
 use Rattle.shape_terms.specs.AxisLines.{gap}
-use Rattle.judge_field.proofs.line.store.Given as goal
+use Rattle.judge_field.proofs.part.store.Given as goal
 
 abbrev pub invariant-loop-x : goal.invariant-loop-x
 invariant-loop-x l = record {

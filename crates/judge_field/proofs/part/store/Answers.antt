@@ -1,7 +1,7 @@
 use Rattle.std.proofs.Common.{◌+◌, ◌*◌, ◌∙◌, get_or, get_or-set_other, arith}
 use Rattle.shape_terms.specs.AxisLines.{gap}
 use Rattle.judge_field.proofs.ScanSteps.{stored_more}
-use Rattle.judge_field.proofs.line.store.Goals as goal
+use Rattle.judge_field.proofs.part.store.Goals as goal
 
 pub loop-x-preserved : goal.loop-x-preserved
 loop-x-preserved c =
