@@ -1,6 +1,5 @@
-use Rattle.std.proofs.Common.{◌≡◌, true, false, rules, sym, subst, ◌∙◌}
+use Rattle.std.proofs.Common.{◌≡◌, true, false, sym, subst, ◌∙◌}
 use Rattle.shape_terms.specs.Adjacency.{Near, near_point}
-use Rattle.shape_terms.specs.Pictures.{at}
 use Rattle.shape_plane.specs.Trials.{spread_of, IsSettled}
 use Rattle.shape_plane.proofs.Spreading.{in_sides, tried_spreads, tried_later}
 use Rattle.shape_plane.proofs.Neighbours.{within_sides, is_open}
