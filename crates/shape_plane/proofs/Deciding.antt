@@ -1,17 +1,14 @@
 -- Rows of pairs of a list of points, while pairs and points are added.
 -- How pairs are found belongs elsewhere.
-use Rattle.std.proofs.Common.{◌≡◌, ℕ, zero, suc, ◌+◌, ◌⊎◌, inl, inr, List, [], ◌∷◌, ◌++◌, length, map, take, refl, ap, sym, subst, ◌∙◌, arith}
+use Rattle.std.proofs.Common.{◌≡◌, ℕ, zero, suc, ◌+◌, ◌⊎◌, inl, inr, List, [], ◌∷◌, ◌++◌, length, map, refl, ap, sym, subst, ◌∙◌, arith}
 use Rattle.std.proofs.lemmas.List.{get_or_append_left, length-append, map-append, append_assoc, length-map}
-use Rattle.std.proofs.Math.Seq.{take-append_seam}
 use Rattle.std.proofs.lemmas.List.Elements.{All-push}
 use Rattle.shape_terms.specs.Points.{Point}
 use Rattle.shape_terms.specs.Refutations.{point_at}
 use Rattle.shape_slope.specs.declared.pair.Pair.{Pair}
 use Rattle.shape_slope.specs.declared.row.Row.{Row}
-use Rattle.shape_slope.specs.declared.known.Mark.{Mark}
 use Rattle.shape_slope.specs.Pairs.{IsPair, ArePairs, pair_row}
 use Rattle.shape_slope.specs.Systems.{bounding_rows}
-use Rattle.shape_slope.specs.Knowing.{IsMark}
 use Rattle.shape_plane.specs.Verdicts.{AreRowsOf, HasGrown}
 
 -- ---- one pair more

@@ -4,6 +4,7 @@ pub mod Growth
 pub mod ToldAnew
 pub mod Trials
 pub mod Found
+pub mod Surroundings
 pub mod Rounds
 pub mod Parting
 pub mod Unmarking

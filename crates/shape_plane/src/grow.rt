@@ -2,15 +2,16 @@
 //! Which points there are to be taken, and where a patch begins, belongs elsewhere.
 ghost use Rattle.std.specs.Prelude.{◌≡◌, ◌<◌, ◌^◌, ◌+◌, ◌-◌, IsTrue, IfOk, Contains, ℕ, length, pos, ◌-ℤ◌};
 ghost use Rattle.shape_terms.specs.FramedBox.{IsWithin};
-ghost use Rattle.shape_terms.specs.Points.{Point as Place, in_box};
+ghost use Rattle.shape_terms.specs.Points.{Point as Place, sides_of, in_box};
 ghost use Rattle.shape_terms.specs.Pictures.{Picture, at};
 ghost use Rattle.shape_terms.specs.Adjacency.{near_point};
 ghost use Rattle.shape_plane.specs.Trials.{spread_of, IsTried, IsLater, IsSettled, IsSpreading};
 ghost use Rattle.shape_plane.specs.Rounds.{IsGoing};
 
+use crate::around::Around;
 use crate::growing::{Added, Growing};
 use crate::refusals::{Refusals, Refused};
-use shape_adj::Pairing;
+use shape_adj::{NearNumbers, Pairing};
 use shape_grid::Grid;
 use shape_space::{NoMemory, Point};
 use std::alloc::Global;
@@ -53,12 +54,12 @@ fn try_neighbour<P: Pairing>(
     left: &mut Grid<P>,
     tried: &mut Grid<P>,
     refused: &mut Refusals<P>,
-    p: P,
+    around: &Around<'_, P>,
     n: usize,
 ) -> Result<(), NoMemory>
     requires below { n < P.NEAR_COUNT }
-    requires point { Contains growing.old.points (P.coords p) }
-    requires within { IsWithin (pos 0) (P.MAX_SIDE -ℤ pos 1) (P.coords p) }
+    requires point { Contains growing.old.points (P.coords around.now.point) }
+    requires near { sides_of (P.coords around.now.near.now.sides.lengths) ≡ left.old.sides }
     requires sides { left.old.sides ≡ tried.old.sides }
     requires spreading { (first : Picture) × IsSpreading P.DIM growing.old.axis first
         (spread_of growing.old.points left.old tried.old refused.old) }
@@ -69,7 +70,7 @@ fn try_neighbour<P: Pairing>(
         (spread_of growing.new.points left.new tried.new refused.new)) }
     ensures settled { IfOk result (λ _. IsSettled
         (spread_of growing.new.points left.new tried.new refused.new)
-        (near_point (P.coords p) n)) }
+        (near_point (P.coords around.now.point) n)) }
     ensures spreads { (first : Picture)
         → IsSpreading P.DIM growing.old.axis first
         (spread_of growing.old.points left.old tried.old refused.old)
@@ -78,11 +79,10 @@ fn try_neighbour<P: Pairing>(
 {
     left.is_picture();
     tried.is_picture();
-    let q = p.near(n);
-    if !left.has(q) || tried.has(q) {
+    if !around.is_open(left, tried, n) {
         return Ok(());
     }
-    try_point(growing, left, tried, refused, q)?;
+    try_point(growing, left, tried, refused, around.point.near(n))?;
     Ok(())
 }
 
@@ -92,10 +92,10 @@ fn spread<P: Pairing>(
     left: &mut Grid<P>,
     tried: &mut Grid<P>,
     refused: &mut Refusals<P>,
-    p: P,
+    around: &Around<'_, P>,
 ) -> Result<(), NoMemory>
-    requires point { Contains growing.old.points (P.coords p) }
-    requires within { IsWithin (pos 0) (P.MAX_SIDE -ℤ pos 1) (P.coords p) }
+    requires point { Contains growing.old.points (P.coords around.now.point) }
+    requires near { sides_of (P.coords around.now.near.now.sides.lengths) ≡ left.old.sides }
     requires sides { left.old.sides ≡ tried.old.sides }
     requires spreading { (first : Picture) × IsSpreading P.DIM growing.old.axis first
         (spread_of growing.old.points left.old tried.old refused.old) }
@@ -106,7 +106,7 @@ fn spread<P: Pairing>(
         (spread_of growing.new.points left.new tried.new refused.new)) }
     ensures settled { IfOk result (λ _. (n : ℕ) → n < P.NEAR_COUNT → IsSettled
         (spread_of growing.new.points left.new tried.new refused.new)
-        (near_point (P.coords p) n)) }
+        (near_point (P.coords around.now.point) n)) }
     ensures spreads { (first : Picture)
         → IsSpreading P.DIM growing.old.axis first
         (spread_of growing.old.points left.old tried.old refused.old)
@@ -114,7 +114,7 @@ fn spread<P: Pairing>(
         (spread_of growing.new.points left.new tried.new refused.new)) }
 {
     for n in 0..P::NEAR_COUNT {
-        try_neighbour(growing, left, tried, refused, p, n)?;
+        try_neighbour(growing, left, tried, refused, around, n)?;
     }
     Ok(())
 }
@@ -132,9 +132,11 @@ fn spread_from<P: Pairing>(
     left: &mut Grid<P>,
     tried: &mut Grid<P>,
     refused: &mut Refusals<P>,
+    near: &NearNumbers<P>,
     k: u32,
 ) -> Result<(), NoMemory>
     requires place { k < length growing.old.points }
+    requires near { sides_of (P.coords near.now.sides.lengths) ≡ left.old.sides }
     requires going { (t : ℕ) × (first : Picture) × (p : Place) × IsGoing P.DIM P.NEAR_COUNT
         t first p k growing.old left.old tried.old refused.old }
     ensures going { (t : ℕ) (first : Picture) (p : Place)
@@ -143,8 +145,8 @@ fn spread_from<P: Pairing>(
         t first p (k + 1) growing.new left.new tried.new refused.new) }
 {
     left.is_picture();
-    let p = growing.point(k);
-    spread(growing, left, tried, refused, p)?;
+    let around = Around::new(near, growing.point(k));
+    spread(growing, left, tried, refused, &around)?;
     Ok(())
 }
 
@@ -157,9 +159,11 @@ pub fn grow<P: Pairing>(
     p: P,
     left: &mut Grid<P>,
     tried: &mut Grid<P>,
+    near: &NearNumbers<P>,
 ) -> Result<Grown<P>, NoMemory>
     requires axis { axis < P.DIM }
     requires left { IsTrue (at left.old (P.coords p)) }
+    requires near { sides_of (P.coords near.now.sides.lengths) ≡ left.old.sides }
     requires sides { tried.old.sides ≡ left.old.sides }
     requires none { (q : Place) → IsTrue (at tried.old q) → ⊥ }
     ensures { IfOk result (λ s. IsGoing P.DIM P.NEAR_COUNT axis left.old (P.coords p)
@@ -171,7 +175,7 @@ pub fn grow<P: Pairing>(
     let mut refused = Refusals::new(alloc);
     let mut k = 0;
     while k < growing.len() {
-        spread_from(&mut growing, left, tried, &mut refused, k)?;
+        spread_from(&mut growing, left, tried, &mut refused, near, k)?;
         k += 1;
     }
     Ok(Grown { growing, refused })

@@ -2,6 +2,7 @@
 //! Everything is exact, and one body serves each dimension.
 #![tactic(auto)]
 
+mod around;
 mod exact;
 mod extreme;
 mod face;

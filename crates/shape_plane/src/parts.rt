@@ -1,7 +1,7 @@
 //! The patches that the points of a face fall into, each grown from the first point in raster order that is left.
 //! How a patch grows belongs elsewhere.
 ghost use Rattle.std.specs.Prelude.{◌≡◌, ◌<◌, ◌^◌, ◌+◌, ◌++◌, ◌∷◌, [], IsTrue, IfOk, Contains, map, length, ℕ, Some, slice_get};
-ghost use Rattle.shape_terms.specs.Points.{Point as Place, in_box, box_count, raster_point};
+ghost use Rattle.shape_terms.specs.Points.{Point as Place, sides_of, in_box, box_count, raster_point};
 ghost use Rattle.shape_terms.specs.Pictures.{Picture, at};
 ghost use Rattle.shape_terms.specs.Steps.{Before};
 ghost use Rattle.shape_plane.specs.Parting.{IsNewPart, AreRefusedOf, IsVisited};
@@ -10,7 +10,7 @@ ghost use Rattle.shape_plane.specs.Trials.{Refusal};
 use crate::grow::grow;
 use crate::patch::Patch;
 use crate::refusals::Refusals;
-use shape_adj::Pairing;
+use shape_adj::{NearNumbers, Pairing};
 use shape_grid::Grid;
 use shape_space::{NoMemory, Point};
 use std::alloc::Global;
@@ -38,9 +38,11 @@ fn next_patch<P: Pairing>(
     p: P,
     left: &mut Grid<P>,
     tried: &mut Grid<P>,
+    near: &NearNumbers<P>,
 ) -> Result<Patch<P>, NoMemory>
     requires axis { axis < P.DIM }
     requires left { IsTrue (at left.old (P.coords p)) }
+    requires near { sides_of (P.coords near.now.sides.lengths) ≡ left.old.sides }
     requires sides { tried.old.sides ≡ left.old.sides }
     requires none { (q : Place) → IsTrue (at tried.old q) → ⊥ }
     requires least { (q : Place) → IsTrue (at left.old q) → Before q (P.coords p) → ⊥ }
@@ -54,7 +56,7 @@ fn next_patch<P: Pairing>(
         AreRefusedOf P.DIM axis x.found.patch (λ q. IsTrue (at left.new q)) x.found.refused) }
 {
     left.is_picture();
-    let mut grown = grow(alloc, axis, p, left, tried)?;
+    let mut grown = grow(alloc, axis, p, left, tried, near)?;
     unmark(tried, &grown.refused);
     grown.refused.sort();
     Ok(Patch::new(grown.growing, grown.refused))
@@ -120,17 +122,19 @@ impl<P: Point> Patches<P> {
 }
 
 // Grows a patch from the point with a raster number, which is left.
-fn visit_left<P: Pairing>(
+fn visit<P: Pairing>(
     alloc: Global,
     axis: usize,
     i: u32,
     left: &mut Grid<P>,
     tried: &mut Grid<P>,
+    near: &NearNumbers<P>,
     found: &mut Patches<P>,
 ) -> Result<(), NoMemory>
     requires axis { axis < P.DIM }
     requires place { i < box_count left.old.sides }
     requires left { IsTrue (at left.old (raster_point left.old.sides i)) }
+    requires near { sides_of (P.coords near.now.sides.lengths) ≡ left.old.sides }
     requires of_axis { found.old.axis ≡ axis }
     requires visited { (first : Picture)
         × IsVisited P.DIM axis first i found.old.patches left.old tried.old }
@@ -143,36 +147,8 @@ fn visit_left<P: Pairing>(
 {
     left.is_picture();
     let p = left.sides().unraster(i);
-    let patch = next_patch(alloc, axis, p, left, tried)?;
+    let patch = next_patch(alloc, axis, p, left, tried, near)?;
     found.push(patch)?;
-    Ok(())
-}
-
-// The same of any point, where it is left.
-fn visit<P: Pairing>(
-    alloc: Global,
-    axis: usize,
-    i: u32,
-    left: &mut Grid<P>,
-    tried: &mut Grid<P>,
-    found: &mut Patches<P>,
-) -> Result<(), NoMemory>
-    requires axis { axis < P.DIM }
-    requires place { i < box_count left.old.sides }
-    requires of_axis { found.old.axis ≡ axis }
-    requires visited { (first : Picture)
-        × IsVisited P.DIM axis first i found.old.patches left.old tried.old }
-    ensures of_axis { IfOk result (λ _. found.new.axis ≡ axis) }
-    ensures sides { IfOk result (λ _. left.new.sides ≡ left.old.sides) }
-    ensures visited { (first : Picture)
-        → IsVisited P.DIM axis first i found.old.patches left.old tried.old
-        → IfOk result (λ _.
-        IsVisited P.DIM axis first (i + 1) found.new.patches left.new tried.new) }
-{
-    left.is_picture();
-    if left.has_number(i) {
-        visit_left(alloc, axis, i, left, tried, found)?;
-    }
     Ok(())
 }
 
@@ -189,9 +165,12 @@ pub fn parts_of<P: Pairing>(
 {
     let sides = left.sides();
     let mut tried = Grid::new(alloc, sides)?;
+    let near = NearNumbers::new(alloc, sides)?;
     let mut found = Patches::new(alloc, axis);
     for i in 0..sides.count() {
-        visit(alloc, axis, i, left, &mut tried, &mut found)?;
+        if left.has_number(i) {
+            visit(alloc, axis, i, left, &mut tried, &near, &mut found)?;
+        }
     }
     Ok(found)
 }

@@ -69,10 +69,10 @@ impl<P: Point> Refusals<P> {
     }
 
     /// The refused point at a place, from 0 on.
-    pub fn get(&self, i: usize) -> Refused<P>
+    pub fn get(&self, i: usize) -> &Refused<P>
         requires { i < length self.now }
-        ensures { slice_get self.now i ≡ Some (refusal_of P.coords result) }
+        ensures { slice_get self.now i ≡ Some (refusal_of P.coords result.now) }
     {
-        self.items[i]
+        &self.items[i]
     }
 }

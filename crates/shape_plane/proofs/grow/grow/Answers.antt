@@ -1,4 +1,4 @@
-use Rattle.std.proofs.Common.{arith, length}
+use Rattle.std.proofs.Common.{arith, length, sym, ◌∙◌}
 use Rattle.shape_plane.proofs.Going.{going_first, going_less}
 use Rattle.shape_plane.proofs.Spreading.{in_sides}
 use Rattle.shape_plane.proofs.Neighbours.{within_sides}
@@ -22,3 +22,6 @@ pub returns : goal.returns
 returns g c =
     going_less g.P.Point.DIM g.P.Pairing.NEAR_COUNT c.args.axis c.args.left.now (g.P.Point.coords c.args.p) c.loop-k.k (length c.loop-k.growing.points) c.loop-k.growing c.loop-k.left c.loop-k.tried c.loop-k.refused
     (let t = c.loop-k-test.false in let e = c.len.ensures in omega (arith, t, e)) c.loop-k.invariant
+
+pub spread_from-requires-clause-near : goal.spread_from-requires-clause-near
+spread_from-requires-clause-near g c = c.requires.near ∙ sym c.loop-k.invariant.spreading.left_sides

@@ -1,20 +1,21 @@
-use Rattle.std.proofs.Common.{ℕ, sym, subst}
-use Rattle.shape_plane.specs.Trials.{spread_of, IsSpreading}
+use Rattle.std.proofs.Common.{ℕ, ◌<◌, sym, subst}
+use Rattle.shape_terms.specs.Adjacency.{near_point}
+use Rattle.shape_plane.specs.Trials.{spread_of, IsSettled, IsSpreading}
 use Rattle.shape_plane.proofs.Going.{going_more, going_in_box}
 use Rattle.shape_plane.proofs.Neighbours.{within_sides}
 use Rattle.shape_plane.proofs.grow.spread_from.Goals as goal
 
-pub spread-requires-clause-within : goal.spread-requires-clause-within
-spread-requires-clause-within g c =
+pub new-around-requires : goal.new-around-requires
+new-around-requires g c =
     let w = c.requires.going in
-    within_sides g.P.Point.MAX_SIDE c.args.left.now.sides (g.P.Point.coords c.point-p.result) c.is_picture.ensures.in_range
-    (going_in_box g.P.Point.DIM g.P.Pairing.NEAR_COUNT w.0 w.1 w.2 c.args.k c.args.growing.now c.args.left.now c.args.tried.now c.args.refused.now c.args.k (g.P.Point.coords c.point-p.result) w.3 c.point-p.ensures)
+    within_sides g.P.Point.MAX_SIDE c.args.left.now.sides (g.P.Point.coords c.point.result) c.is_picture.ensures.in_range
+    (going_in_box g.P.Point.DIM g.P.Pairing.NEAR_COUNT w.0 w.1 w.2 c.args.k c.args.growing.now c.args.left.now c.args.tried.now c.args.refused.now c.args.k (g.P.Point.coords c.point.result) w.3 c.point.ensures)
 
 pub returns : goal.returns
 returns g c = record {
   going = λ t first p h.
-      going_more g.P.Point.DIM g.P.Pairing.NEAR_COUNT t first p c.args.k c.args.growing.now c.spread.new.growing (g.P.Point.coords c.point-p.result) c.args.left.now c.args.tried.now c.spread.new.left c.spread.new.tried c.args.refused.now c.spread.new.refused
-      h c.point-p.ensures c.in_ok-spread.ensures.axis c.in_ok-spread.ensures.later c.in_ok-spread.ensures.settled c.in_ok-spread.ensures.spreads;
+      going_more g.P.Point.DIM g.P.Pairing.NEAR_COUNT t first p c.args.k c.args.growing.now c.spread.new.growing (g.P.Point.coords c.point.result) c.args.left.now c.args.tried.now c.spread.new.left c.spread.new.tried c.args.refused.now c.spread.new.refused
+      h c.point.ensures c.in_ok-spread.ensures.axis c.in_ok-spread.ensures.later (subst (λ (z : g.row.P.Denot). (n : ℕ) → n < g.P.Pairing.NEAR_COUNT → IsSettled (spread_of c.spread.new.growing.points c.spread.new.left c.spread.new.tried c.spread.new.refused) (near_point (g.P.Point.coords z) n)) c.new-around.ensures.point c.in_ok-spread.ensures.settled) c.in_ok-spread.ensures.spreads;
 }
 
 pub spread-requires-clause-spreading : goal.spread-requires-clause-spreading

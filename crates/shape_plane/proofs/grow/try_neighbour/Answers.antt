@@ -1,16 +1,15 @@
-use Rattle.std.proofs.Common.{◌≡◌, true, false, rules, sym, subst, ◌∙◌}
-use Rattle.shape_terms.specs.Adjacency.{Near}
-use Rattle.shape_terms.specs.Pictures.{at}
+use Rattle.std.proofs.Common.{◌≡◌, true, false, sym, subst, ◌∙◌}
+use Rattle.shape_terms.specs.Adjacency.{Near, near_point}
 use Rattle.shape_plane.specs.Trials.{spread_of, IsSettled}
 use Rattle.shape_plane.proofs.Spreading.{in_sides, tried_spreads, tried_later}
-use Rattle.shape_plane.proofs.Neighbours.{within_sides}
+use Rattle.shape_plane.proofs.Neighbours.{within_sides, is_open}
 use Rattle.shape_plane.proofs.Refusing.{few_taken}
 use Rattle.shape_plane.proofs.grow.try_neighbour.Goals as goal
 
 pub try_point-requires-clause-inside : goal.try_point-requires-clause-inside
 try_point-requires-clause-inside g c =
-    let h : at c.args.left.now (g.P.Point.coords c.near-q.result) ≡ true = search rules in
-    within_sides g.P.Point.MAX_SIDE c.args.left.now.sides (g.P.Point.coords c.near-q.result) c.is_picture.ensures.in_range (in_sides c.args.left.now (g.P.Point.coords c.near-q.result) h)
+    let o = is_open c.args.left.now c.args.tried.now (near_point (g.P.Point.coords c.args.around.now.point) c.args.n) (g.P.Point.coords c.near.result) c.is_open.result c.is_open.ensures c.if-not-is_open.false c.near.ensures in
+    within_sides g.P.Point.MAX_SIDE c.args.left.now.sides (g.P.Point.coords c.near.result) c.is_picture.ensures.in_range (in_sides c.args.left.now (g.P.Point.coords c.near.result) o.0)
 
 pub try_point-requires-clause-few : goal.try_point-requires-clause-few
 try_point-requires-clause-few g c =
@@ -19,21 +18,20 @@ try_point-requires-clause-few g c =
 
 pub returns-clause-later : goal.returns-clause-later
 returns-clause-later g c =
-    let h : at c.args.left.now (g.P.Point.coords c.near-q.result) ≡ true = search rules in
-    (tried_later g.P.Point.DIM c.args.growing.now.axis (spread_of c.args.growing.now.points c.args.left.now c.args.tried.now c.args.refused.now) (spread_of c.try_point.new.growing.points c.try_point.new.left c.try_point.new.tried c.try_point.new.refused) (g.P.Point.coords c.near-q.result)
-    c.is_picture.ensures.picture c.is_picture-2.ensures.picture c.requires.sides h c.in_ok-try_point.ensures.tried).0
+    let o = is_open c.args.left.now c.args.tried.now (near_point (g.P.Point.coords c.args.around.now.point) c.args.n) (g.P.Point.coords c.near.result) c.is_open.result c.is_open.ensures c.if-not-is_open.false c.near.ensures in
+    (tried_later g.P.Point.DIM c.args.growing.now.axis (spread_of c.args.growing.now.points c.args.left.now c.args.tried.now c.args.refused.now) (spread_of c.try_point.new.growing.points c.try_point.new.left c.try_point.new.tried c.try_point.new.refused) (g.P.Point.coords c.near.result)
+    c.is_picture.ensures.picture c.is_picture-2.ensures.picture c.requires.sides o.0 c.in_ok-try_point.ensures.tried).0
 
 pub returns-clause-settled : goal.returns-clause-settled
 returns-clause-settled g c =
-    let h : at c.args.left.now (g.P.Point.coords c.near-q.result) ≡ true = search rules in
-    subst (IsSettled (spread_of c.try_point.new.growing.points c.try_point.new.left c.try_point.new.tried c.try_point.new.refused)) c.near-q.ensures
-    (tried_later g.P.Point.DIM c.args.growing.now.axis (spread_of c.args.growing.now.points c.args.left.now c.args.tried.now c.args.refused.now) (spread_of c.try_point.new.growing.points c.try_point.new.left c.try_point.new.tried c.try_point.new.refused) (g.P.Point.coords c.near-q.result)
-    c.is_picture.ensures.picture c.is_picture-2.ensures.picture c.requires.sides h c.in_ok-try_point.ensures.tried).1
+    let o = is_open c.args.left.now c.args.tried.now (near_point (g.P.Point.coords c.args.around.now.point) c.args.n) (g.P.Point.coords c.near.result) c.is_open.result c.is_open.ensures c.if-not-is_open.false c.near.ensures in
+    subst (IsSettled (spread_of c.try_point.new.growing.points c.try_point.new.left c.try_point.new.tried c.try_point.new.refused)) c.near.ensures
+    (tried_later g.P.Point.DIM c.args.growing.now.axis (spread_of c.args.growing.now.points c.args.left.now c.args.tried.now c.args.refused.now) (spread_of c.try_point.new.growing.points c.try_point.new.left c.try_point.new.tried c.try_point.new.refused) (g.P.Point.coords c.near.result)
+    c.is_picture.ensures.picture c.is_picture-2.ensures.picture c.requires.sides o.0 c.in_ok-try_point.ensures.tried).1
 
 pub returns-clause-spreads : goal.returns-clause-spreads
 returns-clause-spreads g c first s =
-    let h : at c.args.left.now (g.P.Point.coords c.near-q.result) ≡ true = search rules in
-    let u : at c.args.tried.now (g.P.Point.coords c.near-q.result) ≡ false = search rules in
-    let near : Near (g.P.Point.coords c.args.p) (g.P.Point.coords c.near-q.result) = subst (Near (g.P.Point.coords c.args.p)) (sym c.near-q.ensures) ((g.met.P.Pairing.near_listed c.args.p).only c.args.n c.requires.below) in
-    (tried_spreads g.P.Point.DIM c.args.growing.now.axis first (spread_of c.args.growing.now.points c.args.left.now c.args.tried.now c.args.refused.now) (spread_of c.try_point.new.growing.points c.try_point.new.left c.try_point.new.tried c.try_point.new.refused) (g.P.Point.coords c.args.p) (g.P.Point.coords c.near-q.result)
-    c.is_picture.ensures.picture c.is_picture-2.ensures.picture s h (λ t. let f : false ≡ true = sym u ∙ t in cc) c.requires.point (g.met.P.Pairing.near_symmetric c.args.p c.near-q.result near) c.in_ok-try_point.ensures.tried).0
+    let o = is_open c.args.left.now c.args.tried.now (near_point (g.P.Point.coords c.args.around.now.point) c.args.n) (g.P.Point.coords c.near.result) c.is_open.result c.is_open.ensures c.if-not-is_open.false c.near.ensures in
+    let near : Near (g.P.Point.coords c.args.around.now.point) (g.P.Point.coords c.near.result) = subst (Near (g.P.Point.coords c.args.around.now.point)) (sym c.near.ensures) ((g.met.P.Pairing.near_listed c.args.around.now.point).only c.args.n c.requires.below) in
+    (tried_spreads g.P.Point.DIM c.args.growing.now.axis first (spread_of c.args.growing.now.points c.args.left.now c.args.tried.now c.args.refused.now) (spread_of c.try_point.new.growing.points c.try_point.new.left c.try_point.new.tried c.try_point.new.refused) (g.P.Point.coords c.args.around.now.point) (g.P.Point.coords c.near.result)
+    c.is_picture.ensures.picture c.is_picture-2.ensures.picture s o.0 (λ t. let f : false ≡ true = sym o.1 ∙ t in cc) c.requires.point (g.met.P.Pairing.near_symmetric c.args.around.now.point c.near.result near) c.in_ok-try_point.ensures.tried).0

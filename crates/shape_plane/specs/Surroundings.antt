@@ -1,0 +1,12 @@
+-- A point whose near neighbours are asked for by raster numbers.
+-- How far the neighbours are behind the point belongs elsewhere.
+use Rattle.std.specs.Prelude.{◌≡◌, ℕ, ◌<◌, ◌≤◌, List, length, IsTrue}
+use Rattle.shape_terms.specs.Points.{Point, in_box, box_count, raster_point}
+use Rattle.shape_terms.specs.Adjacency.{near_point}
+
+-- i is the raster number of the point p in the box, which holds its n near neighbours, and so many distances are known
+pub record IsInner (n : ℕ) (sides gaps : List ℕ) (p : Point) (i : ℕ) : Type 0 where
+  pub bounded : i < box_count sides
+  pub is : raster_point sides i ≡ p
+  pub inside : (k : ℕ) → k < n → IsTrue (in_box sides (near_point p k))
+  pub known : n ≤ length gaps
