@@ -10,7 +10,7 @@ ghost use Rattle.report_text.specs.Checks.{HasCome, HasChecked, KeepsLines};
 use crate::answer::{CheckFault, Judgement};
 use crate::judge::ReportJudge;
 use crate::line::ReportLine;
-use crate::next::{Next, next_claim};
+use crate::next::{NextText, next_text};
 use shape_desk::{Desk, LineReader};
 use std::alloc::Global;
 
@@ -39,15 +39,18 @@ pub fn check_from<L: ReportLine, J: ReportJudge<L>, D: Desk>(
 {
     let mut line = first;
     'lines: loop {
-        match next_claim::<L, D>(reader, desk)? {
-            Next::Claim(claim) => {
-                if !judge.take(&claim)? {
-                    return Ok(Judgement::No { line });
+        match next_text::<L, D>(reader, desk)? {
+            NextText::Line => match &L::read(reader.line()) {
+                Some(claim) => {
+                    if !judge.take(claim)? {
+                        return Ok(Judgement::No { line });
+                    }
+                    line += 1;
                 }
-                line += 1;
-            }
-            Next::Bad => return Ok(Judgement::No { line }),
-            Next::End => {
+                None => return Ok(Judgement::No { line }),
+            },
+            NextText::Bad => return Ok(Judgement::No { line }),
+            NextText::End => {
                 if judge.has_ended() {
                     return Ok(Judgement::Yes);
                 }

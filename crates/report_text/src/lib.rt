@@ -22,7 +22,7 @@ pub use check::{check_by, check_from};
 pub use judge::ReportJudge;
 pub use kinds::kind;
 pub use line::ReportLine;
-pub use next::{Next, ReadFault, next_claim};
+pub use next::{Next, NextText, ReadFault, next_claim, next_text};
 pub use put_weights::put_why;
 pub use report::{Report, WriteFault, write_report};
 pub use table::{TableLine, read_line, spell_line};
