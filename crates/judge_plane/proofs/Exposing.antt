@@ -1,11 +1,10 @@
--- Exposed points by tests, and which is the first that is left.
+-- Exposed points by tests.
 -- Laws over pictures and points.
-use Rattle.std.proofs.Common.{◌≡◌, ℕ, zero, suc, ◌+◌, ◌<◌, Bool, true, false, ap, sym, ◌∙◌, refl, subst, arith, inl, inr, List, [], ◌∷◌, map}
+use Rattle.std.proofs.Common.{◌≡◌, ℕ, zero, suc, ◌<◌, Bool, true, false, ap, sym, ◌∙◌, refl, subst, arith, inl, inr, List, [], ◌∷◌, map}
 use Rattle.std.specs.Prelude.{◌↔◌, IsTrue, not, filter, Contains, ℤ, pos, negsuc, ◌+ℤ◌}
 use Rattle.std.proofs.lemmas.Int.{ints}
 use Rattle.std.proofs.lemmas.Bool.{cond-true, cond-false, cases_Bool, and_parts}
-use native.Mathlib.Decide.{ℕ_discrete}
-use Rattle.shape_terms.specs.Points.{Point, AreSides, sides_of, in_box, box_count, box_points, raster_number, raster_point}
+use Rattle.shape_terms.specs.Points.{Point, AreSides, sides_of, in_box, box_points, raster_number}
 use Rattle.shape_terms.specs.Adjacency.{moved, side_point}
 use Rattle.shape_terms.specs.Pictures.{Picture, at, object_points}
 use Rattle.shape_terms.specs.FramedBox.{IsWithin}
@@ -15,9 +14,8 @@ use Rattle.shape_terms.proofs.SameCycles.{head_in, later_in, in_cases, in_none}
 use Rattle.shape_terms.proofs.Boxes.{raster_below, raster_point-raster_number}
 use Rattle.shape_terms.proofs.BoxLists.{length-box_points, get_or-box_points}
 use Rattle.patch_terms.specs.Patches.{sense_step}
-use Rattle.patch_terms.proofs.PointLists.{is_there}
 use Rattle.report_terms.specs.FaceFacts.{face_axis, face_sense}
-use Rattle.judge_plane.specs.Exposure.{exposed_at, IsLeft, AreTakenBelow}
+use Rattle.judge_plane.specs.Exposure.{exposed_at}
 
 -- what a filter keeps passes the test and was there
 pub kept : {A : Type 0} (test : A → Bool) (xs : List A) (x : A) → Contains (filter test xs) x → (test x ≡ true) × Contains xs x
@@ -39,10 +37,13 @@ sides_back [] = refl
 sides_back (n ∷ sides) = ap (λ l. n ∷ l) (sides_back sides)
 
 -- a point of the box leaves room for its neighbours
-pub near_within : (X : Picture) (p : Point) → AreSides (pos 192) (map pos X.sides) → IsTrue (in_box X.sides p) → IsWithin (negsuc 1) (pos 4096) p
-near_within X p range inside k l =
-    let w = box_point_within (pos 192) (map pos X.sides) p range (omega (arith, ints)) (subst (λ s. IsTrue (in_box s p)) (sym (sides_back X.sides)) inside) k l in
+pub box_within : (lengths : Point) (p : Point) → AreSides (pos 192) lengths → IsTrue (in_box (sides_of lengths) p) → IsWithin (negsuc 1) (pos 4096) p
+box_within lengths p range inside k l =
+    let w = box_point_within (pos 192) lengths p range (omega (arith, ints)) inside k l in
     (let a = w.0 in omega (arith, ints), w.1)
+
+pub near_within : (X : Picture) (p : Point) → AreSides (pos 192) (map pos X.sides) → IsTrue (in_box X.sides p) → IsWithin (negsuc 1) (pos 4096) p
+near_within X p range inside = box_within (map pos X.sides) p range (subst (λ s. IsTrue (in_box s p)) (sym (sides_back X.sides)) inside)
 
 zero_right : (n : ℤ) → n +ℤ pos 0 ≡ n
 zero_right n = omega (arith, ints)
@@ -57,13 +58,17 @@ side_face x y z (suc (suc (suc (suc zero)))) h = refl
 side_face x y z (suc (suc (suc (suc (suc zero))))) h = refl
 side_face x y z (suc (suc (suc (suc (suc (suc f)))))) h = absurd (omega arith)
 
+-- an object point is listed
+pub object_there : (X : Picture) (p : Point) → at X p ≡ true → Contains (object_points X) p
+object_there X p e =
+    let inside = in_of_at X p e in
+    let there : Contains (box_points X.sides) p = (raster_number X.sides p, (let l = raster_below X.sides p inside in let n = length-box_points X.sides in omega arith), get_or-box_points X.sides (raster_number X.sides p) p (raster_below X.sides p inside) ∙ raster_point-raster_number X.sides p inside) in
+    Contains-filter (at X) (box_points X.sides) p there e
+
 module _ (X : Picture) (face : ℕ) where
   -- an exposed point is an object point that has background over the face
   pub exposed_yes : (p : Point) → at X p ≡ true → at X (moved p (sense_step (face_axis face) (face_sense face))) ≡ false → Contains (exposed_at X face) p
-  exposed_yes p e f =
-      let inside = in_of_at X p e in
-      let there : Contains (box_points X.sides) p = (raster_number X.sides p, (let l = raster_below X.sides p inside in let n = length-box_points X.sides in omega arith), get_or-box_points X.sides (raster_number X.sides p) p (raster_below X.sides p inside) ∙ raster_point-raster_number X.sides p inside) in
-      Contains-filter (λ q. not (at X (moved q (sense_step (face_axis face) (face_sense face))))) (object_points X) p (Contains-filter (at X) (box_points X.sides) p there e) (ap not f)
+  exposed_yes p e f = Contains-filter (λ q. not (at X (moved q (sense_step (face_axis face) (face_sense face))))) (object_points X) p (object_there X p e) (ap not f)
 
   pub exposed_only : (p : Point) → Contains (exposed_at X face) p → (at X p ≡ true) × (at X (moved p (sense_step (face_axis face) (face_sense face))) ≡ false)
   exposed_only p c =
@@ -82,16 +87,3 @@ module _ (X : Picture) (face : ℕ) where
   pub exposed_tests : (p q : Point) (b c : Bool) → b ≡ at X p → b ≡ true → c ≡ at X q → q ≡ moved p (sense_step (face_axis face) (face_sense face)) → IsTrue (not c) ↔ Contains (exposed_at X face) p
   exposed_tests p q b true d t e n = ((λ f. cc), λ h. (let r = (exposed_only p h).1 in let k : at X q ≡ false = ap (at X) n ∙ r in cc))
   exposed_tests p q b false d t e n = ((λ f. exposed_yes p (sym d ∙ t) (ap (at X) (sym n) ∙ sym e)), λ h. refl)
-
-  -- ---- the first that is left
-
-  pub none_left : (taken : List Point) (i : ℕ) → AreTakenBelow X face taken i → i < box_count X.sides → (IsLeft (exposed_at X face) taken (raster_point X.sides i) → ⊥) → AreTakenBelow X face taken (i + 1)
-  none_left taken i below l n q c lower = elim (ℕ_discrete (raster_number X.sides q) i) [
-    | no d ↦ below q c (omega arith)
-    | yes e ↦
-        let same : q ≡ raster_point X.sides i = sym (raster_point-raster_number X.sides q (exposed_in q c)) ∙ ap (raster_point X.sides) e in
-        elim (is_there taken q) [
-          | yes t ↦ t
-          | no m ↦ absurd (n (record { there = subst (Contains (exposed_at X face)) same c; left = λ t. m (subst (Contains taken) (sym same) t) }))
-        ]
-  ]

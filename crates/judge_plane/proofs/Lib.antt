@@ -1,6 +1,7 @@
 pub mod Placing
 pub mod Exposing
 pub mod ObjectWalk
+pub mod LeftPoints
 pub mod Rounds
 pub mod Rising
 pub mod Touching

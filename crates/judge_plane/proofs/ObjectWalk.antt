@@ -1,20 +1,18 @@
--- The object points of a picture from a raster number on, as they are walked over: which of them are exposed, and where none stands.
+-- The object points of a picture from a raster number on, as they are walked over: which is the next, and where none stands.
 -- Laws over pictures and points.
-use Rattle.std.proofs.Common.{◌≡◌, ℕ, suc, ◌+◌, ◌-◌, ◌<◌, ◌≤◌, Bool, true, ap, sym, ◌∙◌, refl, subst, arith, inl, inr, List, [], ◌∷◌, length, drop, get_or}
-use Rattle.std.specs.Prelude.{not, filter, Contains}
-use Rattle.std.proofs.lemmas.Bool.{cond-true, cond-false, cases_Bool, cases_lt}
+use Rattle.std.proofs.Common.{◌≡◌, ℕ, ◌+◌, ◌-◌, ◌<◌, ◌≤◌, true, ap, sym, ◌∙◌, subst, arith, inl, inr, List, [], ◌∷◌, drop, get_or}
+use Rattle.std.specs.Prelude.{Contains}
+use Rattle.std.proofs.lemmas.Bool.{cases_lt}
 use Rattle.std.proofs.lemmas.List.{get_or-drop, length-drop}
 use Rattle.shape_terms.specs.Points.{Point, box_count, box_points, raster_number, raster_point}
-use Rattle.shape_terms.specs.Adjacency.{moved}
 use Rattle.shape_terms.specs.Pictures.{Picture, at, objects_from}
 use Rattle.shape_terms.proofs.Members.{Contains-filter}
 use Rattle.shape_terms.proofs.SameCycles.{head_in, in_cases, in_none}
 use Rattle.shape_terms.proofs.Boxes.{raster_below, raster_number-raster_point, raster_point-raster_number}
 use Rattle.shape_terms.proofs.BoxLists.{length-box_points, get_or-box_points}
-use Rattle.patch_terms.specs.Patches.{sense_step}
-use Rattle.report_terms.specs.FaceFacts.{face_axis, face_sense}
-use Rattle.judge_plane.specs.Exposure.{exposed_at, AreTakenBelow}
-use Rattle.judge_plane.proofs.Exposing.{kept, in_of_at, exposed_only, exposed_yes}
+use Rattle.patch_terms.proofs.PointLists.{is_there}
+use Rattle.judge_plane.specs.Exposure.{exposed_at, IsLeft, AreLeft, AreTakenBelow}
+use Rattle.judge_plane.proofs.Exposing.{kept, in_of_at}
 
 -- ---- where they stand
 
@@ -43,69 +41,28 @@ none_between X a i q b e t l h = elim (in_cases (raster_point X.sides i) (object
   | inr c ↦ omega (arith, behind_number X (i + 1) q c)
 ]
 
-module _ (X : Picture) (face : ℕ) where
-  -- ---- what is taken
+-- where a picture has the exposed points that are not taken, all with smaller raster numbers than its next point are taken
+module _ (X : Picture) (face : ℕ) (taken : List Point) (L : Picture) (same : L.sides ≡ X.sides) (h : AreLeft (exposed_at X face) taken L) (a : ℕ) (below : AreTakenBelow X face taken a) where
+  number : (q : Point) → raster_number L.sides q ≡ raster_number X.sides q
+  number q = ap (λ s. raster_number s q) same
 
-  pub taken_up_to : (taken : List Point) (a i : ℕ) → i < box_count X.sides → objects_from X a ≡ raster_point X.sides i ∷ objects_from X (i + 1) → AreTakenBelow X face taken a → AreTakenBelow X face taken i
-  taken_up_to taken a i b e below q c h = elim (cases_lt (raster_number X.sides q) a) [
-    | inl l ↦ below q c l
-    | inr n ↦ absurd (none_between X a i q b e (exposed_only X face q c).0 (omega arith) h)
+  pub taken_up_to : (i : ℕ) → i < box_count L.sides → objects_from L a ≡ raster_point L.sides i ∷ objects_from L (i + 1) → AreTakenBelow X face taken i
+  taken_up_to i b e q c l = elim (is_there taken q) [
+    | yes t ↦ t
+    | no m ↦ elim (cases_lt (raster_number X.sides q) a) [
+      | inl k ↦ below q c k
+      | inr k ↦ absurd (none_between L a i q b e ((h.each q).1 (record { there = c; left = m })) (omega (arith, number q)) (omega (arith, number q)))
+    ]
   ]
 
-  pub all_taken : (taken : List Point) (a : ℕ) → objects_from X a ≡ [] → AreTakenBelow X face taken a → AreTakenBelow X face taken (box_count X.sides)
-  all_taken taken a e below q c h = elim (cases_lt (raster_number X.sides q) a) [
-    | inl l ↦ below q c l
-    | inr n ↦ absurd (in_none q (subst (λ l. Contains l q) e (object_behind X a q (exposed_only X face q c).0 (omega arith))))
+  pub next_left : (i : ℕ) → objects_from L a ≡ raster_point L.sides i ∷ objects_from L (i + 1) → IsLeft (exposed_at X face) taken (raster_point X.sides i)
+  next_left i e = subst (λ s. IsLeft (exposed_at X face) taken (raster_point s i)) same ((h.each (raster_point L.sides i)).0 (next_is_object L a (raster_point L.sides i) (objects_from L (i + 1)) e))
+
+  pub all_taken : objects_from L a ≡ [] → AreTakenBelow X face taken (box_count X.sides)
+  all_taken e q c l = elim (is_there taken q) [
+    | yes t ↦ t
+    | no m ↦ elim (cases_lt (raster_number X.sides q) a) [
+      | inl k ↦ below q c k
+      | inr k ↦ absurd (in_none q (subst (λ l. Contains l q) e (object_behind L a q ((h.each q).1 (record { there = c; left = m })) (omega (arith, number q)))))
+    ]
   ]
-
-  -- ---- how many are exposed
-
-  -- the exposed ones of some object points
-  pub exposed_of : List Point → List Point
-  exposed_of points = filter (λ p. not (at X (moved p (sense_step (face_axis face) (face_sense face))))) points
-
-  -- so many exposed points stand before a raster number
-  pub record HasCounted (next count : ℕ) : Type 0 where
-    pub all : count + length (exposed_of (objects_from X next)) ≡ length (exposed_at X face)
-    pub few : count ≤ next
-    pub within : next ≤ box_count X.sides
-
-  pub none_counted : HasCounted 0 0
-  unfolding exposed_of
-  none_counted = let e : length (exposed_of (objects_from X 0)) ≡ length (exposed_at X face) = refl in record { all = omega (arith, e); few = omega arith; within = omega arith }
-
-  one_exposed : (p : Point) (rest : List Point) → Contains (exposed_at X face) p → length (exposed_of (p ∷ rest)) ≡ suc (length (exposed_of rest))
-  unfolding exposed_of
-  one_exposed p rest c =
-      let over : Point → Bool = λ p. not (at X (moved p (sense_step (face_axis face) (face_sense face)))) in
-      ap length (cond-true (over p) (p ∷ exposed_of rest) (exposed_of rest) (ap not (exposed_only X face p c).1))
-
-  one_other : (p : Point) (rest : List Point) → at X p ≡ true → (Contains (exposed_at X face) p → ⊥) → length (exposed_of (p ∷ rest)) ≡ length (exposed_of rest)
-  unfolding exposed_of
-  one_other p rest t n =
-      let over : Point → Bool = λ p. not (at X (moved p (sense_step (face_axis face) (face_sense face)))) in
-      ap length (cond-false (over p) (p ∷ exposed_of rest) (exposed_of rest) (elim (cases_Bool (at X (moved p (sense_step (face_axis face) (face_sense face))))) [
-        | inl u ↦ ap not u
-        | inr v ↦ absurd (n (exposed_yes X face p t v))
-      ]))
-
-  at_or_behind : (a i : ℕ) (rest : List Point) → i < box_count X.sides → objects_from X a ≡ raster_point X.sides i ∷ rest → a ≤ i
-  at_or_behind a i rest b e = omega (arith, behind_number X a (raster_point X.sides i) (subst (λ l. Contains l (raster_point X.sides i)) (sym e) (head_in (raster_point X.sides i) rest)), raster_number-raster_point X.sides i b)
-
-  pub counted_yes : (a i count : ℕ) → i < box_count X.sides → objects_from X a ≡ raster_point X.sides i ∷ objects_from X (i + 1) → HasCounted a count → Contains (exposed_at X face) (raster_point X.sides i) → HasCounted (i + 1) (count + 1)
-  counted_yes a i count b e h c = record {
-    all = omega (arith, h.all, ap (λ l. length (exposed_of l)) e, one_exposed (raster_point X.sides i) (objects_from X (i + 1)) c);
-    few = omega (arith, h.few, at_or_behind a i (objects_from X (i + 1)) b e);
-    within = omega arith;
-  }
-
-  pub counted_no : (a i count : ℕ) → i < box_count X.sides → objects_from X a ≡ raster_point X.sides i ∷ objects_from X (i + 1) → HasCounted a count → (Contains (exposed_at X face) (raster_point X.sides i) → ⊥) → HasCounted (i + 1) count
-  counted_no a i count b e h n = record {
-    all = omega (arith, h.all, ap (λ l. length (exposed_of l)) e, one_other (raster_point X.sides i) (objects_from X (i + 1)) (next_is_object X a (raster_point X.sides i) (objects_from X (i + 1)) e) n);
-    few = omega (arith, h.few, at_or_behind a i (objects_from X (i + 1)) b e);
-    within = omega arith;
-  }
-
-  pub counted_all : (a count : ℕ) → objects_from X a ≡ [] → HasCounted a count → count ≡ length (exposed_at X face)
-  unfolding exposed_of
-  counted_all a count e h = omega (arith, h.all, ap (λ l. length (exposed_of l)) e)

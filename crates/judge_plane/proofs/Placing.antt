@@ -1,18 +1,35 @@
 -- The places that are kept for listed points: when a point is listed, one more is, and when all are taken away.
 -- Laws over lists of points and of numbers.
-use Rattle.std.proofs.Common.{◌≡◌, ◌≢◌, ℕ, suc, ◌+◌, ◌<◌, ◌≤◌, false, ap, sym, ◌∙◌, subst, arith, inl, inr, List, [], ◌∷◌, ◌++◌, length, map, set, get_or, Some}
-use Rattle.std.specs.Prelude.{slice_get, slice_index, AllPairs, Contains, IsTrue}
+use Rattle.std.proofs.Common.{◌≡◌, ◌≢◌, ℕ, suc, ◌+◌, ◌-◌, ◌<◌, ◌≤◌, ap, sym, ◌∙◌, subst, arith, inl, inr, List, [], ◌∷◌, ◌++◌, length, map, drop, set, get_or, Some}
+use Rattle.std.specs.Prelude.{◌↔◌, slice_get, slice_index, AllPairs, Contains, IsTrue, nat_lt}
+use Rattle.std.proofs.lemmas.Bool.Decides.{nat_tests}
 use Rattle.std.proofs.lemmas.List.{length-set, get_or-set_same, get_or-set_other, get_or_default}
 use Rattle.std.proofs.lemmas.List.Elements.{Contains-get_or, Contains-push_cases}
 use Rattle.std.proofs.lemmas.Option.{slice_get-get_or, slice_get_within}
 use native.Mathlib.Decide.{ℕ_discrete}
 use Rattle.shape_terms.specs.Points.{Point, in_box, box_count, raster_number, raster_point}
-use Rattle.shape_terms.proofs.Boxes.{raster_below, raster_point-raster_number, raster_number-raster_point}
+use Rattle.shape_terms.proofs.Boxes.{raster_below, raster_point_in, raster_point-raster_number, raster_number-raster_point}
 use Rattle.shape_terms.proofs.Members.{Contains-map}
 use Rattle.shape_terms.proofs.Pigeon.{pigeon}
 use Rattle.text_terms.proofs.ListPushes.{get_push, get_last}
 use Rattle.judge_plane.specs.Listings.{ArePlaced, IsPlaceOf}
-use Rattle.patch_terms.proofs.Places.{place_of, of_place, place_push}
+use Rattle.patch_terms.proofs.Places.{place_of, of_place, place_drop, place_push}
+
+-- ---- places from a place on
+
+from_place : (points : List Point) (start i : ℕ) (p : Point) → IsPlaceOf points i p → start ≤ i → Contains (drop start points) p
+from_place points start i p h l = of_place (drop start points) (i - start) p (place_drop start points (i - start) ∙ ap (slice_get points) (let q : start + (i - start) ≡ i = omega arith in q) ∙ h.there)
+
+place_from : (points : List Point) (start i : ℕ) (p : Point) → IsPlaceOf points i p → Contains (drop start points) p → start ≤ i
+place_from points start i p h c =
+    let k = place_of (drop start points) p c in
+    let e = h.only (start + k.0) (sym (place_drop start points k.0) ∙ k.1) in
+    omega arith
+
+pub behind_place : (points : List Point) (start : ℕ) (p : Point) → Contains (drop start points) p → Contains points p
+behind_place points start p c = (let k = place_of (drop start points) p c in of_place points (start + k.0) p (sym (place_drop start points k.0) ∙ k.1))
+
+-- ---- the numbers of places
 
 -- points of one number are one
 pub same_number : (sides : List ℕ) (p q : Point) → IsTrue (in_box sides p) → IsTrue (in_box sides q) → raster_number sides p ≡ raster_number sides q → p ≡ q
@@ -37,27 +54,45 @@ module _ (sides : List ℕ) (points : List Point) (places : List ℕ) (h : ArePl
       let c : suc i ≡ suc j = sym a ∙ ap (λ p. slice_index places (raster_number sides p)) e ∙ b in
       omega arith
 
-  -- a point outside the box is not listed
-  pub none_outside : (p : Point) → in_box sides p ≡ false → Contains points p → ⊥
-  none_outside p e c = let t = h.inside p c in cc
-
   -- the number that is kept for a point of the box
-  pub read_place : (p : Point) (n place : ℕ) → IsTrue (in_box sides p) → n ≡ raster_number sides p → place ≡ get_or places n place → place ≡ slice_index places (raster_number sides p)
+  read_place : (p : Point) (n place : ℕ) → IsTrue (in_box sides p) → n ≡ raster_number sides p → place ≡ get_or places n place → place ≡ slice_index places (raster_number sides p)
   read_place p n place inside e r = r ∙ get_or_default places n place 0 (omega (arith, e, raster_below sides p inside, h.all)) ∙ ap (slice_index places) e
 
   -- nor is one whose number is 0
-  pub none_placed : (p : Point) (place : ℕ) → place ≡ slice_index places (raster_number sides p) → place ≡ 0 → Contains points p → ⊥
+  none_placed : (p : Point) (place : ℕ) → place ≡ slice_index places (raster_number sides p) → place ≡ 0 → Contains points p → ⊥
   none_placed p place e z c =
       let k = place_of points p c in
       let s : suc k.0 ≡ 0 = sym (h.placed k.0 p k.1) ∙ sym e ∙ z in
       absurd (omega arith)
 
   -- and any other stands one place before its number
-  pub there_placed : (p : Point) (place i : ℕ) → IsTrue (in_box sides p) → place ≡ slice_index places (raster_number sides p) → place ≡ suc i → IsPlaceOf points (i) p
+  there_placed : (p : Point) (place i : ℕ) → IsTrue (in_box sides p) → place ≡ slice_index places (raster_number sides p) → place ≡ suc i → IsPlaceOf points (i) p
   there_placed p place i inside e s = record {
     there = h.named (raster_number sides p) i (raster_below sides p inside) (sym e ∙ s) ∙ ap Some (raster_point-raster_number sides p inside);
     only = λ j there. (let t : suc j ≡ suc i = sym (h.placed j p there) ∙ sym e ∙ s in omega arith);
   }
+
+  -- the point with a raster number is listed from a place on exactly where its number is greater than the place
+  listed_from : (start i place : ℕ) → i < box_count sides → place ≡ get_or places i place → (start < place) ↔ Contains (drop start points) (raster_point sides i)
+  listed_from start i place l r =
+      let p = raster_point sides i in
+      let inside = raster_point_in sides i l in
+      let read = read_place p i place inside (sym (raster_number-raster_point sides i l)) r in (
+        λ s. from_place points start (place - 1) p (there_placed p place (place - 1) inside read (omega arith)) (omega arith),
+        λ c. elim (ℕ_discrete place 0) [
+          | yes z ↦ absurd (none_placed p place read z (behind_place points start p c))
+          | no n ↦ (let some : place ≡ suc (place - 1) = omega arith in let f = place_from points start (place - 1) p (there_placed p place (place - 1) inside read some) c in omega (arith, f, some))
+        ],
+      )
+
+  pub listed_test : (start i place : ℕ) → i < box_count sides → place ≡ get_or places i place → IsTrue (nat_lt start place) ↔ Contains (drop start points) (raster_point sides i)
+  listed_test start i place l r = (let f = listed_from start i place l r in ((λ t. f.0 (less t)), λ c. less_back (f.1 c)))
+    where
+      less : IsTrue (nat_lt start place) → start < place
+      less t = grind (arith, nat_tests, t)
+
+      less_back : start < place → IsTrue (nat_lt start place)
+      less_back m = grind (arith, nat_tests, m)
 
   -- one more point
   pub placed_more : (p : Point) (n : ℕ) → IsTrue (in_box sides p) → (Contains points p → ⊥) → n ≡ suc (length points) → ArePlaced sides (points ++ p ∷ []) (set places (raster_number sides p) n)

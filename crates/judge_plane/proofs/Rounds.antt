@@ -1,40 +1,26 @@
 -- The near neighbours of points, one by one: whether one of them is of a patch, and which of them touch it.
 -- Laws over lists of points.
 use Rattle.std.proofs.Common.{◌≡◌, ℕ, ◌+◌, ◌-◌, ◌<◌, ◌≤◌, ap, sym, ◌∙◌, subst, arith, inl, inr, List, [], ◌∷◌, ◌++◌, length, drop, Some}
-use Rattle.std.specs.Prelude.{◌⊎◌, ◌↔◌, IsTrue, nat_le, slice_get, Contains}
+use Rattle.std.specs.Prelude.{◌⊎◌, ◌↔◌, IsTrue, slice_get, Contains}
 use Rattle.std.proofs.lemmas.Bool.{cases_lt}
-use Rattle.std.proofs.lemmas.Bool.Decides.{nat_tests}
 use Rattle.std.proofs.lemmas.Option.{slice_get_within}
 use Rattle.std.proofs.lemmas.List.Elements.{Contains-push_cases, Contains-append_left, Contains-push}
-use Rattle.shape_terms.specs.Points.{Point}
+use Rattle.shape_terms.specs.Points.{Point, in_box, box_count, raster_number, raster_point}
+use Rattle.shape_terms.proofs.Boxes.{raster_below, raster_point-raster_number}
+use Rattle.shape_terms.specs.Pictures.{Picture, at}
 use Rattle.shape_terms.specs.Adjacency.{Near, Lists, near_point}
 use Rattle.shape_terms.proofs.AdjacencySymmetric.{near_sym}
-use Rattle.report_terms.specs.FaceLines.{IsTouching}
-use Rattle.judge_plane.specs.Listings.{IsPlaceOf}
-use Rattle.judge_plane.specs.Exposure.{IsLeft, IsNearTo}
+use Rattle.judge_plane.specs.Exposure.{IsNearTo}
 use Rattle.patch_terms.proofs.Places.{place_of, of_place, place_drop}
 
--- ---- places from a place on
-
-pub from_place : (points : List Point) (start i : ℕ) (p : Point) → IsPlaceOf points i p → start ≤ i → Contains (drop start points) p
-from_place points start i p h l = of_place (drop start points) (i - start) p (place_drop start points (i - start) ∙ ap (slice_get points) (let q : start + (i - start) ≡ i = omega arith in q) ∙ h.there)
-
-pub place_from : (points : List Point) (start i : ℕ) (p : Point) → IsPlaceOf points i p → Contains (drop start points) p → start ≤ i
-place_from points start i p h c =
-    let k = place_of (drop start points) p c in
-    let e = h.only (start + k.0) (sym (place_drop start points k.0) ∙ k.1) in
-    omega arith
-
-pub place_test : (points : List Point) (start i : ℕ) (p : Point) → IsPlaceOf points i p → IsTrue (nat_le start i) ↔ Contains (drop start points) p
-place_test points start i p h = ((λ t. from_place points start i p h (le t)), λ c. le_back (place_from points start i p h c))
-  where
-    le : IsTrue (nat_le start i) → start ≤ i
-    le t = grind (arith, nat_tests, t)
-
-    le_back : start ≤ i → IsTrue (nat_le start i)
-    le_back l = grind (arith, nat_tests, l)
-
 -- ---- one point
+
+-- the point with the number of a neighbour
+pub number_of_near : (sides other : List ℕ) (p from : Point) (k n : ℕ) → sides ≡ other → from ≡ p → n ≡ raster_number sides (near_point from k) → IsTrue (in_box sides (near_point p k)) → (n < box_count other) × (raster_point other n ≡ near_point p k)
+number_of_near sides other p from k n same is e inside =
+    let number : n ≡ raster_number sides (near_point p k) = e ∙ ap (λ q. raster_number sides (near_point q k)) is in
+    let below : n < box_count sides = (let l = raster_below sides (near_point p k) inside in omega (arith, l, number)) in
+    (omega (arith, below, ap box_count same), ap (λ s. raster_point s n) (sym same) ∙ ap (raster_point sides) number ∙ raster_point-raster_number sides (near_point p k) inside)
 
 -- one of the neighbours is of the patch
 pub touch_yes : (patch : List Point) (p q : Point) (n k : ℕ) → Lists Near near_point n p → k < n → q ≡ near_point p k → Contains patch q → IsNearTo patch p
@@ -48,20 +34,20 @@ touch_no patch p n k h l none (q, c, near) =
 
 -- ---- the points round one
 
--- the list got the points that are left and among the first k neighbours of p
-pub record Gathering (exposed taken : List Point) (p : Point) (k : ℕ) (old new : List Point) : Type 0 where
-  pub only : (q : Point) → Contains new q → Contains old q ⊎ (IsLeft exposed taken q × Near q p)
+-- the list got the object points among the first k neighbours of p
+pub record Gathering (left : Picture) (p : Point) (k : ℕ) (old new : List Point) : Type 0 where
+  pub only : (q : Point) → Contains new q → Contains old q ⊎ (IsTrue (at left q) × Near q p)
   pub kept : (q : Point) → Contains old q → Contains new q
-  pub each : (j : ℕ) → j < k → IsLeft exposed taken (near_point p j) → Contains new (near_point p j)
+  pub each : (j : ℕ) → j < k → IsTrue (at left (near_point p j)) → Contains new (near_point p j)
 
-pub gather_none : (exposed taken : List Point) (p : Point) (old : List Point) → Gathering exposed taken p 0 old old
-gather_none exposed taken p old = record { only = λ q c. inl c; kept = λ q c. c; each = λ j l h. absurd (omega arith) }
+pub gather_none : (left : Picture) (p : Point) (old : List Point) → Gathering left p 0 old old
+gather_none left p old = record { only = λ q c. inl c; kept = λ q c. c; each = λ j l h. absurd (omega arith) }
 
-pub gather_yes : (exposed taken : List Point) (p q : Point) (n k : ℕ) (old new : List Point) → Lists Near near_point n p → k < n → q ≡ near_point p k → Gathering exposed taken p k old new → IsLeft exposed taken q → Gathering exposed taken p (k + 1) old (new ++ q ∷ [])
-gather_yes exposed taken p q n k old new h l e g left = record {
+pub gather_yes : (left : Picture) (p q : Point) (n k : ℕ) (old new : List Point) → Lists Near near_point n p → k < n → q ≡ near_point p k → Gathering left p k old new → IsTrue (at left q) → Gathering left p (k + 1) old (new ++ q ∷ [])
+gather_yes left p q n k old new h l e g here = record {
   only = λ r c. elim (Contains-push_cases new q r c) [
     | inl o ↦ g.only r o
-    | inr s ↦ inr (subst (IsLeft exposed taken) s left, near_sym p r (subst (Near p) (sym e ∙ s) (h.only k l)))
+    | inr s ↦ inr (subst (λ z. IsTrue (at left z)) s here, near_sym p r (subst (Near p) (sym e ∙ s) (h.only k l)))
   ];
   kept = λ r c. Contains-append_left new (q ∷ []) r (g.kept r c);
   each = λ j m f. earlier j m f (last_or j m);
@@ -70,13 +56,13 @@ gather_yes exposed taken p q n k old new h l e g left = record {
     last_or : (j : ℕ) → j < k + 1 → (j < k) ⊎ (j ≡ k)
     last_or j m = elim (cases_lt j k) [ inl a ↦ inl a | inr b ↦ inr (omega arith) ]
 
-    earlier : (j : ℕ) → j < k + 1 → IsLeft exposed taken (near_point p j) → ((j < k) ⊎ (j ≡ k)) → Contains (new ++ q ∷ []) (near_point p j)
+    earlier : (j : ℕ) → j < k + 1 → IsTrue (at left (near_point p j)) → ((j < k) ⊎ (j ≡ k)) → Contains (new ++ q ∷ []) (near_point p j)
     earlier j m f (inl a) = Contains-append_left new (q ∷ []) (near_point p j) (g.each j a f)
     earlier j m f (inr b) = subst (Contains (new ++ q ∷ [])) (e ∙ ap (near_point p) (sym b)) (Contains-push new q)
 
--- the neighbour is not left, or is in the list
-pub gather_no : (exposed taken : List Point) (p q : Point) (k : ℕ) (old new : List Point) → q ≡ near_point p k → Gathering exposed taken p k old new → (IsLeft exposed taken q → Contains new q) → Gathering exposed taken p (k + 1) old new
-gather_no exposed taken p q k old new e g there = record {
+-- the neighbour is background, or is in the list
+pub gather_no : (left : Picture) (p q : Point) (k : ℕ) (old new : List Point) → q ≡ near_point p k → Gathering left p k old new → (IsTrue (at left q) → Contains new q) → Gathering left p (k + 1) old new
+gather_no left p q k old new e g there = record {
   only = g.only;
   kept = g.kept;
   each = λ j m f. elim (cases_lt j k) [
@@ -84,55 +70,51 @@ gather_no exposed taken p q k old new e g there = record {
     | inr b ↦
         let same : j ≡ k = omega arith in
         let here : q ≡ near_point p j = e ∙ ap (near_point p) (sym same) in
-        subst (Contains new) here (there (subst (IsLeft exposed taken) (sym here) f))
+        subst (Contains new) here (there (subst (λ z. IsTrue (at left z)) (sym here) f))
   ];
 }
 
-pub gather_all : (exposed taken : List Point) (p : Point) (n k : ℕ) (old new : List Point) → Lists Near near_point n p → n ≤ k → Gathering exposed taken p k old new → (q : Point) → Contains new q ↔ (Contains old q ⊎ (IsLeft exposed taken q × Near q p))
-gather_all exposed taken p n k old new h l g q = (
+pub gather_all : (left : Picture) (p : Point) (n k : ℕ) (old new : List Point) → Lists Near near_point n p → n ≤ k → Gathering left p k old new → (q : Point) → Contains new q ↔ (Contains old q ⊎ (IsTrue (at left q) × Near q p))
+gather_all left p n k old new h l g q = (
   g.only q,
   λ c. back c,
 )
   where
-    back : (Contains old q ⊎ (IsLeft exposed taken q × Near q p)) → Contains new q
+    back : (Contains old q ⊎ (IsTrue (at left q) × Near q p)) → Contains new q
     back (inl c) = g.kept q c
-    back (inr (left, near)) =
+    back (inr (there, near)) =
         let r = h.each q (near_sym q p near) in
-        subst (Contains new) r.2 (g.each r.0 (let m = r.1 in omega arith) (subst (IsLeft exposed taken) (sym r.2) left))
+        subst (Contains new) r.2 (g.each r.0 (let m = r.1 in omega arith) (subst (λ z. IsTrue (at left z)) (sym r.2) there))
 
 -- ---- the points round all of a patch
 
--- the list has the points that are left and Near one of those from place start to place i
-pub record GatheredTo (exposed taken : List Point) (start i : ℕ) (points : List Point) : Type 0 where
-  pub only : (q : Point) → Contains points q → IsLeft exposed taken q × ((m : ℕ) × (start ≤ m) × (r : Point) × (slice_get taken m ≡ Some r) × Near q r)
-  pub each : (q : Point) → IsLeft exposed taken q → (m : ℕ) → start ≤ m → m < i → (r : Point) → slice_get taken m ≡ Some r → Near q r → Contains points q
+-- the list has the object points that are Near one of the points from place start to place i
+pub record GatheredTo (left : Picture) (taken : List Point) (start i : ℕ) (points : List Point) : Type 0 where
+  pub only : (q : Point) → Contains points q → IsTrue (at left q) × ((m : ℕ) × (start ≤ m) × (r : Point) × (slice_get taken m ≡ Some r) × Near q r)
+  pub each : (q : Point) → IsTrue (at left q) → (m : ℕ) → start ≤ m → m < i → (r : Point) → slice_get taken m ≡ Some r → Near q r → Contains points q
 
-pub gathered_more : (exposed taken : List Point) (start i : ℕ) (p : Point) (old new : List Point) → start ≤ i → slice_get taken i ≡ Some p → ((q : Point) → Contains new q ↔ (Contains old q ⊎ (IsLeft exposed taken q × Near q p))) → GatheredTo exposed taken start i old → GatheredTo exposed taken start (i + 1) new
-gathered_more exposed taken start i p old new l there h g = record {
+pub gathered_more : (left : Picture) (taken : List Point) (start i : ℕ) (p : Point) (old new : List Point) → start ≤ i → slice_get taken i ≡ Some p → ((q : Point) → Contains new q ↔ (Contains old q ⊎ (IsTrue (at left q) × Near q p))) → GatheredTo left taken start i old → GatheredTo left taken start (i + 1) new
+gathered_more left taken start i p old new l there h g = record {
   only = λ q c. elim ((h q).0 c) [ inl o ↦ g.only q o | inr n ↦ (n.0, (i, l, p, there, n.1)) ];
-  each = λ q left m a b r e n. elim (cases_lt m i) [
-    | inl k ↦ (h q).1 (inl (g.each q left m a k r e n))
+  each = λ q object m a b r e n. elim (cases_lt m i) [
+    | inl k ↦ (h q).1 (inl (g.each q object m a k r e n))
     | inr k ↦
         let same : m ≡ i = omega arith in
         let s : Some p ≡ Some r = sym there ∙ ap (slice_get taken) (sym same) ∙ e in
         let t : p ≡ r = cc in
-        (h q).1 (inr (left, subst (Near q) (sym t) n))
+        (h q).1 (inr (object, subst (Near q) (sym t) n))
   ];
 }
 
-pub gathered_all : (exposed taken : List Point) (start i : ℕ) (points : List Point) → length taken ≤ i → GatheredTo exposed taken start i points → (q : Point) → Contains points q ↔ IsTouching exposed taken (drop start taken) q
-gathered_all exposed taken start i points l g q = (
+pub gathered_all : (left : Picture) (taken : List Point) (start i : ℕ) (points : List Point) → length taken ≤ i → GatheredTo left taken start i points → (q : Point) → Contains points q ↔ (IsTrue (at left q) × IsNearTo (drop start taken) q)
+gathered_all left taken start i points l g q = (
   λ c.
       let r = g.only q c in
       let m = r.1 in
-      record {
-        there = r.0.there;
-        left = r.0.left;
-        near = (m.2, of_place (drop start taken) (m.0 - start) m.2 (place_drop start taken (m.0 - start) ∙ ap (slice_get taken) (let a = m.1 in let e : start + (m.0 - start) ≡ m.0 = omega arith in e) ∙ m.3), m.4);
-      },
+      (r.0, (m.2, of_place (drop start taken) (m.0 - start) m.2 (place_drop start taken (m.0 - start) ∙ ap (slice_get taken) (let a = m.1 in let e : start + (m.0 - start) ≡ m.0 = omega arith in e) ∙ m.3), m.4)),
   λ t.
-      let n = t.near in
+      let n = t.1 in
       let k = place_of (drop start taken) n.0 n.1 in
       let e : slice_get taken (start + k.0) ≡ Some n.0 = sym (place_drop start taken k.0) ∙ k.1 in
-      g.each q (record { there = t.there; left = t.left }) (start + k.0) (omega arith) (let w = slice_get_within taken (start + k.0) n.0 e in omega (arith, w, l)) n.0 e n.2,
+      g.each q t.0 (start + k.0) (omega arith) (let w = slice_get_within taken (start + k.0) n.0 e in omega (arith, w, l)) n.0 e n.2,
 )

@@ -12,8 +12,8 @@ use Rattle.shape_terms.specs.Pictures.{Picture}
 use Rattle.shape_terms.specs.Refutations.{Refutation}
 use Rattle.patch_terms.specs.Patches.{Sense}
 use Rattle.report_terms.specs.Lines.{Line}
-use Rattle.report_terms.specs.FaceLines.{FaceStanding, face_standing, open_exposed, FacesAreFull, IsFaceHead, IsPatchHead, IsOnLine, IsOffLine, SurfaceClaim}
-use Rattle.report_terms.specs.Sections.{SolidClaim, AllFaces}
+use Rattle.report_terms.specs.FaceLines.{FaceStanding, face_standing, open_exposed, IsFaceHead, IsPatchHead, IsOnLine, IsOffLine, SurfaceClaim}
+use Rattle.report_terms.specs.Sections.{SolidClaim}
 use Rattle.report_terms.proofs.FaceGroups.{standing_face, standing_patch, standing_on, standing_off}
 use Rattle.judge_plane.specs.Exposure.{exposed_at}
 use Rattle.judge_plane.specs.PlaneState.{PlaneState, StandsFor, room_of, with_face, with_patch, with_on, with_off}

@@ -15,6 +15,7 @@ use Rattle.shape_terms.specs.Points.{Point, box_count, raster_number, raster_poi
 use Rattle.shape_terms.specs.Adjacency.{moved}
 use Rattle.shape_terms.specs.Pictures.{Picture, at, object_points}
 use Rattle.shape_terms.proofs.BoxLists.{few_objects}
+use Rattle.shape_terms.proofs.SameCycles.{in_none}
 use Rattle.std.proofs.lemmas.List.Sums.{length-filter, count_by-le-length}
 use Rattle.shape_terms.specs.Naive.{Naive as Plane, IsProper}
 use Rattle.shape_refute.specs.declared.naive.Naive.{Naive}
@@ -107,6 +108,65 @@ module _ (X : Picture) (c : Counts) (plane : Naive) (taken : List Point) (number
   next_none p all l h = (let r = (next_only X.sides (exposed_at X (c.begun - 1)) taken (drop c.start taken) numbers (touching all) (exposed_in X (c.begun - 1)) c.refused p k.refused h).0 in omega arith)
 
   -- ---- one more line
+
+  -- a face is begun
+  pub step_face : (n : ℕ) → c.begun < 6 → n ≡ length (exposed_at X (c.begun + 1 - 1)) → AreInStep X (record { begun = c.begun + 1; exposed = n; start = 0; declared = 0; cursor = 0; refused = 0 }) [] []
+  step_face n few e = record {
+    faces = omega arith;
+    none = λ z. absurd (omega arith);
+    exposed = λ l. e;
+    within = λ p h. absurd (in_none p h);
+    below = λ q h l. absurd (omega arith);
+    start = omega arith;
+    given = omega arith;
+    declared = omega arith;
+    early = λ l. absurd (omega arith);
+    touching = λ z. record {
+      rising = λ i l. absurd (omega arith);
+      below = λ m h. absurd (none_there m h);
+      each = λ q t. absurd (in_none t.near.0 t.near.1);
+      only = λ m h. absurd (none_there m h);
+    };
+    refused = omega arith;
+    few = omega arith;
+  }
+    where
+      none_there : (m : ℕ) → Contains [] m → ⊥
+      none_there m h = (let l = h.1 in omega arith)
+
+  -- a patch is begun
+  pub step_patch : (m n : ℕ) → m ≡ length taken → (n ≡ 0 → ⊥) → n ≤ c.exposed - m → AreInStep X (record c { start = m; declared = n; refused = 0 }) taken numbers
+  step_patch m n e some l = record {
+    faces = k.faces;
+    none = k.none;
+    exposed = k.exposed;
+    within = k.within;
+    below = k.below;
+    start = omega arith;
+    given = omega arith;
+    declared = (let g = k.given in let d = k.declared in omega arith);
+    early = λ h. refl;
+    touching = λ h. absurd (some (omega arith));
+    refused = omega arith;
+    few = k.few;
+  }
+
+  -- all points with smaller numbers are found to be taken
+  pub step_cursor : (i : ℕ) → AreTakenBelow X (c.begun - 1) taken i → AreInStep X (record c { cursor = i }) taken numbers
+  step_cursor i b = record {
+    faces = k.faces;
+    none = k.none;
+    exposed = k.exposed;
+    within = k.within;
+    below = b;
+    start = k.start;
+    given = k.given;
+    declared = k.declared;
+    early = k.early;
+    touching = k.touching;
+    refused = k.refused;
+    few = k.few;
+  }
 
   -- a point is refused
   pub step_off : length (drop c.start taken) ≡ c.declared → c.refused < length numbers → AreInStep X (record c { refused = c.refused + 1 }) taken numbers

@@ -1,14 +1,12 @@
-//! The exposed points of a face of a volume: which they are, how many, and which is the first that is left.
+//! The exposed points of a face of a volume, as a grid of their own.
 //! Faces go by their numbers: x -, x +, y -, y +, z -, z +, from 0 on, as the side neighbours of a point do.
-ghost use Rattle.std.specs.Prelude.{◌≡◌, ◌<◌, ◌≤◌, ◌^◌, ◌↔◌, IsTrue, MatchOption, Contains, length};
-ghost use Rattle.shape_terms.specs.Points.{in_box, box_count, raster_point};
-ghost use Rattle.shape_terms.specs.Pictures.{at};
+ghost use Rattle.std.specs.Prelude.{◌≡◌, ◌<◌, ◌+◌, ◌↔◌, IsTrue, Contains};
+ghost use Rattle.shape_terms.specs.Points.{box_count, raster_point};
+ghost use Rattle.shape_terms.specs.Pictures.{object_points};
 ghost use Rattle.shape_refute.specs.Senses.{sense_of};
 ghost use Rattle.report_terms.specs.FaceFacts.{face_axis, face_sense};
-ghost use Rattle.judge_plane.specs.Terms.{point_of};
-ghost use Rattle.judge_plane.specs.Exposure.{exposed_at, IsLeft, AreTakenBelow};
+ghost use Rattle.judge_plane.specs.Exposure.{exposed_at, AreExposedBelow};
 
-use crate::listed::Listed;
 use shape_adj::Pairing;
 use shape_grid::Grid;
 use shape_refute::Sense;
@@ -37,70 +35,41 @@ pub(crate) fn sense_in(face: u32) -> Sense
     }
 }
 
-// Whether an object point is exposed in a face.
-fn is_exposed(grid: &Grid<P3>, face: u32, p: P3) -> bool
+// Whether the point with a raster number is exposed in a face.
+fn is_exposed(grid: &Grid<P3>, face: u32, i: u32) -> bool
     requires face { face < 6 }
-    requires object { IsTrue (at grid.now (point_of p)) }
-    ensures { IsTrue result ↔ Contains (exposed_at grid.now face) (point_of p) }
+    requires place { i < box_count grid.now.sides }
+    ensures { IsTrue result
+        ↔ Contains (exposed_at grid.now face) (raster_point grid.now.sides i) }
 {
     grid.is_picture();
-    !grid.has(p.side(face as usize))
+    grid.has_number(i) && !grid.has(grid.sides().unraster(i).side(face as usize))
 }
 
-/// The number of exposed points of a face. It looks at each object point once.
-pub(crate) fn count_exposed(grid: &Grid<P3>, face: u32) -> u32
-    requires { face < 6 }
-    ensures value { result ≡ length (exposed_at grid.now face) }
-    ensures few { result ≤ 2 ^ 23 }
+// Makes the point with a raster number object exactly where it is exposed in a face.
+fn expose(grid: &Grid<P3>, face: u32, exposed: &mut Grid<P3>, i: u32)
+    requires face { face < 6 }
+    requires place { i < box_count grid.now.sides }
+    requires below { AreExposedBelow grid.now face i exposed.old }
+    ensures { AreExposedBelow grid.now face (i + 1) exposed.new }
+{
+    exposed.is_picture();
+    if is_exposed(grid, face, i) {
+        exposed.set_number(i);
+    } else {
+        exposed.clear_number(i);
+    }
+}
+
+/// Makes the exposed points of a face the object points of a grid, in place of those that it had.
+pub(crate) fn expose_all(grid: &Grid<P3>, face: u32, exposed: &mut Grid<P3>)
+    requires face { face < 6 }
+    requires box_ { exposed.old.sides ≡ grid.now.sides }
+    ensures box_ { exposed.new.sides ≡ grid.now.sides }
+    ensures points { object_points exposed.new ≡ exposed_at grid.now face }
 {
     let sides = grid.sides();
-    let mut count: u32 = 0;
-    let mut next = 0;
-    while let Some(i) = grid.first_from(next) {
-        if is_exposed(grid, face, sides.unraster(i)) {
-            count += 1;
-        }
-        next = i + 1;
+    for i in 0..sides.count() {
+        expose(grid, face, exposed, i);
     }
-    count
-}
-
-// Whether an object point is exposed in a face and not taken.
-fn is_object_left(grid: &Grid<P3>, face: u32, taken: &Listed, p: P3) -> bool
-    requires face { face < 6 }
-    requires object { IsTrue (at grid.now (point_of p)) }
-    ensures { IsTrue result ↔ IsLeft (exposed_at grid.now face) taken.now.points (point_of p) }
-{
-    is_exposed(grid, face, p) && !taken.has(p)
-}
-
-/// Whether a point is exposed in a face and not taken.
-pub(crate) fn is_left(grid: &Grid<P3>, face: u32, taken: &Listed, p: P3) -> bool
-    requires { face < 6 }
-    ensures answer { IsTrue result
-        ↔ IsLeft (exposed_at grid.now face) taken.now.points (point_of p) }
-    ensures inside { IsTrue result → IsTrue (in_box grid.now.sides (point_of p)) }
-{
-    grid.has(p) && is_object_left(grid, face, taken, p)
-}
-
-/// The raster number of the first point of a face that is left, where all with smaller numbers than `from` are taken.
-pub(crate) fn first_left(grid: &Grid<P3>, face: u32, taken: &Listed, from: u32) -> Option<u32>
-    requires face { face < 6 }
-    requires below { AreTakenBelow grid.now face taken.now.points from }
-    ensures first { MatchOption result
-        (AreTakenBelow grid.now face taken.now.points (box_count grid.now.sides))
-        (λ i. AreTakenBelow grid.now face taken.now.points i
-        × IsLeft (exposed_at grid.now face) taken.now.points (raster_point grid.now.sides i)
-        × (i < box_count grid.now.sides)) }
-{
-    let sides = grid.sides();
-    let mut next = from;
-    while let Some(i) = grid.first_from(next) {
-        if is_object_left(grid, face, taken, sides.unraster(i)) {
-            return Some(i);
-        }
-        next = i + 1;
-    }
-    None
 }

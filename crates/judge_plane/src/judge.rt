@@ -18,9 +18,10 @@ ghost use Rattle.report_terms.specs.FaceFacts.{face_axis, face_sense};
 ghost use Rattle.judge_plane.specs.Exposure.{exposed_at, AreTouching};
 ghost use Rattle.judge_plane.specs.PlaneState.{StandsFor, room_of, with_face, with_patch, with_on, with_off};
 
-use crate::face::{FACES, axis_of, count_exposed, first_left, is_left, sense_in};
+use crate::face::{FACES, axis_of, expose_all, sense_in};
 use crate::listed::Listed;
-use crate::round::{find_touching, touches};
+use crate::round::{find_round, touches};
+use shape_adj::NearNumbers;
 use shape_grid::Grid;
 use shape_refute::{Naive, Refutation, Sense, holds, is_proper};
 use shape_report::Line;
@@ -36,12 +37,15 @@ use std::marker::Model;
 #[derive(Drop)]
 pub struct PlaneJudge {
     grid: Grid<P3>,
+    // how its points are numbered,
+    near: NearNumbers<P3>,
     // How many faces were begun; and of the last of them:
     begun: u32,
     // how many exposed points it has,
     exposed: u32,
-    // the points that were given,
+    // the points that were given, and as a grid those that were not,
     taken: Listed,
+    left: Grid<P3>,
     // the raster number below which each exposed point was given,
     cursor: u32,
     // how many were given before its last patch,
@@ -58,6 +62,8 @@ pub struct PlaneJudge {
 
 impl Model for PlaneJudge {
     ghost use Rattle.std.specs.Prelude.{vec_capacity};
+    ghost use Rattle.shape_terms.specs.Points.{sides_of};
+    ghost use Rattle.judge_plane.specs.Terms.{point_of};
     ghost use Rattle.judge_plane.specs.PlaneState.{PlaneState, IsKept, state_of};
 
     ghost Value = { PlaneState };
@@ -78,7 +84,8 @@ impl Model for PlaneJudge {
       declared = j.declared;
       cursor = j.cursor;
       refused = j.refused;
-    }) j.plane j.taken j.list j.touching.items (vec_capacity j.touching) };
+    }) j.plane (sides_of (point_of j.near.sides.lengths)) j.left j.taken j.list j.touching.items
+        (vec_capacity j.touching) };
 }
 
 impl PlaneJudge {
@@ -92,9 +99,11 @@ impl PlaneJudge {
         let touching = Vec::with_capacity(alloc, sides.count() as usize)?;
         Ok(PlaneJudge {
             grid: grid.copy(alloc)?,
+            near: NearNumbers::new(alloc, sides)?,
             begun: 0,
             exposed: 0,
             taken: Listed::new(alloc, sides)?,
+            left: Grid::new(alloc, sides)?,
             cursor: 0,
             start: 0,
             declared: 0,
@@ -144,12 +153,9 @@ impl PlaneJudge {
         if face == FACES || !self.is_full() || axis != axis_of(face) || sense != sense_in(face) {
             return false;
         }
-        let exposed = count_exposed(&self.grid, face);
-        if points != exposed {
-            return false;
-        }
+        expose_all(&self.grid, face, &mut self.left);
         self.begun += 1;
-        self.exposed = exposed;
+        self.exposed = self.left.count();
         self.taken.clear();
         self.cursor = 0;
         self.start = 0;
@@ -157,7 +163,7 @@ impl PlaneJudge {
         self.plane.axis = axis;
         self.touching.clear();
         self.refused = 0;
-        true
+        points == self.exposed
     }
 
     // Takes a `patch` line.
@@ -195,7 +201,7 @@ impl PlaneJudge {
             (point_of p) }
         ensures same { self.new ≡ self.old }
     {
-        match first_left(&self.grid, self.begun - 1, &self.taken, self.cursor) {
+        match self.left.first_from(self.cursor) {
             Some(i) => {
                 self.cursor = i;
                 self.grid.sides().unraster(i) == p
@@ -215,8 +221,7 @@ impl PlaneJudge {
         if self.taken.len() == self.start {
             return self.is_first(p);
         }
-        is_left(&self.grid, self.begun - 1, &self.taken, p)
-            && touches(&self.grid, &self.taken, self.start, p)
+        self.left.has(p) && touches(&self.near, &self.taken, self.start, p)
     }
 
     // Takes an `on` line.
@@ -231,11 +236,12 @@ impl PlaneJudge {
         if self.has_points() || !holds(&self.plane, p) || !self.is_next(p) {
             return false;
         }
+        self.left.clear(p);
         self.taken.push(p);
         if self.taken.len() == self.start + self.declared {
-            find_touching(
-                &self.grid,
-                self.begun - 1,
+            find_round(
+                &self.left,
+                &self.near,
                 &self.taken,
                 self.start,
                 &mut self.list,

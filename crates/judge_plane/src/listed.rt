@@ -1,11 +1,11 @@
 //! Points of a box, each at most once, with the place of each: their list can be asked for a point in constant time.
 //! Another way of keeping the places changes nothing outside this file.
-ghost use Rattle.std.specs.Prelude.{◌≡◌, ◌≢◌, ◌<◌, ◌≤◌, ◌+◌, ◌^◌, ◌↔◌, [], ◌∷◌, ◌++◌, IsTrue, IfOk, Some, MatchOption, AllPairs, Contains, length, map, drop, slice_get, vec_capacity};
-ghost use Rattle.shape_terms.specs.Points.{Point as Where, sides_of, in_box, box_count, raster_number, raster_point};
+ghost use Rattle.std.specs.Prelude.{◌≡◌, ◌≢◌, ◌<◌, ◌≤◌, ◌+◌, ◌^◌, ◌↔◌, [], ◌∷◌, ◌++◌, IsTrue, IfOk, Some, AllPairs, Contains, length, map, drop, slice_get, vec_capacity};
+ghost use Rattle.shape_terms.specs.Points.{Point as Where, sides_of, in_box, box_count, raster_point};
 ghost use Rattle.shape_terms.specs.Refutations.{Refutes};
 ghost use Rattle.shape_refute.specs.Weights.{refutation_of};
 ghost use Rattle.judge_plane.specs.Terms.{point_of};
-ghost use Rattle.judge_plane.specs.Listings.{listing_of, ArePlaced, IsPlaceOf};
+ghost use Rattle.judge_plane.specs.Listings.{listing_of, ArePlaced};
 
 use shape_refute::{Refutation, refutes};
 use shape_space::{NoMemory, P3, Sides};
@@ -108,23 +108,36 @@ impl Listed {
         self.points[i as usize]
     }
 
-    /// The place of a point, wherever it lies.
-    pub(crate) fn place(&self, p: P3) -> Option<u32>
-        ensures { MatchOption result (Contains self.now.points (point_of p) → ⊥)
-            (λ i. IsPlaceOf self.now.points i (point_of p)) }
+    /// Whether the point with a raster number is listed from a place on.
+    pub(crate) fn has_from(&self, start: u32, i: u32) -> bool
+        requires { i < box_count self.now.sides }
+        ensures { IsTrue result
+            ↔ Contains (drop start self.now.points) (raster_point self.now.sides i) }
     {
-        if !self.sides.inside(p) {
-            return None;
-        }
-        let place = self.places[self.sides.raster(p) as usize];
-        if place == 0 { None } else { Some(place - 1) }
+        let _ = &self.sides;
+        self.places[i as usize] > start
+    }
+
+    /// Whether the point with a raster number is listed.
+    pub(crate) fn has_number(&self, i: u32) -> bool
+        requires { i < box_count self.now.sides }
+        ensures { IsTrue result ↔ Contains self.now.points (raster_point self.now.sides i) }
+    {
+        self.has_from(0, i)
+    }
+
+    /// Whether a point is listed from a place on, wherever it lies.
+    pub(crate) fn lists_from(&self, start: u32, p: P3) -> bool
+        ensures { IsTrue result ↔ Contains (drop start self.now.points) (point_of p) }
+    {
+        self.sides.inside(p) && self.has_from(start, self.sides.raster(p))
     }
 
     /// Whether a point is listed, wherever it lies.
-    pub(crate) fn has(&self, p: P3) -> bool
+    pub(crate) fn lists(&self, p: P3) -> bool
         ensures { IsTrue result ↔ Contains self.now.points (point_of p) }
     {
-        self.place(p).is_some()
+        self.lists_from(0, p)
     }
 
     /// Puts a point of the box last.

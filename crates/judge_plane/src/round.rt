@@ -1,97 +1,150 @@
 //! The near neighbours of the points of a patch: whether a point touches it, and which points do.
-//! Each point has 26 of them.
-ghost use Rattle.std.specs.Prelude.{◌≡◌, ◌⊎◌, ◌<◌, ◌≤◌, ◌↔◌, [], IsTrue, Some, Contains, length, drop, slice_get, vec_capacity};
-ghost use Rattle.shape_terms.specs.Points.{Point as Where, in_box, box_count};
-ghost use Rattle.shape_terms.specs.Adjacency.{Near};
-ghost use Rattle.report_terms.specs.FaceLines.{IsTouching};
+//! Each point has 26 of them; where all are in the box, they go by their numbers.
+ghost use Rattle.std.specs.Prelude.{◌≡◌, ◌⊎◌, ℕ, ◌<◌, ◌≤◌, ◌↔◌, IsTrue, Contains, length, drop, vec_capacity, pos, negsuc};
+ghost use Rattle.shape_terms.specs.Points.{Point as Where, sides_of, in_box, box_count};
+ghost use Rattle.shape_terms.specs.FramedBox.{IsWithin};
+ghost use Rattle.shape_terms.specs.Adjacency.{Near, near_point};
+ghost use Rattle.shape_terms.specs.Pictures.{at};
 ghost use Rattle.judge_plane.specs.Terms.{point_of};
-ghost use Rattle.judge_plane.specs.Exposure.{exposed_at, AreTouching, IsLeft, IsNearTo};
+ghost use Rattle.judge_plane.specs.Exposure.{AreRound, IsNearTo};
 
-use crate::face::is_left;
 use crate::listed::Listed;
 use crate::order::put_in_order;
-use shape_adj::Pairing;
+use shape_adj::{NearNumbers, Pairing, is_inner};
 use shape_grid::Grid;
 use shape_space::P3;
 
-// Whether a point has a place from a place on.
-fn is_from(taken: &Listed, start: u32, p: P3) -> bool
-    requires { start ≤ length taken.now.points }
-    ensures { IsTrue result ↔ Contains (drop start taken.now.points) (point_of p) }
-{
-    match taken.place(p) {
-        Some(i) => i >= start,
-        None => false,
-    }
-}
-
-/// Whether a point is near one of those taken from a place on.
-pub(crate) fn touches(grid: &Grid<P3>, taken: &Listed, start: u32, p: P3) -> bool
-    requires inside { IsTrue (in_box grid.now.sides (point_of p)) }
-    requires start { start ≤ length taken.now.points }
+// Whether a point of which all near neighbours are in the box is near one of those taken from a place on.
+fn touches_inside(near: &NearNumbers<P3>, taken: &Listed, start: u32, p: P3) -> bool
+    requires box_ { sides_of (point_of near.now.sides.lengths) ≡ taken.now.sides }
+    requires known { 26 ≤ length near.now.gaps.items }
+    requires inside { IsTrue (in_box (sides_of (point_of near.now.sides.lengths)) (point_of p)) }
+    requires inner { (k : ℕ) → k < 26
+        → IsTrue (in_box (sides_of (point_of near.now.sides.lengths)) (near_point (point_of p) k)) }
     ensures { IsTrue result ↔ IsNearTo (drop start taken.now.points) (point_of p) }
 {
-    grid.is_picture();
+    let i = near.sides.raster(p);
     for k in 0..P3::NEAR_COUNT {
-        if is_from(taken, start, p.near(k)) {
+        if taken.has_from(start, near.known(i, k)) {
             return true;
         }
     }
     false
 }
 
-// Puts the points that are left and near this one into the list, where they are not in it.
-fn gather_round(grid: &Grid<P3>, face: u32, taken: &Listed, p: P3, list: &mut Listed)
-    requires face { face < 6 }
-    requires inside { IsTrue (in_box grid.now.sides (point_of p)) }
-    requires box_ { list.old.sides ≡ grid.now.sides }
-    ensures box_ { list.new.sides ≡ grid.now.sides }
-    ensures points { (q : Where) → Contains list.new.points q ↔ (Contains list.old.points q
-        ⊎ (IsLeft (exposed_at grid.now face) taken.now.points q × Near q (point_of p))) }
+// The same of any point that leaves room for its neighbours.
+fn touches_around(taken: &Listed, start: u32, p: P3) -> bool
+    requires { IsWithin (negsuc 1) (pos 4096) (point_of p) }
+    ensures { IsTrue result ↔ IsNearTo (drop start taken.now.points) (point_of p) }
 {
-    grid.is_picture();
+    for k in 0..P3::NEAR_COUNT {
+        if taken.lists_from(start, p.near(k)) {
+            return true;
+        }
+    }
+    false
+}
+
+/// Whether a point is near one of those taken from a place on.
+pub(crate) fn touches(near: &NearNumbers<P3>, taken: &Listed, start: u32, p: P3) -> bool
+    requires box_ { sides_of (point_of near.now.sides.lengths) ≡ taken.now.sides }
+    requires inside { IsTrue (in_box (sides_of (point_of near.now.sides.lengths)) (point_of p)) }
+    ensures { IsTrue result ↔ IsNearTo (drop start taken.now.points) (point_of p) }
+{
+    if near.all_known() && is_inner(&near.sides, p) {
+        touches_inside(near, taken, start, p)
+    } else {
+        touches_around(taken, start, p)
+    }
+}
+
+// Puts the object points near a point of which all near neighbours are in the box into the list, where they are not in it.
+fn gather_inside(left: &Grid<P3>, near: &NearNumbers<P3>, p: P3, list: &mut Listed)
+    requires near_box { sides_of (point_of near.now.sides.lengths) ≡ left.now.sides }
+    requires box_ { list.old.sides ≡ left.now.sides }
+    requires known { 26 ≤ length near.now.gaps.items }
+    requires inside { IsTrue (in_box (sides_of (point_of near.now.sides.lengths)) (point_of p)) }
+    requires inner { (k : ℕ) → k < 26
+        → IsTrue (in_box (sides_of (point_of near.now.sides.lengths)) (near_point (point_of p) k)) }
+    ensures box_ { list.new.sides ≡ left.now.sides }
+    ensures points { (q : Where) → Contains list.new.points q ↔ (Contains list.old.points q
+        ⊎ (IsTrue (at left.now q) × Near q (point_of p))) }
+{
+    let i = near.sides.raster(p);
+    for k in 0..P3::NEAR_COUNT {
+        let j = near.known(i, k);
+        if left.has_number(j) && !list.has_number(j) {
+            list.push(near.sides.unraster(j));
+        }
+    }
+}
+
+// The same of any point of the box.
+fn gather_around(left: &Grid<P3>, p: P3, list: &mut Listed)
+    requires box_ { list.old.sides ≡ left.now.sides }
+    requires inside { IsTrue (in_box left.now.sides (point_of p)) }
+    ensures box_ { list.new.sides ≡ left.now.sides }
+    ensures points { (q : Where) → Contains list.new.points q ↔ (Contains list.old.points q
+        ⊎ (IsTrue (at left.now q) × Near q (point_of p))) }
+{
+    left.is_picture();
     for k in 0..P3::NEAR_COUNT {
         let q = p.near(k);
-        if is_left(grid, face, taken, q) && !list.has(q) {
+        if left.has(q) && !list.lists(q) {
             list.push(q);
         }
     }
 }
 
-// Lists the points that touch those taken from a place on.
-fn gather(grid: &Grid<P3>, face: u32, taken: &Listed, start: u32, list: &mut Listed)
-    requires face { face < 6 }
-    requires taken_box { taken.now.sides ≡ grid.now.sides }
-    requires list_box { list.old.sides ≡ grid.now.sides }
-    ensures list_box { list.new.sides ≡ grid.now.sides }
-    ensures points { (q : Where) → Contains list.new.points q
-        ↔ IsTouching (exposed_at grid.now face) taken.now.points (drop start taken.now.points) q }
+// Puts the object points that are near this one into the list, where they are not in it.
+fn gather_round(left: &Grid<P3>, near: &NearNumbers<P3>, p: P3, list: &mut Listed)
+    requires near_box { sides_of (point_of near.now.sides.lengths) ≡ left.now.sides }
+    requires box_ { list.old.sides ≡ left.now.sides }
+    requires inside { IsTrue (in_box left.now.sides (point_of p)) }
+    ensures box_ { list.new.sides ≡ left.now.sides }
+    ensures points { (q : Where) → Contains list.new.points q ↔ (Contains list.old.points q
+        ⊎ (IsTrue (at left.now q) × Near q (point_of p))) }
 {
-    list.clear();
-    for i in start..taken.len() {
-        gather_round(grid, face, taken, taken.point(i), list);
+    if near.all_known() && is_inner(&near.sides, p) {
+        gather_inside(left, near, p, list);
+    } else {
+        gather_around(left, p, list);
     }
 }
 
-/// Finds the numbers of the points that touch those taken from a place on.
-pub(crate) fn find_touching(
-    grid: &Grid<P3>,
-    face: u32,
+// Lists the object points that are near those taken from a place on.
+fn gather(left: &Grid<P3>, near: &NearNumbers<P3>, taken: &Listed, start: u32, list: &mut Listed)
+    requires near_box { sides_of (point_of near.now.sides.lengths) ≡ left.now.sides }
+    requires taken_box { taken.now.sides ≡ left.now.sides }
+    requires list_box { list.old.sides ≡ left.now.sides }
+    ensures list_box { list.new.sides ≡ left.now.sides }
+    ensures points { (q : Where) → Contains list.new.points q
+        ↔ (IsTrue (at left.now q) × IsNearTo (drop start taken.now.points) q) }
+{
+    list.clear();
+    for i in start..taken.len() {
+        gather_round(left, near, taken.point(i), list);
+    }
+}
+
+/// Finds the numbers of the object points that are near those taken from a place on.
+pub(crate) fn find_round(
+    left: &Grid<P3>,
+    near: &NearNumbers<P3>,
     taken: &Listed,
     start: u32,
     list: &mut Listed,
     numbers: &mut Vec<u32>,
 )
-    requires face { face < 6 }
-    requires taken_box { taken.now.sides ≡ grid.now.sides }
-    requires list_box { list.old.sides ≡ grid.now.sides }
-    requires room { box_count grid.now.sides ≤ vec_capacity numbers.old }
-    ensures list_box { list.new.sides ≡ grid.now.sides }
-    ensures touching { AreTouching grid.now.sides (exposed_at grid.now face) taken.now.points
-        (drop start taken.now.points) numbers.new.items }
-    ensures few { length numbers.new.items ≤ box_count grid.now.sides }
+    requires near_box { sides_of (point_of near.now.sides.lengths) ≡ left.now.sides }
+    requires taken_box { taken.now.sides ≡ left.now.sides }
+    requires list_box { list.old.sides ≡ left.now.sides }
+    requires room { box_count left.now.sides ≤ vec_capacity numbers.old }
+    ensures list_box { list.new.sides ≡ left.now.sides }
+    ensures round { AreRound left.now (drop start taken.now.points) numbers.new.items }
+    ensures few { length numbers.new.items ≤ box_count left.now.sides }
     ensures capacity { vec_capacity numbers.new ≡ vec_capacity numbers.old }
 {
-    gather(grid, face, taken, start, list);
-    put_in_order(grid, list, numbers);
+    gather(left, near, taken, start, list);
+    put_in_order(left, list, numbers);
 }

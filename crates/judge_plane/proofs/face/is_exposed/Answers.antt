@@ -1,12 +1,26 @@
-use Rattle.std.proofs.Common.{true, sym, ◌∙◌, refl}
+use Rattle.std.proofs.Common.{◌≡◌, ap, ◌∙◌, subst}
+use Rattle.std.specs.Prelude.{IsTrue}
+use Rattle.shape_terms.specs.Points.{in_box, raster_point}
+use Rattle.shape_terms.specs.Adjacency.{moved}
+use Rattle.patch_terms.specs.Patches.{sense_step}
+use Rattle.report_terms.specs.FaceFacts.{face_axis, face_sense}
 use Rattle.judge_plane.specs.Terms.{point_of}
-use Rattle.judge_plane.proofs.Exposing.{side_face, exposed_tests, in_of_at, near_within}
+use Rattle.judge_plane.proofs.Exposing.{side_face, exposed_tests, exposed_only, near_within}
 use Rattle.judge_plane.proofs.face.is_exposed.Goals as goal
 
 pub side-requires-clause-within : goal.side-requires-clause-within
-side-requires-clause-within c = near_within c.args.grid.now (point_of c.args.p) c.is_picture.ensures.in_range (in_of_at c.args.grid.now (point_of c.args.p) c.requires.object)
+side-requires-clause-within c =
+    let p = point_of c.unraster.result in
+    near_within c.args.grid.now p c.is_picture.ensures.in_range (subst (λ s. IsTrue (in_box s p)) c.sides.ensures.value c.unraster.ensures.inside)
 
-pub returns : goal.returns
-returns c =
-    let p = c.args.p in
-    exposed_tests c.args.grid.now c.args.face (point_of p) (point_of c.side.result) true c.has.result (sym c.requires.object) refl c.has.ensures (c.side.ensures ∙ side_face p.x p.y p.z c.args.face c.requires.face)
+pub returns-then-has_number : goal.returns-then-has_number
+returns-then-has_number c =
+    let X = c.args.grid.now in
+    let face = c.args.face in
+    let p = c.unraster.result in
+    let is : point_of p ≡ raster_point X.sides c.args.i = c.unraster.ensures.value ∙ ap (λ s. raster_point s c.args.i) c.sides.ensures.value in
+    let over = c.side.ensures ∙ side_face p.x p.y p.z face c.requires.face ∙ ap (λ q. moved q (sense_step (face_axis face) (face_sense face))) is in
+    exposed_tests X face (raster_point X.sides c.args.i) (point_of c.side.result) c.has_number.result c.has.result c.has_number.ensures c.if-has_number.true c.has.ensures over
+
+pub returns-else-has_number : goal.returns-else-has_number
+returns-else-has_number c = ((λ t. let f = c.if-has_number.false in cc), λ h. c.has_number.ensures ∙ (exposed_only c.args.grid.now c.args.face (raster_point c.args.grid.now.sides c.args.i) h).0)

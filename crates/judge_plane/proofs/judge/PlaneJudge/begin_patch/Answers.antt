@@ -4,7 +4,7 @@ use Rattle.std.proofs.Math.Facts.{to_z-of_z}
 use Rattle.shape_terms.specs.Naive.{Naive as Plane, IsProper}
 use Rattle.report_terms.specs.FaceLines.{PatchIsFull, open_exposed}
 use Rattle.judge_plane.specs.PlaneState.{PlaneState, Counts}
-use Rattle.judge_plane.proofs.Steps.{patch_yes, patch_many, patch_improper, plane_begun, drop_whole}
+use Rattle.judge_plane.proofs.Steps.{step_patch, patch_yes, patch_many, patch_improper, plane_begun, drop_whole}
 use Rattle.judge_plane.proofs.judge.PlaneJudge.begin_patch.Goals as goal
 use Rattle.judge_plane.proofs.judge.PlaneJudge.begin_patch.Goals.{then-points-self-via-then-points-self, then-points-self-via-else-points-self+then-not-is_proper}
 
@@ -47,3 +47,20 @@ returns-clause-next c =
     let none = drop_whole c.len-start.result i.taken.points c.len-start.ensures.value in
     let plane = plane_begun c.args.points (record { a = c.args.a; mu = _; axis = i.plane.axis }) some ∙ ap (λ (mu : ℤ). record { a = take 3 c.args.a; mu = mu }) same in
     rw (← c.self.view_is) (λ j. record { begun = i.begun; taken = i.taken.points; patch = record { declared = c.args.points; plane = plane j; points = none j; refused = [] } })
+
+pub invariant_of-self : goal.invariant_of-self
+invariant_of-self c =
+    let i = c.self.inside in
+    let k = c.self.invariant in
+    let n : Counts = record { begun = i.begun; exposed = i.exposed; start = i.start; declared = i.declared; cursor = i.cursor; refused = i.refused } in
+    record {
+      solid = k.solid;
+      near_box = k.near_box;
+      left_box = k.left_box;
+      are_left = k.are_left;
+      taken_box = k.taken_box;
+      list_box = k.list_box;
+      fits = k.fits;
+      axis = k.axis;
+      step = step_patch i.grid n i.plane i.taken.points i.touching.items k.step c.len-start.result c.args.points c.len-start.ensures.value c.if-points-eq0.false (omega (arith, c.if-points-self.false));
+    }

@@ -1,10 +1,23 @@
-use Rattle.std.proofs.Common.{◌≡◌, ◌-◌, ◌<◌, true, false, length, drop, sym, ◌∙◌, arith}
+use Rattle.std.proofs.Common.{◌≡◌, ◌-◌, ◌<◌, true, false, length, drop, sym, ◌∙◌, subst, arith}
+use Rattle.std.specs.Prelude.{IsTrue}
 use Rattle.std.proofs.lemmas.List.{length-drop}
+use Rattle.shape_terms.specs.Points.{in_box}
 use Rattle.judge_plane.specs.Terms.{point_of}
 use Rattle.judge_plane.specs.Exposure.{exposed_at, IsLeft}
+use Rattle.judge_plane.specs.PlaneState.{PlaneState}
+use Rattle.judge_plane.proofs.Exposing.{in_of_at}
 use Rattle.judge_plane.proofs.Steps.{later_test, later_none}
 use Rattle.judge_plane.proofs.judge.PlaneJudge.is_next.Goals as goal
-use Rattle.judge_plane.proofs.judge.PlaneJudge.is_next.Goals.{then-is_left, else-is_left}
+use Rattle.judge_plane.proofs.judge.PlaneJudge.is_next.Goals.{then-has, else-has}
+
+pub touches-requires-clause-box_ : goal.touches-requires-clause-box_
+touches-requires-clause-box_ c = c.self.invariant.near_box ∙ sym c.self.invariant.taken_box
+
+pub touches-requires-clause-inside : goal.touches-requires-clause-inside
+touches-requires-clause-inside c =
+    let k = c.self.invariant in
+    let p = point_of c.args.p in
+    subst (λ s. IsTrue (in_box s p)) (k.left_box ∙ sym k.near_box) (in_of_at c.self.inside.left p (sym c.has.ensures ∙ c.if-has.true))
 
 pub returns-clause-answer : goal.returns-clause-answer
 returns-clause-answer c =
@@ -13,9 +26,11 @@ returns-clause-answer c =
     let exposed = exposed_at i.grid (i.begun - 1) in
     let start = c.self.invariant.step.start in
     let some : 0 < length (drop i.start i.taken.points) = omega (arith, start, c.if-len-self.false, c.len.ensures.value, length-drop i.start i.taken.points) in
-    elim c.if-is_left.branch [
-      | then-is_left w ↦ rw (← c.self.view_is) (later_test exposed i.taken.points (drop i.start i.taken.points) p c.if-is_left.result w.touches.result some w.result-is (c.is_left.ensures.answer.0 w.if-is_left.true) w.touches.ensures)
-      | else-is_left w ↦
-          let none : IsLeft exposed i.taken.points p → ⊥ = λ h. (let t = c.is_left.ensures.answer.1 h in let f : true ≡ false = sym t ∙ w.if-is_left.false in cc) in
-          rw (← c.self.view_is) (later_none exposed i.taken.points (drop i.start i.taken.points) p c.if-is_left.result some (w.result-is ∙ w.if-is_left.false) none)
+    let begun : 0 < i.begun = subst (λ (s : PlaneState). 0 < s.standing.begun) (sym c.self.view_is) c.requires in
+    let left = (c.self.invariant.are_left begun).each p in
+    elim c.if-has.branch [
+      | then-has w ↦ rw (← c.self.view_is) (later_test exposed i.taken.points (drop i.start i.taken.points) p c.if-has.result w.touches.result some w.result-is (left.0 (sym c.has.ensures ∙ w.if-has.true)) w.touches.ensures)
+      | else-has w ↦
+          let none : IsLeft exposed i.taken.points p → ⊥ = λ h. (let f : true ≡ false = sym (left.1 h) ∙ sym c.has.ensures ∙ w.if-has.false in cc) in
+          rw (← c.self.view_is) (later_none exposed i.taken.points (drop i.start i.taken.points) p c.if-has.result some (w.result-is ∙ w.if-has.false) none)
     ]

@@ -1,6 +1,7 @@
 use Rattle.std.proofs.Common.{◌≡◌, ◌+◌, ◌-◌, length, drop, subst, ap, sym, arith}
 use Rattle.std.specs.Prelude.{vec_capacity}
 use Rattle.report_terms.specs.FaceLines.{IsNextTouching, open_exposed}
+use Rattle.shape_terms.specs.Points.{sides_of}
 use Rattle.judge_plane.specs.Terms.{point_of}
 use Rattle.judge_plane.specs.Listings.{Listing}
 use Rattle.judge_plane.specs.Exposure.{exposed_at}
@@ -21,8 +22,11 @@ invariant_of-self-2 c =
     let all : length (drop i.start i.taken.points) ≡ i.declared = subst (λ (s : PlaneState). length s.standing.patch.points ≡ s.standing.patch.declared) (sym c.self.view_is) (c.has_points.ensures.0 c.if-not-has_points.false) in
     let next = subst (λ (s : PlaneState). IsNextTouching (open_exposed s.picture s.standing) s.standing.taken s.standing.patch.points s.standing.patch.refused (point_of c.args.p)) (sym c.self.view_is) (c.is_next_touching.ensures.0 c.if-not-is_next_touching.false) in
     let place = next_only i.grid.sides (exposed_at i.grid (i.begun - 1)) i.taken.points (drop i.start i.taken.points) i.touching.items (touching i.grid n i.plane i.taken.points i.touching.items k.step all) (exposed_in i.grid (i.begun - 1)) i.refused (point_of c.args.p) k.step.refused next in
-    subst (λ t. IsKept i.grid (record n { refused = i.refused + 1 }) i.plane t i.list i.touching.items (vec_capacity i.touching)) (sym c.are_refuted.ensures.same) (record {
+    subst (λ t. IsKept i.grid (record n { refused = i.refused + 1 }) i.plane (sides_of (point_of i.near.sides.lengths)) i.left t i.list i.touching.items (vec_capacity i.touching)) (sym c.are_refuted.ensures.same) (record {
       solid = k.solid;
+      near_box = k.near_box;
+      left_box = k.left_box;
+      are_left = k.are_left;
       taken_box = k.taken_box;
       list_box = k.list_box;
       fits = k.fits;

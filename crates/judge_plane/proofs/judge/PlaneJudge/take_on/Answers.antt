@@ -1,12 +1,15 @@
-use Rattle.std.proofs.Common.{◌≡◌, ◌-◌, true, false, length, drop, subst, ap, sym, ◌∙◌, arith}
-use Rattle.std.specs.Prelude.{vec_capacity}
+use Rattle.std.proofs.Common.{◌≡◌, ◌-◌, true, false, [], ◌∷◌, ◌++◌, length, drop, subst, ap, sym, ◌∙◌, arith}
+use Rattle.std.specs.Prelude.{IsTrue, vec_capacity}
+use Rattle.shape_terms.specs.Points.{sides_of, in_box, box_count}
+use Rattle.shape_terms.specs.Pictures.{Picture}
 use Rattle.report_terms.specs.FaceLines.{IsNextOn, open_exposed}
 use Rattle.judge_plane.specs.Terms.{point_of}
 use Rattle.judge_plane.specs.Listings.{Listing}
-use Rattle.judge_plane.specs.Exposure.{exposed_at, AreTouching}
+use Rattle.judge_plane.specs.Exposure.{exposed_at, AreLeft, AreRound}
 use Rattle.judge_plane.specs.PlaneState.{PlaneState, Counts, IsKept}
 use Rattle.judge_plane.proofs.Exposing.{exposed_in}
-use Rattle.judge_plane.proofs.Steps.{left_of_next, more_points, step_on}
+use Rattle.judge_plane.proofs.LeftPoints.{left_less, round_touches}
+use Rattle.judge_plane.proofs.Steps.{left_of_next, more_points, begun_of, step_on}
 use Rattle.judge_plane.proofs.judge.PlaneJudge.take_on.Goals as goal
 
 pub push-requires-clause-inside : goal.push-requires-clause-inside
@@ -31,28 +34,47 @@ push-requires-clause-new c =
     let left = left_of_next (exposed_at j.grid (j.begun - 1)) j.taken.points (drop j.start j.taken.points) p next in
     left.left
 
+pub clear-requires : goal.clear-requires
+clear-requires c =
+    let j = c.self-2.inside in
+    let k = c.self-2.invariant in
+    let p = point_of c.args.p in
+    let same = c.self-2.view_is ∙ c.is_next.ensures.same in
+    let next = subst (λ (s : PlaneState). IsNextOn (open_exposed s.picture s.standing) s.standing.taken s.standing.patch.points p) (sym same) (c.is_next.ensures.answer.0 c.if-not-is_next.false) in
+    let left = left_of_next (exposed_at j.grid (j.begun - 1)) j.taken.points (drop j.start j.taken.points) p next in
+    subst (λ s. IsTrue (in_box s p)) (sym k.left_box) (exposed_in j.grid (j.begun - 1) p left.there)
+
 pub invariant_of-self : goal.invariant_of-self
 invariant_of-self c =
     let j = c.self-2.inside in
     let n : Counts = record { begun = j.begun; exposed = j.exposed; start = j.start; declared = j.declared; cursor = j.cursor; refused = j.refused } in
     let k = c.self-2.invariant in
     let p = point_of c.args.p in
+    let exposed = exposed_at j.grid (j.begun - 1) in
     let same = c.self-2.view_is ∙ c.is_next.ensures.same in
     let next = subst (λ (s : PlaneState). IsNextOn (open_exposed s.picture s.standing) s.standing.taken s.standing.patch.points p) (sym same) (c.is_next.ensures.answer.0 c.if-not-is_next.false) in
-    let left = left_of_next (exposed_at j.grid (j.begun - 1)) j.taken.points (drop j.start j.taken.points) p next in
+    let left = left_of_next exposed j.taken.points (drop j.start j.taken.points) p next in
     let more = more_points j.grid n j.taken.points j.touching.items k.step (λ e. (
     let t = c.has_points.ensures.1 (subst (λ (s : PlaneState). length s.standing.patch.points ≡ s.standing.patch.declared) same e) in
     let f : true ≡ false = sym t ∙ c.if-has_points.false in
     cc)) in
+    let begun = begun_of j.grid n j.taken.points j.touching.items k.step (omega (arith, more)) in
+    let inside = subst (λ s. IsTrue (in_box s p)) (sym k.left_box) (exposed_in j.grid (j.begun - 1) p left.there) in
+    let rest = subst (AreLeft exposed (j.taken.points ++ p ∷ [])) (sym c.clear.ensures) (left_less exposed j.taken.points j.left p (k.are_left begun) inside) in
+    let rest_box = ap (λ (Y : Picture). Y.sides) c.clear.ensures ∙ k.left_box in
     let points = ap (λ (l : Listing). l.points) c.push.ensures in
-    let touching = subst (λ ps. AreTouching j.grid.sides (exposed_at j.grid (j.begun - 1)) ps (drop j.start ps) c.find_touching.new.numbers.items) points c.find_touching.ensures.touching in
-    subst (λ t. IsKept j.grid n j.plane t c.find_touching.new.list c.find_touching.new.numbers.items (vec_capacity c.find_touching.new.numbers)) (sym c.push.ensures) (record {
+    let round = subst (λ ps. AreRound c.clear.new.self (drop j.start ps) c.find_round.new.numbers.items) points c.find_round.ensures.round in
+    let touching = round_touches j.grid exposed (j.taken.points ++ p ∷ []) (drop j.start (j.taken.points ++ p ∷ [])) c.clear.new.self c.find_round.new.numbers.items rest rest_box (exposed_in j.grid (j.begun - 1)) round in
+    subst (λ t. IsKept j.grid n j.plane (sides_of (point_of j.near.sides.lengths)) c.clear.new.self t c.find_round.new.list c.find_round.new.numbers.items (vec_capacity c.find_round.new.numbers)) (sym c.push.ensures) (record {
       solid = k.solid;
+      near_box = k.near_box;
+      left_box = rest_box;
+      are_left = λ b. rest;
       taken_box = k.taken_box;
-      list_box = c.find_touching.ensures.list_box;
-      fits = (let r = k.fits in omega (arith, r, c.find_touching.ensures.capacity));
+      list_box = c.find_round.ensures.list_box ∙ rest_box;
+      fits = (let r = k.fits in omega (arith, r, c.find_round.ensures.capacity));
       axis = k.axis;
-      step = step_on j.grid n j.plane j.taken.points j.touching.items k.step p c.find_touching.new.numbers.items more left (λ e. touching) c.find_touching.ensures.few;
+      step = step_on j.grid n j.plane j.taken.points j.touching.items k.step p c.find_round.new.numbers.items more left (λ e. touching) (let f = c.find_round.ensures.few in omega (arith, f, ap box_count rest_box));
     })
 
 pub invariant_of-self-else-len-self : goal.invariant_of-self-else-len-self
@@ -61,16 +83,23 @@ invariant_of-self-else-len-self c =
     let n : Counts = record { begun = j.begun; exposed = j.exposed; start = j.start; declared = j.declared; cursor = j.cursor; refused = j.refused } in
     let k = c.self-2.invariant in
     let p = point_of c.args.p in
+    let exposed = exposed_at j.grid (j.begun - 1) in
     let same = c.self-2.view_is ∙ c.is_next.ensures.same in
     let next = subst (λ (s : PlaneState). IsNextOn (open_exposed s.picture s.standing) s.standing.taken s.standing.patch.points p) (sym same) (c.is_next.ensures.answer.0 c.if-not-is_next.false) in
-    let left = left_of_next (exposed_at j.grid (j.begun - 1)) j.taken.points (drop j.start j.taken.points) p next in
+    let left = left_of_next exposed j.taken.points (drop j.start j.taken.points) p next in
     let more = more_points j.grid n j.taken.points j.touching.items k.step (λ e. (
     let t = c.has_points.ensures.1 (subst (λ (s : PlaneState). length s.standing.patch.points ≡ s.standing.patch.declared) same e) in
     let f : true ≡ false = sym t ∙ c.if-has_points.false in
     cc)) in
+    let begun = begun_of j.grid n j.taken.points j.touching.items k.step (omega (arith, more)) in
+    let inside = subst (λ s. IsTrue (in_box s p)) (sym k.left_box) (exposed_in j.grid (j.begun - 1) p left.there) in
+    let rest = subst (AreLeft exposed (j.taken.points ++ p ∷ [])) (sym c.clear.ensures) (left_less exposed j.taken.points j.left p (k.are_left begun) inside) in
     let points = ap (λ (l : Listing). length l.points) c.push.ensures in
-    subst (λ t. IsKept j.grid n j.plane t j.list j.touching.items (vec_capacity j.touching)) (sym c.push.ensures) (record {
+    subst (λ t. IsKept j.grid n j.plane (sides_of (point_of j.near.sides.lengths)) c.clear.new.self t j.list j.touching.items (vec_capacity j.touching)) (sym c.push.ensures) (record {
       solid = k.solid;
+      near_box = k.near_box;
+      left_box = ap (λ (Y : Picture). Y.sides) c.clear.ensures ∙ k.left_box;
+      are_left = λ b. rest;
       taken_box = k.taken_box;
       list_box = k.list_box;
       fits = k.fits;

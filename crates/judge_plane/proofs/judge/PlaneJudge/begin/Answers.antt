@@ -1,0 +1,31 @@
+use Rattle.std.proofs.Common.{◌≡◌, ◌+◌, ◌-◌, ◌<◌, [], length, ap, sym, ◌∙◌, subst, arith}
+use Rattle.report_terms.specs.FaceFacts.{face_axis}
+use Rattle.judge_plane.specs.Listings.{Listing}
+use Rattle.judge_plane.specs.Exposure.{exposed_at, AreLeft}
+use Rattle.judge_plane.specs.PlaneState.{Counts, AreInStep}
+use Rattle.judge_plane.proofs.LeftPoints.{left_all}
+use Rattle.judge_plane.proofs.Steps.{step_face}
+use Rattle.judge_plane.proofs.judge.PlaneJudge.begin.Goals as goal
+
+pub invariant_of-self : goal.invariant_of-self
+invariant_of-self c =
+    let i = c.self.inside in
+    let k = c.self.invariant in
+    let n : Counts = record { begun = i.begun; exposed = i.exposed; start = i.start; declared = i.declared; cursor = i.cursor; refused = i.refused } in
+    let m : Counts = record { begun = i.begun + 1; exposed = c.count-self-inside.result; start = 0; declared = 0; cursor = 0; refused = 0 } in
+    let few : i.begun < 6 = (let f = k.step.faces in omega (arith, f, c.if-face-eq-FACES.false)) in
+    let same : i.begun ≡ i.begun + 1 - 1 = omega arith in
+    let points = c.expose_all.ensures.points ∙ ap (exposed_at i.grid) same in
+    let empty = ap (λ (l : Listing). l.points) c.clear.ensures in
+    let step = step_face i.grid n i.plane i.taken.points i.touching.items k.step c.count-self-inside.result few (c.count-self-inside.ensures ∙ ap length points) in
+    record {
+      solid = k.solid;
+      near_box = k.near_box;
+      left_box = c.expose_all.ensures.box_;
+      are_left = λ l. subst (λ ps. AreLeft (exposed_at i.grid (i.begun + 1 - 1)) ps c.expose_all.new.exposed) (sym empty) (left_all (exposed_at i.grid (i.begun + 1 - 1)) c.expose_all.new.exposed points);
+      taken_box = ap (λ (l : Listing). l.sides) c.clear.ensures ∙ k.taken_box;
+      list_box = k.list_box;
+      fits = (let r = k.fits in omega (arith, r, c.clear-2.ensures.capacity));
+      axis = λ l. (let a : c.args.axis ≡ c.axis_of.result = omega (arith, c.if-axis-axis_of.false) in a ∙ c.axis_of.ensures.value ∙ ap face_axis same);
+      step = subst (λ ps. AreInStep i.grid m ps c.clear-2.new.self.items) (sym empty) (subst (λ ns. AreInStep i.grid m [] ns) (sym c.clear-2.ensures.items) step);
+    }
