@@ -1,6 +1,6 @@
 -- The contours found so far, one for each cycle of the cracks that were passed by number.
 -- Stated of the values alone; how contours and marks are kept belongs elsewhere.
-use Rattle.std.proofs.Common.{ℕ, ◌+◌, ◌*◌, ◌/◌, ◌%◌, ◌<◌, ◌≤◌, ◌≡◌, Bool, true, false, refl, ap, sym, ◌∙◌, subst, arith, List, [], ◌∷◌, ◌++◌, length, length-append, map, ◌⊎◌, inl, inr}
+use Rattle.std.proofs.Common.{ℕ, zero, suc, ◌+◌, ◌-◌, ◌*◌, ◌/◌, ◌%◌, ◌<◌, ◌≤◌, ◌≡◌, Bool, true, false, refl, ap, sym, ◌∙◌, subst, arith, List, [], ◌∷◌, ◌++◌, length, length-append, map, ◌⊎◌, inl, inr}
 use Rattle.std.proofs.lemmas.List.{map-append}
 use Rattle.shape_terms.specs.Points.{box_count, raster_point}
 use Rattle.shape_terms.specs.Pictures.{Picture}
@@ -13,6 +13,7 @@ use Rattle.number_terms.proofs.Numbered.{numbered_back}
 use Rattle.shape_crack.specs.Marked.{IsCycleMarked, IsTaken}
 use Rattle.shape_crack.specs.Terms.{side_of}
 use Rattle.shape_crack.proofs.Rows.{crack_or_not}
+use Rattle.shape_crack.proofs.NextObjects.{AreBlank}
 use Rattle.shape_crack.proofs.Beginnings.{right_marked, left_marked}
 use Rattle.shape_terms.proofs.Boxes.{raster_number-raster_point}
 
@@ -54,6 +55,15 @@ module _ (X : Picture) (axes : length X.sides ≡ 2) where
 
   pub listing_all : (i : ℕ) (marks : ℕ → Bool) (list : List Contour) → Listing X i marks list → box_count X.sides * 4 ≤ i → AreContours X list
   listing_all i marks list l e = record { cycles = l.cycles; are = found_all X axes i marks l.cycles l.found e; contours_are = l.contours_are }
+
+  -- ---- background pixels
+
+  listing_gap : (d n m : ℕ) (marks : ℕ → Bool) (list : List Contour) → n + d ≡ m → ((j : ℕ) → n ≤ j → j < m → IsCrack X (numbered X.sides j) → ⊥) → Listing X n marks list → Listing X m marks list
+  listing_gap zero n m marks list e none l = subst (λ k. Listing X k marks list) (let q : n ≡ m = omega arith in q) l
+  listing_gap (suc d) n m marks list e none l = listing_gap d (n + 1) m marks list (omega arith) (λ j a b. none j (omega arith) b) (listing_skip n marks list l (inr (none n (omega arith) (omega arith))))
+
+  pub listing_blank : (n i : ℕ) (marks : ℕ → Bool) (list : List Contour) → n ≤ i → AreBlank X n i → Listing X (n * 4) marks list → Listing X (i * 4) marks list
+  listing_blank n i marks list a blank l = listing_gap (i * 4 - n * 4) (n * 4) (i * 4) marks list (omega arith) (λ j b c k. let f = blank (j / 4) (omega arith) (omega arith) in let p = k.pixel in cc) l
 
   -- ---- one side of a pixel after the other
 

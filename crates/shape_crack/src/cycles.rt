@@ -1,7 +1,8 @@
-//! All contours of a picture: its pixels are looked at in raster order, and where a crack is not marked yet its cycle is traced and marked.
+//! All contours of a picture: its object pixels are looked at in raster order, and where a crack is not marked yet its cycle is traced and marked.
 //! The least crack of a cycle is over an upper or a lower side, so that no other side is looked at.
 ghost use Rattle.std.specs.Prelude.{◌≡◌, ◌<◌, ◌↔◌, IsTrue, IfOk, OnOk, vec_len};
-ghost use Rattle.shape_terms.specs.Points.{box_count};
+ghost use Rattle.shape_terms.specs.Points.{box_count, raster_point};
+ghost use Rattle.shape_terms.specs.Pictures.{at};
 ghost use Rattle.shape_terms.specs.Contours.{IsCrack};
 ghost use Rattle.shape_terms.specs.Traces.{AreContours};
 ghost use Rattle.shape_crack.specs.Terms.{side_of};
@@ -16,23 +17,25 @@ use shape_grid::Grid;
 use shape_space::{NoMemory, P2};
 use std::alloc::Global;
 
-// Whether a pixel is object and the one over it background.
+// Whether the pixel over one of the object is background.
 fn is_top(grid: &Grid<P2>, i: u32) -> bool
-    requires { i < box_count grid.now.sides }
+    requires pixel { i < box_count grid.now.sides }
+    requires object { IsTrue (at grid.now (raster_point grid.now.sides i)) }
     ensures { IsTrue result ↔ IsCrack grid.now (side_of grid.now.sides i 0) }
 {
     let width = grid.sides().side(0) as u32;
-    grid.has_number(i) && (i < width || !grid.has_number(i - width))
+    i < width || !grid.has_number(i - width)
 }
 
-// Whether a pixel is object and the one under it background.
+// Whether the pixel under one of the object is background.
 fn is_bottom(grid: &Grid<P2>, i: u32) -> bool
-    requires { i < box_count grid.now.sides }
+    requires pixel { i < box_count grid.now.sides }
+    requires object { IsTrue (at grid.now (raster_point grid.now.sides i)) }
     ensures { IsTrue result ↔ IsCrack grid.now (side_of grid.now.sides i 2) }
 {
     let sides = grid.sides();
     let below = i + sides.side(0) as u32;
-    grid.has_number(i) && (below >= sides.count() || !grid.has_number(below))
+    below >= sides.count() || !grid.has_number(below)
 }
 
 // Puts the contour from a side of a pixel last and marks its cycle, where the side is not marked yet.
@@ -72,13 +75,15 @@ pub fn contours(alloc: Global, grid: &Grid<P2>) -> Result<Contours, NoMemory>
     let count = grid.sides().count();
     let mut marks = CrackMarks::new(alloc, count as usize)?;
     let mut list = Vec::new(alloc);
-    for i in 0..count {
+    let mut next = 0;
+    while let Some(i) = grid.first_from(next) {
         if is_top(grid, i) {
             take(alloc, grid, i, 0, &mut marks, &mut list)?;
         }
         if is_bottom(grid, i) {
             take(alloc, grid, i, 2, &mut marks, &mut list)?;
         }
+        next = i + 1;
     }
     Ok(Contours::from_list(list))
 }

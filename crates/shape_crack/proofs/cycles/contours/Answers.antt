@@ -1,7 +1,8 @@
-use Rattle.std.proofs.Common.{arith, ◌≡◌, ◌<◌, ◌+◌, ◌*◌, refl, subst, ◌∙◌, ap, vec_len, inl, inr}
+use Rattle.std.proofs.Common.{arith, ◌≡◌, ◌<◌, ◌≤◌, ◌+◌, ◌*◌, refl, subst, ◌∙◌, ap, vec_len, inl, inr}
 use Rattle.shape_terms.specs.Points.{box_count}
 use Rattle.shape_crack.specs.MarkBits.{is_marked}
-use Rattle.shape_crack.proofs.Listing.{Listing, listing_none, listing_no_crack, listing_taken, listing_passed, listing_all}
+use Rattle.shape_crack.proofs.Listing.{Listing, listing_none, listing_no_crack, listing_taken, listing_passed, listing_blank, listing_all}
+use Rattle.shape_crack.proofs.NextObjects.{next_object, blank_to_end}
 use Rattle.shape_crack.proofs.cycles.contours.Goals as goal
 use Rattle.shape_crack.proofs.cycles.contours.Goals.{then-is_top+in_ok-take, else-is_top, then-is_bottom+in_ok-take-2, else-is_bottom}
 
@@ -9,16 +10,43 @@ pub loop-i-init : goal.loop-i-init
 loop-i-init c = record {
   listing = rw c.new-list.ensures.items (listing_none c.args.grid.now c.sides.ensures.picture.axes (is_marked c.in_ok-marks.marks.bytes.items) c.in_ok-marks.ensures.none);
   room = c.in_ok-marks.ensures.len;
+  low = omega arith;
 }
+
+pub is_top-requires-clause-object : goal.is_top-requires-clause-object
+is_top-requires-clause-object c =
+    let X = c.args.grid.now in
+    let all : c.count-count.result ≡ box_count X.sides = c.count-count.ensures.value ∙ ap box_count c.sides.ensures.value in
+    let l : c.in-Some.i < box_count X.sides = c.in-Some.ensures.below in
+    let n = next_object X c.loop-i.next c.in-Some.i (omega (arith, c.loop-i.invariant.low)) l c.in-Some.ensures.next in
+    n.object
+
+pub is_bottom-requires-clause-object : goal.is_bottom-requires-clause-object
+is_bottom-requires-clause-object c =
+    let X = c.args.grid.now in
+    let all : c.count-count.result ≡ box_count X.sides = c.count-count.ensures.value ∙ ap box_count c.sides.ensures.value in
+    let l : c.in-Some.i < box_count X.sides = c.in-Some.ensures.below in
+    let n = next_object X c.loop-i.next c.in-Some.i (omega (arith, c.loop-i.invariant.low)) l c.in-Some.ensures.next in
+    n.object
+
+pub loop-i-smaller : goal.loop-i-smaller
+loop-i-smaller c =
+    let X = c.args.grid.now in
+    let all : c.count-count.result ≡ box_count X.sides = c.count-count.ensures.value ∙ ap box_count c.sides.ensures.value in
+    let l : c.in-Some.i < box_count X.sides = c.in-Some.ensures.below in
+    let n = next_object X c.loop-i.next c.in-Some.i (omega (arith, c.loop-i.invariant.low)) l c.in-Some.ensures.next in
+    let a = n.low in
+    omega arith
 
 pub loop-i-preserved : goal.loop-i-preserved
 loop-i-preserved c =
     let X = c.args.grid.now in
     let axes = c.sides.ensures.picture.axes in
-    let i = c.loop-i.i in
+    let i = c.in-Some.i in
     let all : c.count-count.result ≡ box_count X.sides = c.count-count.ensures.value ∙ ap box_count c.sides.ensures.value in
-    let l : i < box_count X.sides = omega arith in
-    let found = c.loop-i.invariant.listing in
+    let l : c.in-Some.i < box_count X.sides = c.in-Some.ensures.below in
+    let n = next_object X c.loop-i.next c.in-Some.i (omega (arith, c.loop-i.invariant.low)) l c.in-Some.ensures.next in
+    let found = listing_blank X axes c.loop-i.next i (is_marked c.loop-i.marks.bytes.items) c.loop-i.list.items n.low n.blank c.loop-i.invariant.listing in
     let upper : Listing X (i * 4 + 1) (is_marked c.if-is_top.marks.bytes.items) c.if-is_top.list.items = elim c.if-is_top.branch [
       | then-is_top+in_ok-take w ↦
           rw (w.marks-is, w.list-is)
@@ -48,11 +76,15 @@ loop-i-preserved c =
         | then-is_bottom+in_ok-take-2 w ↦ rw w.marks-is (w.take-then-is_bottom.ensures.len ∙ above)
         | else-is_bottom w ↦ rw w.marks-is above
       ];
+      low = omega arith;
     }
 
 pub returns : goal.returns
 returns c =
     let X = c.args.grid.now in
+    let axes = c.sides.ensures.picture.axes in
     let all : c.count-count.result ≡ box_count X.sides = c.count-count.ensures.value ∙ ap box_count c.sides.ensures.value in
-    rw c.from_list.ensures
-    (listing_all X c.sides.ensures.picture.axes (c.loop-i.i * 4) (is_marked c.loop-i.marks.bytes.items) c.loop-i.list.items c.loop-i.invariant.listing (let f = c.loop-i-test.false in omega arith))
+    let low : c.loop-i.next ≤ box_count X.sides = omega (arith, c.loop-i.invariant.low) in
+    let blank = blank_to_end X c.loop-i.next low c.in_default.ensures.next in
+    let found = listing_blank X axes c.loop-i.next (box_count X.sides) (is_marked c.loop-i.marks.bytes.items) c.loop-i.list.items low blank c.loop-i.invariant.listing in
+    rw c.from_list.ensures (listing_all X axes (box_count X.sides * 4) (is_marked c.loop-i.marks.bytes.items) c.loop-i.list.items found (omega arith))

@@ -13,8 +13,8 @@ returns-then-i-width c =
     let w = nat_abs (to_z w32 (of_z w32 c.side-width.result)) in
     let f : FitsSigned w32 c.side-width.result = search rules in
     let e = ap (λ (x : ℕ). x ∷ nat_abs c.sides.result.lengths.y ∷ []) (ap nat_abs (to_z-of_z w32 c.side-width.result f ∙ c.side-width.ensures.value)) ∙ c.sides.ensures.value in
-    let none = over_none X w (nat_abs c.sides.result.lengths.y) e c.args.i c.requires c.if-i-width.true in
-    crack_when X (side_of X.sides c.args.i 0) _ (omega arith) (sym c.has_number.ensures ∙ c.if-has_number.true) (lt-ltb c.args.i w c.if-i-width.true ∙ sym (ap not none))
+    let none = over_none X w (nat_abs c.sides.result.lengths.y) e c.args.i c.requires.pixel c.if-i-width.true in
+    crack_when X (side_of X.sides c.args.i 0) _ (omega arith) c.requires.object (lt-ltb c.args.i w c.if-i-width.true ∙ sym (ap not none))
 
 pub returns-else-i-width : goal.returns-else-i-width
 returns-else-i-width c =
@@ -22,5 +22,5 @@ returns-else-i-width c =
     let w = nat_abs (to_z w32 (of_z w32 c.side-width.result)) in
     let f : FitsSigned w32 c.side-width.result = search rules in
     let e = ap (λ (x : ℕ). x ∷ nat_abs c.sides.result.lengths.y ∷ []) (ap nat_abs (to_z-of_z w32 c.side-width.result f ∙ c.side-width.ensures.value)) ∙ c.sides.ensures.value in
-    let next = over_number X w (nat_abs c.sides.result.lengths.y) e c.args.i c.requires c.if-i-width.false in
-    crack_when X (side_of X.sides c.args.i 0) _ (omega arith) (sym c.has_number.ensures ∙ c.if-has_number.true) (ap not (c.has_number-else-i-width.ensures ∙ ap (at X) (sym next)))
+    let next = over_number X w (nat_abs c.sides.result.lengths.y) e c.args.i c.requires.pixel c.if-i-width.false in
+    crack_when X (side_of X.sides c.args.i 0) _ (omega arith) c.requires.object (ap not (c.has_number.ensures ∙ ap (at X) (sym next)))
