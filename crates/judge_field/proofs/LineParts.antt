@@ -2,8 +2,8 @@
 -- Laws over lines, squares and numbers alone.
 use Rattle.std.proofs.Common.{◌≡◌, ◌⊎◌, inl, inr, ℕ, ◌+◌, ◌-◌, ◌*◌, ◌<◌, ◌≤◌, List, length, set, get_or, get_or-set_same, get_or-set_other, refl, sym, ap, ◌∙◌, subst, arith}
 use Rattle.std.proofs.lemmas.Bool.{cases_lt}
-use Rattle.std.proofs.lemmas.Nat.{mul-le}
 use Rattle.shape_terms.specs.AxisLines.{gap}
+use Rattle.shape_envelope.proofs.LineNumbers.{on_places, other_place}
 use Rattle.shape_envelope.proofs.Fences.{IsPart, part_least, gap_none, gap_shift}
 use Rattle.judge_field.specs.Scanned.{IsLeastAlong, HasScannedBefore}
 
@@ -74,14 +74,6 @@ module _ (line now new : ℕ → ℕ) (w x a b : ℕ) (s : HasScannedBefore line
   }
 
 -- ---- the squares of a line
-
-pub on_places : (start step a y : ℕ) → (start + a * step) + y * step ≡ start + (a + y) * step
-on_places start step a y = omega arith
-
-other_place : (start step x y : ℕ) → 0 < step → x < y → start + x * step ≡ start + y * step → ⊥
-other_place start step x y apart l e =
-    let m : (x + 1) * step ≤ y * step = mul-le (x + 1) step y step (omega arith) (omega arith) in
-    omega (arith, m, e)
 
 -- a place with 0 is written
 pub bare_written : (squares next : List ℕ) (start step w x : ℕ) → 0 < step → start + x * step < length next → HasScannedBefore (λ y. get_or squares (start + y * step) 0) (λ y. get_or next (start + y * step) 0) w x → x < w → get_or squares (start + x * step) 0 ≡ 0

@@ -65,7 +65,15 @@ fn scan_line<L: Ledger>(
             let end = part_end(squares, start, step, side, x);
             let from = x.saturating_sub(1);
             let to = side.min(end + 1);
-            scan_part(alloc, next, squares, start + from as usize * step, step, to - from, steps)?;
+            scan_part(
+                alloc,
+                next,
+                squares,
+                start + from as usize * step,
+                step,
+                to - from,
+                steps,
+            )?;
             x = to;
         }
     }

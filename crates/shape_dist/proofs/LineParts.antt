@@ -2,10 +2,10 @@
 -- Laws over lines and numbers alone.
 use Rattle.std.proofs.Common.{◌≡◌, ◌⊎◌, inl, inr, ℕ, ◌+◌, ◌-◌, ◌*◌, ◌<◌, ◌≤◌, List, refl, sym, ap, ◌∙◌, subst, arith}
 use Rattle.std.specs.Prelude.{Option, Some, None}
-use Rattle.std.proofs.lemmas.Bool.{cases_lt, cases_eq}
-use Rattle.std.proofs.lemmas.Nat.{mul-le}
+use Rattle.std.proofs.lemmas.Bool.{cases_lt}
 use Rattle.std.proofs.lemmas.Option.{same_Some}
 use Rattle.shape_terms.specs.AxisLines.{gap}
+use Rattle.shape_envelope.proofs.LineNumbers.{on_places, other_place}
 use Rattle.shape_envelope.proofs.Fences.{IsPart, part_least, gap_none, gap_shift, gap_zero}
 use Rattle.shape_dist.specs.declared.found.Found.{Found}
 use Rattle.shape_dist.specs.Spreads.{IsLeastOfLine, IsSpreadAt, HasSpreadBefore, square_in, found}
@@ -160,14 +160,6 @@ module _ (line now new : ℕ → Option Found) (w x a b : ℕ) (s : HasSpreadBef
   }
 
 -- ---- the cells of a line
-
-pub on_places : (base step a y : ℕ) → (base + a * step) + y * step ≡ base + (a + y) * step
-on_places base step a y = omega arith
-
-other_place : (base step x y : ℕ) → 0 < step → x < y → base + x * step ≡ base + y * step → ⊥
-other_place base step x y apart l e =
-    let m : (x + 1) * step ≤ y * step = mul-le (x + 1) step y step (omega arith) (omega arith) in
-    omega (arith, m, e)
 
 pub cells_more : (old cells new : List (Option Found)) (base step w x a b : ℕ) → 0 < step → HasSpreadBefore (λ y. found old (base + y * step)) (λ y. found cells (base + y * step)) w x → a ≡ x - 1 → x < b → b ≤ w
     → ((z : ℕ) → z + 1 ≡ b → b < w → square_in (found cells (base + z * step)) ≡ Some 0)

@@ -7,7 +7,7 @@ use Rattle.shape_terms.specs.AxisLines.{place}
 use Rattle.shape_terms.proofs.AxisPlaces.{same_place}
 use Rattle.shape_envelope.proofs.LineNumbers.{line_low, line_high, line_place, line_of_number, number_of_line}
 use Rattle.shape_dist.specs.declared.found.Found.{Found}
-use Rattle.shape_dist.specs.Spreads.{found, IsSpreadAt, HasSpread, HasSpreadTo}
+use Rattle.shape_dist.specs.Spreads.{found, IsSpreadAt, HasSpreadTo}
 use Rattle.shape_dist.proofs.AxisSteps.{spread_of_copy}
 
 pub spread_more : (c w rows t : ℕ) (old mid new : List (Option Found)) → t < c * rows → HasSpreadTo c w rows t old mid

@@ -74,7 +74,14 @@ fn spread_line<L: Ledger>(
             let end = part_end(cells, base, step, n, x);
             let from = x.saturating_sub(1);
             let to = n.min(end + 1);
-            spread_part(alloc, cells, base + from as usize * step, step, to - from, steps)?;
+            spread_part(
+                alloc,
+                cells,
+                base + from as usize * step,
+                step,
+                to - from,
+                steps,
+            )?;
             x = to;
         }
     }

@@ -1,10 +1,10 @@
 -- The lines of an axis, each with a number, and the places of a row.
 -- Laws over numbers and rows alone.
-use Rattle.std.proofs.Common.{◌≡◌, ℕ, ◌+◌, ◌*◌, ◌/◌, ◌%◌, ◌<◌, inl, inr, List, length, sym, ap, ◌∙◌, arith, mul_comm}
+use Rattle.std.proofs.Common.{◌≡◌, ℕ, ◌+◌, ◌*◌, ◌/◌, ◌%◌, ◌<◌, ◌≤◌, inl, inr, List, length, sym, ap, ◌∙◌, arith, mul_comm}
 use Rattle.std.specs.Prelude.{ℤ, Option, None}
 use Rattle.std.proofs.lemmas.Bool.{cases_lt}
 use Rattle.std.proofs.lemmas.List.{get_or_past}
-use Rattle.std.proofs.lemmas.Nat.{div_below, div-mul-add, mod-mul-add}
+use Rattle.std.proofs.lemmas.Nat.{div_below, div-mul-add, mod-mul-add, mul-le}
 use Rattle.shape_terms.specs.AxisLines.{place}
 use Rattle.shape_terms.specs.Rows.{cell, IsLowest}
 use Rattle.shape_terms.proofs.AxisPlaces.{place_below}
@@ -30,6 +30,15 @@ line_of_number c low high t l e =
 
 pub number_of_line : (c t : ℕ) → t % c + c * (t / c) ≡ t
 number_of_line c t = omega arith
+
+-- the places of a line from one of them on, and that they are all different
+pub on_places : (base step a y : ℕ) → (base + a * step) + y * step ≡ base + (a + y) * step
+on_places base step a y = omega arith
+
+pub other_place : (base step x y : ℕ) → 0 < step → x < y → base + x * step ≡ base + y * step → ⊥
+other_place base step x y apart l e =
+    let m : (x + 1) * step ≤ y * step = mul-le (x + 1) step y step (omega arith) (omega arith) in
+    omega (arith, m, e)
 
 -- a lowest place is a place of the row
 pub lowest_inside : (row : List (Option ℕ)) (x : ℤ) (i : ℕ) → IsLowest row x i → i < length row

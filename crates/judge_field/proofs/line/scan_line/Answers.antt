@@ -1,5 +1,6 @@
-use Rattle.std.proofs.Common.{◌≡◌, ◌+◌, ◌*◌, ◌<◌, ◌≤◌, ◌-◌, arith, get_or, get_or-set_other, ◌∙◌}
-use Rattle.judge_field.proofs.LineParts.{on_places, bare_written, squares_more, others_more}
+use Rattle.std.proofs.Common.{◌≡◌, ◌+◌, ◌*◌, ◌<◌, ◌≤◌, ◌-◌, arith, get_or-set_other, ◌∙◌}
+use Rattle.shape_envelope.proofs.LineNumbers.{on_places}
+use Rattle.judge_field.proofs.LineParts.{bare_written, squares_more, others_more}
 use Rattle.judge_field.proofs.line.scan_line.Goals as goal
 
 pub scan_part-requires-clause-inside : goal.scan_part-requires-clause-inside
@@ -19,10 +20,10 @@ loop-x-preserved g c =
     record {
       within = within;
       scanned = squares_more c.args.squares.now c.loop-x.next c.scan_part.new.next c.args.start c.args.step c.args.side c.loop-x.x a b c.requires.apart c.loop-x.invariant.scanned from some within
-      (λ z e l.
-      let end : c.part_end-end.result ≡ z = omega (arith, c.min-to.ensures) in
-      rw end at (c.part_end-end.ensures.bare (omega (arith, c.min-to.ensures))))
-      h.on_line h.others;
+          (λ z e l.
+          let end : c.part_end-end.result ≡ z = omega (arith, c.min-to.ensures) in
+          rw end at (c.part_end-end.ensures.bare (omega (arith, c.min-to.ensures))))
+          h.on_line h.others;
       others = others_more c.args.next.now c.loop-x.next c.scan_part.new.next c.args.start c.args.step c.args.side a b within h.others c.loop-x.invariant.others;
     }
 

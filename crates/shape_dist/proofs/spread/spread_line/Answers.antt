@@ -1,6 +1,7 @@
-use Rattle.std.proofs.Common.{◌≡◌, ◌+◌, ◌*◌, ◌<◌, ◌≤◌, ◌-◌, arith, ap, subst, sym, ◌∙◌}
+use Rattle.std.proofs.Common.{◌≡◌, ◌+◌, ◌<◌, ◌≤◌, ◌-◌, arith, ap, sym, ◌∙◌}
 use Rattle.shape_dist.specs.Spreads.{found}
-use Rattle.shape_dist.proofs.LineParts.{on_places, cells_more, others_more, as_before_part}
+use Rattle.shape_envelope.proofs.LineNumbers.{on_places}
+use Rattle.shape_dist.proofs.LineParts.{cells_more, others_more, as_before_part}
 use Rattle.shape_dist.proofs.spread.spread_line.Goals as goal
 
 pub spread_part-requires-clause-inside : goal.spread_part-requires-clause-inside
@@ -28,9 +29,9 @@ loop-x-preserved g c =
     record {
       within = within;
       spread = cells_more c.args.cells.now c.loop-x.cells c.spread_part.new.cells c.args.base c.args.step c.args.n c.loop-x.x a b c.requires.apart c.loop-x.invariant.spread from some within
-      (λ z e l.
-      let end : c.part_end-end.result ≡ z = omega (arith, c.min-to.ensures) in
-      rw end at (c.part_end-end.ensures.bare (omega (arith, c.min-to.ensures))))
-      h.on_line h.others;
+          (λ z e l.
+          let end : c.part_end-end.result ≡ z = omega (arith, c.min-to.ensures) in
+          rw end at (c.part_end-end.ensures.bare (omega (arith, c.min-to.ensures))))
+          h.on_line h.others;
       others = others_more c.args.cells.now c.loop-x.cells c.spread_part.new.cells c.args.base c.args.step c.args.n a b within h.others c.loop-x.invariant.others;
     }
