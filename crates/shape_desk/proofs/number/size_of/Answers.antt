@@ -16,12 +16,14 @@ pub returns-then-run-greatest : goal.returns-then-run-greatest
 returns-then-run-greatest c =
     let bs = c.args.bytes.now in
     let run = c.run_of-run in
-    let fits : run.result.value ≤ 2 ^ 63 = omega (arith, c.if-run-greatest.true, c.requires) in
-    (c.if-run-greatest.true, record {
-      fits = fits;
-      spelling = spells_size (take_while is_ascii_digit bs) run.result.value (AllDigits-take_while bs) (c.has_no_leading_zero.ensures.0 c.if-not-has_no_leading_zero.false) fits run.ensures.value;
-      all = run.ensures.len;
-    })
+    let fits : run.result.value ≤ 2 ^ 63 = omega (arith, c.if-run-greatest.true, c.requires) in (
+      c.if-run-greatest.true,
+      record {
+        fits = fits;
+        spelling = spells_size (take_while is_ascii_digit bs) run.result.value (AllDigits-take_while bs) (c.has_no_leading_zero.ensures.0 c.if-not-has_no_leading_zero.false) fits run.ensures.value;
+        all = run.ensures.len;
+      },
+    )
 
 pub returns-else-run-greatest : goal.returns-else-run-greatest
 returns-else-run-greatest c = none_above (take_while is_ascii_digit c.args.bytes.now) c.run_of-run.result.value c.args.greatest c.requires c.if-run-greatest.false c.run_of-run.ensures.value
