@@ -1,19 +1,23 @@
 -- An edge report grows by one good line at a time: one law for each kind of line that is added.
 -- Laws over what was found; the program stands in none.
-use Rattle.std.proofs.Common.{◌≡◌, ◌+◌, ◌<◌, ◌≤◌, ◌^◌, ℕ, List, [], ◌∷◌, ◌++◌, length, map, take, get_or, Some, refl, ap, sym, ◌∙◌, subst, arith}
-use Rattle.std.specs.Prelude.{slice_get, slice_index_or}
+use Rattle.std.proofs.Common.{◌≡◌, ◌+◌, ◌<◌, ◌≤◌, ◌^◌, ℕ, ℤ, pos, negsuc, List, [], ◌∷◌, ◌++◌, length, map, take, get_or, Some, refl, ap, sym, ◌∙◌, subst, arith, append-nil}
+use Rattle.std.specs.Prelude.{FitsSigned, nat_abs, slice_get, slice_index_or}
+use Rattle.std.specs.Int.{w64}
 use Rattle.std.proofs.lemmas.List.{length-map, length-take-le, take_all, take_more, get_or-map}
+use Rattle.std.proofs.lemmas.List.Elements.{All-nil, All-push}
+use Rattle.std.proofs.lemmas.Grind.{flat_map-append}
 use Rattle.std.proofs.lemmas.Option.{slice_get-get_or, slice_get_within}
 use Rattle.shape_terms.specs.Points.{Point}
 use Rattle.shape_terms.specs.Pictures.{Picture}
 use Rattle.shape_terms.specs.Contours.{Crack, IsCrack}
 use Rattle.shape_terms.specs.Traces.{Contour, AreContours}
 use Rattle.shape_terms.specs.Covers.{gap_run}
-use Rattle.text_terms.specs.Spellings.{line_text}
+use Rattle.shape_terms.specs.Refutations.{Step, IsStepOf}
+use Rattle.text_terms.specs.Weights.{IsStepIn}
+use Rattle.text_terms.specs.Spellings.{line_text, text_of}
 use Rattle.text_terms.specs.Reports.{Holds}
-use Rattle.text_terms.proofs.Words.{long_by_size}
-use Rattle.text_terms.proofs.WeightLaws.{step_in}
-use Rattle.text_terms.proofs.GrownTexts.{leads_none, leads_more, leads_end}
+use Rattle.text_terms.proofs.Checking.{good_push}
+use Rattle.text_terms.proofs.CourseLaws.{reached_push}
 use Rattle.edge_terms.specs.Corners.{corner_path}
 use Rattle.edge_terms.specs.EdgeEvidence.{EdgeEvidence, IsEdgeEvidence}
 use Rattle.edge_terms.specs.EdgeCovers.{Arc, arc_in, stretches_of, IsArc, IsEdgeCover, IsShortGap, EdgeFound, IsEdgeCoverFrom}
@@ -28,22 +32,50 @@ use Rattle.shape_edges.specs.Growing.{Tells, HasTold, IsFoundAt, with_arcs, with
 
 -- ---- texts
 
+text_push : (text new : List ℕ) (lines : List Line) (l : Line) → text ≡ text_of spelled lines → new ≡ text ++ line_text spelled l → new ≡ text_of spelled (lines ++ l ∷ [])
+text_push text new lines l e f =
+    f ∙ ap (λ t. t ++ line_text spelled l) e
+    ∙ sym (flat_map-append (line_text spelled) lines (l ∷ []) ∙ ap (λ t. text_of spelled lines ++ t) (append-nil (line_text spelled l)))
+
+-- no line
+pub tells_none : (X : Picture) → Tells X State.Opening []
+tells_none X = record { lines = []; text_is = refl; fields = All-nil spelled.IsLine; short = All-nil (λ l. length (spelled.spelling l) ≤ 1024); good = λ k l e. cc; state = refl }
+
 -- one good line more
 pub tells_more : (X : Picture) (s : State) (text new : List ℕ) (l : Line) → Tells X s text → spelled.IsLine l → Claim X s l → new ≡ text ++ line_text spelled l → Tells X (next s l) new
-tells_more X s text new l t fields claim e = leads_more spelled Line.End (course X) short_line s text new t l claim fields e
+tells_more X s text new l t fields claim e = record {
+  lines = t.lines ++ l ∷ [];
+  text_is = text_push text new t.lines l t.text_is e;
+  fields = All-push spelled.IsLine t.lines l t.fields fields;
+  short = All-push (λ m. length (spelled.spelling m) ≤ 1024) t.lines l t.short (short_line l fields);
+  good = good_push (edge_report X) t.lines l t.good (subst (λ k. Claim X k l) (sym t.state) claim);
+  state = reached_push (course X) t.lines l ∙ ap (λ k. next k l) t.state;
+}
 
 -- the end
 pub tells_holds : (X : Picture) (s : State) (text new : List ℕ) → Tells X s text → Claim X s Line.End → new ≡ text ++ line_text spelled Line.End → Holds (edge_report X) new
-tells_holds X s text new t claim e = leads_end spelled Line.End (course X) short_line s text new t Line.End claim tt e refl
+unfolding tells_more
+tells_holds X s text new t claim e =
+    let all = tells_more X s text new Line.End t tt claim e in
+    (t.lines, record { split = all.text_is ∙ sym (append-nil (text_of spelled (t.lines ++ Line.End ∷ []))); fields = all.fields; short = all.short; good = all.good })
 
 -- ---- fields
+
+fits : (z : ℤ) → nat_abs z < 2 ^ 63 → FitsSigned w64 z
+fits (pos n) h = record { sfits = omega arith }
+fits (negsuc n) h = record { sfits = omega arith }
 
 -- the line of an arc, with places of 32 bits
 pub arc_fits : (path : List Point) (arcs : List Arc) (j b e : ℕ) → IsEdgeCover path arcs → j < length arcs → b < 2 ^ 32 → e < 2 ^ 32 → spelled.IsLine (Line.Arc (record { first = b; last = e }) (arc_in arcs j).line)
 arc_fits path arcs j b e c l hb he =
     let held = (c.claims.arc j l).held in
     let s = c.lines j l in
-    (hb, (he, (held.h_sign, (held.v_sign, (s.a, (s.c, long_by_size (arc_in arcs j).line.mu s.mu))))))
+    (hb, (he, (held.h_sign, (held.v_sign, (s.a, (s.c, fits (arc_in arcs j).line.mu s.mu))))))
+
+step_in : (d t : ℕ) (s : Step) → IsStepOf d t s → IsStepIn d s
+step_in d t Step.Up h = tt
+step_in d t (Step.Plus u) h = h.0
+step_in d t (Step.Minus u) h = h.0
 
 -- the line of a gap
 pub gap_fits : (run : List Point) (e : EdgeEvidence) → IsEdgeEvidence run e → IsShortGap e → spelled.IsLine (Line.Gap e)
@@ -64,7 +96,7 @@ sides_told X w h text new sides none fields e = record {
   standing = nothing_taken;
   begun = refl;
   full = λ some. absurd (omega arith);
-  tells = tells_more X State.Opening text new (Line.Edges w h) (subst (Tells X State.Opening) (sym none) (leads_none spelled Line.End (course X))) fields sides e;
+  tells = tells_more X State.Opening text new (Line.Edges w h) (subst (Tells X State.Opening) (sym none) (tells_none X)) fields sides e;
 }
 
 module _ (X : Picture) (k : ℕ) (start : Crack) (f : EdgeFound) (at : IsFoundAt X k start f) (text new : List ℕ) where

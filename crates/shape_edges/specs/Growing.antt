@@ -1,19 +1,26 @@
 -- An edge report as it grows: the text of good lines, and the state that they lead to.
 -- What is found of a cycle comes from the walk; how lines are spelled does not matter here.
-use Rattle.std.specs.Prelude.{◌≡◌, ℕ, ◌+◌, List, length, take, slice_get, Some}
+use Rattle.std.specs.Prelude.{◌≡◌, ℕ, ◌+◌, ◌≤◌, List, length, take, slice_get, Some, All}
 use Rattle.shape_terms.specs.Points.{Point}
 use Rattle.shape_terms.specs.Pictures.{Picture}
 use Rattle.shape_terms.specs.Contours.{Crack}
-use Rattle.text_terms.specs.Courses.{LeadsTo}
+use Rattle.text_terms.specs.Spellings.{text_of}
+use Rattle.text_terms.specs.Reports.{GoodSoFar}
+use Rattle.text_terms.specs.Courses.{reached}
 use Rattle.edge_terms.specs.EdgeCovers.{stretches_of, EdgeFound, IsEdgeCover}
 use Rattle.edge_terms.specs.EdgeCycles.{EdgeCycle, AreEdgeCycles}
 use Rattle.edge_terms.specs.CycleLines.{Standing, IsFull}
 use Rattle.edge_terms.specs.Lines.{Line, spelled}
-use Rattle.edge_terms.specs.EdgeReports.{State, course}
+use Rattle.edge_terms.specs.EdgeReports.{State, course, edge_report}
 
--- the text is that of good lines that lead to the state
-abbrev pub Tells : Picture → State → List ℕ → Type 0
-Tells X s text = LeadsTo spelled Line.End (course X) s text
+-- the text is that of short lines, each good after those before it, that lead to the state
+pub record Tells (X : Picture) (s : State) (text : List ℕ) : Type 0 where
+  pub lines : List Line
+  pub text_is : text ≡ text_of spelled lines
+  pub fields : All spelled.IsLine lines
+  pub short : All (λ l. length (spelled.spelling l) ≤ 1024) lines
+  pub good : GoodSoFar (edge_report X) lines
+  pub state : reached (course X) lines ≡ s
 
 -- the first k cycles of the picture are told whole
 pub record HasTold (X : Picture) (k : ℕ) (text : List ℕ) : Type 0 where

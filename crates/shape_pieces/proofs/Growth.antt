@@ -1,7 +1,8 @@
 -- A report of pieces grows by one good line at a time.
 -- One law for each kind of line that is added.
-use Rattle.std.proofs.Common.{◌≡◌, ℕ, suc, ◌+◌, ◌-◌, ◌<◌, List, [], ◌++◌, length, map, refl, ap, sym, ◌∙◌, subst, arith, Some}
+use Rattle.std.proofs.Common.{◌≡◌, ℕ, suc, ◌+◌, ◌-◌, ◌<◌, ◌≤◌, List, [], ◌∷◌, ◌++◌, length, map, refl, ap, sym, ◌∙◌, subst, arith, append-nil, Some}
 use Rattle.std.specs.Prelude.{pos, slice_get, slice_index_or}
+use Rattle.std.proofs.lemmas.List.Elements.{All-push}
 use Rattle.std.proofs.lemmas.Option.{get_or_from_slice_get}
 use native.Mathlib.Decide.{dec_lt}
 use Rattle.shape_terms.specs.Points.{Point}
@@ -12,8 +13,9 @@ use Rattle.shape_terms.specs.Straight.{KeepsSense}
 use Rattle.shape_terms.specs.Covers.{arc, IsEvidence}
 use Rattle.shape_terms.specs.Traces.{Contour, AreContours}
 use Rattle.text_terms.specs.Spellings.{line_text}
-use Rattle.text_terms.specs.Reports.{Holds}
-use Rattle.text_terms.proofs.GrownTexts.{leads_none, leads_more, leads_end}
+use Rattle.text_terms.specs.Reports.{BeginsWith, Holds}
+use Rattle.text_terms.proofs.CourseLaws.{reached_push}
+use Rattle.text_terms.proofs.Checking.{good_push, text_push, begins_none}
 use Rattle.piece_terms.specs.Pieces.{Piece, piece_at, place_after, ArePieces}
 use Rattle.piece_terms.specs.SplitLines.{SplitLine, Standing, after_line, at_start, no_contour, open_contour, IsNextLine}
 use Rattle.piece_terms.specs.Lines.{Line, spelled}
@@ -23,22 +25,33 @@ use Rattle.shape_pieces.specs.Growing.{LeadsTo, HasSplits, HasPieces, IsContourA
 
 -- ---- any line
 
+pub front_more : (X : Picture) (s : State) (text : List ℕ) (l : Line) (h : LeadsTo X s text) → Claim X s l → spelled.IsLine l → BeginsWith (piece_report X) (text ++ line_text spelled l) (h.lines ++ l ∷ []) []
+front_more X s text l h good fields = record {
+  split = ap (λ t. t ++ line_text spelled l) (h.front.split ∙ append-nil _) ∙ sym (text_push spelled h.lines l []);
+  fields = All-push spelled.IsLine h.lines l h.front.fields fields;
+  short = All-push (λ m. length (spelled.spelling m) ≤ 1024) h.lines l h.front.short (short_line l fields);
+  good = good_push (piece_report X) h.lines l h.front.good (subst (λ v. Claim X v l) (sym h.state) good);
+}
+
 pub line_more : (X : Picture) (s : State) (text : List ℕ) (l : Line) → LeadsTo X s text → Claim X s l → spelled.IsLine l → LeadsTo X (step s l) (text ++ line_text spelled l)
-line_more X s text l h good fields = leads_more spelled Line.End (course X) short_line s text (text ++ line_text spelled l) h l good fields refl
+line_more X s text l h good fields = record {
+  lines = h.lines ++ l ∷ [];
+  front = front_more X s text l h good fields;
+  state = reached_push (course X) h.lines l ∙ ap (λ v. step v l) h.state;
+}
 
 -- ---- the heading and the end
 
 pub heading_put : (X : Picture) (sides : Point) → sides ≡ map pos X.sides → spelled.IsLine (Line.Pieces sides) → HasSplits X 0 ([] ++ line_text spelled (Line.Pieces sides))
 heading_put X sides e fields = record {
   stand = at_start;
-  leads = line_more X State.Opening [] (Line.Pieces sides) (leads_none spelled Line.End (course X)) e fields;
+  leads = line_more X State.Opening [] (Line.Pieces sides) (record { lines = []; front = begins_none (piece_report X) []; state = refl }) e fields;
   full = refl;
   begun = refl;
 }
 
 pub end_put : (X : Picture) (contours : List Contour) (text : List ℕ) → AreContours X contours → HasSplits X (length contours) text → Holds (piece_report X) (text ++ line_text spelled Line.End)
-end_put X contours text are h =
-    leads_end spelled Line.End (course X) short_line (State.Listing h.stand) text (text ++ line_text spelled Line.End) h.leads Line.End (contours, are, record { full = h.full; all = h.begun }) tt refl refl
+end_put X contours text are h = (h.leads.lines, front_more X (State.Listing h.stand) text Line.End h.leads (contours, are, record { full = h.full; all = h.begun }) tt)
 
 -- ---- the lines of a contour
 

@@ -4,16 +4,19 @@ use Rattle.std.specs.Prelude.{◌≡◌, ℕ, ◌+◌, ◌<◌, List, [], length
 use Rattle.shape_terms.specs.Points.{Point}
 use Rattle.shape_terms.specs.Pictures.{Picture}
 use Rattle.shape_terms.specs.Traces.{Contour, AreContours}
-use Rattle.text_terms.specs.Courses as Courses
+use Rattle.text_terms.specs.Reports.{BeginsWith}
+use Rattle.text_terms.specs.Courses.{reached}
 use Rattle.piece_terms.specs.Pieces.{Piece, place_after, ArePieces}
 use Rattle.piece_terms.specs.SplitLines.{Standing, IsFull}
-use Rattle.piece_terms.specs.Lines.{Line, spelled}
-use Rattle.piece_terms.specs.PieceReports.{State, course}
+use Rattle.piece_terms.specs.Lines.{Line}
+use Rattle.piece_terms.specs.PieceReports.{State, course, piece_report}
 use Rattle.shape_pieces.specs.Steps.{AreShortPieces}
 
 -- the text is that of good lines of a report about the picture, which lead to this state
-abbrev pub LeadsTo : Picture → State → List ℕ → Type 0
-LeadsTo X s text = Courses.LeadsTo spelled Line.End (course X) s text
+pub record LeadsTo (X : Picture) (s : State) (text : List ℕ) : Type 0 where
+  pub lines : List Line
+  pub front : BeginsWith (piece_report X) text lines []
+  pub state : reached (course X) lines ≡ s
 
 -- the heading stands there, and the first k contours have all their pieces
 pub record HasSplits (X : Picture) (k : ℕ) (text : List ℕ) : Type 0 where
