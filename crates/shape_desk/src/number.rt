@@ -69,7 +69,11 @@ fn size_of(bytes: &[u8], greatest: u64) -> Option<Run>
         return None;
     }
     let run = run_of(bytes);
-    if run.value <= greatest { Some(run) } else { None }
+    if run.value <= greatest {
+        Some(run)
+    } else {
+        None
+    }
 }
 
 // The negative number of a size.
