@@ -1,12 +1,13 @@
 -- The first object point from a raster number on: all points before it are background.
 -- Stated of pictures of any number of axes.
 use Rattle.std.proofs.Common.{◌≡◌, ℕ, zero, suc, ◌+◌, ◌-◌, ◌<◌, ◌≤◌, Bool, true, false, refl, ap, sym, ◌∙◌, subst, arith, List, [], ◌∷◌, get_or}
+use Rattle.std.proofs.lemmas.List.{drop_all}
+use Rattle.std.specs.Prelude.{filter}
 use native.Mathlib.Decide.{ℕ_discrete}
-use Rattle.shape_terms.specs.Points.{Point, box_count, raster_number, raster_point}
+use Rattle.shape_terms.specs.Points.{Point, box_count, box_points, raster_number, raster_point}
 use Rattle.shape_terms.specs.Pictures.{Picture, at, objects_from}
 use Rattle.shape_terms.proofs.Boxes.{raster_number-raster_point}
-use Rattle.shape_terms.proofs.BoxLists.{at_raster_point, objects_next, objects_skip}
-use Rattle.shape_grid.proofs.ValueReads.{none_left}
+use Rattle.shape_terms.proofs.BoxLists.{at_raster_point, objects_next, objects_skip, length-box_points}
 
 -- all points with numbers from the one to below the other are background
 abbrev pub AreBlank : Picture → ℕ → ℕ → Type 0
@@ -16,6 +17,9 @@ pub record IsNext (X : Picture) (n i : ℕ) : Type 0 where
   pub low : n ≤ i
   pub object : at X (raster_point X.sides i) ≡ true
   pub blank : AreBlank X n i
+
+none_left : (X : Picture) (i : ℕ) → box_count X.sides ≤ i → objects_from X i ≡ []
+none_left X i l = ap (filter (at X)) (drop_all i (box_points X.sides) (omega (arith, length-box_points X.sides)))
 
 none_some : {A : Type 0} (x : A) (xs : List A) → [] ≡ x ∷ xs → ⊥
 none_some x xs e = cc
