@@ -14,10 +14,10 @@ ghost use Rattle.shape_check.specs.Going.{BehindHeading};
 use crate::heading::find_heading;
 use crate::judges::{Judges, Row};
 use crate::whole::{Flat, Solid};
-use report_text::{CheckFault, Judgement};
+use report_text::{CheckFault, Judgement, NextText, ReportLine, next_text};
 use shape_desk::{Desk, LineReader};
 use shape_grid::Grid;
-use shape_report::{Next, next_claim};
+use shape_report::Line;
 use shape_rules::{EndRule, Shelf};
 use shape_space::{P2, P3, Point};
 use std::alloc::Global;
@@ -41,15 +41,18 @@ fn check_lines<P: Point, R: Row<P>, D: Desk>(
 {
     let mut line: u64 = 2;
     'lines: loop {
-        match next_claim(reader, desk)? {
-            Next::Claim(claim) => {
-                if !row.take(&claim, rule)? {
-                    return Ok(Judgement::No { line });
+        match next_text::<Line<P>, D>(reader, desk)? {
+            NextText::Line => match &Line::<P>::read(reader.line()) {
+                Some(claim) => {
+                    if !row.take(claim, rule)? {
+                        return Ok(Judgement::No { line });
+                    }
+                    line += 1;
                 }
-                line += 1;
-            }
-            Next::Bad => return Ok(Judgement::No { line }),
-            Next::End => {
+                None => return Ok(Judgement::No { line }),
+            },
+            NextText::Bad => return Ok(Judgement::No { line }),
+            NextText::End => {
                 if row.has_ended() {
                     return Ok(Judgement::Yes);
                 }

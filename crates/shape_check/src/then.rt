@@ -1,6 +1,7 @@
 //! A judge of one section, and the row of those behind it.
 //! How sections follow each other is decided here alone.
-ghost use Rattle.std.specs.Prelude.{◌≡◌, ◌↔◌, suc, false, [], ◌∷◌, ◌++◌, ℕ, List, IsTrue, IfOk};
+ghost use Rattle.std.specs.Prelude.{◌≡◌, ◌↔◌, ◌+◌, suc, false, [], ◌∷◌, ◌++◌, ℕ, List, IsTrue, IfOk};
+ghost use Rattle.shape_terms.specs.Pictures.{Picture};
 ghost use Rattle.thin_terms.specs.Thinning.{Rule};
 ghost use Rattle.report_terms.specs.Lines as Terms;
 ghost use Rattle.report_terms.specs.Sections.{rank};
@@ -23,12 +24,15 @@ pub struct Then<P: Point, J: SectionJudge<P>, R: Judges<P>> {
 }
 
 impl<P: Point, J: SectionJudge<P>, R: Judges<P>> Then<P, J, R> {
-    /// A row that has taken no line, where the rest begins with the next section.
+    /// A row that waits where the judge has taken no line and the rest waits, which begins with the next section.
     pub fn new(first: J, rest: R) -> Then<P, J, R>
         requires { rank R.section ≡ suc (rank J.section) }
-        ensures first { result.first ≡ first }
-        ensures rest { result.rest ≡ rest }
-        ensures is_past { result.is_past ≡ false }
+        ensures waits { (X : Picture) (n : ℕ)
+            → ((by : Rule) (now : List ℕ) → J.stands X n by first now []) → R.waits X n rest
+            → (result.is_past ≡ false)
+            × ((by : Rule) (now : List ℕ) → J.stands X n by result.first now [])
+            × R.waits X n result.rest }
+        ensures room { J.room result.first + R.room result.rest ≡ J.room first + R.room rest }
     {
         Then {
             first,

@@ -5,10 +5,10 @@ pub returns-clause-waits : goal.returns-clause-waits
 returns-clause-waits c =
     let k = c.in_ok-common.ensures in
     let cover = c.in_ok-cover.ensures in
-    let a = c.new-2.ensures in
-    let b = c.new-row-4.ensures in
-    let d = c.new-row-3.ensures in
-    let e = c.new-row-2.ensures in
-    let f = c.new-row.ensures in
-    rw (a.is_past, a.first, a.rest, b.is_past, b.first, b.rest, d.is_past, d.first, d.rest, e.is_past, e.rest, f.is_past, f.first, f.rest, k.counts_wait)
-    (refl, (λ by now. (k.counts, refl)), (refl, (λ by now. (k.picture, k.field)), (refl, (λ by now. (cover.number, cover.stands)), (refl, (λ by now. (c.is_picture.ensures.picture.axes, refl)), (refl, k.thinned, refl)))))
+    let X = c.args.grid.now in
+    let n = c.args.number in
+    let thinned = c.new-row.ensures.waits X n k.thinned refl in
+    let faces = c.new-row-2.ensures.waits X n (λ by now. (c.is_picture.ensures.picture.axes, refl)) thinned in
+    let contours = c.new-row-3.ensures.waits X n (λ by now. (cover.number, cover.stands)) faces in
+    let nearest = c.new-row-4.ensures.waits X n (λ by now. (k.picture, k.field)) contours in
+    c.new-2.ensures.waits X n (λ by now. (k.counts, rw k.counts_wait refl)) nearest

@@ -5,10 +5,10 @@ pub returns-clause-waits : goal.returns-clause-waits
 returns-clause-waits c =
     let k = c.in_ok-common.ensures in
     let plane = c.in_ok-plane.ensures in
-    let a = c.new-2.ensures in
-    let b = c.new-rest-4.ensures in
-    let d = c.new-rest-3.ensures in
-    let e = c.new-rest-2.ensures in
-    let f = c.new-rest.ensures in
-    rw (a.is_past, a.first, a.rest, b.is_past, b.first, b.rest, d.is_past, d.rest, e.is_past, e.first, e.rest, f.is_past, f.first, f.rest, k.counts_wait)
-    (refl, (λ by now. (k.counts, refl)), (refl, (λ by now. (k.picture, k.field)), (refl, (λ by now. (c.is_picture.ensures.picture.axes, refl)), (refl, (λ by now. plane.stands), (refl, k.thinned, refl)))))
+    let X = c.args.grid.now in
+    let n = c.args._number in
+    let thinned = c.new-rest.ensures.waits X n k.thinned refl in
+    let faces = c.new-rest-2.ensures.waits X n (λ by now. plane.stands) thinned in
+    let contours = c.new-rest-3.ensures.waits X n (λ by now. (c.is_picture.ensures.picture.axes, refl)) faces in
+    let nearest = c.new-rest-4.ensures.waits X n (λ by now. (k.picture, k.field)) contours in
+    c.new-2.ensures.waits X n (λ by now. (k.counts, rw k.counts_wait refl)) nearest
