@@ -45,6 +45,7 @@ fn wait_for<P: SimpleMask>(alloc: Global, grid: &Grid<P>) -> Result<Common<P>, N
     ensures thinned_waits { IfOk result (λ c. c.thinned.kept ≡ false) }
     ensures thinned_room { IfOk result (λ c. Thin.room_of c.thinned.events < 2 ^ 60) }
 {
+    grid.is_picture();
     let parts = parts(alloc, grid)?;
     let field = FieldJudge::new(alloc, grid)?;
     let distances = distances_of(alloc, field.scans())?;
