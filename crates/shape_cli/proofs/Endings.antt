@@ -16,7 +16,7 @@ use Rattle.shape_cli.specs.Commands.{Asked}
 use Rattle.shape_cli.specs.Outcomes.{outcome_of}
 use Rattle.shape_cli.specs.Parts.{IsRight, verdict_text}
 use Rattle.shape_desk.specs.Files.{OfFile}
-use Rattle.shape_cli.specs.Runs.{IsPictureOf, Answers, Answered, CutShort, TookFew}
+use Rattle.shape_cli.specs.Runs.{IsPictureOf, Answers, Answered, CutShort, TookFew, Ran}
 use Rattle.shape_cli.specs.declared.outcome.Outcome.{Outcome}
 use Rattle.shape_cli.specs.declared.outcome.Outcome.TheVariants as outcome
 
@@ -33,6 +33,11 @@ cut_short shelf c old mid new o text h r p f t = record {
 pub verdict_answers : (shelf : List (Named Rule)) (source : Source) (kind : ReportKind) (report : List ℕ) (files : Option Files) (X : Picture) (v : Judgement) → IsPictureOf files kind source X → OfFile files report (IsRight shelf kind X v) → Answers shelf (Asked.Check source kind report) files (outcome_of v) (verdict_text v)
 verdict_answers shelf source kind report files X judgement.Yes p r = (refl, (X, p, r))
 verdict_answers shelf source kind report files X (judgement.No k) p r = (refl, (X, p, r))
+
+-- a verdict that was written is the answer of its check
+pub answered : (shelf : List (Named Rule)) (c : Asked) (old mid new : DeskState) (v : Judgement) (o : Outcome) → o ≡ outcome_of v → OnlyReads old mid → Answers shelf c old.files (outcome_of v) (verdict_text v) → Puts mid.written new.written (verdict_text v) → TookFew shelf c old new → Ran shelf c old new o
+answered shelf c old mid new judgement.Yes o e h r p t = subst (Ran shelf c old new) (sym e) (record { text = verdict_text judgement.Yes; right = r; puts = subst (λ w. Puts w new.written (verdict_text judgement.Yes)) h.same_written p; taken = t })
+answered shelf c old mid new (judgement.No k) o e h r p t = subst (Ran shelf c old new) (sym e) (record { text = verdict_text (judgement.No k); right = r; puts = subst (λ w. Puts w new.written (verdict_text (judgement.No k))) h.same_written p; taken = t })
 
 -- a verdict is right of the same files
 pub kept_right : (shelf : List (Named Rule)) (kind : ReportKind) (X : Picture) (report : List ℕ) (v : Judgement) (f g : Option Files) → f ≡ g → OfFile f report (IsRight shelf kind X v) → OfFile g report (IsRight shelf kind X v)
