@@ -7,3 +7,4 @@ pub mod Offsets
 pub mod Inner
 mod GapSteps
 pub mod Neighbours
+pub mod MaskBits

@@ -3,3 +3,4 @@ pub mod Labels
 pub mod Offsets
 pub mod Here
 pub mod Gaps
+pub mod NearMasks

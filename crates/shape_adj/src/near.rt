@@ -4,9 +4,11 @@ ghost use Rattle.std.specs.Prelude.{◌≡◌, ℕ, ◌<◌, ◌≤◌, IsTrue, 
 ghost use Rattle.shape_terms.specs.Points.{sides_of, in_box, box_count, raster_number, raster_point};
 ghost use Rattle.shape_terms.specs.Adjacency.{near_point};
 ghost use Rattle.shape_adj.specs.Gaps.{AreGaps};
+ghost use Rattle.shape_adj.specs.NearMasks.{IsNearMask};
 
 use crate::number::{is_inner, near_number};
 use crate::pairing::Pairing;
+use shape_bits::Bits;
 use shape_space::{NoMemory, Sides};
 use std::alloc::Global;
 
@@ -78,6 +80,28 @@ impl<P: Pairing> NearNumbers<P> {
             (near_point (raster_point (sides_of (P.coords self.now.sides.lengths)) i) k) }
     {
         i.wrapping_add(self.gaps[k])
+    }
+
+    /// The near neighbours whose value is true, of a point that has them all in the box, where their distances are known:
+    /// bit k is set where near neighbour k has it.
+    pub fn mask(&self, values: &Bits, i: u32) -> u32
+        requires known { P.NEAR_COUNT ≤ length self.now.gaps.items }
+        requires filled { length values.now
+            ≡ box_count (sides_of (P.coords self.now.sides.lengths)) }
+        requires point { i < box_count (sides_of (P.coords self.now.sides.lengths)) }
+        requires inner { (k : ℕ) → k < P.NEAR_COUNT
+            → IsTrue (in_box (sides_of (P.coords self.now.sides.lengths))
+            (near_point (raster_point (sides_of (P.coords self.now.sides.lengths)) i) k)) }
+        ensures { let sides = sides_of (P.coords self.now.sides.lengths) in
+            IsNearMask (record { sides = sides; values = values.now }) (raster_point sides i) result }
+    {
+        let mut mask = 0;
+        for k in 0..P::NEAR_COUNT {
+            if values.get(self.known(i, k) as usize) {
+                mask |= 1u32 << k;
+            }
+        }
+        mask
     }
 
     /// The raster number of a near neighbour that is in the box.

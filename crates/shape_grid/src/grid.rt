@@ -94,6 +94,13 @@ impl<P: Point> Grid<P> {
         self.values.get(i as usize)
     }
 
+    /// The truth values of the points of the box, in raster order.
+    pub fn values(&self) -> &Bits
+        ensures { result.now ≡ self.now.values }
+    {
+        &self.values
+    }
+
     /// The number of object points.
     pub fn count(&self) -> u32
         ensures { result ≡ length (object_points self.now) }

@@ -7,7 +7,8 @@ use Rattle.std.specs.Int.Count.{count_trailing_zeros}
 use Rattle.std.proofs.lemmas.Bool.Decides.{nat_tests}
 use Rattle.std.proofs.lemmas.Nat.Bits.{bit_at-lt}
 use Rattle.std.proofs.lemmas.Nat.{or_lt, and_le_l, and_le_r}
-use Rattle.shape_topo.specs.Bits.{In, AreSymmetric, IsComponent, CountsParts}
+use Rattle.shape_adj.specs.NearMasks.{In}
+use Rattle.shape_topo.specs.Bits.{AreSymmetric, IsComponent, CountsParts}
 use Rattle.shape_topo.specs.Compute.{next_part, next_todo, grow, seed_part, count}
 use Rattle.shape_topo.proofs.Growing.{Growing, grow_start, grow_end, step_keeps}
 use Rattle.shape_topo.proofs.Counting.{Counting, count_start, count_skip, count_more, count_end}

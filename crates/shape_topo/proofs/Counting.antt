@@ -11,7 +11,8 @@ use Rattle.shape_terms.proofs.Paths.{starts_in}
 use Rattle.thin_terms.proofs.Deletion.{same_parts}
 use Rattle.shape_adj.specs.Flood.{Flooded}
 use Rattle.shape_topo.proofs.WholePart.{flooded_part}
-use Rattle.shape_topo.specs.Bits.{In, Linked, AreSymmetric, IsComponent, CountsParts}
+use Rattle.shape_adj.specs.NearMasks.{In}
+use Rattle.shape_topo.specs.Bits.{Linked, AreSymmetric, IsComponent, CountsParts}
 use Rattle.shape_topo.proofs.Growing.{place_below}
 
 -- n parts are labelled by f, those of the seeds below s

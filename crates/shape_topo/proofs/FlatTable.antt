@@ -8,12 +8,13 @@ use Rattle.std.proofs.lemmas.Nat.{and_le_l}
 use Rattle.shape_terms.specs.Adjacency.{Round, origin, near_step}
 use Rattle.shape_terms.proofs.PartCount.{one_count}
 use Rattle.number_terms.proofs.RoundSets.{flat_round}
-use Rattle.shape_topo.specs.Bits.{In, AreSymmetric, CountsParts}
-use Rattle.shape_topo.specs.Masks.{near_total, NearSteps, SideSteps, HasMaskObjectNumber, HasMaskBackgroundNumber, IsSimpleMask}
+use Rattle.shape_adj.specs.NearMasks.{In, near_total}
+use Rattle.shape_topo.specs.Bits.{AreSymmetric, CountsParts}
+use Rattle.shape_topo.specs.Masks.{NearSteps, SideSteps, HasMaskObjectNumber, HasMaskBackgroundNumber, IsSimpleMask}
 use Rattle.shape_topo.specs.Compute.{count}
 use Rattle.shape_topo.specs.SimpleTable.{flat_near, flat_side, is_one, unset_flat, simple_flat, list_of}
 use Rattle.shape_topo.proofs.Computed.{count_is}
-use Rattle.shape_topo.proofs.MaskBits.{unset}
+use Rattle.shape_adj.proofs.MaskBits.{unset}
 use Rattle.shape_topo.proofs.MaskNumbers.{AreDark, near_symmetric, side_symmetric, object_counted, background_counted, dark_sets, dark_seeds, dark_small, round_step}
 
 abbrev pub table : List Bool

@@ -10,7 +10,8 @@ use Rattle.std.proofs.lemmas.Nat.{or_lt, and_le_l, and_le_r, le_or_l}
 use native.Mathlib.Decide.{dec_lt, ℕ_discrete}
 use Rattle.shape_terms.specs.Parts.{Connected}
 use Rattle.shape_terms.proofs.Paths.{joined_to, ends_in}
-use Rattle.shape_topo.specs.Bits.{In, Linked, IsComponent}
+use Rattle.shape_adj.specs.NearMasks.{In}
+use Rattle.shape_topo.specs.Bits.{Linked, IsComponent}
 
 -- the part so far, and the places that are joined to s and whose links are still to be followed
 pub record Growing (links : List ℕ) (m s part todo : ℕ) : Type 0 where

@@ -11,9 +11,9 @@ use Rattle.shape_terms.specs.Points.{Point}
 use Rattle.shape_terms.specs.Pictures.{Picture, at}
 use Rattle.shape_terms.specs.Adjacency.{moved, near_steps, near_point, near_points}
 use Rattle.thin_terms.specs.Thinning.{near_count}
-use Rattle.shape_topo.specs.Masks.{near_total, IsNearMask}
+use Rattle.shape_adj.specs.NearMasks.{near_total, IsNearMask}
 use Rattle.number_terms.proofs.LinkTests.{row_is}
-use Rattle.shape_topo.proofs.MaskBits.{marks_small}
+use Rattle.shape_adj.proofs.MaskBits.{marks_small}
 
 -- two numbers that have the bit k set in the same cases have one digit there
 same_digit : (a b k : ℕ) → (bit_at a k ≡ 1 → bit_at b k ≡ 1) → (bit_at b k ≡ 1 → bit_at a k ≡ 1) → bit_at a k ≡ bit_at b k

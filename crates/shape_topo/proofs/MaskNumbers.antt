@@ -17,11 +17,12 @@ use Rattle.shape_terms.proofs.PartCount.{one_count}
 use Rattle.thin_terms.proofs.PointTests.{same_point}
 use Rattle.shape_terms.proofs.AdjacencySymmetric.{near_sym, side_sym}
 use Rattle.shape_terms.proofs.NeighbourNumbers.{near_number, near_of_number, near_once, side_is_round}
-use Rattle.shape_topo.specs.Bits.{In, Linked, AreSymmetric, CountsParts}
-use Rattle.shape_topo.specs.Masks.{near_total, IsNearMask, NearSteps, SideSteps, MaskObject, MaskBackground, IsSideStep, HasMaskObjectNumber, HasMaskBackgroundNumber, IsSimpleMask}
+use Rattle.shape_adj.specs.NearMasks.{In, near_total, IsNearMask}
+use Rattle.shape_topo.specs.Bits.{Linked, AreSymmetric, CountsParts}
+use Rattle.shape_topo.specs.Masks.{NearSteps, SideSteps, MaskObject, MaskBackground, IsSideStep, HasMaskObjectNumber, HasMaskBackgroundNumber, IsSimpleMask}
 use Rattle.number_terms.specs.Links.{near_test, side_test, near_links, side_links, side_set}
 use Rattle.shape_topo.proofs.Growing.{place_below}
-use Rattle.shape_topo.proofs.MaskBits.{both_sets, marks_small, unset}
+use Rattle.shape_adj.proofs.MaskBits.{both_sets, marks_small, unset}
 use Rattle.number_terms.proofs.LinkTests.{near_tested, side_tested, row_is, link_is}
 use Rattle.shape_terms.proofs.ShiftedSteps.{length-near_step, length-origin, near-moved, side-moved, round-moved, moved-origin, length-moved}
 use Rattle.shape_topo.proofs.Matching.{Matches, turned_round, parts_across, holding_matches, find, find_at}
@@ -219,13 +220,6 @@ module _ (Y : Picture) (p : Point) (m : ℕ) (axes : length p ≡ length Y.sides
   )
 
 -- ---- how many there are
-
-few_near : (d : ℕ) → (d ≡ 2) ⊎ (d ≡ 3) → near_total d ≤ 26
-few_near d (inl e) = rw e (lit≤ tt)
-few_near d (inr e) = rw e (lit≤ tt)
-
-pub few_neighbours : (d n : ℕ) → (d ≡ 2) ⊎ (d ≡ 3) → n ≡ near_total d → n ≤ 26
-few_neighbours d n h e = let f = few_near d h in omega arith
 
 -- ---- each number is one
 

@@ -17,11 +17,10 @@ use Rattle.shape_terms.proofs.BoxLists.{at_raster_point}
 use Rattle.number_terms.proofs.ObjectPlaces.{length-raster_point}
 use Rattle.thin_terms.specs.Thinning.{without}
 use Rattle.thin_terms.proofs.OneValue.{value_there, value_elsewhere}
-use Rattle.shape_topo.specs.Bits.{In}
-use Rattle.shape_topo.specs.Masks.{near_total, IsNearMask}
+use Rattle.shape_adj.specs.NearMasks.{In, near_total, IsNearMask}
 use Rattle.shape_topo.specs.MaskLists.{AreMasks}
-use Rattle.shape_topo.proofs.MaskBits.{both_sets}
-use Rattle.shape_topo.proofs.MaskNumbers.{few_neighbours}
+use Rattle.shape_adj.proofs.MaskBits.{both_sets}
+use Rattle.shape_adj.proofs.MaskBits.{few_neighbours}
 use Rattle.shape_topo.proofs.Opposites.{back}
 
 -- ---- the masks while they are filled, place by place

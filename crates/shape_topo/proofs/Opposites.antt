@@ -8,7 +8,7 @@ use Rattle.std.proofs.lemmas.List.{get_or-replicate}
 use Rattle.std.proofs.lemmas.List.FromFn.{get_or-map-range_with_len}
 use Rattle.shape_terms.specs.Points.{Point}
 use Rattle.shape_terms.specs.Adjacency.{moved, origin, near_step, near_point}
-use Rattle.shape_topo.specs.Masks.{near_total}
+use Rattle.shape_adj.specs.NearMasks.{near_total}
 use Rattle.shape_terms.proofs.ShiftedSteps.{length-near_step, length-moved, moved-origin}
 
 pub moved_twice : (p v w : Point) → length v ≡ length p → length w ≡ length p → moved (moved p v) w ≡ moved p (moved v w)

@@ -7,7 +7,7 @@ use Rattle.std.specs.Int.Count.{count_trailing_zeros}
 use Rattle.std.proofs.lemmas.Nat.Bits.{bit_at_above, bit_at-trailing_zeros, bit_at_clear_same, bit_at_clear_other}
 use Rattle.std.proofs.lemmas.Nat.{and_le_l}
 use native.Mathlib.Decide.{dec_lt, ℕ_discrete}
-use Rattle.shape_topo.specs.Bits.{In}
+use Rattle.shape_adj.specs.NearMasks.{In}
 
 -- rest has the places of the set m from a place on, and no others
 pub record IsRest (m from rest : ℕ) : Type 0 where

@@ -11,7 +11,7 @@ use Rattle.shape_terms.specs.Adjacency.{near_point}
 use Rattle.shape_terms.specs.Parts.{Object}
 use Rattle.number_terms.proofs.ObjectPlaces.{object_in_box}
 use Rattle.thin_terms.specs.Thinning.{without}
-use Rattle.shape_topo.specs.Masks.{near_total, IsNearMask}
+use Rattle.shape_adj.specs.NearMasks.{near_total, IsNearMask}
 use Rattle.shape_topo.specs.MaskLists.{AreMasks}
 use Rattle.shape_topo.proofs.MaskSteps.{AreTaken, taken_start, taken_more, taken_pass, taken_end}
 use Rattle.shape_topo.proofs.PlaceWalk.{IsRest, rest_start, rest_end, rest_more, place_from, place_in, place_next, walk_to}

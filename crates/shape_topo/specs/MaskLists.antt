@@ -4,7 +4,7 @@ use Rattle.std.specs.Prelude.{◌≡◌, ℕ, ◌<◌, List, length, slice_index
 use Rattle.shape_terms.specs.Points.{box_count, raster_point}
 use Rattle.shape_terms.specs.Pictures.{Picture}
 use Rattle.shape_terms.specs.Parts.{Object}
-use Rattle.shape_topo.specs.Masks.{IsNearMask}
+use Rattle.shape_adj.specs.NearMasks.{IsNearMask}
 
 -- there is one number for each point of the box, and that of an object point is its mask
 pub record AreMasks (Y : Picture) (masks : List ℕ) : Type 0 where

@@ -1,4 +1,4 @@
--- The near neighbours of a point that are object, as one number, and the topological numbers of such a mask.
+-- The topological numbers of a mask of near neighbours.
 -- A mask is a set of numbers of steps; the numbers of components are those of the steps themselves.
 use Rattle.std.specs.Prelude.{◌≡◌, ℕ, ◌<◌, ◌↔◌, true, length}
 use Rattle.std.specs.Int.{bit_at}
@@ -7,15 +7,7 @@ use Rattle.shape_terms.specs.Pictures.{Picture, at}
 use Rattle.shape_terms.specs.Adjacency.{Near, Side, Round, origin, near_steps, near_step, near_point}
 use Rattle.shape_terms.specs.Parts.{HasParts}
 use Rattle.thin_terms.specs.Simple.{Holding}
-use Rattle.shape_topo.specs.Bits.{In}
-
--- how many near neighbours a point of d axes has
-abbrev pub near_total : ℕ → ℕ
-near_total d = length (near_steps d)
-
--- bit k of m is set exactly where near neighbour k of p is object
-abbrev pub IsNearMask : Picture → Point → ℕ → Type 0
-IsNearMask Y p m = (k : ℕ) → In m k ↔ ((k < near_total (length p)) × (at Y (near_point p k) ≡ true))
+use Rattle.shape_adj.specs.NearMasks.{In, near_total}
 
 -- the steps with two numbers lead to adjacent points
 abbrev pub NearSteps : ℕ → ℕ → ℕ → Type 0

@@ -4,7 +4,7 @@ ghost use Rattle.std.specs.Prelude.{◌≡◌, ℕ, ◌<◌, ◌≤◌, ◌^◌,
 ghost use Rattle.shape_terms.specs.Points.{sides_of, in_box, box_count, raster_point};
 ghost use Rattle.shape_terms.specs.FramedBox.{IsWithin};
 ghost use Rattle.shape_terms.specs.Adjacency.{near_point};
-ghost use Rattle.shape_topo.specs.Masks.{IsNearMask};
+ghost use Rattle.shape_adj.specs.NearMasks.{IsNearMask};
 
 use shape_adj::{NearNumbers, Pairing, is_inner};
 use shape_grid::Grid;
@@ -24,25 +24,6 @@ pub fn mask_of<P: Pairing>(grid: &Grid<P>, p: P) -> u32
     mask
 }
 
-// The same of the point with a raster number, where all its near neighbours are in the box.
-fn inner_mask<P: Pairing>(grid: &Grid<P>, near: &NearNumbers<P>, i: u32) -> u32
-    requires sides { sides_of (P.coords near.now.sides.lengths) ≡ grid.now.sides }
-    requires known { P.NEAR_COUNT ≤ length near.now.gaps.items }
-    requires point { i < box_count grid.now.sides }
-    requires inner { (k : ℕ) → k < P.NEAR_COUNT
-        → IsTrue (in_box grid.now.sides (near_point (raster_point grid.now.sides i) k)) }
-    ensures { IsNearMask grid.now (raster_point grid.now.sides i) result }
-{
-    grid.is_picture();
-    let mut mask = 0;
-    for k in 0..P::NEAR_COUNT {
-        if grid.has_number(near.known(i, k)) {
-            mask |= 1u32 << k;
-        }
-    }
-    mask
-}
-
 // The same of the point with a raster number.
 pub(crate) fn mask_at<P: Pairing>(grid: &Grid<P>, near: &NearNumbers<P>, i: u32) -> u32
     requires sides { sides_of (P.coords near.now.sides.lengths) ≡ grid.now.sides }
@@ -51,7 +32,7 @@ pub(crate) fn mask_at<P: Pairing>(grid: &Grid<P>, near: &NearNumbers<P>, i: u32)
 {
     let p = near.sides.unraster(i);
     if near.all_known() && is_inner(&near.sides, p) {
-        inner_mask(grid, near, i)
+        near.mask(grid.values(), i)
     } else {
         mask_of(grid, p)
     }

@@ -6,7 +6,7 @@ ghost use Rattle.shape_terms.specs.Pictures.{IsPicture, at};
 ghost use Rattle.shape_terms.specs.Adjacency.{near_point};
 ghost use Rattle.thin_terms.specs.Simple.{IsSimple};
 ghost use Rattle.thin_terms.specs.Thinning.{without, near_count};
-ghost use Rattle.shape_topo.specs.Masks.{IsNearMask};
+ghost use Rattle.shape_adj.specs.NearMasks.{IsNearMask};
 ghost use Rattle.shape_topo.specs.MaskLists.{AreMasks};
 
 use crate::mask::mask_at;

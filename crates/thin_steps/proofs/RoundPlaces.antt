@@ -4,7 +4,7 @@ use Rattle.std.proofs.Common.{◌+◌, ◌*◌, ◌%◌, ◌^◌, ◌≤◌, ◌
 use Rattle.std.specs.Int.{bit_not}
 use Rattle.std.specs.Int.Bits.{bit_and}
 use Rattle.std.specs.Int.Count.{count_trailing_zeros}
-use Rattle.shape_topo.specs.Bits.{In}
+use Rattle.shape_adj.specs.NearMasks.{In}
 use Rattle.shape_topo.proofs.PlaceWalk.{IsRest, rest_start, rest_end, rest_more, place_from, place_in, place_next, walk_to}
 
 -- the places of m from a place on are left, what W says holds at that place, and so many steps were done from old ones

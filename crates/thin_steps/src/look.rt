@@ -4,7 +4,7 @@ ghost use Rattle.std.specs.Prelude.{◌≡◌, ℕ, ◌+◌, ◌<◌, ◌≤◌,
 ghost use Rattle.shape_terms.specs.Points.{in_box, box_count, raster_point};
 ghost use Rattle.shape_terms.specs.Pictures.{IsPicture, at, object_points};
 ghost use Rattle.shape_terms.specs.Adjacency.{near_point};
-ghost use Rattle.shape_topo.specs.Bits.{In};
+ghost use Rattle.shape_adj.specs.NearMasks.{In};
 ghost use Rattle.shape_queue.specs.Keys.{has};
 ghost use Rattle.shape_queue.specs.Standing.{IsSubset};
 ghost use Rattle.shape_queue.specs.Waiting.{IsQueue, IsQueueBut, IsLookedAt};

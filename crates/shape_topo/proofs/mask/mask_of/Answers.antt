@@ -1,8 +1,8 @@
 use Rattle.std.proofs.Common.{◌≡◌, true, arith, sym, ◌∙◌, ap, ◌≤◌}
 use Rattle.shape_terms.specs.Pictures.{at}
 use Rattle.shape_terms.specs.Adjacency.{near_point}
-use Rattle.shape_topo.proofs.MaskBits.{marks_yes, marks_no, marks_small}
-use Rattle.shape_topo.proofs.MaskNumbers.{few_neighbours}
+use Rattle.shape_adj.proofs.MaskBits.{marks_yes, marks_no, marks_small}
+use Rattle.shape_adj.proofs.MaskBits.{few_neighbours}
 use Rattle.shape_topo.proofs.mask.mask_of.Goals as goal
 use Rattle.shape_topo.proofs.mask.mask_of.Goals.{then-has, else-has}
 

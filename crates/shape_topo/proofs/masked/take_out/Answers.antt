@@ -4,7 +4,7 @@ use Rattle.shape_terms.specs.Points.{in_box, raster_number, raster_point}
 use Rattle.shape_terms.specs.Adjacency.{near_point}
 use Rattle.shape_terms.proofs.Boxes.{raster_below, raster_point_in}
 use Rattle.number_terms.proofs.ObjectPlaces.{length-raster_point}
-use Rattle.shape_topo.specs.Masks.{near_total}
+use Rattle.shape_adj.specs.NearMasks.{near_total}
 use Rattle.shape_topo.proofs.PlaceWalk.{rest_less}
 use Rattle.shape_topo.proofs.TakenPlaces.{taking_start, taking_number, taking_inside, taking_more, taking_end}
 use Rattle.shape_topo.proofs.masked.take_out.Goals as goal

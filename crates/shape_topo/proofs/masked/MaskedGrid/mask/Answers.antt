@@ -4,7 +4,7 @@ use Rattle.shape_terms.specs.Points.{box_count, raster_point}
 use Rattle.shape_terms.specs.Pictures.{Picture}
 use Rattle.shape_terms.specs.Parts.{Object}
 use Rattle.number_terms.proofs.ObjectPlaces.{length-raster_point}
-use Rattle.shape_topo.specs.Masks.{near_total}
+use Rattle.shape_adj.specs.NearMasks.{near_total}
 use Rattle.shape_topo.proofs.MaskCount.{mask_small}
 use Rattle.shape_topo.proofs.masked.MaskedGrid.mask.Goals as goal
 
