@@ -22,7 +22,7 @@ use Rattle.shape_topo.specs.Bits.{Linked, AreSymmetric, CountsParts}
 use Rattle.shape_topo.specs.Masks.{NearSteps, SideSteps, MaskObject, MaskBackground, IsSideStep, HasMaskObjectNumber, HasMaskBackgroundNumber, IsSimpleMask}
 use Rattle.number_terms.specs.Links.{near_test, side_test, near_links, side_links, side_set}
 use Rattle.shape_topo.proofs.Growing.{place_below}
-use Rattle.shape_adj.proofs.MaskBits.{both_sets, marks_small, unset}
+use Rattle.shape_adj.proofs.MaskBits.{both_sets, few_neighbours, marks_small, unset}
 use Rattle.number_terms.proofs.LinkTests.{near_tested, side_tested, row_is, link_is}
 use Rattle.shape_terms.proofs.ShiftedSteps.{length-near_step, length-origin, near-moved, side-moved, round-moved, moved-origin, length-moved}
 use Rattle.shape_topo.proofs.Matching.{Matches, turned_round, parts_across, holding_matches, find, find_at}
@@ -235,5 +235,5 @@ pub dark_by : (d m all round sides : ℕ) → (d ≡ 2) ⊎ (d ≡ 3) → m < 2 
     → ((k : ℕ) → k < near_total d → In round k ↔ Round (origin d) (near_step d k))
     → AreDark d m (bit_and (bit_and all (2 ^ 32 - 1 - m)) round) (bit_and (bit_and all (2 ^ 32 - 1 - m)) sides)
 dark_by d m all round sides h small a s r =
-    let few = few_near d h in
+    let few = few_neighbours d (near_total d) h refl in
     rw (a, s) (dark_sets d m (bit_and (2 ^ near_total d - 1) (2 ^ 32 - 1 - m)) round (λ k. unset (near_total d) m k (omega arith) small) r)

@@ -32,6 +32,7 @@ pub(crate) fn mask_at<P: Pairing>(grid: &Grid<P>, near: &NearNumbers<P>, i: u32)
 {
     let p = near.sides.unraster(i);
     if near.all_known() && is_inner(&near.sides, p) {
+        grid.is_picture();
         near.mask(grid.values(), i)
     } else {
         mask_of(grid, p)
