@@ -1,6 +1,6 @@
 -- The numbers of components of a mask are those of the sets of bits, and those of the points that the steps lead to.
 -- Laws for any number of axes.
-use Rattle.std.proofs.Common.{◌≡◌, ◌-◌, ◌^◌, ◌≤◌, ◌<◌, ◌↔◌, ℕ, Bool, true, false, refl, ap, sym, ◌∙◌, subst, arith, length, inl, inr, lit≤}
+use Rattle.std.proofs.Common.{◌≡◌, ◌-◌, ◌^◌, ◌<◌, ◌↔◌, ℕ, Bool, true, false, refl, ap, sym, ◌∙◌, subst, arith, length}
 use Rattle.std.specs.Prelude.{◌⊎◌}
 use Rattle.std.specs.Int.{bit_at}
 use Rattle.std.specs.Int.Bits.{bit_and}

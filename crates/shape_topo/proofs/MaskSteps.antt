@@ -1,11 +1,10 @@
 -- The masks while a point is taken out of those of its near neighbours, one after the other.
 -- Laws of the plane and of space, over pictures and lists.
-use Rattle.std.proofs.Common.{◌≡◌, ◌≢◌, ◌⊎◌, ◌+◌, ◌-◌, ◌*◌, ◌%◌, ◌^◌, ◌≤◌, ◌<◌, ◌↔◌, ℕ, true, false, List, ◌++◌, length, take, drop, set, slice_index, refl, ap, sym, ◌∙◌, subst, arith, w32}
+use Rattle.std.proofs.Common.{◌≡◌, ◌≢◌, ◌⊎◌, ◌+◌, ◌-◌, ◌*◌, ◌%◌, ◌^◌, ◌≤◌, ◌<◌, ◌↔◌, ℕ, true, false, List, length, set, slice_index, refl, ap, sym, ◌∙◌, subst, arith, w32}
 use Rattle.std.specs.Prelude.{IsTrue}
 use Rattle.std.specs.Int.{bit_at, bit_not}
 use Rattle.std.specs.Int.Bits.{bit_and}
 use Rattle.std.proofs.lemmas.List.{length-set, set-get_or, get_or-set_same, get_or-set_other}
-use Rattle.std.proofs.Math.Seq.{take-append_seam}
 use Rattle.std.proofs.lemmas.Nat.Bits.{bit_at_clear_same, bit_at_clear_other}
 use native.Mathlib.Decide.{ℕ_discrete}
 use Rattle.shape_terms.specs.Points.{Point, in_box, box_count, raster_number, raster_point}
@@ -30,15 +29,35 @@ pub record AreMasksSoFar (Y : Picture) (i : ℕ) (masks : List ℕ) : Type 0 whe
   pub filled : length masks ≡ box_count Y.sides
   pub each : (j : ℕ) → j < i → j < box_count Y.sides → Object Y (raster_point Y.sides j) → IsNearMask Y (raster_point Y.sides j) (slice_index masks j)
 
+pub so_far_start : (Y : Picture) (masks : List ℕ) → length masks ≡ box_count Y.sides → AreMasksSoFar Y 0 masks
+so_far_start Y masks e = record { filled = e; each = λ j l. absurd (omega arith) }
+
+-- the next place is one of an object point: its mask is put
+pub so_far_put : (Y : Picture) (i m : ℕ) (masks : List ℕ) → AreMasksSoFar Y i masks → i < box_count Y.sides → IsNearMask Y (raster_point Y.sides i) m → AreMasksSoFar Y (i + 1) (set masks i m)
+so_far_put Y i m masks h l mask = record {
+  filled = length-set masks i m ∙ h.filled;
+  each = λ j k b o. elim (ℕ_discrete j i) [
+    | yes e ↦ subst (λ j. IsNearMask Y (raster_point Y.sides j) (slice_index (set masks i m) j)) (sym e)
+        (subst (IsNearMask Y (raster_point Y.sides i)) (sym (get_or-set_same masks i m 0 (let f = h.filled in omega arith))) mask)
+    | no n ↦ subst (IsNearMask Y (raster_point Y.sides j)) (sym (get_or-set_other masks i j m 0 n)) (h.each j (omega arith) b o)
+  ];
+}
+
+-- or not
+pub so_far_skip : (Y : Picture) (i : ℕ) (masks : List ℕ) → AreMasksSoFar Y i masks → (Object Y (raster_point Y.sides i) → ⊥) → AreMasksSoFar Y (i + 1) masks
+so_far_skip Y i masks h none = record {
+  filled = h.filled;
+  each = λ j k b o. elim (ℕ_discrete j i) [ yes e ↦ absurd (none (subst (λ j. Object Y (raster_point Y.sides j)) e o)) | no n ↦ h.each j (omega arith) b o ];
+}
+
+pub so_far_end : (Y : Picture) (k : ℕ) (masks : List ℕ) → box_count Y.sides ≤ k → AreMasksSoFar Y k masks → AreMasks Y masks
+so_far_end Y k masks l h = record { filled = h.filled; each = λ j b o. h.each j (omega arith) b o }
+
 -- ---- a point is taken out
 
 -- the picture with a background point at a place is the picture without the point of the place
 pub cleared_is : (Y : Picture) (i : ℕ) → i < box_count Y.sides → record { sides = Y.sides; values = set Y.values i false } ≡ without Y (raster_point Y.sides i)
 cleared_is Y i l = λ j. record { sides = Y.sides; values = set Y.values (sym (raster_number-raster_point Y.sides i l) j) false }
-
--- the masks behind the end of a list are none of its masks
-pub masks_back : (Y : Picture) (n : ℕ) (ms old : List ℕ) → length ms ≡ n → AreMasks Y ms → AreMasks Y (take n (ms ++ drop (length ms) old))
-masks_back Y n ms old e h = subst (AreMasks Y) (sym (ap (λ k. take k (ms ++ drop (length ms) old)) (sym e) ∙ take-append_seam ms (drop (length ms) old))) h
 
 -- a point that is background already
 pub cleared_before : (Y : Picture) (i : ℕ) → i < box_count Y.sides → at Y (raster_point Y.sides i) ≡ false → Y ≡ without Y (raster_point Y.sides i)

@@ -1,10 +1,8 @@
 -- The topological numbers of a mask of near neighbours.
 -- A mask is a set of numbers of steps; the numbers of components are those of the steps themselves.
-use Rattle.std.specs.Prelude.{◌≡◌, ℕ, ◌<◌, ◌↔◌, true, length}
+use Rattle.std.specs.Prelude.{◌≡◌, ℕ, ◌<◌}
 use Rattle.std.specs.Int.{bit_at}
-use Rattle.shape_terms.specs.Points.{Point}
-use Rattle.shape_terms.specs.Pictures.{Picture, at}
-use Rattle.shape_terms.specs.Adjacency.{Near, Side, Round, origin, near_steps, near_step, near_point}
+use Rattle.shape_terms.specs.Adjacency.{Near, Side, Round, origin, near_step}
 use Rattle.shape_terms.specs.Parts.{HasParts}
 use Rattle.thin_terms.specs.Simple.{Holding}
 use Rattle.shape_adj.specs.NearMasks.{In, near_total}

@@ -7,6 +7,7 @@ mod joined;
 mod links;
 mod mask;
 mod masked;
+mod masks;
 mod number;
 mod simple;
 mod spread;

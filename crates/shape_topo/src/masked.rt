@@ -7,9 +7,10 @@ ghost use Rattle.shape_terms.specs.Adjacency.{near_point};
 ghost use Rattle.thin_terms.specs.Simple.{IsSimple};
 ghost use Rattle.thin_terms.specs.Thinning.{without, near_count};
 ghost use Rattle.shape_adj.specs.NearMasks.{IsNearMask};
-ghost use Rattle.shape_topo.specs.MaskLists.{AreMasks};
+ghost use Rattle.shape_topo.specs.MaskLists.{AreMasks, masks_in};
 
 use crate::mask::mask_at;
+use crate::masks::Masks;
 use crate::simple::SimpleMask;
 use shape_adj::{NearNumbers, Pairing};
 use shape_grid::Grid;
@@ -20,26 +21,26 @@ use std::sync::ledger::Ledger;
 
 /// A grid with the mask of each object point.
 ///
-/// Each neighbour is read once, in the beginning: a deletion changes the masks of the near neighbours. It takes five bytes for
-/// each point of the box, and a few for the neighbours.
+/// Each neighbour is read once, in the beginning: a deletion changes the masks of the near neighbours. It takes a byte for
+/// each point of the box in the plane and four in space, a bit for each, and a few for the neighbours.
 #[derive(Drop)]
 pub struct MaskedGrid<P: Pairing> {
     grid: Grid<P>,
     near: NearNumbers<P>,
-    masks: Vec<u32>,
+    masks: Masks,
 }
 
 impl<P: Pairing> Model for MaskedGrid<P> {
     ghost use Rattle.std.specs.Prelude.{◌≡◌};
     ghost use Rattle.shape_terms.specs.Points.{sides_of};
     ghost use Rattle.shape_terms.specs.Pictures.{Picture};
-    ghost use Rattle.shape_topo.specs.MaskLists.{AreMasks};
+    ghost use Rattle.shape_topo.specs.MaskLists.{AreMasks, masks_in};
 
     ghost Value = { Picture };
 
     ghost view = { λ m. m.grid };
 
-    ghost invariant = { λ m. AreMasks m.grid m.masks.items
+    ghost invariant = { λ m. AreMasks m.grid (masks_in P.DIM m.masks)
         × (sides_of (P.coords m.near.sides.lengths) ≡ m.grid.sides) };
 }
 
@@ -48,27 +49,28 @@ fn masks_of<P: Pairing>(
     alloc: Global,
     grid: &Grid<P>,
     near: &NearNumbers<P>,
-) -> Result<Vec<u32>, NoMemory>
+) -> Result<Masks, NoMemory>
     requires { sides_of (P.coords near.now.sides.lengths) ≡ grid.now.sides }
-    ensures { IfOk result (λ v. AreMasks grid.now v.items) }
+    ensures { IfOk result (λ m. AreMasks grid.now (masks_in P.DIM m)) }
 {
     let sides = grid.sides();
-    let mut masks = vec![in alloc; 0u32; sides.count() as usize]?;
+    let mut masks = Masks::new::<P>(alloc, sides.count())?;
     for i in 0..sides.count() {
         if grid.has_number(i) {
-            masks[i as usize] = mask_at(grid, near, i);
+            masks.put::<P>(i, mask_at(grid, near, i));
         }
     }
     Ok(masks)
 }
 
 // Takes a point with this mask out of the masks of its object near neighbours.
-fn take_out<P: Pairing>(grid: &Grid<P>, near: &NearNumbers<P>, masks: &mut [u32], i: u32, mask: u32)
+fn take_out<P: Pairing>(grid: &Grid<P>, near: &NearNumbers<P>, masks: &mut Masks, i: u32, mask: u32)
     requires sides { sides_of (P.coords near.now.sides.lengths) ≡ grid.now.sides }
     requires inside { i < box_count grid.now.sides }
-    requires masks { AreMasks grid.now masks.old }
+    requires masks { AreMasks grid.now (masks_in P.DIM masks.old) }
     requires mask { IsNearMask grid.now (raster_point grid.now.sides i) mask }
-    ensures { AreMasks (without grid.now (raster_point grid.now.sides i)) masks.new }
+    ensures { AreMasks (without grid.now (raster_point grid.now.sides i))
+        (masks_in P.DIM masks.new) }
 {
     grid.is_picture();
     let mut rest = mask;
@@ -76,7 +78,8 @@ fn take_out<P: Pairing>(grid: &Grid<P>, near: &NearNumbers<P>, masks: &mut [u32]
         let k = rest.trailing_zeros() as usize;
         rest &= !(1u32 << k);
         let j = near.number(i, k);
-        masks[j as usize] &= !(1u32 << (P::NEAR_COUNT - 1 - k));
+        let left = masks.get::<P>(j) & !(1u32 << (P::NEAR_COUNT - 1 - k));
+        masks.put::<P>(j, left);
     }
 }
 
@@ -140,7 +143,7 @@ impl<P: Pairing> MaskedGrid<P> {
         ensures few { result < 2 ^ P.NEAR_COUNT }
     {
         self.grid.is_picture();
-        self.masks[i as usize]
+        self.masks.get::<P>(i)
     }
 
     /// How many near neighbours of the object point with a raster number are object.

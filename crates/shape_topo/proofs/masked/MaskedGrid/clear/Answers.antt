@@ -1,8 +1,8 @@
-use Rattle.std.proofs.Common.{◌≡◌, ◌<◌, arith, ap, sym, ◌∙◌, subst, length}
+use Rattle.std.proofs.Common.{◌≡◌, ◌<◌, arith, ap, sym, ◌∙◌, subst}
 use Rattle.shape_terms.specs.Points.{box_count, raster_point}
 use Rattle.shape_terms.specs.Pictures.{Picture}
 use Rattle.thin_terms.specs.Thinning.{without}
-use Rattle.shape_topo.proofs.MaskSteps.{cleared_is, cleared_before, masks_back}
+use Rattle.shape_topo.proofs.MaskSteps.{cleared_is, cleared_before}
 use Rattle.shape_topo.proofs.masked.MaskedGrid.clear.Goals as goal
 
 pub invariant_of-self : goal.invariant_of-self
@@ -10,8 +10,7 @@ invariant_of-self g c =
     let Y = c.self.inside.grid in
     let below : c.args.i < box_count Y.sides = omega (arith, c.requires, ap (λ (Y : Picture). box_count Y.sides) c.self.view_is) in
     let same : c.clear_number.new.self ≡ without Y (raster_point Y.sides c.args.i) = c.clear_number.ensures ∙ cleared_is Y c.args.i below in
-    let full : length c.take_out.new.masks ≡ c.self.inside.masks.len = omega (arith, c.take_out.ensures.filled, c.self.invariant.0.filled) in
-    (rw same (masks_back (without Y (raster_point Y.sides c.args.i)) c.self.inside.masks.len c.take_out.new.masks c.self.inside.masks.items full c.take_out.ensures), c.self.invariant.1 ∙ sym (ap (λ (Y : Picture). Y.sides) same))
+    (rw same c.take_out.ensures, c.self.invariant.1 ∙ sym (ap (λ (Y : Picture). Y.sides) same))
 
 pub returns-then-has_number : goal.returns-then-has_number
 returns-then-has_number g c =
