@@ -8,7 +8,7 @@ use Rattle.std.proofs.lemmas.Nat.Bits.{bit_at_and, bit_at_not, bit_at-lt, bit_at
 use Rattle.std.proofs.lemmas.Nat.{and_le_l, and_le_r, or_lt}
 use native.Mathlib.Decide.{ℕ_discrete}
 use Rattle.shape_terms.specs.Parts.{Connected}
-use Rattle.shape_terms.proofs.Paths.{joined_to, starts_in, in_greater, ends_in}
+use Rattle.shape_terms.proofs.Paths.{joined_to, in_greater, ends_in}
 use Rattle.thin_terms.proofs.Deletion.{all_connected}
 use Rattle.shape_topo.specs.Bits.{In, Linked, AreSymmetric, CountsParts}
 use Rattle.shape_topo.proofs.Growing.{place_below, one_same, one_only}
