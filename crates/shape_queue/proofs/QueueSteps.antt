@@ -1,17 +1,19 @@
 -- The keys of a queue while a rank is put into its set or taken out, and the least of them.
 -- Laws over keys and lists alone.
-use Rattle.std.proofs.Common.{◌≡◌, ◌⊎◌, inl, inr, ℕ, ◌<◌, Bool, true, false, cond, eqb, ltb, List, length, slice_index, refl, sym, ◌∙◌, ap, subst, arith}
+use Rattle.std.proofs.Common.{◌≡◌, ◌⊎◌, inl, inr, ℕ, ◌*◌, ◌<◌, ◌≤◌, Bool, true, false, cond, eqb, ltb, List, length, set, replicate, get_or, slice_index, refl, sym, ◌∙◌, ap, subst, arith}
 use Rattle.std.specs.Prelude.{◌&&◌}
 use Rattle.std.proofs.lemmas.Bool.{eqb-true, eq-eqb, ltb-true, lt-ltb}
+use Rattle.std.proofs.lemmas.List.{length-set, length-replicate, get_or-replicate, get_or-set_same, get_or-set_other, get_or_default}
 use Rattle.std.specs.BTreeMap.{is_at}
 use native.Mathlib.Decide.{ℕ_discrete, dec_lt}
 use Rattle.shape_bits.specs.Sets.{In, bit_of, IsPut, IsLeast}
+use Rattle.shape_bits.specs.Truths.{is_in}
 use Rattle.shape_queue.specs.declared.key.Key.{Key}
 use Rattle.shape_queue.specs.Keys.{key_cmp, IsLeastKey, Queued, has}
-use Rattle.shape_queue.specs.Ranks.{rank_in, Precedes, AreFitting}
+use Rattle.shape_queue.specs.Ranks.{rank_in, Precedes, AreRanks, AreQueued, AreFitting}
 use Rattle.shape_queue.specs.Waiting.{key_at, Put}
 use Rattle.shape_queue.proofs.KeyOrder.{at_itself, at_only, by_key, same_key, not_greater}
-use Rattle.shape_queue.proofs.RankLaws.{rank_rises, rank_apart}
+use Rattle.shape_queue.proofs.RankLaws.{rank_small, rank_rises, rank_apart}
 
 -- a truth value as a bit
 abbrev pub bool_of : Bool → ℕ
@@ -90,18 +92,58 @@ put_rank q new i b l p k = elim (by_key (key_at q.distances i) k) [
   | inr f ↦ others q new i (bool_of b) l p k f ∙ sym (ap (λ t. cond t b (has q k)) f)
 ]
 
-pub fitting_put : (ds ranks places waiting new : List ℕ) (i b : ℕ) → i < length ds → AreFitting ds ranks places waiting → IsPut waiting new (rank_in ds i) b
-    → AreFitting ds ranks places new
-fitting_put ds ranks places waiting new i b l h p = record {
+-- what is read at a place is its rank
+pub rank_read : (ds ranks : List ℕ) (i r : ℕ) → AreRanks ds ranks → i < length ds → r ≡ get_or ranks i r → r ≡ rank_in ds i
+rank_read ds ranks i r h l e = let n = h.filled in e ∙ get_or_default ranks i r 0 (omega (arith, l, n)) ∙ h.each i l
+
+-- the set has room for the rank of a place
+pub rank_within : (ds waiting : List ℕ) (i r : ℕ) → length ds ≤ 64 * length waiting → i < length ds → r ≡ rank_in ds i → r < 64 * length waiting
+rank_within ds waiting i r room l e = let s = rank_small ds i l in omega arith
+
+-- a key that is there or not, as b says, is left as it is
+pub put_none : (q : Queued) (i : ℕ) (b : Bool) → i < length q.distances → is_in q.waiting (rank_in q.distances i) ≡ b → Put (has q) (has q) (key_at q.distances i) b
+put_none q i b l e k = elim (by_key (key_at q.distances i) k) [
+  | inl t ↦ (
+      let s = at_only (key_at q.distances i) k t in
+      ap (has q) (sym s) ∙ has_place q i l ∙ e ∙ sym (ap (λ t. cond t b (has q k)) t))
+  | inr f ↦ sym (ap (λ t. cond t b (has q k)) f)
+]
+
+-- the truth value of the place is changed with its rank
+queued_put : (ds waiting new : List ℕ) (queued : List Bool) (i : ℕ) (b : Bool) → i < length ds → AreQueued ds waiting queued → IsPut waiting new (rank_in ds i) (bool_of b)
+    → AreQueued ds new (set queued i b)
+queued_put ds waiting new queued i b l h p =
+    let f = h.filled in
+    record {
+      filled = length-set queued i b ∙ f;
+      each = λ j m. elim (ℕ_discrete j i) [
+        | yes e ↦ (
+            let same : get_or (set queued i b) j false ≡ b = ap (λ j. get_or (set queued i b) j false) e ∙ get_or-set_same queued i b false (omega (arith, l, f)) in
+            same ∙ sym (ap (λ j. is_in new (rank_in ds j)) e ∙ ap (λ x. eqb x 1) p.here ∙ bit_test b))
+        | no n ↦ get_or-set_other queued i j b false n ∙ h.each j m ∙ sym (ap (λ x. eqb x 1) (p.others (rank_in ds j) (rank_apart ds j i m l n)))
+      ];
+    }
+
+pub fitting_put : (ds ranks places waiting new : List ℕ) (queued : List Bool) (i : ℕ) (b : Bool) → i < length ds → AreFitting ds ranks places waiting queued
+    → IsPut waiting new (rank_in ds i) (bool_of b) → AreFitting ds ranks places new (set queued i b)
+fitting_put ds ranks places waiting new queued i b l h p = record {
   ranks_are = h.ranks_are;
   places_are = h.places_are;
   room = let e = p.room in let r = h.room in omega (arith, e, r);
   inside = λ r w. elim (ℕ_discrete r (rank_in ds i)) [ yes e ↦ (i, l, sym e) | no n ↦ h.inside r (sym (p.others r n) ∙ w) ];
+  queued_are = queued_put ds waiting new queued i b l h.queued_are p;
+}
+
+-- in the beginning none waits
+pub none_queued : (ds waiting : List ℕ) → ((r : ℕ) → In waiting r → ⊥) → AreQueued ds waiting (replicate (length ds) false)
+none_queued ds waiting none = record {
+  filled = length-replicate (length ds) false;
+  each = λ i l. get_or-replicate (length ds) i false false l ∙ sym (by_value (is_in waiting (rank_in ds i)) (λ t. none (rank_in ds i) (eqb-true (bit_of waiting (rank_in ds i)) 1 t)));
 }
 
 -- ---- the least key
 
-module _ (ds ranks places waiting : List ℕ) (h : AreFitting ds ranks places waiting) (r : ℕ) (least : IsLeast waiting r) where
+module _ (ds ranks places waiting : List ℕ) (queued : List Bool) (h : AreFitting ds ranks places waiting queued) (r : ℕ) (least : IsLeast waiting r) where
   -- its place
   pub least_place : (slice_index places r < length ds) × (rank_in ds (slice_index places r) ≡ r)
   least_place =

@@ -7,18 +7,21 @@ ghost use Rattle.shape_queue.specs.Waiting.{key_at, Put};
 
 use crate::key::Key;
 use crate::ranks::{places_of, ranks_of};
-use shape_bits::Numbers;
+use shape_bits::{Bits, Numbers};
 use shape_space::NoMemory;
 use std::alloc::Global;
 use std::marker::Model;
 
-/// The places that wait, by the ranks of all places.
+/// The places that wait, by the ranks of all places, and a bit for each place that tells the same.
+///
+/// The bits of near places are near to one another, while their ranks are far apart: a look that changes nothing reads no rank.
 #[derive(Drop)]
 pub struct Queue {
     distances: Vec<u32>,
     ranks: Vec<u32>,
     places: Vec<u32>,
     waiting: Numbers,
+    queued: Bits,
 }
 
 impl Model for Queue {
@@ -29,7 +32,8 @@ impl Model for Queue {
 
     ghost view = { λ q. record { distances = q.distances.items; waiting = q.waiting } };
 
-    ghost invariant = { λ q. AreFitting q.distances.items q.ranks.items q.places.items q.waiting };
+    ghost invariant = { λ q. AreFitting q.distances.items q.ranks.items q.places.items q.waiting
+        q.queued };
 }
 
 impl Queue {
@@ -44,11 +48,13 @@ impl Queue {
         let ranks = ranks_of(alloc, distances.as_slice(), bound)?;
         let places = places_of(alloc, distances.as_slice(), ranks.as_slice())?;
         let waiting = Numbers::new(alloc, distances.len())?;
+        let queued = Bits::new(alloc, distances.len())?;
         Ok(Queue {
             distances,
             ranks,
             places,
             waiting,
+            queued,
         })
     }
 
@@ -58,10 +64,23 @@ impl Queue {
         ensures put { Put (has self.old) (has self.new) (key_at self.old.distances place) waits }
         ensures distances { self.new.distances ≡ self.old.distances }
     {
+        if self.queued.get(place as usize) != waits {
+            self.change(place, waits);
+        }
+    }
+
+    // Puts the key in or takes it out, by its rank, and has its bit tell so.
+    fn change(&mut self, place: u32, waits: bool)
+        requires { place < length self.old.distances }
+        ensures put { Put (has self.old) (has self.new) (key_at self.old.distances place) waits }
+        ensures distances { self.new.distances ≡ self.old.distances }
+    {
         let rank = self.ranks[place as usize] as usize;
         if waits {
+            self.queued.set(place as usize);
             self.waiting.insert(rank);
         } else {
+            self.queued.clear(place as usize);
             self.waiting.remove(rank);
         }
     }

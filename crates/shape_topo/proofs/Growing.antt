@@ -26,10 +26,10 @@ pub place_below : (m n k : ℕ) → m < 2 ^ n → In m k → k < n
 place_below m n k h i = elim (dec_lt k n) [ yes l ↦ l | no l ↦ absurd (let z : bit_at m k ≡ 0 = bit_at_above m n k h (omega arith) in omega arith) ]
 
 -- the places of `1 << s`
-one_same : (s : ℕ) → s < 32 → In (1 * 2 ^ s % 2 ^ 32) s
+pub one_same : (s : ℕ) → s < 32 → In (1 * 2 ^ s % 2 ^ 32) s
 one_same s h = bit_at_set_same w32 0 s h
 
-one_only : (s k : ℕ) → s < 32 → In (1 * 2 ^ s % 2 ^ 32) k → k ≡ s
+pub one_only : (s k : ℕ) → s < 32 → In (1 * 2 ^ s % 2 ^ 32) k → k ≡ s
 one_only s k h i = elim (ℕ_discrete k s) [
   | yes e ↦ e
   | no e ↦ absurd (let z : bit_at (1 * 2 ^ s % 2 ^ 32) k ≡ 0 = bit_at_set_other w32 0 s h k e ∙ bit_at-zero k in omega arith)
