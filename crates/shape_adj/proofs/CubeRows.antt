@@ -26,6 +26,7 @@ pub record IsCentre (d h : ℕ) : Type 0 where
   pub total : cube_total d ≡ near_total d + 1
   pub third : h % 3 ≡ 1
 
+-- in the plane it has the number 4, in space the number 13
 pub centre_of : (d : ℕ) → (d ≡ 2) ⊎ (d ≡ 3) → IsCentre d (near_total d / 2)
 centre_of d (inl e) = rw e (record { steps = refl; origin = refl; half = refl; total = refl; third = refl })
 centre_of d (inr e) = rw e (record { steps = refl; origin = refl; half = refl; total = refl; third = refl })
@@ -67,11 +68,12 @@ row_step (v ∷ vs) zero (suc (suc zero)) l m = refl
 row_step (v ∷ vs) zero (suc (suc (suc b))) l m = absurd (omega arith)
 row_step (v ∷ vs) (suc r) b l m = let e : 3 * suc r + b ≡ suc (suc (suc (3 * r + b))) = omega arith in rw e (row_step vs r b (omega arith) m)
 
+-- each of them has three steps
 rows : (vs : List Point) → length (flat_map (λ v. (negsuc 0 ∷ v) ∷ (pos 0 ∷ v) ∷ (pos 1 ∷ v) ∷ []) vs) ≡ 3 * length vs
 rows [] = refl
 rows (v ∷ vs) = omega (arith, rows vs)
 
--- its points have numbers in a row
+-- the points b places behind the first of a row have numbers that are greater by b
 beside : (n : ℕ) (sides : List ℕ) (x : ℤ) (q : Point) (b : ℕ) → IsTrue (in_box (n ∷ sides) ((x +ℤ (pos 0 -ℤ pos 1)) ∷ q))
     → raster_number (n ∷ sides) ((x +ℤ (pos b -ℤ pos 1)) ∷ q) ≡ raster_number (n ∷ sides) ((x +ℤ (pos 0 -ℤ pos 1)) ∷ q) + b
 beside n sides x q b h =
@@ -81,6 +83,7 @@ beside n sides x q b h =
     let e : nat_abs (x +ℤ (pos b -ℤ pos 1)) ≡ nat_abs (x +ℤ (pos 0 -ℤ pos 1)) + b = omega (arith, ints) in
     omega arith
 
+-- so the numbers of a row's points follow one another
 pub row_number : (sides : List ℕ) (p : Point) (r b : ℕ) → 3 * r + 2 < cube_total (length p) → b < 3 → 0 < length p → IsTrue (in_box sides (cube_point p (3 * r)))
     → raster_number sides (cube_point p (3 * r + b)) ≡ raster_number sides (cube_point p (3 * r)) + b
 row_number sides [] r b l m some h = absurd (omega arith)
@@ -129,6 +132,7 @@ pub record IsInner (sides : List ℕ) (p : Point) (n : ℕ) : Type 0 where
   pub some : 0 < length p
   pub inside : (j : ℕ) → j < cube_total (length p) → IsTrue (in_box sides (cube_point p j))
 
+-- such is a point whose near neighbours are all in the box
 pub inner_of : (lengths : Point) (i d total n : ℕ) → i < box_count (sides_of lengths) → length lengths ≡ d → (d ≡ 2) ⊎ (d ≡ 3) → total ≡ near_total d → n ≡ total
     → ((k : ℕ) → k < total → IsTrue (in_box (sides_of lengths) (near_point (raster_point (sides_of lengths) i) k))) → IsInner (sides_of lengths) (raster_point (sides_of lengths) i) n
 inner_of lengths i d total n b axes two t e inner =
@@ -145,6 +149,7 @@ inner_of lengths i d total n b axes two t e inner =
     }
 
 module _ (sides : List ℕ) (p : Point) (n r : ℕ) (q : IsInner sides p n) (within : 3 * r ≤ n) where
+  -- all of the row is in the cube
   row_within : 3 * r + 2 < cube_total (length p)
   row_within =
       let t = q.centre.total in
@@ -160,6 +165,7 @@ module _ (sides : List ℕ) (p : Point) (n r : ℕ) (q : IsInner sides p n) (wit
         let v = q.centre.third in
         elim (dec_lt (n / 2) (3 * r)) [ yes l ↦ (let e = behind l in omega arith) | no l ↦ (let e = before (omega arith) in omega arith) ]
 
+    -- and its number is that of the first point of the row
     begin_number : (i : ℕ) → i ≡ raster_number sides (near_point p k) → i ≡ raster_number sides (cube_point p (3 * r))
     begin_number i e = e ∙ ap (λ v. raster_number sides (moved p v)) (row_begins (length p) (n / 2) q.centre r k before behind)
 

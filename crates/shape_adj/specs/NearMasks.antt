@@ -1,4 +1,4 @@
--- The near neighbours of a point that are object, as one number: a set of numbers of steps. So too with the point itself among them, the cube.
+-- The near neighbours of a point that are object, as one number: a set of numbers of steps. The cube has the point itself too.
 -- What such a set says of the point belongs elsewhere.
 use Rattle.std.specs.Prelude.{◌≡◌, ℕ, ◌+◌, ◌*◌, ◌<◌, ◌↔◌, [], true, length, slice_index_or}
 use Rattle.std.specs.Int.{bit_at}
