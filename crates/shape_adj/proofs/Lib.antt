@@ -8,3 +8,4 @@ pub mod Inner
 mod GapSteps
 pub mod Neighbours
 pub mod MaskBits
+pub mod CubeRows

@@ -1,10 +1,11 @@
 //! The near neighbours of the points of one box by raster numbers: each is as far from its point as from any other.
 //! What is asked of the neighbours belongs elsewhere.
-ghost use Rattle.std.specs.Prelude.{◌≡◌, ℕ, ◌<◌, ◌≤◌, IsTrue, IfOk, IfSome, length};
+ghost use Rattle.std.specs.Prelude.{◌≡◌, ℕ, ◌+◌, ◌*◌, ◌^◌, ◌<◌, ◌≤◌, IsTrue, IfOk, IfSome, length};
+ghost use Rattle.std.specs.Int.{bit_at};
 ghost use Rattle.shape_terms.specs.Points.{sides_of, in_box, box_count, raster_number, raster_point};
 ghost use Rattle.shape_terms.specs.Adjacency.{near_point};
 ghost use Rattle.shape_adj.specs.Gaps.{AreGaps};
-ghost use Rattle.shape_adj.specs.NearMasks.{IsNearMask};
+ghost use Rattle.shape_adj.specs.NearMasks.{IsNearMask, IsCubeMask, IsRowMask};
 
 use crate::number::{is_inner, near_number};
 use crate::pairing::Pairing;
@@ -51,6 +52,25 @@ fn gaps_at<P: Pairing>(alloc: Global, sides: &Sides<P>, i: u32) -> Result<Vec<u3
     Ok(gaps)
 }
 
+// The number of the near neighbour that begins row r of the cube around a point: the centre of the cube has no number.
+fn row_start(r: usize, half: usize) -> usize
+    requires { r < 2 ^ 16 }
+    ensures before { 3 * r ≤ half → result ≡ 3 * r }
+    ensures behind { half < 3 * r → result + 1 ≡ 3 * r }
+{
+    if 3 * r <= half { 3 * r } else { 3 * r - 1 }
+}
+
+// The bits of a cube but for that of its centre, before which there are so many.
+fn without_centre(cube: u32, half: usize) -> u32
+    requires { half < 31 }
+    ensures before { (k : ℕ) → k < half → bit_at result k ≡ bit_at cube k }
+    ensures behind { (k : ℕ) → half ≤ k → bit_at result k ≡ bit_at cube (k + 1) }
+{
+    let below = (1u32 << half) - 1;
+    (cube & below) | ((cube >> (half + 1)) << half)
+}
+
 impl<P: Pairing> NearNumbers<P> {
     /// Those of a box.
     pub fn new(alloc: Global, sides: Sides<P>) -> Result<NearNumbers<P>, NoMemory>
@@ -95,13 +115,43 @@ impl<P: Pairing> NearNumbers<P> {
         ensures { let sides = sides_of (P.coords self.now.sides.lengths) in
             IsNearMask (record { sides = sides; values = values.now }) (raster_point sides i) result }
     {
-        let mut mask = 0;
-        for k in 0..P::NEAR_COUNT {
-            if values.get(self.known(i, k) as usize) {
-                mask |= 1u32 << k;
-            }
+        without_centre(self.cube(values, i), P::NEAR_COUNT / 2)
+    }
+
+    // The points of row r of the cube around such a point whose value is true.
+    fn row(&self, values: &Bits, i: u32, r: usize) -> u32
+        requires known { P.NEAR_COUNT ≤ length self.now.gaps.items }
+        requires filled { length values.now
+            ≡ box_count (sides_of (P.coords self.now.sides.lengths)) }
+        requires point { i < box_count (sides_of (P.coords self.now.sides.lengths)) }
+        requires inner { (k : ℕ) → k < P.NEAR_COUNT
+            → IsTrue (in_box (sides_of (P.coords self.now.sides.lengths))
+            (near_point (raster_point (sides_of (P.coords self.now.sides.lengths)) i) k)) }
+        requires row { 3 * r ≤ P.NEAR_COUNT }
+        ensures { let sides = sides_of (P.coords self.now.sides.lengths) in
+            IsRowMask (record { sides = sides; values = values.now }) (raster_point sides i) r result }
+    {
+        let k = row_start(r, P::NEAR_COUNT / 2);
+        values.three(self.known(i, k) as usize)
+    }
+
+    // The points of the cube around such a point whose value is true.
+    fn cube(&self, values: &Bits, i: u32) -> u32
+        requires known { P.NEAR_COUNT ≤ length self.now.gaps.items }
+        requires filled { length values.now
+            ≡ box_count (sides_of (P.coords self.now.sides.lengths)) }
+        requires point { i < box_count (sides_of (P.coords self.now.sides.lengths)) }
+        requires inner { (k : ℕ) → k < P.NEAR_COUNT
+            → IsTrue (in_box (sides_of (P.coords self.now.sides.lengths))
+            (near_point (raster_point (sides_of (P.coords self.now.sides.lengths)) i) k)) }
+        ensures { let sides = sides_of (P.coords self.now.sides.lengths) in
+            IsCubeMask (record { sides = sides; values = values.now }) (raster_point sides i) result }
+    {
+        let mut cube = 0;
+        for r in 0..(P::NEAR_COUNT + 1) / 3 {
+            cube |= self.row(values, i, r) << (3 * r);
         }
-        mask
+        cube
     }
 
     /// The raster number of a near neighbour that is in the box.

@@ -1,14 +1,14 @@
 -- The truth values that words hold, while one of them is changed, and the first of them that is true.
 -- Laws over lists alone.
-use Rattle.std.proofs.Common.{◌≡◌, ℕ, ◌*◌, ◌/◌, ◌%◌, ◌<◌, ◌≤◌, Bool, false, List, length, set, replicate, get_or, slice_index, sym, ap, subst, ◌∙◌, arith}
+use Rattle.std.proofs.Common.{◌≡◌, ℕ, ◌+◌, ◌*◌, ◌/◌, ◌%◌, ◌<◌, ◌≤◌, Bool, true, false, List, length, set, replicate, get_or, slice_index, sym, ap, subst, ◌∙◌, arith}
 use Rattle.std.specs.Prelude.{◌==◌, Option, Some, None, MatchOption}
 use Rattle.std.specs.Int.{bit_at}
 use Rattle.std.proofs.lemmas.List.{length-set, length-replicate, get_or-replicate, get_or-set_same, get_or-set_other, get_or_past, same_lists}
 use Rattle.std.proofs.lemmas.List.FromFn.{length-map-range_with_len, get_or-map-range_with_len}
 use Rattle.std.proofs.lemmas.Nat.Bits.{bit_at-zero, bit_at-lt}
 use native.Mathlib.Decide.{dec_lt, ℕ_discrete}
-use Rattle.shape_bits.specs.Sets.{In, bit_of, IsPut, IsLeastFrom}
-use Rattle.shape_bits.specs.Truths.{is_in, truths, AreTruths, IsFirstTrue}
+use Rattle.shape_bits.specs.Sets.{In, bit_of, IsPut, IsLeastFrom, AreThreeIn}
+use Rattle.shape_bits.specs.Truths.{is_in, truths, AreTruths, IsFirstTrue, AreThree}
 
 pub length-truths : (words : List ℕ) (n : ℕ) → length (truths words n) ≡ n
 length-truths words n = length-map-range_with_len (is_in words) 0 n
@@ -29,6 +29,25 @@ absent words i h =
     let l = bit_at-lt (slice_index words (i / 64)) (i % 64) in
     let z : bit_of words i ≡ 0 = elim (ℕ_discrete (bit_of words i) 1) [ yes e ↦ absurd (h e) | no n ↦ omega arith ] in
     ap (λ b. b == 1) z
+
+-- a number that is
+present : (words : List ℕ) (i : ℕ) → is_in words i ≡ true → In words i
+present words i h = elim (ℕ_discrete (bit_of words i) 1) [
+  | yes e ↦ e
+  | no n ↦ absurd (let z = absent words i n in let f : true ≡ false = sym h ∙ z in cc)
+]
+
+-- the values of three numbers in a row
+pub three_true : (words : List ℕ) (n : ℕ) (values : List Bool) (i r : ℕ) → truths words n ≡ values → i + 2 < length values → AreThreeIn words i r → AreThree values i r
+three_true words n values i r e l h b = (
+  (λ t. let a = (h b).0 t in (a.0, value a.0 ∙ ap (λ x. x == 1) a.1)),
+  λ t. (h b).1 (t.0, present words (i + b) (sym (value t.0) ∙ t.1)),
+)
+  where
+    value : b < 3 → get_or values (i + b) false ≡ is_in words (i + b)
+    value m =
+        let k : n ≡ length values = sym (length-truths words n) ∙ ap length e in
+        ap (λ v. get_or v (i + b) false) (sym e) ∙ value_of words n (i + b) false (omega arith)
 
 -- words without a bit
 pub none_true : (words : List ℕ) (n : ℕ) → ((w : ℕ) → slice_index words w ≡ 0) → truths words n ≡ replicate n false

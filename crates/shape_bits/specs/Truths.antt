@@ -1,7 +1,8 @@
 -- A row of truth values as the set of the places whose value is true.
 -- How the values are changed does not matter here.
-use Rattle.std.specs.Prelude.{◌≡◌, ℕ, ◌+◌, ◌/◌, ◌^◌, ◌<◌, ◌≤◌, Bool, true, false, ◌==◌, List, length, map, slice_index_or}
+use Rattle.std.specs.Prelude.{◌≡◌, ℕ, ◌+◌, ◌/◌, ◌^◌, ◌<◌, ◌≤◌, ◌↔◌, Bool, true, false, ◌==◌, List, length, map, slice_index_or}
 use Rattle.std.specs.List.{range_with_len}
+use Rattle.std.specs.Int.{bit_at}
 use Rattle.shape_bits.specs.Sets.{In, bit_of}
 
 -- whether the number is in the set
@@ -24,3 +25,7 @@ pub record IsFirstTrue (values : List Bool) (from k : ℕ) : Type 0 where
   pub within : k < length values
   pub there : slice_index_or values k false ≡ true
   pub first : (j : ℕ) → from ≤ j → j < k → slice_index_or values j false ≡ false
+
+-- bit b of r is set exactly where b is below 3 and the value b places on is true
+abbrev pub AreThree : List Bool → ℕ → ℕ → Type 0
+AreThree values i r = (b : ℕ) → (bit_at r b ≡ 1) ↔ ((b < 3) × (slice_index_or values (i + b) false ≡ true))

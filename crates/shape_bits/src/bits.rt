@@ -1,9 +1,9 @@
 //! A row of truth values, each of them a bit.
 //! How bits are read and set in words belongs elsewhere.
-ghost use Rattle.std.specs.Prelude.{◌≡◌, ℕ, ◌^◌, ◌<◌, ◌≤◌, IfOk, MatchOption, length, true, false, replicate, slice_index_or, slice_set};
-ghost use Rattle.shape_bits.specs.Truths.{IsFirstTrue};
+ghost use Rattle.std.specs.Prelude.{◌≡◌, ℕ, ◌+◌, ◌^◌, ◌<◌, ◌≤◌, IfOk, MatchOption, length, true, false, replicate, slice_index_or, slice_set};
+ghost use Rattle.shape_bits.specs.Truths.{IsFirstTrue, AreThree};
 
-use crate::words::{has, least_from, no_bits, put_in, take_out};
+use crate::words::{has, least_from, no_bits, put_in, take_out, three_at};
 use shape_space::NoMemory;
 use std::alloc::Global;
 use std::marker::Model;
@@ -53,6 +53,14 @@ impl Bits {
         ensures { result ≡ slice_index_or self.now i false }
     {
         has(self.words.as_slice(), i)
+    }
+
+    /// The values at three places in a row, from a place on: bit b is set where the value b places on is true.
+    pub fn three(&self, i: usize) -> u32
+        requires { i + 2 < length self.now }
+        ensures { AreThree self.now i result }
+    {
+        three_at(self.words.as_slice(), i)
     }
 
     /// Makes the value at a place true.
