@@ -73,10 +73,6 @@ length-side_step d k (inr e) l = rw e (three k (let n = ap (λ m. length (side_s
     three (suc (suc (suc (suc (suc zero))))) l = refl
     three (suc (suc (suc (suc (suc (suc k)))))) l = absurd (omega arith)
 
-pub side_gap : (sides : List ℕ) (k : ℕ) → box_count sides ≤ 8388608 → (length sides ≡ 2) ⊎ (length sides ≡ 3) → k < length (side_steps (length sides)) → (j s : ℕ) → j < box_count sides
-    → IsTrue (in_box sides (side_point (raster_point sides j) k)) → s ≡ raster_number sides (side_point (raster_point sides j) k) → IsGap sides side_point k ((s + (4294967296 - j)) % 4294967296)
-side_gap sides k few d l = gap_from sides side_step k few (length-side_step (length sides) k d l)
-
 -- ---- in the framed box
 
 raised-step : (r v : Point) → length v ≡ length r → raised (moved (map (λ x. x -ℤ pos 1) r) v) ≡ moved r v

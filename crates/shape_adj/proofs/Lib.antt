@@ -1,5 +1,8 @@
 pub mod Flooding
+pub mod RestBits
 pub mod Links
+mod OpenLinks
+mod ObjectRows
 pub mod Labelling
 pub mod FlatSteps
 mod SolidSteps

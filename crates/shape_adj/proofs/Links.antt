@@ -1,14 +1,17 @@
 -- One place whose links are followed: its adjacent places get the label of the component.
 -- Lemmas over lists of labels and of places to be visited.
-use Rattle.std.proofs.Common.{◌≡◌, ℕ, zero, suc, ◌+◌, ◌<◌, ◌≤◌, List, [], ◌∷◌, ◌++◌, length, slice_index, set, get_or-set_same, get_or-set_other, length-set, length-append, arith, sym, ◌∙◌, ap, subst, ◌⊎◌, inl, inr}
-use Rattle.std.specs.Prelude.{Option, Some, None}
+use Rattle.std.proofs.Common.{◌≡◌, ℕ, zero, suc, ◌+◌, ◌<◌, ◌≤◌, List, [], ◌∷◌, ◌++◌, length, slice_index, set, get_or, get_or-set_same, get_or-set_other, length-set, length-append, arith, refl, sym, ◌∙◌, ap, subst, ◌⊎◌, inl, inr}
+use Rattle.std.specs.Prelude.{Bool, true, false, Option, Some}
+use Rattle.std.proofs.lemmas.Nat.Bits.{bit_at-zero}
 use Rattle.std.specs.List.{Contains}
 use Rattle.std.proofs.lemmas.List.Elements.{Contains-push, Contains-append_left, Contains-push_cases}
 use Rattle.std.proofs.lemmas.Bool.Decides.{nat_tests}
 use native.Mathlib.Decide.{ℕ_discrete, dec_lt}
 use Rattle.shape_adj.specs.Flood.{Flooding, Put}
 use Rattle.number_terms.specs.Net.{IsNet}
+use Rattle.shape_adj.specs.NearMasks.{In}
 use Rattle.shape_adj.specs.Labels.{Spreading, zeros, Kept}
+use Rattle.shape_adj.specs.Todo.{IsOpen, IsRowOf, IsTodo}
 use Rattle.shape_adj.proofs.Flooding.{flood_grow, flood_drop, flood_work}
 
 -- ---- lists of labels
@@ -24,99 +27,173 @@ put_set xs q v h = record { here = get_or-set_same xs q v 0 h; there = λ x n. g
 pub kept_set : (xs ys : List ℕ) (q v : ℕ) → slice_index ys q ≡ 0 → Kept xs ys → Kept xs (set ys q v)
 kept_set xs ys q v z k i l = get_or-set_other ys q i v 0 (λ e. let a : slice_index ys i ≡ 0 = ap (slice_index ys) e ∙ z in let b = k i l in omega arith) ∙ k i l
 
+-- ---- the places without a label
+
+module _ (size : ℕ) (O : ℕ → Type 0) (labels : List ℕ) (values : List Bool) (t : IsTodo size O labels values) where
+  pub todo_row : IsRowOf size O values
+  todo_row = record { filled = t.filled; held = λ i m. ((t.exactly i).0 m).0 }
+
+  -- a place gets its label
+  pub todo_set : (q v : ℕ) → q < length labels → q < size → 1 ≤ v → IsTodo size O (set labels q v) (set values q false)
+  todo_set q v l m one = record {
+    filled = length-set values q false ∙ t.filled;
+    exactly = λ i. elim (ℕ_discrete i q) [
+      | yes e ↦ (
+        (λ h. let z : false ≡ true = sym (ap (λ j. get_or (set values q false) j false) e ∙ get_or-set_same values q false false (let f = t.filled in omega arith)) ∙ h in cc),
+        λ h. absurd (let z = sym (ap (slice_index (set labels q v)) e ∙ get_or-set_same labels q v 0 l) ∙ h.1 in omega arith),
+      )
+      | no n ↦ (
+          let a = get_or-set_other values q i false false n in
+          let b = get_or-set_other labels q i v 0 n in (
+            (λ h. let u = (t.exactly i).0 (sym a ∙ h) in (u.0, b ∙ u.1)),
+            λ h. a ∙ (t.exactly i).1 (h.0, sym b ∙ h.1),
+          ))
+    ];
+  }
+
+  -- a place of the set whose value is false has a label
+  pub todo_not : (q : ℕ) → O q → get_or values q false ≡ false → slice_index labels q ≡ 0 → ⊥
+  todo_not q o f z = let m : false ≡ true = sym f ∙ (t.exactly q).1 (o, z) in cc
+
 -- ---- the links of one place
 
--- the links of p below k have been followed
-pub record Followed (O : ℕ → Type 0) (R : ℕ → ℕ → Type 0) (size p label k : ℕ) (next : ℕ → Option ℕ) (labels work : List ℕ) (total : ℕ) (start : List ℕ) : Type 0 where
+-- the links of p that are not in rest lead to places with the label, or to no place of the set
+pub record Followed (O : ℕ → Type 0) (R : ℕ → ℕ → Type 0) (size d p label rest : ℕ) (next : ℕ → Option ℕ) (labels : List ℕ) (values : List Bool) (work : List ℕ) (total : ℕ) (start : List ℕ) : Type 0 where
   pub kept : Kept start labels
   pub same : length labels ≡ size
+  pub todo : IsTodo size O labels values
   pub here : slice_index labels p ≡ label
   pub spreading : Spreading O R label (λ x. (x ≡ p) ⊎ Contains work x) labels
-  pub done : (j q : ℕ) → j < k → next j ≡ Some q → slice_index labels q ≡ label
+  pub lead : (k : ℕ) → In rest k → (k < d) × ((q : ℕ) × (next k ≡ Some q))
+  pub done : (k q : ℕ) → k < d → next k ≡ Some q → (In rest k → ⊥) → slice_index labels q ≡ label
   pub labelled : (x : ℕ) → Contains work x → slice_index labels x ≡ label
   pub less : zeros labels + length work ≡ total
 
-module _ (O : ℕ → Type 0) (R : ℕ → ℕ → Type 0) (size d : ℕ) (next : ℕ → ℕ → Option ℕ) (net : IsNet size O R d next) (p label k total : ℕ) (labels work start : List ℕ) (w : Followed O R size p label k (next p) labels work total start) where
+module _ (O : ℕ → Type 0) (R : ℕ → ℕ → Type 0) (size d : ℕ) (next : ℕ → ℕ → Option ℕ) (net : IsNet size O R d next) (p label : ℕ) (labels work : List ℕ)
+    (here : slice_index labels p ≡ label) (spreading : Spreading O R label (λ x. (x ≡ p) ⊎ Contains work x) labels) where
   -- what is labelled at all is a place of the set
   pub here_in : O p
-  here_in = w.spreading.3.member p (let a = w.here in let b = w.spreading.2 in omega arith)
+  here_in = spreading.3.member p (let a = here in let b = spreading.2 in omega arith)
 
-  follow_skip : ((q : ℕ) → next p k ≡ Some q → slice_index labels q ≡ label) → Followed O R size p label (k + 1) (next p) labels work total start
-  follow_skip h = record {
-    kept = w.kept;
-    same = w.same;
-    here = w.here;
-    spreading = w.spreading;
-    done = λ j q l o. elim (ℕ_discrete j k) [ yes e ↦ h q (ap (next p) (sym e) ∙ o) | no e ↦ w.done j q (omega arith) o ];
-    labelled = w.labelled;
-    less = w.less;
+  pub here_below : p < size
+  here_below = net.bounded p here_in
+
+  -- a place that a link leads to and that has a label has this one
+  pub linked : (k q : ℕ) → k < d → next p k ≡ Some q → (slice_index labels q ≡ 0 → ⊥) → slice_index labels q ≡ label
+  linked k q l e none =
+      let f = spreading.3 in
+      let e2 = spreading.2 in
+      let t = f.top q in
+      elim (dec_lt spreading.0 (slice_index labels q)) [
+        | yes h ↦ omega arith
+        | no h ↦ absurd (
+            let b : (1 ≤ slice_index labels p) × (slice_index labels p ≤ spreading.0) =
+            f.old_shut q p (let c : slice_index labels q ≡ 0 → ⊥ = none in omega arith) (omega arith) here_in (net.symmetric p q (net.sound p k q l e).1) in
+            let a = here in
+            let c = b.1 in
+            omega arith)
+      ]
+
+  -- at first the links are left that lead to places without a label
+  pub follow_start : (values : List Bool) (m total : ℕ) → length labels ≡ size → IsTodo size O labels values → IsOpen d (next p) values m → ((x : ℕ) → Contains work x → slice_index labels x ≡ label) → zeros labels + length work ≡ total
+      → Followed O R size d p label m (next p) labels values work total labels
+  follow_start values m total same todo opened labelled less = record {
+    kept = λ i l. refl;
+    same = same;
+    todo = todo;
+    here = here;
+    spreading = spreading;
+    lead = λ k i. let u = (opened k).0 i in (u.0, (u.1.0, u.1.1));
+    done = λ k q l e n. linked k q l e (λ z. n ((opened k).1 (l, (q, e, (todo.exactly q).1 ((net.sound p k q l e).0, z)))));
+    labelled = labelled;
+    less = less;
   }
 
-  -- the link leads nowhere
-  pub follow_none : next p k ≡ None → Followed O R size p label (k + 1) (next p) labels work total start
-  follow_none e = follow_skip (λ q i. let f : None ≡ Some q = sym e ∙ i in cc)
+module _ (O : ℕ → Type 0) (R : ℕ → ℕ → Type 0) (size d : ℕ) (next : ℕ → ℕ → Option ℕ) (net : IsNet size O R d next) (p label rest total : ℕ) (labels : List ℕ) (values : List Bool) (work start : List ℕ)
+    (w : Followed O R size d p label rest (next p) labels values work total start) where
+  -- no link is left
+  pub follow_end : rest ≡ 0 → Spreading O R label (Contains work) labels
+  follow_end z = (
+    w.spreading.0,
+    w.spreading.1,
+    w.spreading.2,
+    flood_drop ℕ_discrete net.symmetric p w.spreading.3 (λ q o r.
+        let c = net.complete p q (here_in O R size d next net p label labels work w.here w.spreading) o r in
+        w.done c.0 q c.1 c.2 (λ i. let a : In 0 c.0 = subst (λ n. In n c.0) z i in let b = bit_at-zero c.0 in omega arith) ∙ w.spreading.2) (λ x h. h),
+  )
 
-  -- the place that the link leads to has a label, which can only be this one
-  pub follow_labelled : (q : ℕ) → k < d → next p k ≡ Some q → (slice_index labels q ≡ 0 → ⊥) → Followed O R size p label (k + 1) (next p) labels work total start
-  follow_labelled q l e none = follow_skip (λ x i. let f : Some q ≡ Some x = sym e ∙ i in let g : q ≡ x = cc in subst (λ y. slice_index labels y ≡ label) g this)
-    where
-      this : slice_index labels q ≡ label
-      this =
-          let f = w.spreading.3 in
-          let e2 = w.spreading.2 in
-          let t = f.top q in
-          elim (dec_lt w.spreading.0 (slice_index labels q)) [
-            | yes h ↦ omega arith
-            | no h ↦ absurd (
-                let b : (1 ≤ slice_index labels p) × (slice_index labels p ≤ w.spreading.0) =
-                f.old_shut q p (let c : slice_index labels q ≡ 0 → ⊥ = none in omega arith) (omega arith) here_in (net.symmetric p q (net.sound p k q l e).1) in
-                let a = w.here in
-                let c = b.1 in
-                omega arith)
-          ]
+  module _ (k rest' q : ℕ) (there : In rest k) (of : (j : ℕ) → In rest' j → In rest j) (to : (j : ℕ) → In rest j → (j ≡ k → ⊥) → In rest' j) (i : next p k ≡ Some q) where
+    link_low : k < d
+    link_low = (w.lead k there).0
 
-  -- the place that the link leads to gets the label
-  pub follow_new : (q : ℕ) → k < d → next p k ≡ Some q → slice_index labels q ≡ 0 → Followed O R size p label (k + 1) (next p) (set labels q label) (work ++ q ∷ []) total start
-  follow_new q l i z = record {
-    kept = kept_set start labels q label z w.kept;
-    same = length-set labels q label ∙ w.same;
-    here = keeps p w.here;
-    spreading = (n, w.spreading.1, e, flood_work (flood_grow ℕ_discrete net.symmetric p q f (w.here ∙ e) to.1 to.0 z put) more);
-    done = λ j x h y. elim (ℕ_discrete j k) [
-      | yes a ↦ (let b : Some q ≡ Some x = sym i ∙ (ap (next p) (sym a) ∙ y) in let g : q ≡ x = cc in subst (λ v. slice_index (set labels q label) v ≡ label) g (get_or-set_same labels q label 0 inside))
-      | no a ↦ keeps x (w.done j x (omega arith) y)
-    ];
-    labelled = λ x h. elim (Contains-push_cases work q x h) [ inl a ↦ keeps x (w.labelled x a) | inr a ↦ subst (λ v. slice_index (set labels q label) v ≡ label) a (get_or-set_same labels q label 0 inside) ];
-    less = let a = zeros-set labels q label inside z (let b = e in omega arith) in let b = w.less in let c : length (work ++ q ∷ []) ≡ length work + 1 = length-append work (q ∷ []) in omega arith;
-  }
-    where
-      n : ℕ
-      n = w.spreading.0
+    link_to : O q × R p q
+    link_to = net.sound p k q link_low i
 
-      e : label ≡ suc n
-      e = w.spreading.2
+    pub link_below : q < size
+    link_below = net.bounded q link_to.0
 
-      f : Flooding O R n w.spreading.1 (λ x. (x ≡ p) ⊎ Contains work x) (slice_index labels)
-      f = w.spreading.3
+    same_place : (x : ℕ) → next p k ≡ Some x → q ≡ x
+    same_place x e = let f : Some q ≡ Some x = sym i ∙ e in cc
 
-      to : O q × R p q
-      to = net.sound p k q l i
+    -- the place has a label, which can only be this one
+    pub follow_labelled : get_or values q false ≡ false → Followed O R size d p label rest' (next p) labels values work total start
+    follow_labelled f = record {
+      kept = w.kept;
+      same = w.same;
+      todo = w.todo;
+      here = w.here;
+      spreading = w.spreading;
+      lead = λ j m. w.lead j (of j m);
+      done = λ j x l e n. elim (ℕ_discrete j k) [
+        | yes a ↦ subst (λ y. slice_index labels y ≡ label) (same_place x (ap (next p) (sym a) ∙ e)) this
+        | no a ↦ w.done j x l e (λ m. n (to j m a))
+      ];
+      labelled = w.labelled;
+      less = w.less;
+    }
+      where
+        this : slice_index labels q ≡ label
+        this = linked O R size d next net p label labels work w.here w.spreading k q link_low i (todo_not size O labels values w.todo q link_to.0 f)
 
-      inside : q < length labels
-      inside = let a = w.same in let b = net.bounded q to.0 in omega arith
+    -- the place gets the label
+    pub follow_new : get_or values q false ≡ true → Followed O R size d p label rest' (next p) (set labels q label) (set values q false) (work ++ q ∷ []) total start
+    follow_new t = record {
+      kept = kept_set start labels q label z w.kept;
+      same = length-set labels q label ∙ w.same;
+      todo = todo_set size O labels values w.todo q label inside link_below (let a = e in omega arith);
+      here = keeps p w.here;
+      spreading = (n, w.spreading.1, e, flood_work (flood_grow ℕ_discrete net.symmetric p q f (w.here ∙ e) link_to.1 link_to.0 z put) more);
+      lead = λ j m. w.lead j (of j m);
+      done = λ j x l y m. elim (ℕ_discrete j k) [
+        | yes a ↦ subst (λ v. slice_index (set labels q label) v ≡ label) (same_place x (ap (next p) (sym a) ∙ y)) (get_or-set_same labels q label 0 inside)
+        | no a ↦ keeps x (w.done j x l y (λ h. m (to j h a)))
+      ];
+      labelled = λ x h. elim (Contains-push_cases work q x h) [ inl a ↦ keeps x (w.labelled x a) | inr a ↦ subst (λ v. slice_index (set labels q label) v ≡ label) a (get_or-set_same labels q label 0 inside) ];
+      less = let a = zeros-set labels q label inside z (let b = e in omega arith) in let b = w.less in let c : length (work ++ q ∷ []) ≡ length work + 1 = length-append work (q ∷ []) in omega arith;
+    }
+      where
+        n : ℕ
+        n = w.spreading.0
 
-      put : Put (slice_index labels) (slice_index (set labels q label)) q (suc n)
-      put = subst (λ v. Put (slice_index labels) (slice_index (set labels q label)) q v) e (put_set labels q label inside)
+        e : label ≡ suc n
+        e = w.spreading.2
 
-      keeps : (x : ℕ) → slice_index labels x ≡ label → slice_index (set labels q label) x ≡ label
-      keeps x h = get_or-set_other labels q x label 0 (λ i. let a : slice_index labels x ≡ 0 = ap (slice_index labels) i ∙ z in let b = e in omega arith) ∙ h
+        z : slice_index labels q ≡ 0
+        z = ((w.todo.exactly q).0 t).1
 
-      more : (x : ℕ) → (x ≡ q) ⊎ ((x ≡ p) ⊎ Contains work x) → (x ≡ p) ⊎ Contains (work ++ q ∷ []) x
-      more x (inl i) = inr (subst (Contains (work ++ q ∷ [])) (sym i) (Contains-push work q))
-      more x (inr (inl i)) = inl i
-      more x (inr (inr i)) = inr (Contains-append_left work (q ∷ []) x i)
+        f : Flooding O R n w.spreading.1 (λ x. (x ≡ p) ⊎ Contains work x) (slice_index labels)
+        f = w.spreading.3
 
--- every link has been followed
-pub follow_end : (O : ℕ → Type 0) (R : ℕ → ℕ → Type 0) (size d : ℕ) (next : ℕ → ℕ → Option ℕ) (net : IsNet size O R d next) (p label total k : ℕ) (labels work start : List ℕ) → d ≤ k → Followed O R size p label k (next p) labels work total start → Spreading O R label (Contains work) labels
-follow_end O R size d next net p label total k labels work start l w =
-    (w.spreading.0, w.spreading.1, w.spreading.2, flood_drop ℕ_discrete net.symmetric p w.spreading.3 (λ q o r. let c = net.complete p q (here_in O R size d next net p label k total labels work start w) o r in w.done c.0 q (omega (arith, c.1)) c.2 ∙ w.spreading.2) (λ x h. h))
+        inside : q < length labels
+        inside = let a = w.same in let b = link_below in omega arith
+
+        put : Put (slice_index labels) (slice_index (set labels q label)) q (suc n)
+        put = subst (λ v. Put (slice_index labels) (slice_index (set labels q label)) q v) e (put_set labels q label inside)
+
+        keeps : (x : ℕ) → slice_index labels x ≡ label → slice_index (set labels q label) x ≡ label
+        keeps x h = get_or-set_other labels q x label 0 (λ i. let a : slice_index labels x ≡ 0 = ap (slice_index labels) i ∙ z in let b = e in omega arith) ∙ h
+
+        more : (x : ℕ) → (x ≡ q) ⊎ ((x ≡ p) ⊎ Contains work x) → (x ≡ p) ⊎ Contains (work ++ q ∷ []) x
+        more x (inl i) = inr (subst (Contains (work ++ q ∷ [])) (sym i) (Contains-push work q))
+        more x (inr (inl i)) = inl i
+        more x (inr (inr i)) = inr (Contains-append_left work (q ∷ []) x i)

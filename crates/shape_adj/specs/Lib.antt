@@ -1,6 +1,7 @@
 pub mod Flood
 pub mod Labels
 pub mod Offsets
-pub mod Here
 pub mod Gaps
 pub mod NearMasks
+pub mod Todo
+pub mod Rows

@@ -4,6 +4,7 @@
 
 mod answers;
 mod flood;
+mod framed;
 mod near;
 mod net;
 mod number;

@@ -12,11 +12,11 @@ use crate::pairing::Pairing;
 use crate::places::{Background, Object};
 use crate::side::SideNumbers;
 use shape_grid::Grid;
-use shape_space::{NoMemory, Point};
+use shape_space::NoMemory;
 use std::alloc::Global;
 
 // How many components a net has.
-fn component_count<P: Point, N: Net<P>>(alloc: Global, net: &N) -> Result<u32, NoMemory>
+fn component_count<N: Net>(alloc: Global, net: &N) -> Result<u32, NoMemory>
     ensures { IfOk result (λ n. HasParts (N.Adjacent net.now) (N.Holds net.now) n) }
 {
     let components = label_components(alloc, net)?;

@@ -1,106 +1,67 @@
 //! The object and the background of a picture as nets of places.
 //! Which places are adjacent, and how they are numbered, stands here; the flood knows neither.
-ghost use Rattle.std.specs.Prelude.{◌≡◌, ◌<◌, ◌↔◌, IsTrue, IfSome, length, negsuc, pos};
-ghost use Rattle.shape_terms.specs.Points.{sides_of, in_box, box_count, raster_point};
-ghost use Rattle.shape_terms.specs.FramedBox.{framed_sides, framed_point, IsWithin};
-ghost use Rattle.shape_terms.specs.Adjacency.{near_steps, side_steps, near_point, side_point};
-ghost use Rattle.number_terms.specs.Places.{ObjectPlace, NearPlaces, object_place, BackgroundPlace, SidePlaces, background_place};
-ghost use Rattle.shape_adj.specs.Here.{IsInnerNumber, IsPlaced};
+ghost use Rattle.std.specs.Prelude.{◌≡◌, ◌<◌, length, negsuc, pos};
+ghost use Rattle.shape_terms.specs.Points.{sides_of, box_count, raster_point};
+ghost use Rattle.shape_terms.specs.Pictures.{at};
+ghost use Rattle.shape_terms.specs.FramedBox.{framed_sides, IsWithin};
+ghost use Rattle.shape_terms.specs.Adjacency.{near_steps, side_steps};
+ghost use Rattle.number_terms.specs.Places.{ObjectPlace, NearPlaces, object_link, BackgroundPlace, SidePlaces, background_link};
+ghost use Rattle.shape_adj.specs.NearMasks.{IsNearMask};
 ghost use Rattle.number_terms.proofs.ObjectPlaces.{object_net};
 ghost use Rattle.number_terms.proofs.BackgroundPlaces.{background_net};
 
+use crate::framed::background_places;
 use crate::near::NearNumbers;
-use crate::net::{Here, Net};
+use crate::net::Net;
 use crate::number::is_inner;
 use crate::pairing::Pairing;
 use crate::side::SideNumbers;
+use shape_bits::Bits;
 use shape_grid::Grid;
+use shape_space::{NoMemory, Sides};
+use std::alloc::Global;
 
-// The raster number of a point whose near neighbours are all in the box.
-fn inner_number<P: Pairing>(grid: &Grid<P>, p: P) -> Option<u32>
-    requires { IsWithin (negsuc 0) (pos 4096) (P.coords p) }
-    ensures { IfSome result (IsInnerNumber grid.now.sides (P.coords p)) }
+// The value at a point: false outside the box.
+fn value_at<P: Pairing>(sides: &Sides<P>, values: &Bits, p: P) -> bool
+    requires { length values.now ≡ box_count (sides_of (P.coords sides.now.lengths)) }
+    ensures { let sides = sides_of (P.coords sides.now.lengths) in
+        result ≡ at (record { sides = sides; values = values.now }) (P.coords p) }
 {
-    let sides = grid.sides();
-    if is_inner(&sides, p) {
-        Some(sides.raster(p))
+    if sides.inside(p) {
+        values.get(sides.raster(p) as usize)
     } else {
-        None
+        false
     }
 }
 
-// The place of a near neighbour that is object, where all near neighbours are in the box.
-fn near_object<P: Pairing>(
-    grid: &Grid<P>,
-    near: &NearNumbers<P>,
-    i: u32,
-    link: usize,
-) -> Option<u32>
-    requires sides { sides_of (P.coords near.now.sides.lengths) ≡ grid.now.sides }
-    requires below { link < length (near_steps (length grid.now.sides)) }
-    requires point { i < box_count grid.now.sides }
-    requires inside { IsTrue (in_box grid.now.sides
-        (near_point (raster_point grid.now.sides i) link)) }
-    ensures { result ≡ object_place grid.now (near_point (raster_point grid.now.sides i) link) }
-{
-    grid.is_picture();
-    let q = near.number(i, link);
-    if grid.has_number(q) { Some(q) } else { None }
-}
-
-// The place of a near neighbour that is object.
-fn near_object_in_box<P: Pairing>(grid: &Grid<P>, p: P, link: usize) -> Option<u32>
-    requires below { link < length (near_steps (length grid.now.sides)) }
+// The near neighbours of a point that are in the box with a true value: bit k is set where near neighbour k is one.
+fn mask_in_box<P: Pairing>(sides: &Sides<P>, values: &Bits, p: P) -> u32
+    requires filled { length values.now ≡ box_count (sides_of (P.coords sides.now.lengths)) }
     requires within { IsWithin (negsuc 0) (pos 4096) (P.coords p) }
-    ensures { result ≡ object_place grid.now (near_point (P.coords p) link) }
+    ensures { let sides = sides_of (P.coords sides.now.lengths) in
+        IsNearMask (record { sides = sides; values = values.now }) (P.coords p) result }
 {
-    let sides = grid.sides();
-    let q = p.near(link);
-    if grid.has(q) {
-        Some(sides.raster(q))
-    } else {
-        None
+    let mut mask = 0;
+    for k in 0..P::NEAR_COUNT {
+        if value_at(sides, values, p.near(k)) {
+            mask |= 1u32 << k;
+        }
     }
+    mask
 }
 
-// The place of a side neighbour that is background, where all near neighbours are in the box.
-fn side_background<P: Pairing>(
-    grid: &Grid<P>,
-    side: &SideNumbers<P>,
-    here: &Here<P>,
-    i: u32,
-    link: usize,
-) -> Option<u32>
-    requires sides { sides_of (P.coords side.now.sides.lengths) ≡ grid.now.sides }
-    requires below { link < length (side_steps (length grid.now.sides)) }
-    requires place { here.now.place < box_count (framed_sides grid.now.sides) }
-    requires spot { P.coords here.now.point ≡ framed_point grid.now.sides here.now.place }
-    requires point { i < box_count grid.now.sides }
-    requires is { raster_point grid.now.sides i ≡ P.coords here.now.point }
-    requires within { IsWithin (negsuc 0) (pos 4096) (P.coords here.now.point) }
-    requires inside { IsTrue (in_box grid.now.sides (side_point (P.coords here.now.point) link)) }
-    ensures { result ≡ background_place grid.now (side_point (P.coords here.now.point) link) }
+// The same of the point with a raster number.
+fn near_mask<P: Pairing>(near: &NearNumbers<P>, values: &Bits, i: u32) -> u32
+    requires filled { length values.now ≡ box_count (sides_of (P.coords near.now.sides.lengths)) }
+    requires point { i < box_count (sides_of (P.coords near.now.sides.lengths)) }
+    ensures { let sides = sides_of (P.coords near.now.sides.lengths) in
+        IsNearMask (record { sides = sides; values = values.now }) (raster_point sides i) result }
 {
-    grid.is_picture();
-    if grid.has_number(side.number(i, link)) {
-        None
+    let p = near.sides.unraster(i);
+    if near.all_known() && is_inner(&near.sides, p) {
+        near.mask(values, i)
     } else {
-        Some(side.framed_number(here.point, here.place, link))
-    }
-}
-
-// The place of a side neighbour that is background in the framed box.
-fn side_background_in_frame<P: Pairing>(grid: &Grid<P>, p: P, link: usize) -> Option<u32>
-    requires below { link < length (side_steps (length grid.now.sides)) }
-    requires within { IsWithin (negsuc 0) (pos 4096) (P.coords p) }
-    ensures { result ≡ background_place grid.now (side_point (P.coords p) link) }
-{
-    let sides = grid.sides();
-    let q = p.side(link);
-    if sides.in_frame(q) && !grid.has(q) {
-        Some(sides.framed_number(q))
-    } else {
-        None
+        mask_in_box(&near.sides, values, p)
     }
 }
 
@@ -114,7 +75,7 @@ pub struct Object<'a, P: Pairing> {
     pub ghost same: { sides_of (P.coords near.sides.lengths) ≡ grid.now.sides },
 }
 
-impl<'a, P: Pairing> Net<P> for Object<'a, P> {
+impl<'a, P: Pairing> Net for Object<'a, P> {
     ghost size = { λ s. box_count s.grid.now.sides };
 
     ghost Holds = { λ s. ObjectPlace s.grid.now };
@@ -123,39 +84,24 @@ impl<'a, P: Pairing> Net<P> for Object<'a, P> {
 
     ghost degree = { λ s. length (near_steps (length s.grid.now.sides)) };
 
-    ghost spot = { λ s. raster_point s.grid.now.sides };
-
-    ghost IsHere = { λ s. IsPlaced (raster_point s.grid.now.sides) s.grid.now.sides };
-
-    ghost next = { λ s p k. object_place s.grid.now (near_point p k) };
+    ghost next = { λ s. object_link s.grid.now };
 
     fn places(&self) -> u32 {
         self.grid.sides().count()
     }
 
-    fn has(&self, place: u32) -> bool {
-        self.grid.has_number(place)
-    }
-
-    fn links(&self) -> usize {
+    fn todo(&self, alloc: Global) -> Result<Bits, NoMemory> {
         self.grid.is_picture();
-        P::NEAR_COUNT
+        self.grid.values().copy(alloc)
     }
 
-    fn here(&self, place: u32) -> Here<P> {
-        let point = self.grid.sides().unraster(place);
-        Here {
-            place,
-            point,
-            inner: inner_number(self.grid, point),
-        }
+    fn open(&self, todo: &Bits, place: u32) -> u32 {
+        near_mask(&self.near, todo, place)
     }
 
-    fn follow(&self, here: &Here<P>, link: usize) -> Option<u32> {
-        match here.inner {
-            Some(i) => near_object(self.grid, &self.near, i, link),
-            None => near_object_in_box(self.grid, here.point, link),
-        }
+    fn lead(&self, place: u32, link: usize) -> u32 {
+        self.grid.is_picture();
+        self.near.number(place, link)
     }
 
     ghost is_net = { λ s. object_net s.grid.now };
@@ -171,7 +117,7 @@ pub struct Background<'a, P: Pairing> {
     pub ghost same: { sides_of (P.coords side.sides.lengths) ≡ grid.now.sides },
 }
 
-impl<'a, P: Pairing> Net<P> for Background<'a, P> {
+impl<'a, P: Pairing> Net for Background<'a, P> {
     ghost size = { λ s. box_count (framed_sides s.grid.now.sides) };
 
     ghost Holds = { λ s. BackgroundPlace s.grid.now };
@@ -180,39 +126,23 @@ impl<'a, P: Pairing> Net<P> for Background<'a, P> {
 
     ghost degree = { λ s. length (side_steps (length s.grid.now.sides)) };
 
-    ghost spot = { λ s. framed_point s.grid.now.sides };
-
-    ghost IsHere = { λ s. IsPlaced (framed_point s.grid.now.sides) s.grid.now.sides };
-
-    ghost next = { λ s p k. background_place s.grid.now (side_point p k) };
+    ghost next = { λ s. background_link s.grid.now };
 
     fn places(&self) -> u32 {
         self.grid.sides().framed_count()
     }
 
-    fn has(&self, place: u32) -> bool {
-        !self.grid.has(self.grid.sides().framed_point(place))
+    fn todo(&self, alloc: Global) -> Result<Bits, NoMemory> {
+        background_places(alloc, self.grid)
     }
 
-    fn links(&self) -> usize {
+    fn open(&self, todo: &Bits, place: u32) -> u32 {
+        self.side.mask(todo, place)
+    }
+
+    fn lead(&self, place: u32, link: usize) -> u32 {
         self.grid.is_picture();
-        P::SIDE_COUNT
-    }
-
-    fn here(&self, place: u32) -> Here<P> {
-        let point = self.grid.sides().framed_point(place);
-        Here {
-            place,
-            point,
-            inner: inner_number(self.grid, point),
-        }
-    }
-
-    fn follow(&self, here: &Here<P>, link: usize) -> Option<u32> {
-        match here.inner {
-            Some(i) => side_background(self.grid, &self.side, here, i, link),
-            None => side_background_in_frame(self.grid, here.point, link),
-        }
+        self.side.framed_number(place, link)
     }
 
     ghost is_net = { λ s. background_net s.grid.now };

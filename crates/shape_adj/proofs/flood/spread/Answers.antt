@@ -1,34 +1,44 @@
-use Rattle.std.proofs.Common.{◌<◌, arith, sym, ◌∙◌, ap}
-use Rattle.shape_adj.proofs.Links.{follow_new, follow_labelled, follow_none, follow_end}
+use Rattle.std.proofs.Common.{◌<◌, ◌∙◌, ◌^◌, arith, sym}
+use Rattle.std.specs.Int.Count.{count_trailing_zeros}
+use Rattle.shape_adj.proofs.RestBits.{without_least, least_in, rest_less, rest_of, rest_to}
+use Rattle.shape_adj.proofs.Links.{follow_start, follow_labelled, follow_new, follow_end, link_below}
 use Rattle.shape_adj.proofs.flood.spread.Goals as goal
-use Rattle.shape_adj.proofs.flood.spread.Goals.{in-Some+then-labels-q-eq0+in_ok-push, in-Some+else-labels-q-eq0, in_default}
 
-pub bounds-labels-q : goal.bounds-labels-q
-bounds-labels-q g c =
-    let to = (g.met.N.Net.is_net c.args.net.now).sound c.args.p c.loop-k.k c.in-Some.q (omega (arith, c.links-k-end.ensures)) (sym (c.in-Some.ensures ∙ ap (λ i. g.N.Net.next c.args.net.now (g.N.Net.spot c.args.net.now i) c.loop-k.k) c.here-here.ensures.place)) in
-    let l = (g.met.N.Net.is_net c.args.net.now).bounded c.in-Some.q to.0 in
-    omega (arith, c.loop-k.invariant.same)
+pub loop-rest-init : goal.loop-rest-init
+loop-rest-init g c =
+    follow_start _ _ _ _ _ (g.met.N.Net.is_net c.args.net.now) _ _ _ _ c.requires.here c.requires.spreading _ _ _ c.requires.same c.requires.todo c.open-rest.ensures c.requires.labelled (omega arith)
 
-pub bounds-labels-q-then-labels-q-eq0 : goal.bounds-labels-q-then-labels-q-eq0
-bounds-labels-q-then-labels-q-eq0 g c =
-    let to = (g.met.N.Net.is_net c.args.net.now).sound c.args.p c.loop-k.k c.in-Some.q (omega (arith, c.links-k-end.ensures)) (sym (c.in-Some.ensures ∙ ap (λ i. g.N.Net.next c.args.net.now (g.N.Net.spot c.args.net.now i) c.loop-k.k) c.here-here.ensures.place)) in
-    let l = (g.met.N.Net.is_net c.args.net.now).bounded c.in-Some.q to.0 in
-    omega (arith, c.loop-k.invariant.same)
+pub lead-q-requires-clause-below : goal.lead-q-requires-clause-below
+lead-q-requires-clause-below g c = (c.loop-rest.invariant.lead (count_trailing_zeros 32 c.loop-rest.rest) (least_in c.loop-rest.rest (omega arith) (omega arith))).0
 
-pub loop-k-preserved : goal.loop-k-preserved
-loop-k-preserved g c =
-    let net = g.met.N.Net.is_net c.args.net.now in
-    let d : c.loop-k.k < g.N.Net.degree c.args.net.now = omega (arith, c.links-k-end.ensures) in
-    let there = ap (λ i. g.N.Net.next c.args.net.now (g.N.Net.spot c.args.net.now i) c.loop-k.k) c.here-here.ensures.place in
-    elim c.match-follow.branch [
-      | in-Some+then-labels-q-eq0+in_ok-push w ↦
-          rw (w.labels-is, w.work-is, w.in_ok-push.ensures.items) (follow_new _ _ _ _ _ net _ _ _ _ _ _ _ c.loop-k.invariant w.in-Some.q d (sym (w.in-Some.ensures ∙ there)) w.if-labels-q-eq0.true)
-      | in-Some+else-labels-q-eq0 w ↦
-          rw (w.labels-is, w.work-is) (follow_labelled _ _ _ _ _ net _ _ _ _ _ _ _ c.loop-k.invariant w.in-Some.q d (sym (w.in-Some.ensures ∙ there)) w.if-labels-q-eq0.false)
-      | in_default w ↦
-          rw (w.labels-is, w.work-is) (follow_none _ _ _ _ _ net _ _ _ _ _ _ _ c.loop-k.invariant (sym (w.in_default.ensures ∙ there)))
-    ]
+pub lead-q-requires-clause-leads : goal.lead-q-requires-clause-leads
+lead-q-requires-clause-leads g c = (c.loop-rest.invariant.lead (count_trailing_zeros 32 c.loop-rest.rest) (least_in c.loop-rest.rest (omega arith) (omega arith))).1
+
+pub get-requires : goal.get-requires
+get-requires g c =
+    let small : c.loop-rest.rest < 2 ^ 32 = omega arith in
+    let some : 0 < c.loop-rest.rest = omega arith in
+    let l = link_below _ _ _ _ _ (g.met.N.Net.is_net c.args.net.now) _ _ _ _ _ _ _ _ c.loop-rest.invariant _ (without_least c.loop-rest.rest) _ (least_in c.loop-rest.rest small some) (rest_of c.loop-rest.rest small some) (rest_to c.loop-rest.rest small some) c.lead-q.ensures in
+    omega (arith, l, c.loop-rest.invariant.todo.filled)
+
+pub loop-rest-smaller-in-Continue-1 : goal.loop-rest-smaller-in-Continue-1
+loop-rest-smaller-in-Continue-1 g c = rest_less c.loop-rest.rest (omega arith) (omega arith)
+
+pub loop-rest-preserved-in-Continue-1 : goal.loop-rest-preserved-in-Continue-1
+loop-rest-preserved-in-Continue-1 g c =
+    let small : c.loop-rest.rest < 2 ^ 32 = omega arith in
+    let some : 0 < c.loop-rest.rest = omega arith in
+    rw (c.clear.ensures, c.in_ok-push.ensures.items) (follow_new _ _ _ _ _ (g.met.N.Net.is_net c.args.net.now) _ _ _ _ _ _ _ _ c.loop-rest.invariant _ (without_least c.loop-rest.rest) _ (least_in c.loop-rest.rest small some) (rest_of c.loop-rest.rest small some) (rest_to c.loop-rest.rest small some) c.lead-q.ensures (sym c.get.ensures ∙ c.if-get.true))
+
+pub loop-rest-smaller : goal.loop-rest-smaller
+loop-rest-smaller g c = rest_less c.loop-rest.rest (omega arith) (omega arith)
+
+pub loop-rest-preserved : goal.loop-rest-preserved
+loop-rest-preserved g c =
+    let small : c.loop-rest.rest < 2 ^ 32 = omega arith in
+    let some : 0 < c.loop-rest.rest = omega arith in
+    follow_labelled _ _ _ _ _ (g.met.N.Net.is_net c.args.net.now) _ _ _ _ _ _ _ _ c.loop-rest.invariant _ (without_least c.loop-rest.rest) _ (least_in c.loop-rest.rest small some) (rest_of c.loop-rest.rest small some) (rest_to c.loop-rest.rest small some) c.lead-q.ensures (sym c.get.ensures ∙ c.if-get.false)
 
 pub returns-clause-spreading : goal.returns-clause-spreading
 returns-clause-spreading g c =
-    follow_end _ _ _ _ _ (g.met.N.Net.is_net c.args.net.now) _ _ _ _ _ _ _ (omega (arith, c.links-k-end.ensures)) c.loop-k.invariant
+    follow_end _ _ _ _ _ (g.met.N.Net.is_net c.args.net.now) _ _ _ _ _ _ _ _ c.loop-rest.invariant (omega arith)

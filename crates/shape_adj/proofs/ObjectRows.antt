@@ -1,0 +1,122 @@
+-- A row of values for the places of the framed box, all true at first, while the object points are taken out of it one after the
+-- other. The points of one row of the box have places in order, so one place tells the others.
+use Rattle.std.proofs.Common.{◌≡◌, ◌+◌, ◌-◌, ◌*◌, ◌/◌, ◌%◌, ◌<◌, ◌≤◌, ◌↔◌, ℕ, Bool, true, false, pos, ◌+ℤ◌, List, [], ◌∷◌, length, set, get_or, get_or-set_same, get_or-set_other, length-set, sym, ◌∙◌, ap, arith}
+use Rattle.std.specs.Prelude.{nat_abs}
+use Rattle.std.proofs.lemmas.Int.{ints}
+use Rattle.std.proofs.lemmas.Bool.{and_parts, false_from_ne_true}
+use native.Mathlib.Decide.{dec_lt, ℕ_discrete}
+use Rattle.shape_terms.specs.Points.{Point, coordinate, sides_of, in_box, box_count, raster_number, raster_point}
+use Rattle.shape_terms.specs.Pictures.{Picture, at}
+use Rattle.shape_terms.specs.FramedBox.{framed_sides, framed_point}
+use Rattle.shape_terms.proofs.Boxes.{mod_of, div_of, raster_point_in, raster_point-raster_number}
+use Rattle.shape_terms.proofs.BoxLists.{at_raster_point}
+use Rattle.number_terms.specs.Places.{framed_number, BackgroundPlace}
+use Rattle.number_terms.proofs.FramedEnds.{in_box_in_frame}
+use Rattle.number_terms.proofs.FramedNumbers.{framed_number_below, framed_point-framed_number, framed_number-framed_point}
+use Rattle.shape_bits.specs.Truths.{IsFirstTrue}
+use Rattle.shape_adj.specs.Todo.{Marked}
+use Rattle.shape_adj.specs.Rows.{placed, IsRow}
+use Rattle.shape_adj.proofs.OpenLinks.{marked_within}
+
+-- ---- one row of the box
+
+up : (x : ℕ) → nat_abs (pos x +ℤ pos 1) ≡ x + 1
+up x = omega (arith, ints)
+
+row_step : (n : ℕ) (sides : List ℕ) (i j : ℕ) → 1 ≤ n → i ≤ j → j < i - i % n + n → placed (n ∷ sides) j ≡ placed (n ∷ sides) i + (j - i)
+row_step n sides i j some l h =
+    let q = i / n in
+    let x = j - n * q in
+    let low : x < n = omega arith in
+    let e : x + n * q ≡ j = omega arith in
+    let d : j / n ≡ q = ap (λ v. v / n) (sym e) ∙ div_of n x q low in
+    let m : j % n ≡ x = ap (λ v. v % n) (sym e) ∙ mod_of n x q low in
+    rw (d, m) (sums (nat_abs (pos x +ℤ pos 1)) (nat_abs (pos (i % n) +ℤ pos 1)) ((n + 2) * framed_number sides (raster_point sides q)) (j - i) (omega (arith, up x, up (i % n))))
+  where
+    sums : (a b r s : ℕ) → a ≡ b + s → a + r ≡ b + r + s
+    sums a b r s e = omega arith
+
+-- the rest of the row of a point of the box
+pub row_from : (ns : Point) (i n : ℕ) → 1 ≤ length ns → n ≡ nat_abs (coordinate ns 0) → 1 ≤ n → IsRow (sides_of ns) i (i - i % n + n) (placed (sides_of ns) i)
+row_from [] i n long e some = absurd (omega arith)
+row_from (x ∷ ns) i n long e some = rw e (record { each = λ j l h. row_step (nat_abs x) (sides_of ns) i j (omega arith) l h })
+
+-- ---- the row of values
+
+-- the places of the object points with raster numbers below n have the value false, and all others the value true
+pub record IsCleared (X : Picture) (n : ℕ) (values : List Bool) : Type 0 where
+  pub filled : length values ≡ box_count (framed_sides X.sides)
+  pub exactly : (k : ℕ) → Marked values k ↔ ((k < box_count (framed_sides X.sides)) × ((i : ℕ) → i < n → Marked X.values i → placed X.sides i ≡ k → ⊥))
+
+pub clear_start : (X : Picture) (values : List Bool) → length values ≡ box_count (framed_sides X.sides) → ((k : ℕ) → k < length values → Marked values k) → IsCleared X 0 values
+clear_start X values e all = record {
+  filled = e;
+  exactly = λ k. (
+    (λ m. (let l = marked_within values k m in omega arith, λ i l. absurd (omega arith))),
+    λ h. all k (let l = h.0 in omega arith),
+  );
+}
+
+-- the place of a point of the box
+pub placed_below : (sides : List ℕ) (i : ℕ) → i < box_count sides → placed sides i < box_count (framed_sides sides)
+placed_below sides i l = framed_number_below sides (raster_point sides i) (in_box_in_frame sides (raster_point sides i) (raster_point_in sides i l))
+
+module _ (X : Picture) (n : ℕ) (values : List Bool) (full : length X.values ≡ box_count X.sides) (w : IsCleared X n values) where
+  pub clear_more : (s r : ℕ) → IsFirstTrue X.values n s → r ≡ placed X.sides s → IsCleared X (s + 1) (set values r false)
+  clear_more s r f e = record {
+    filled = length-set values r false ∙ w.filled;
+    exactly = λ k. elim (ℕ_discrete k r) [
+      | yes a ↦ (
+        (λ m. let z : false ≡ true = sym (ap (λ j. get_or (set values r false) j false) a ∙ get_or-set_same values r false false inside) ∙ m in cc),
+        λ h. absurd (h.1 s (omega arith) f.there (sym e ∙ sym a)),
+      )
+      | no a ↦ (
+          let o = get_or-set_other values r k false false a in (
+            (λ m. let u = (w.exactly k).0 (sym o ∙ m) in (
+              u.0,
+              λ i l t p. elim (dec_lt i n) [
+                | yes b ↦ u.1 i b t p
+                | no b ↦ elim (dec_lt i s) [
+                  | yes d ↦ (let z : false ≡ true = sym (f.first i (omega arith) d) ∙ t in cc)
+                  | no d ↦ a (sym p ∙ (ap (placed X.sides) (let q : i ≡ s = omega arith in q) ∙ sym e))
+                ]
+              ],
+            )),
+            λ h. o ∙ (w.exactly k).1 (h.0, λ i l. h.1 i (let b = f.on in omega arith)),
+          ))
+    ];
+  }
+    where
+      inside : r < length values
+      inside = let a = placed_below X.sides s (let b = f.within in omega arith) in let b = w.filled in omega arith
+
+  pub clear_end : ((k : ℕ) → n ≤ k → get_or X.values k false ≡ false) → (k : ℕ) → Marked values k ↔ BackgroundPlace X k
+  clear_end none k = (
+    (λ m.
+        let u = (w.exactly k).0 m in
+        let p = framed_point X.sides k in
+        let i = raster_number X.sides p in (
+          u.0,
+          false_from_ne_true (at X p) (λ t.
+              let b = and_parts (in_box X.sides p) (get_or X.values i false) t in
+              elim (dec_lt i n) [
+                | yes l ↦ u.1 i l b.1 (ap (framed_number X.sides) (raster_point-raster_number X.sides p b.0) ∙ framed_number-framed_point X.sides k u.0)
+                | no l ↦ (let z : false ≡ true = sym (none i (omega arith)) ∙ b.1 in cc)
+              ]),
+        )),
+    λ h. (w.exactly k).1 (
+      h.0,
+      λ i l t e.
+          let b : i < box_count X.sides = (let c = marked_within X.values i t in omega arith) in
+          let back : framed_point X.sides k ≡ raster_point X.sides i = ap (framed_point X.sides) (sym e) ∙ framed_point-framed_number X.sides (raster_point X.sides i) (in_box_in_frame X.sides (raster_point X.sides i) (raster_point_in X.sides i b)) in
+          let z : false ≡ true = sym h.1 ∙ (ap (at X) back ∙ (at_raster_point X i b ∙ t)) in cc,
+    ),
+  )
+
+-- the place of the next object point, from its row
+module _ (X : Picture) (from s first end place : ℕ) (full : length X.values ≡ box_count X.sides) (f : IsFirstTrue X.values from s) (row : IsRow X.sides first end place) (behind : first ≤ s) (before : s < end) where
+  pub place_is : place + (s - first) ≡ placed X.sides s
+  place_is = sym (row.each s behind before)
+
+  pub place_below : place + (s - first) < box_count (framed_sides X.sides)
+  place_below = let a = placed_below X.sides s (let b = f.within in omega arith) in let e = place_is in omega arith
