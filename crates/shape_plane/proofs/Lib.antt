@@ -6,6 +6,7 @@ pub mod Spreading
 pub mod Sorting
 pub mod Refusing
 pub mod Neighbours
+pub mod Rests
 pub mod Going
 pub mod Partings
 pub mod Unmarks
