@@ -11,4 +11,5 @@ pub mod Going
 pub mod Partings
 pub mod Unmarks
 pub mod Visiting
+pub mod Layers
 pub mod Exposing
