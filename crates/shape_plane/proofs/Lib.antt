@@ -11,5 +11,6 @@ pub mod Going
 pub mod Partings
 pub mod Unmarks
 pub mod Visiting
+pub mod NextVisits
 pub mod Layers
 pub mod Exposing
