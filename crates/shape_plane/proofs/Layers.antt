@@ -12,7 +12,7 @@ use Rattle.shape_terms.specs.Adjacency.{moved, along}
 use Rattle.shape_terms.proofs.Boxes.{some_side, in_box_first, mod_of, div_of}
 use Rattle.shape_plane.specs.Faces.{gap_of}
 
-pub unmoved : (p : Point) → moved p [] ≡ p
+unmoved : (p : Point) → moved p [] ≡ p
 unmoved [] = refl
 unmoved (x ∷ p) = refl
 
@@ -52,7 +52,7 @@ still a = omega (arith, ints)
 cons : (x y : ℤ) (p q : Point) → x ≡ y → p ≡ q → x ∷ p ≡ y ∷ q
 cons x y p q e f = λ i. e i ∷ f i
 
-pub next_on : (sides : List ℕ) (k i : ℕ) → k < length sides → i < box_count sides → i / gap_of sides k % slice_index_or sides k 0 + 1 < slice_index_or sides k 0 → IsNext sides k i (i + gap_of sides k)
+next_on : (sides : List ℕ) (k i : ℕ) → k < length sides → i < box_count sides → i / gap_of sides k % slice_index_or sides k 0 + 1 < slice_index_or sides k 0 → IsNext sides k i (i + gap_of sides k)
 next_on [] k i l b h = absurd (omega arith)
 next_on (n ∷ sides) zero i l b h =
     let e : i % n + 1 < n = subst (λ (x : ℕ). x % n + 1 < n) (div-one i) h in
@@ -88,7 +88,7 @@ true_or_false : (b : Bool) → b ≡ false → b ≡ true → ⊥
 true_or_false b e f = let z : false ≡ true = sym e ∙ f in cc
 
 -- the last point on the axis has no point one step on in the box
-pub last_out : (sides : List ℕ) (k i : ℕ) → k < length sides → i < box_count sides → slice_index_or sides k 0 ≤ i / gap_of sides k % slice_index_or sides k 0 + 1 → in_box sides (moved (raster_point sides i) (along k (pos 1))) ≡ false
+last_out : (sides : List ℕ) (k i : ℕ) → k < length sides → i < box_count sides → slice_index_or sides k 0 ≤ i / gap_of sides k % slice_index_or sides k 0 + 1 → in_box sides (moved (raster_point sides i) (along k (pos 1))) ≡ false
 last_out [] k i l b h = absurd (omega arith)
 last_out (n ∷ sides) zero i l b h = not_true _ (λ t.
     let e : n ≤ i % n + 1 = subst (λ (x : ℕ). n ≤ x % n + 1) (div-one i) h in
@@ -102,7 +102,7 @@ last_out (n ∷ sides) (suc k) i l b h = not_true _ (λ t.
     true_or_false (in_box sides (moved (raster_point sides (i / n)) (along k (pos 1)))) (last_out sides k (i / n) (omega arith) m (subst (λ (x : ℕ). slice_index_or sides k 0 ≤ x % slice_index_or sides k 0 + 1) (sym (div-div-eq-div-mul i n (gap_of sides k))) h)) u)
 
 -- and the first one has none one step back
-pub first_out : (sides : List ℕ) (k i : ℕ) → k < length sides → i < box_count sides → i / gap_of sides k % slice_index_or sides k 0 ≡ 0 → in_box sides (moved (raster_point sides i) (along k (negsuc 0))) ≡ false
+first_out : (sides : List ℕ) (k i : ℕ) → k < length sides → i < box_count sides → i / gap_of sides k % slice_index_or sides k 0 ≡ 0 → in_box sides (moved (raster_point sides i) (along k (negsuc 0))) ≡ false
 first_out [] k i l b h = absurd (omega arith)
 first_out (n ∷ sides) zero i l b h = not_true _ (λ t.
     let e : i % n ≡ 0 = subst (λ (x : ℕ). x % n ≡ 0) (div-one i) h in
@@ -133,15 +133,15 @@ outer_place g s y p l = elim (dec_lt (y / g + 1) s) [
 ]
 
 module _ (sides : List ℕ) (k : ℕ) (axis : k < length sides) (o y : ℕ) (below : y + gap_of sides k * slice_index_or sides k 0 * o < box_count sides) (some : 0 < gap_of sides k) (place : y < gap_of sides k * slice_index_or sides k 0) where
-  pub block_next : y + gap_of sides k < gap_of sides k * slice_index_or sides k 0 → IsNext sides k (y + gap_of sides k * slice_index_or sides k 0 * o) (y + gap_of sides k * slice_index_or sides k 0 * o + gap_of sides k)
+  block_next : y + gap_of sides k < gap_of sides k * slice_index_or sides k 0 → IsNext sides k (y + gap_of sides k * slice_index_or sides k 0 * o) (y + gap_of sides k * slice_index_or sides k 0 * o + gap_of sides k)
   block_next l = next_on sides k (y + gap_of sides k * slice_index_or sides k 0 * o) axis below
       (rw (block_coordinate (gap_of sides k) (slice_index_or sides k 0) o y some place) (inner_place (gap_of sides k) (slice_index_or sides k 0) y some l))
 
-  pub block_last : gap_of sides k * slice_index_or sides k 0 ≤ y + gap_of sides k → in_box sides (moved (raster_point sides (y + gap_of sides k * slice_index_or sides k 0 * o)) (along k (pos 1))) ≡ false
+  block_last : gap_of sides k * slice_index_or sides k 0 ≤ y + gap_of sides k → in_box sides (moved (raster_point sides (y + gap_of sides k * slice_index_or sides k 0 * o)) (along k (pos 1))) ≡ false
   block_last l = last_out sides k (y + gap_of sides k * slice_index_or sides k 0 * o) axis below
       (rw (block_coordinate (gap_of sides k) (slice_index_or sides k 0) o y some place) (outer_place (gap_of sides k) (slice_index_or sides k 0) y some l))
 
-  pub block_first : y < gap_of sides k → in_box sides (moved (raster_point sides (y + gap_of sides k * slice_index_or sides k 0 * o)) (along k (negsuc 0))) ≡ false
+  block_first : y < gap_of sides k → in_box sides (moved (raster_point sides (y + gap_of sides k * slice_index_or sides k 0 * o)) (along k (negsuc 0))) ≡ false
   block_first l = first_out sides k (y + gap_of sides k * slice_index_or sides k 0 * o) axis below
       (rw (block_coordinate (gap_of sides k) (slice_index_or sides k 0) o y some place) (div-eq_of_lt l))
 
@@ -151,7 +151,7 @@ pub gap_first : (sides : List ℕ) → gap_of sides 0 ≡ 1
 gap_first [] = refl
 gap_first (n ∷ sides) = refl
 
-pub gap_more : (sides : List ℕ) (k : ℕ) → k < length sides → gap_of sides k * slice_index_or sides k 0 ≡ gap_of sides (k + 1)
+gap_more : (sides : List ℕ) (k : ℕ) → k < length sides → gap_of sides k * slice_index_or sides k 0 ≡ gap_of sides (k + 1)
 gap_more sides k l = grown sides k l ∙ ap (gap_of sides) (let e : suc k ≡ k + 1 = omega arith in e)
   where
     grown : (sides : List ℕ) (k : ℕ) → k < length sides → gap_of sides k * slice_index_or sides k 0 ≡ gap_of sides (suc k)
@@ -173,7 +173,7 @@ gap_most (n ∷ sides) zero h = omega (arith, h)
 gap_most (n ∷ sides) (suc k) h = mul-le n (gap_of sides k) n (box_count sides) (omega arith) (gap_most sides k (some_other n (box_count sides) h))
 
 -- whole blocks make up the box
-pub gap_whole : (sides : List ℕ) (k : ℕ) → (m : ℕ) × (box_count sides ≡ gap_of sides k * m)
+gap_whole : (sides : List ℕ) (k : ℕ) → (m : ℕ) × (box_count sides ≡ gap_of sides k * m)
 gap_whole [] k = (1, refl)
 gap_whole (n ∷ sides) zero = (n * box_count sides, let e : n * box_count sides ≡ 1 * (n * box_count sides) = omega arith in e)
 gap_whole (n ∷ sides) (suc k) = let w = gap_whole sides k in (w.0, ap (λ (x : ℕ). n * x) w.1 ∙ sym (mul_assoc n (gap_of sides k) w.0))

@@ -38,37 +38,37 @@ fn expose<P: Point>(grid: &Grid<P>, left: &mut Grid<P>, i: u32, j: u32)
     }
 }
 
-// Takes the points with n numbers from a on away, where those with as many from b on are object.
-fn expose_run<P: Point>(grid: &Grid<P>, left: &mut Grid<P>, a: u32, b: u32, n: u32)
+// Takes the points with so many numbers from the first on away, where those with as many from the other on are object.
+fn expose_run<P: Point>(grid: &Grid<P>, left: &mut Grid<P>, first: u32, other: u32, count: u32)
     requires sides { left.old.sides ≡ grid.now.sides }
-    requires points { a + n ≤ box_count grid.now.sides }
-    requires others { b + n ≤ box_count grid.now.sides }
-    ensures { HasExposed P.DIM grid.now a b n left.old left.new }
+    requires points { first + count ≤ box_count grid.now.sides }
+    requires others { other + count ≤ box_count grid.now.sides }
+    ensures { HasExposed P.DIM grid.now first other count left.old left.new }
 {
     grid.is_picture();
-    for k in 0..n {
-        expose(grid, left, a + k, b + k);
+    for k in 0..count {
+        expose(grid, left, first + k, other + k);
     }
 }
 
-// Takes the points of a block away whose neighbour one step on is object. Its points differ on the axis and those before it alone,
-// so only the last or the first of them, `gap` in number, have no such neighbour in the box.
+// Takes the points of the block with a number away whose neighbour one step on is object. The points of a block differ on the axis
+// and on those before it alone, so only the last or the first of them, as many as `gap`, have no such neighbour in the box.
 fn expose_block<P: Point>(
     grid: &Grid<P>,
     left: &mut Grid<P>,
     axis: usize,
     sense: Sense,
     block: u32,
-    o: u32,
+    number: u32,
 )
     requires axis { axis < P.DIM }
     requires block { block ≡ gap_of grid.now.sides (axis + 1) }
-    requires below { block * o + block ≤ box_count grid.now.sides }
-    requires going { IsExposing P.DIM grid.now axis (sense_of sense) (block * o) left.old }
-    ensures { IsExposing P.DIM grid.now axis (sense_of sense) (block * o + block) left.new }
+    requires below { block * number + block ≤ box_count grid.now.sides }
+    requires going { IsExposing P.DIM grid.now axis (sense_of sense) (block * number) left.old }
+    ensures { IsExposing P.DIM grid.now axis (sense_of sense) (block * number + block) left.new }
 {
     grid.is_picture();
-    let start = block * o;
+    let start = block * number;
     let sides = grid.sides();
     let gap = gap_on(&sides, axis);
     let next = start + gap;
@@ -92,8 +92,8 @@ fn exposed<P: Point>(
     let sides = grid.sides();
     let block = gap_on(&sides, axis + 1);
     let mut left = grid.copy(alloc)?;
-    for o in 0..sides.count() / block {
-        expose_block(grid, &mut left, axis, sense, block, o);
+    for number in 0..sides.count() / block {
+        expose_block(grid, &mut left, axis, sense, block, number);
     }
     Ok(left)
 }
