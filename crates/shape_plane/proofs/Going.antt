@@ -1,31 +1,66 @@
 -- The growth of a patch, neighbour by neighbour and point by point.
 -- The loops themselves stand elsewhere.
-use Rattle.std.proofs.Common.{◌≡◌, ℕ, zero, suc, ◌+◌, ◌<◌, ◌≤◌, ◌⊎◌, inl, inr, false, List, [], ◌∷◌, ◌++◌, length, ap, sym, subst, ◌∙◌, arith}
+use Rattle.std.proofs.Common.{◌≡◌, ℕ, zero, suc, ◌+◌, ◌*◌, ◌^◌, ◌%◌, ◌<◌, ◌≤◌, ◌⊎◌, inl, inr, false, List, [], ◌∷◌, ◌++◌, length, refl, ap, sym, subst, ◌∙◌, arith, w32}
 use Rattle.std.specs.Prelude.{IsTrue, Contains, AllPairs, slice_get, Some}
+use Rattle.std.specs.Int.{bit_at, bit_not}
+use Rattle.std.specs.Int.Bits.{bit_and}
+use Rattle.std.specs.Int.Count.{count_trailing_zeros}
+use Rattle.std.proofs.lemmas.Nat.Bits.{bit_at-zero}
+use Rattle.std.proofs.lemmas.List.{append-nil}
 use native.Mathlib.Decide.{ℕ_discrete}
 use Rattle.shape_terms.specs.Points.{Point, in_box}
 use Rattle.shape_terms.specs.Adjacency.{near_point}
 use Rattle.shape_terms.specs.Pictures.{Picture, IsPicture, at, with_value}
+use Rattle.shape_adj.specs.NearMasks.{In}
+use Rattle.shape_plane.specs.Surroundings.{AreCandidates}
 use Rattle.shape_plane.specs.Growth.{Grown}
 use Rattle.shape_plane.specs.Trials.{Refusal, spread_of, IsLater, IsSettled, IsSpreading}
 use Rattle.shape_plane.specs.Rounds.{IsRound, IsGoing}
+use Rattle.shape_plane.proofs.Rests.{rest_keeps, rest_only}
 use Rattle.shape_plane.proofs.Spreading.{later_more, cleared, at_other, in_sides, got, same_or}
 
-pub round_more : (d : ℕ) (p : Point) (n : ℕ) (old mid new : Grown) (left tried left' tried' left'' tried'' : Picture) (refused refused' refused'' : List Refusal)
-    → IsRound d p n old mid left tried left' tried' refused refused' → new.axis ≡ mid.axis → left''.sides ≡ tried''.sides
-    → IsLater (spread_of mid.points left' tried' refused') (spread_of new.points left'' tried'' refused'') → IsSettled (spread_of new.points left'' tried'' refused'') (near_point p n)
+-- no neighbour was tried yet
+pub round_first : (d n : ℕ) (p : Point) (rest : ℕ) (g : Grown) (left tried : Picture) (refused : List Refusal) → left.sides ≡ tried.sides → AreCandidates n left p rest → IsRound d n p rest g g left tried left tried refused refused
+round_first d n p rest g left tried refused e c = record {
+  axis = refl;
+  sides = e;
+  later = record { settled = λ q h. h; more = []; points = sym (append-nil g.points) };
+  below = c.below;
+  settled = λ m l. elim (ℕ_discrete (bit_at rest m) 1) [ yes i ↦ inl i | no i ↦ inr (λ a. absurd (i (c.each m l a))) ];
+  spreads = λ first a. a;
+}
+
+-- the least number of the set was tried
+pub round_more : (d n : ℕ) (p : Point) (rest : ℕ) (old mid new : Grown) (left tried left' tried' left'' tried'' : Picture) (refused refused' refused'' : List Refusal)
+    → rest < 2 ^ 32 → 0 < rest → IsRound d n p rest old mid left tried left' tried' refused refused' → new.axis ≡ mid.axis → left''.sides ≡ tried''.sides
+    → IsLater (spread_of mid.points left' tried' refused') (spread_of new.points left'' tried'' refused'') → IsSettled (spread_of new.points left'' tried'' refused'') (near_point p (count_trailing_zeros 32 rest))
     → ((first : Picture) → IsSpreading d mid.axis first (spread_of mid.points left' tried' refused') → IsSpreading d mid.axis first (spread_of new.points left'' tried'' refused''))
-    → IsRound d p (n + 1) old new left tried left'' tried'' refused refused''
-round_more d p n old mid new left tried left' tried' left'' tried'' refused refused' refused'' h e s l settled spreads = record {
+    → IsRound d n p (bit_and rest (bit_not w32 (1 * 2 ^ count_trailing_zeros 32 rest % 2 ^ 32))) old new left tried left'' tried'' refused refused''
+round_more d n p rest old mid new left tried left' tried' left'' tried'' refused refused' refused'' small more h e s l settled spreads = record {
   axis = e ∙ h.axis;
   sides = s;
   later = later_more _ _ _ h.later l;
-  settled = λ m k. elim (ℕ_discrete m n) [
-    | yes q ↦ subst (λ (j : ℕ). IsSettled (spread_of new.points left'' tried'' refused'') (near_point p j)) (sym q) settled
-    | no q ↦ l.settled (near_point p m) (h.settled m (omega arith))
+  below = λ m i. h.below m (rest_only rest small more m i);
+  settled = λ m k. elim (ℕ_discrete m (count_trailing_zeros 32 rest)) [
+    | yes q ↦ inr (subst (λ (j : ℕ). IsSettled (spread_of new.points left'' tried'' refused'') (near_point p j)) (sym q) settled)
+    | no q ↦ still m q (h.settled m k)
   ];
   spreads = λ first a. subst (λ (t : ℕ). IsSpreading d t first (spread_of new.points left'' tried'' refused'')) h.axis (spreads first (subst (λ (t : ℕ). IsSpreading d t first (spread_of mid.points left' tried' refused')) (sym h.axis) (h.spreads first a)));
 }
+  where
+    still : (m : ℕ) → (m ≡ count_trailing_zeros 32 rest → ⊥) → In rest m ⊎ IsSettled (spread_of mid.points left' tried' refused') (near_point p m)
+        → In (bit_and rest (bit_not w32 (1 * 2 ^ count_trailing_zeros 32 rest % 2 ^ 32))) m ⊎ IsSettled (spread_of new.points left'' tried'' refused'') (near_point p m)
+    still m q (inl i) = inl (rest_keeps rest small more m i q)
+    still m q (inr a) = inr (l.settled (near_point p m) a)
+
+-- the set is empty
+pub round_last : (d n : ℕ) (p : Point) (rest : ℕ) (old new : Grown) (left tried left' tried' : Picture) (refused refused' : List Refusal) → IsRound d n p rest old new left tried left' tried' refused refused' → rest ≡ 0
+    → (m : ℕ) → m < n → IsSettled (spread_of new.points left' tried' refused') (near_point p m)
+round_last d n p rest old new left tried left' tried' refused refused' h z m l = by_part (h.settled m l)
+  where
+    by_part : In rest m ⊎ IsSettled (spread_of new.points left' tried' refused') (near_point p m) → IsSettled (spread_of new.points left' tried' refused') (near_point p m)
+    by_part (inl i) = absurd (let a = ap (λ (x : ℕ). bit_at x m) z ∙ bit_at-zero m in omega arith)
+    by_part (inr a) = a
 
 get_front : (xs ys : List Point) (k : ℕ) (p : Point) → slice_get xs k ≡ Some p → slice_get (xs ++ ys) k ≡ Some p
 get_front [] ys k p e = cc

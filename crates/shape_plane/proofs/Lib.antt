@@ -6,8 +6,11 @@ pub mod Spreading
 pub mod Sorting
 pub mod Refusing
 pub mod Neighbours
+pub mod Rests
 pub mod Going
 pub mod Partings
 pub mod Unmarks
 pub mod Visiting
+pub mod NextVisits
+pub mod Layers
 pub mod Exposing

@@ -6,7 +6,7 @@ ghost use Rattle.shape_terms.specs.Points.{sides_of};
 ghost use Rattle.shape_terms.specs.FramedBox.{IsWithin};
 ghost use Rattle.shape_terms.specs.Pictures.{at};
 ghost use Rattle.shape_terms.specs.Adjacency.{near_point};
-ghost use Rattle.shape_plane.specs.Surroundings.{IsInner};
+ghost use Rattle.shape_plane.specs.Surroundings.{IsInner, AreCandidates};
 
 use shape_adj::{NearNumbers, Pairing, is_inner};
 use shape_grid::Grid;
@@ -49,6 +49,19 @@ impl<'a, P: Pairing> Around<'a, P> {
             near,
             point: p,
             inner: inner_number(near, p),
+        }
+    }
+
+    /// The numbers of near neighbours that may be in a set of points of the box, as bits: just of those that are in it, where the
+    /// number of the point is known, and else of all.
+    pub fn candidates(&self, left: &Grid<P>) -> u32
+        requires { sides_of (P.coords self.now.near.now.sides.lengths) ≡ left.now.sides }
+        ensures { AreCandidates P.NEAR_COUNT left.now (P.coords self.now.point) result }
+    {
+        left.is_picture();
+        match self.inner {
+            Some(i) => self.near.mask(left.values(), i),
+            None => (1u32 << P::NEAR_COUNT) - 1,
         }
     }
 

@@ -113,7 +113,10 @@ fn spread<P: Pairing>(
         → IfOk result (λ _. IsSpreading P.DIM growing.old.axis first
         (spread_of growing.new.points left.new tried.new refused.new)) }
 {
-    for n in 0..P::NEAR_COUNT {
+    let mut rest = around.candidates(left);
+    while rest != 0 {
+        let n = rest.trailing_zeros() as usize;
+        rest &= !(1u32 << n);
         try_neighbour(growing, left, tried, refused, around, n)?;
     }
     Ok(())

@@ -167,10 +167,10 @@ pub fn parts_of<P: Pairing>(
     let mut tried = Grid::new(alloc, sides)?;
     let near = NearNumbers::new(alloc, sides)?;
     let mut found = Patches::new(alloc, axis);
-    for i in 0..sides.count() {
-        if left.has_number(i) {
-            visit(alloc, axis, i, left, &mut tried, &near, &mut found)?;
-        }
+    let mut next = 0;
+    while let Some(i) = left.first_from(next) {
+        visit(alloc, axis, i, left, &mut tried, &near, &mut found)?;
+        next = i + 1;
     }
     Ok(found)
 }
