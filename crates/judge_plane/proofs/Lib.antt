@@ -2,7 +2,9 @@ pub mod Placing
 pub mod Exposing
 pub mod ObjectWalk
 pub mod LeftPoints
+pub mod LeastBits
 pub mod Rounds
+pub mod Marking
 pub mod Rising
 pub mod Touching
 pub mod Steps

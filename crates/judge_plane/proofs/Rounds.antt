@@ -1,7 +1,12 @@
--- The near neighbours of points, one by one: whether one of them is of a patch, and which of them touch it.
+-- The near neighbours of points, one by one or as a set: whether one of them is of a patch, and which of them touch it.
 -- Laws over lists of points.
-use Rattle.std.proofs.Common.{◌≡◌, ℕ, ◌+◌, ◌-◌, ◌<◌, ◌≤◌, ap, sym, ◌∙◌, subst, arith, inl, inr, List, [], ◌∷◌, ◌++◌, length, drop, Some}
-use Rattle.std.specs.Prelude.{◌⊎◌, ◌↔◌, IsTrue, slice_get, Contains}
+use Rattle.std.proofs.Common.{◌≡◌, ℕ, ◌+◌, ◌-◌, ◌^◌, ◌<◌, ◌≤◌, refl, ap, sym, ◌∙◌, subst, arith, inl, inr, Bool, List, [], ◌∷◌, ◌++◌, length, drop, Some}
+use Rattle.std.specs.Prelude.{◌⊎◌, ◌↔◌, IsTrue, not, nat_eq, slice_get, Contains}
+use Rattle.std.specs.Int.{bit_at}
+use Rattle.std.specs.Int.Count.{count_trailing_zeros}
+use Rattle.std.proofs.lemmas.Nat.Bits.{bit_at-zero}
+use Rattle.std.proofs.lemmas.Bool.Decides.{nat_tests}
+use native.Mathlib.Decide.{ℕ_discrete}
 use Rattle.std.proofs.lemmas.Bool.{cases_lt}
 use Rattle.std.proofs.lemmas.Option.{slice_get_within}
 use Rattle.std.proofs.lemmas.List.Elements.{Contains-push_cases, Contains-append_left, Contains-push}
@@ -10,7 +15,9 @@ use Rattle.shape_terms.proofs.Boxes.{raster_below, raster_point-raster_number}
 use Rattle.shape_terms.specs.Pictures.{Picture, at}
 use Rattle.shape_terms.specs.Adjacency.{Near, Lists, near_point}
 use Rattle.shape_terms.proofs.AdjacencySymmetric.{near_sym}
-use Rattle.judge_plane.specs.Exposure.{IsNearTo}
+use Rattle.shape_adj.specs.NearMasks.{In, near_total, IsNearMask}
+use Rattle.judge_plane.specs.Exposure.{IsNearTo, IsNearObject}
+use Rattle.judge_plane.proofs.LeastBits.{less_bit, least_in, less_in, less_other}
 use Rattle.patch_terms.proofs.Places.{place_of, of_place, place_drop}
 
 -- ---- one point
@@ -22,15 +29,41 @@ number_of_near sides other p from k n same is e inside =
     let below : n < box_count sides = (let l = raster_below sides (near_point p k) inside in omega (arith, l, number)) in
     (omega (arith, below, ap box_count same), ap (λ s. raster_point s n) (sym same) ∙ ap (raster_point sides) number ∙ raster_point-raster_number sides (near_point p k) inside)
 
--- one of the neighbours is of the patch
-pub touch_yes : (patch : List Point) (p q : Point) (n k : ℕ) → Lists Near near_point n p → k < n → q ≡ near_point p k → Contains patch q → IsNearTo patch p
-touch_yes patch p q n k h l e c = (q, c, subst (Near p) (sym e) (h.only k l))
+-- the set of the neighbours of the point with a number, in the box of the picture
+pub mask_here : (sides : List ℕ) (X : Picture) (values : List Bool) (from p : Point) (m : ℕ) → sides ≡ X.sides → values ≡ X.values → from ≡ p → IsNearMask (record { sides = sides; values = values }) from m → IsNearMask X p m
+mask_here sides X values from p m same filled is mask = subst (λ q. IsNearMask X q m) is (subst (λ Y. IsNearMask Y from m) (λ i. record { sides = same i; values = filled i }) mask)
 
--- and where none is, the point does not touch it
-pub touch_no : (patch : List Point) (p : Point) (n k : ℕ) → Lists Near near_point n p → n ≤ k → ((j : ℕ) → j < k → Contains patch (near_point p j) → ⊥) → IsNearTo patch p → ⊥
-touch_no patch p n k h l none (q, c, near) =
+-- one of the neighbours is object
+pub touch_yes : (recent : Picture) (p q : Point) (n k : ℕ) → Lists Near near_point n p → k < n → q ≡ near_point p k → IsTrue (at recent q) → IsNearObject recent p
+touch_yes recent p q n k h l e c = (q, c, subst (Near p) (sym e) (h.only k l))
+
+-- and where none is, the point is near no object point
+pub touch_no : (recent : Picture) (p : Point) (n k : ℕ) → Lists Near near_point n p → n ≤ k → ((j : ℕ) → j < k → IsTrue (at recent (near_point p j)) → ⊥) → IsNearObject recent p → ⊥
+touch_no recent p n k h l none (q, c, near) =
     let r = h.each q near in
-    none r.0 (let m = r.1 in omega arith) (subst (Contains patch) (sym r.2) c)
+    none r.0 (let m = r.1 in omega arith) (subst (λ z. IsTrue (at recent z)) (sym r.2) c)
+
+-- it is near one exactly where its set of object neighbours is not empty
+pub touch_set : (recent : Picture) (p : Point) (m : ℕ) → Lists Near near_point (near_total (length p)) p → IsNearMask recent p m → m < 2 ^ 32 → IsTrue (not (nat_eq m 0)) ↔ IsNearObject recent p
+touch_set recent p m h mask small = (
+  λ t.
+      let k = count_trailing_zeros 32 m in
+      let i = (mask k).0 (least_in m small (some t)) in
+      touch_yes recent p (near_point p k) (near_total (length p)) k h i.0 refl i.1,
+  λ (q, c, near). some_back (
+      let r = h.each q near in
+      let i = (mask r.0).1 (r.1, subst (λ z. IsTrue (at recent z)) (sym r.2) c) in
+      elim (ℕ_discrete m 0) [
+        | yes z ↦ absurd (let a = sym (ap (λ x. bit_at x r.0) z) ∙ i in let b = bit_at-zero r.0 in omega arith)
+        | no n ↦ omega arith
+      ]),
+)
+  where
+    some : IsTrue (not (nat_eq m 0)) → 0 < m
+    some t = grind (arith, nat_tests, t)
+
+    some_back : 0 < m → IsTrue (not (nat_eq m 0))
+    some_back l = grind (arith, nat_tests, l)
 
 -- ---- the points round one
 
@@ -85,6 +118,60 @@ gather_all left p n k old new h l g q = (
     back (inr (there, near)) =
         let r = h.each q (near_sym q p near) in
         subst (Contains new) r.2 (g.each r.0 (let m = r.1 in omega arith) (subst (λ z. IsTrue (at left z)) (sym r.2) there))
+
+-- the list got the object points among the neighbours of p, but for those that are left in a set
+pub record GatheringBut (left : Picture) (p : Point) (rest : ℕ) (old new : List Point) : Type 0 where
+  pub only : (q : Point) → Contains new q → Contains old q ⊎ (IsTrue (at left q) × Near q p)
+  pub kept : (q : Point) → Contains old q → Contains new q
+  pub there : (j : ℕ) → In rest j → (j < near_total (length p)) × IsTrue (at left (near_point p j))
+  pub each : (j : ℕ) → j < near_total (length p) → IsTrue (at left (near_point p j)) → In rest j ⊎ Contains new (near_point p j)
+
+pub gather_start : (left : Picture) (p : Point) (m : ℕ) (old : List Point) → IsNearMask left p m → GatheringBut left p m old old
+gather_start left p m old mask = record { only = λ q c. inl c; kept = λ q c. c; there = λ j. (mask j).0; each = λ j l h. inl ((mask j).1 (l, h)) }
+
+module _ (left : Picture) (p : Point) (rest : ℕ) (old new : List Point) (g : GatheringBut left p rest old new) (small : rest < 2 ^ 32) (more : 0 < rest) where
+  -- the least neighbour of the set is object
+  pub least_there : (count_trailing_zeros 32 rest < near_total (length p)) × IsTrue (at left (near_point p (count_trailing_zeros 32 rest)))
+  least_there = g.there (count_trailing_zeros 32 rest) (least_in rest small more)
+
+  -- it is in the list already
+  pub gather_pass : Contains new (near_point p (count_trailing_zeros 32 rest)) → GatheringBut left p (less_bit rest (count_trailing_zeros 32 rest)) old new
+  gather_pass here = record {
+    only = g.only;
+    kept = g.kept;
+    there = λ j i. g.there j (less_in rest small more j i);
+    each = λ j l h. elim (g.each j l h) [
+      | inl i ↦ elim (less_other rest small more j i) [ inl e ↦ inr (subst (λ k. Contains new (near_point p k)) (sym e) here) | inr o ↦ inl o ]
+      | inr c ↦ inr c
+    ];
+  }
+
+pub gather_push : (left : Picture) (p q : Point) (rest : ℕ) (old new : List Point) → Lists Near near_point (near_total (length p)) p → GatheringBut left p rest old new → rest < 2 ^ 32 → 0 < rest → q ≡ near_point p (count_trailing_zeros 32 rest)
+    → GatheringBut left p (less_bit rest (count_trailing_zeros 32 rest)) old (new ++ q ∷ [])
+gather_push left p q rest old new h g small more e =
+    let k = count_trailing_zeros 32 rest in
+    let t = least_there left p rest old new g small more in
+    gather_pass left p rest old (new ++ q ∷ []) (record {
+      only = λ r c. elim (Contains-push_cases new q r c) [
+        | inl o ↦ g.only r o
+        | inr s ↦ inr (subst (λ z. IsTrue (at left z)) (sym e ∙ s) t.1, near_sym p r (subst (Near p) (sym e ∙ s) (h.only k t.0)))
+      ];
+      kept = λ r c. Contains-append_left new (q ∷ []) r (g.kept r c);
+      there = g.there;
+      each = λ j l f. elim (g.each j l f) [ inl i ↦ inl i | inr c ↦ inr (Contains-append_left new (q ∷ []) (near_point p j) c) ];
+    }) small more (subst (Contains (new ++ q ∷ [])) e (Contains-push new q))
+
+pub gather_end : (left : Picture) (p : Point) (old new : List Point) → Lists Near near_point (near_total (length p)) p → GatheringBut left p 0 old new → (q : Point) → Contains new q ↔ (Contains old q ⊎ (IsTrue (at left q) × Near q p))
+gather_end left p old new h g q = (g.only q, λ c. back c)
+  where
+    back : (Contains old q ⊎ (IsTrue (at left q) × Near q p)) → Contains new q
+    back (inl c) = g.kept q c
+    back (inr (there, near)) =
+        let r = h.each q (near_sym q p near) in
+        elim (g.each r.0 r.1 (subst (λ z. IsTrue (at left z)) (sym r.2) there)) [
+          | inl i ↦ absurd (let z = bit_at-zero r.0 in omega arith)
+          | inr c ↦ subst (Contains new) r.2 c
+        ]
 
 -- ---- the points round all of a patch
 

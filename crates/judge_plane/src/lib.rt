@@ -6,6 +6,7 @@ mod face;
 mod judge;
 mod listed;
 mod order;
+mod recent;
 mod round;
 
 pub use judge::PlaneJudge;

@@ -6,7 +6,7 @@ ghost use Rattle.shape_terms.specs.FramedBox.{IsWithin};
 ghost use Rattle.shape_terms.specs.Adjacency.{Near, near_point};
 ghost use Rattle.shape_terms.specs.Pictures.{at};
 ghost use Rattle.judge_plane.specs.Terms.{point_of};
-ghost use Rattle.judge_plane.specs.Exposure.{AreRound, IsNearTo};
+ghost use Rattle.judge_plane.specs.Exposure.{AreRound, IsNearTo, IsNearObject};
 
 use crate::listed::Listed;
 use crate::order::put_in_order;
@@ -14,47 +14,42 @@ use shape_adj::{NearNumbers, Pairing, is_inner};
 use shape_grid::Grid;
 use shape_space::P3;
 
-// Whether a point of which all near neighbours are in the box is near one of those taken from a place on.
-fn touches_inside(near: &NearNumbers<P3>, taken: &Listed, start: u32, p: P3) -> bool
-    requires box_ { sides_of (point_of near.now.sides.lengths) ≡ taken.now.sides }
+// Whether a point of which all near neighbours are in the box is near an object point.
+fn touches_inside(near: &NearNumbers<P3>, recent: &Grid<P3>, p: P3) -> bool
+    requires box_ { sides_of (point_of near.now.sides.lengths) ≡ recent.now.sides }
     requires known { 26 ≤ length near.now.gaps.items }
     requires inside { IsTrue (in_box (sides_of (point_of near.now.sides.lengths)) (point_of p)) }
     requires inner { (k : ℕ) → k < 26
         → IsTrue (in_box (sides_of (point_of near.now.sides.lengths)) (near_point (point_of p) k)) }
-    ensures { IsTrue result ↔ IsNearTo (drop start taken.now.points) (point_of p) }
+    ensures { IsTrue result ↔ IsNearObject recent.now (point_of p) }
 {
-    let i = near.sides.raster(p);
-    for k in 0..P3::NEAR_COUNT {
-        if taken.has_from(start, near.known(i, k)) {
-            return true;
-        }
-    }
-    false
+    recent.is_picture();
+    near.mask(recent.values(), near.sides.raster(p)) != 0
 }
 
 // The same of any point that leaves room for its neighbours.
-fn touches_around(taken: &Listed, start: u32, p: P3) -> bool
+fn touches_around(recent: &Grid<P3>, p: P3) -> bool
     requires { IsWithin (negsuc 1) (pos 4096) (point_of p) }
-    ensures { IsTrue result ↔ IsNearTo (drop start taken.now.points) (point_of p) }
+    ensures { IsTrue result ↔ IsNearObject recent.now (point_of p) }
 {
     for k in 0..P3::NEAR_COUNT {
-        if taken.lists_from(start, p.near(k)) {
+        if recent.has(p.near(k)) {
             return true;
         }
     }
     false
 }
 
-/// Whether a point is near one of those taken from a place on.
-pub(crate) fn touches(near: &NearNumbers<P3>, taken: &Listed, start: u32, p: P3) -> bool
-    requires box_ { sides_of (point_of near.now.sides.lengths) ≡ taken.now.sides }
+/// Whether a point is near an object point.
+pub(crate) fn touches(near: &NearNumbers<P3>, recent: &Grid<P3>, p: P3) -> bool
+    requires box_ { sides_of (point_of near.now.sides.lengths) ≡ recent.now.sides }
     requires inside { IsTrue (in_box (sides_of (point_of near.now.sides.lengths)) (point_of p)) }
-    ensures { IsTrue result ↔ IsNearTo (drop start taken.now.points) (point_of p) }
+    ensures { IsTrue result ↔ IsNearObject recent.now (point_of p) }
 {
     if near.all_known() && is_inner(&near.sides, p) {
-        touches_inside(near, taken, start, p)
+        touches_inside(near, recent, p)
     } else {
-        touches_around(taken, start, p)
+        touches_around(recent, p)
     }
 }
 
@@ -70,10 +65,14 @@ fn gather_inside(left: &Grid<P3>, near: &NearNumbers<P3>, p: P3, list: &mut List
     ensures points { (q : Where) → Contains list.new.points q ↔ (Contains list.old.points q
         ⊎ (IsTrue (at left.now q) × Near q (point_of p))) }
 {
+    left.is_picture();
     let i = near.sides.raster(p);
-    for k in 0..P3::NEAR_COUNT {
+    let mut rest = near.mask(left.values(), i);
+    while rest != 0 {
+        let k = rest.trailing_zeros() as usize;
+        rest &= !(1u32 << k);
         let j = near.known(i, k);
-        if left.has_number(j) && !list.has_number(j) {
+        if !list.has_number(j) {
             list.push(near.sides.unraster(j));
         }
     }
