@@ -1,10 +1,10 @@
-pub mod Placing
+pub mod Marking
+pub mod Numbering
 pub mod Exposing
 pub mod ObjectWalk
 pub mod LeftPoints
 pub mod LeastBits
 pub mod Rounds
-pub mod Marking
 pub mod Rising
 pub mod Touching
 pub mod Steps

@@ -1,19 +1,18 @@
 -- The marks of the points of a patch: none, one more, and taken away one after the other.
 -- Laws over pictures and lists of points.
 use Rattle.std.proofs.Common.{◌≡◌, ◌≢◌, ℕ, zero, suc, ◌+◌, ◌≤◌, Bool, true, false, ap, sym, ◌∙◌, subst, arith, inl, inr, List, [], ◌∷◌, ◌++◌, length, drop, Some}
-use Rattle.std.specs.Prelude.{◌↔◌, IsTrue, slice_get, Contains}
+use Rattle.std.specs.Prelude.{◌↔◌, ◌⊎◌, IsTrue, slice_get, Contains}
 use Rattle.std.proofs.lemmas.Bool.{and_parts}
 use Rattle.std.proofs.lemmas.List.{get_or-replicate, drop_all, drop-append-le}
 use Rattle.std.proofs.lemmas.List.Elements.{Contains-push, Contains-push_cases, Contains-append_left}
 use native.Mathlib.Decide.{ℕ_discrete}
-use Rattle.shape_terms.specs.Points.{Point, in_box, box_count, raster_number}
+use Rattle.shape_terms.specs.Points.{Point, in_box, box_count, raster_number, raster_point}
 use Rattle.shape_terms.specs.Pictures.{Picture, at, with_value, blank}
-use Rattle.shape_terms.proofs.Boxes.{raster_below}
+use Rattle.shape_terms.proofs.Boxes.{raster_below, raster_point-raster_number}
 use Rattle.shape_terms.proofs.SameCycles.{in_none}
 use Rattle.thin_terms.proofs.OneValue.{value_there, value_gone, value_elsewhere}
 use Rattle.patch_terms.proofs.Places.{place_of, of_place, place_drop}
 use Rattle.judge_plane.specs.Exposure.{AreMarked, IsNearTo, IsNearObject}
-use Rattle.judge_plane.proofs.Placing.{same_number}
 
 -- a picture without object points marks none
 pub marked_none : (sides : List ℕ) → AreMarked [] (blank sides)
@@ -27,26 +26,37 @@ marked_none sides = record {
   );
 }
 
+-- points of one number are one
+pub same_number : (sides : List ℕ) (p q : Point) → IsTrue (in_box sides p) → IsTrue (in_box sides q) → raster_number sides p ≡ raster_number sides q → p ≡ q
+same_number sides p q h k e = sym (raster_point-raster_number sides p h) ∙ ap (raster_point sides) e ∙ raster_point-raster_number sides q k
+
+-- a picture with one more object point
+pub with_one : (R : Picture) (p : Point) → length R.values ≡ box_count R.sides → IsTrue (in_box R.sides p) → (q : Point) → IsTrue (at (with_value R p true) q) ↔ (IsTrue (at R q) ⊎ (p ≡ q))
+with_one R p filled inside q = (
+  λ a. elim (ℕ_discrete (raster_number R.sides q) (raster_number R.sides p)) [
+    | yes e ↦ inr (same_number R.sides p q inside (and_parts (in_box R.sides q) _ a).0 (sym e))
+    | no n ↦ inl (sym (value_elsewhere R p q true inside (λ s. n (ap (raster_number R.sides) s))) ∙ a)
+  ],
+  λ c. elim c [
+    | inl a ↦ elim (ℕ_discrete (raster_number R.sides q) (raster_number R.sides p)) [
+      | yes e ↦ there (same_number R.sides p q inside (and_parts (in_box R.sides q) _ a).0 (sym e))
+      | no n ↦ value_elsewhere R p q true inside (λ s. n (ap (raster_number R.sides) s)) ∙ a
+    ]
+    | inr s ↦ there s
+  ],
+)
+  where
+    there : p ≡ q → at (with_value R p true) q ≡ true
+    there s = ap (at (with_value R p true)) (sym s) ∙ value_there R p true filled inside
+
 -- one more
 pub marked_more : (R : Picture) (p : Point) → length R.values ≡ box_count R.sides → IsTrue (in_box R.sides p) → (points : List Point) → AreMarked points R → AreMarked (points ++ p ∷ []) (with_value R p true)
 marked_more R p filled inside points h = record {
   each = λ q. (
-    λ a. elim (ℕ_discrete (raster_number R.sides q) (raster_number R.sides p)) [
-      | yes e ↦ subst (Contains (points ++ p ∷ [])) (same_number R.sides p q inside (and_parts (in_box R.sides q) _ a).0 (sym e)) (Contains-push points p)
-      | no n ↦ Contains-append_left points (p ∷ []) q ((h.each q).0 (sym (value_elsewhere R p q true inside (λ s. n (ap (raster_number R.sides) s))) ∙ a))
-    ],
-    λ c. elim (Contains-push_cases points p q c) [ inl o ↦ old q ((h.each q).1 o) | inr s ↦ there q s ],
+    λ a. elim ((with_one R p filled inside q).0 a) [ inl o ↦ Contains-append_left points (p ∷ []) q ((h.each q).0 o) | inr s ↦ subst (Contains (points ++ p ∷ [])) s (Contains-push points p) ],
+    λ c. (with_one R p filled inside q).1 (elim (Contains-push_cases points p q c) [ inl o ↦ inl ((h.each q).1 o) | inr s ↦ inr s ]),
   );
 }
-  where
-    there : (q : Point) → p ≡ q → at (with_value R p true) q ≡ true
-    there q s = ap (at (with_value R p true)) (sym s) ∙ value_there R p true filled inside
-
-    old : (q : Point) → at R q ≡ true → at (with_value R p true) q ≡ true
-    old q a = elim (ℕ_discrete (raster_number R.sides q) (raster_number R.sides p)) [
-      | yes e ↦ there q (same_number R.sides p q inside (and_parts (in_box R.sides q) _ a).0 (sym e))
-      | no n ↦ value_elsewhere R p q true inside (λ s. n (ap (raster_number R.sides) s)) ∙ a
-    ]
 
 -- at most the points from a place on are marked
 abbrev pub AreMarkedFrom : List Point → ℕ → Picture → Type 0

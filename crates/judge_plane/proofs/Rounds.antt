@@ -1,7 +1,7 @@
 -- The near neighbours of points, one by one or as a set: whether one of them is of a patch, and which of them touch it.
 -- Laws over lists of points.
-use Rattle.std.proofs.Common.{◌≡◌, ℕ, ◌+◌, ◌-◌, ◌^◌, ◌<◌, ◌≤◌, refl, ap, sym, ◌∙◌, subst, arith, inl, inr, Bool, List, [], ◌∷◌, ◌++◌, length, drop, Some}
-use Rattle.std.specs.Prelude.{◌⊎◌, ◌↔◌, IsTrue, not, nat_eq, slice_get, Contains}
+use Rattle.std.proofs.Common.{◌≡◌, ℕ, ◌+◌, ◌-◌, ◌^◌, ◌<◌, ◌≤◌, refl, ap, sym, ◌∙◌, subst, arith, inl, inr, Bool, List, [], length, drop, Some}
+use Rattle.std.specs.Prelude.{◌⊎◌, ◌↔◌, IsTrue, not, nat_eq, slice_get}
 use Rattle.std.specs.Int.{bit_at}
 use Rattle.std.specs.Int.Count.{count_trailing_zeros}
 use Rattle.std.proofs.lemmas.Nat.Bits.{bit_at-zero}
@@ -9,15 +9,15 @@ use Rattle.std.proofs.lemmas.Bool.Decides.{nat_tests}
 use native.Mathlib.Decide.{ℕ_discrete}
 use Rattle.std.proofs.lemmas.Bool.{cases_lt}
 use Rattle.std.proofs.lemmas.Option.{slice_get_within}
-use Rattle.std.proofs.lemmas.List.Elements.{Contains-push_cases, Contains-append_left, Contains-push}
 use Rattle.shape_terms.specs.Points.{Point, in_box, box_count, raster_number, raster_point}
 use Rattle.shape_terms.proofs.Boxes.{raster_below, raster_point-raster_number}
 use Rattle.shape_terms.specs.Pictures.{Picture, at}
 use Rattle.shape_terms.specs.Adjacency.{Near, Lists, near_point}
 use Rattle.shape_terms.proofs.AdjacencySymmetric.{near_sym}
-use Rattle.shape_adj.specs.NearMasks.{In, near_total, IsNearMask}
-use Rattle.judge_plane.specs.Exposure.{IsNearTo, IsNearObject}
-use Rattle.judge_plane.proofs.LeastBits.{less_bit, least_in, less_in, less_other}
+use Rattle.shape_adj.specs.NearMasks.{near_total, IsNearMask}
+use Rattle.judge_plane.specs.Exposure.{AreMarked, IsNearTo, IsNearObject}
+use Rattle.judge_plane.proofs.LeastBits.{least_in}
+use Rattle.shape_terms.proofs.SameCycles.{in_none}
 use Rattle.patch_terms.proofs.Places.{place_of, of_place, place_drop}
 
 -- ---- one point
@@ -67,120 +67,63 @@ touch_set recent p m h mask small = (
 
 -- ---- the points round one
 
--- the list got the object points among the first k neighbours of p
-pub record Gathering (left : Picture) (p : Point) (k : ℕ) (old new : List Point) : Type 0 where
-  pub only : (q : Point) → Contains new q → Contains old q ⊎ (IsTrue (at left q) × Near q p)
-  pub kept : (q : Point) → Contains old q → Contains new q
-  pub each : (j : ℕ) → j < k → IsTrue (at left (near_point p j)) → Contains new (near_point p j)
+-- the object points among the neighbours of p are marked, but for those that are still to do
+pub record Gathering (left : Picture) (p : Point) (todo : ℕ → Type 0) (old new : Picture) : Type 0 where
+  pub only : (q : Point) → IsTrue (at new q) → IsTrue (at old q) ⊎ (IsTrue (at left q) × Near q p)
+  pub kept : (q : Point) → IsTrue (at old q) → IsTrue (at new q)
+  pub each : (j : ℕ) → j < near_total (length p) → IsTrue (at left (near_point p j)) → todo j ⊎ IsTrue (at new (near_point p j))
 
-pub gather_none : (left : Picture) (p : Point) (old : List Point) → Gathering left p 0 old old
-gather_none left p old = record { only = λ q c. inl c; kept = λ q c. c; each = λ j l h. absurd (omega arith) }
+module _ (left : Picture) (p : Point) where
+  pub gather_none : (todo : ℕ → Type 0) (old : Picture) → ((j : ℕ) → j < near_total (length p) → IsTrue (at left (near_point p j)) → todo j) → Gathering left p todo old old
+  gather_none todo old all = record { only = λ q a. inl a; kept = λ q a. a; each = λ j l h. inl (all j l h) }
 
-pub gather_yes : (left : Picture) (p q : Point) (n k : ℕ) (old new : List Point) → Lists Near near_point n p → k < n → q ≡ near_point p k → Gathering left p k old new → IsTrue (at left q) → Gathering left p (k + 1) old (new ++ q ∷ [])
-gather_yes left p q n k old new h l e g here = record {
-  only = λ r c. elim (Contains-push_cases new q r c) [
-    | inl o ↦ g.only r o
-    | inr s ↦ inr (subst (λ z. IsTrue (at left z)) s here, near_sym p r (subst (Near p) (sym e ∙ s) (h.only k l)))
-  ];
-  kept = λ r c. Contains-append_left new (q ∷ []) r (g.kept r c);
-  each = λ j m f. earlier j m f (last_or j m);
-}
-  where
-    last_or : (j : ℕ) → j < k + 1 → (j < k) ⊎ (j ≡ k)
-    last_or j m = elim (cases_lt j k) [ inl a ↦ inl a | inr b ↦ inr (omega arith) ]
-
-    earlier : (j : ℕ) → j < k + 1 → IsTrue (at left (near_point p j)) → ((j < k) ⊎ (j ≡ k)) → Contains (new ++ q ∷ []) (near_point p j)
-    earlier j m f (inl a) = Contains-append_left new (q ∷ []) (near_point p j) (g.each j a f)
-    earlier j m f (inr b) = subst (Contains (new ++ q ∷ [])) (e ∙ ap (near_point p) (sym b)) (Contains-push new q)
-
--- the neighbour is background, or is in the list
-pub gather_no : (left : Picture) (p q : Point) (k : ℕ) (old new : List Point) → q ≡ near_point p k → Gathering left p k old new → (IsTrue (at left q) → Contains new q) → Gathering left p (k + 1) old new
-gather_no left p q k old new e g there = record {
-  only = g.only;
-  kept = g.kept;
-  each = λ j m f. elim (cases_lt j k) [
-    | inl a ↦ g.each j a f
-    | inr b ↦
-        let same : j ≡ k = omega arith in
-        let here : q ≡ near_point p j = e ∙ ap (near_point p) (sym same) in
-        subst (Contains new) here (there (subst (λ z. IsTrue (at left z)) (sym here) f))
-  ];
-}
-
-pub gather_all : (left : Picture) (p : Point) (n k : ℕ) (old new : List Point) → Lists Near near_point n p → n ≤ k → Gathering left p k old new → (q : Point) → Contains new q ↔ (Contains old q ⊎ (IsTrue (at left q) × Near q p))
-gather_all left p n k old new h l g q = (
-  g.only q,
-  λ c. back c,
-)
-  where
-    back : (Contains old q ⊎ (IsTrue (at left q) × Near q p)) → Contains new q
-    back (inl c) = g.kept q c
-    back (inr (there, near)) =
-        let r = h.each q (near_sym q p near) in
-        subst (Contains new) r.2 (g.each r.0 (let m = r.1 in omega arith) (subst (λ z. IsTrue (at left z)) (sym r.2) there))
-
--- the list got the object points among the neighbours of p, but for those that are left in a set
-pub record GatheringBut (left : Picture) (p : Point) (rest : ℕ) (old new : List Point) : Type 0 where
-  pub only : (q : Point) → Contains new q → Contains old q ⊎ (IsTrue (at left q) × Near q p)
-  pub kept : (q : Point) → Contains old q → Contains new q
-  pub there : (j : ℕ) → In rest j → (j < near_total (length p)) × IsTrue (at left (near_point p j))
-  pub each : (j : ℕ) → j < near_total (length p) → IsTrue (at left (near_point p j)) → In rest j ⊎ Contains new (near_point p j)
-
-pub gather_start : (left : Picture) (p : Point) (m : ℕ) (old : List Point) → IsNearMask left p m → GatheringBut left p m old old
-gather_start left p m old mask = record { only = λ q c. inl c; kept = λ q c. c; there = λ j. (mask j).0; each = λ j l h. inl ((mask j).1 (l, h)) }
-
-module _ (left : Picture) (p : Point) (rest : ℕ) (old new : List Point) (g : GatheringBut left p rest old new) (small : rest < 2 ^ 32) (more : 0 < rest) where
-  -- the least neighbour of the set is object
-  pub least_there : (count_trailing_zeros 32 rest < near_total (length p)) × IsTrue (at left (near_point p (count_trailing_zeros 32 rest)))
-  least_there = g.there (count_trailing_zeros 32 rest) (least_in rest small more)
-
-  -- it is in the list already
-  pub gather_pass : Contains new (near_point p (count_trailing_zeros 32 rest)) → GatheringBut left p (less_bit rest (count_trailing_zeros 32 rest)) old new
-  gather_pass here = record {
-    only = g.only;
-    kept = g.kept;
-    there = λ j i. g.there j (less_in rest small more j i);
-    each = λ j l h. elim (g.each j l h) [
-      | inl i ↦ elim (less_other rest small more j i) [ inl e ↦ inr (subst (λ k. Contains new (near_point p k)) (sym e) here) | inr o ↦ inl o ]
-      | inr c ↦ inr c
-    ];
-  }
-
-pub gather_push : (left : Picture) (p q : Point) (rest : ℕ) (old new : List Point) → Lists Near near_point (near_total (length p)) p → GatheringBut left p rest old new → rest < 2 ^ 32 → 0 < rest → q ≡ near_point p (count_trailing_zeros 32 rest)
-    → GatheringBut left p (less_bit rest (count_trailing_zeros 32 rest)) old (new ++ q ∷ [])
-gather_push left p q rest old new h g small more e =
-    let k = count_trailing_zeros 32 rest in
-    let t = least_there left p rest old new g small more in
-    gather_pass left p rest old (new ++ q ∷ []) (record {
-      only = λ r c. elim (Contains-push_cases new q r c) [
-        | inl o ↦ g.only r o
-        | inr s ↦ inr (subst (λ z. IsTrue (at left z)) (sym e ∙ s) t.1, near_sym p r (subst (Near p) (sym e ∙ s) (h.only k t.0)))
+  module _ (todo next : ℕ → Type 0) (k : ℕ) (old new : Picture) (g : Gathering left p todo old new) (moves : (j : ℕ) → todo j → (j ≡ k) ⊎ next j) where
+    -- neighbour k is marked now
+    pub gather_yes : (q : Point) (more : Picture) → Lists Near near_point (near_total (length p)) p → k < near_total (length p) → q ≡ near_point p k → IsTrue (at left q) → ((r : Point) → IsTrue (at more r) ↔ (IsTrue (at new r) ⊎ (q ≡ r))) → Gathering left p next old more
+    gather_yes q more h l e here put = record {
+      only = λ r a. elim ((put r).0 a) [ inl o ↦ g.only r o | inr s ↦ inr (subst (λ z. IsTrue (at left z)) s here, near_sym p r (subst (Near p) (sym e ∙ s) (h.only k l))) ];
+      kept = λ r a. (put r).1 (inl (g.kept r a));
+      each = λ j m f. elim (g.each j m f) [
+        | inl t ↦ elim (moves j t) [ inl s ↦ inr ((put (near_point p j)).1 (inr (e ∙ ap (near_point p) (sym s)))) | inr n ↦ inl n ]
+        | inr a ↦ inr ((put (near_point p j)).1 (inl a))
       ];
-      kept = λ r c. Contains-append_left new (q ∷ []) r (g.kept r c);
-      there = g.there;
-      each = λ j l f. elim (g.each j l f) [ inl i ↦ inl i | inr c ↦ inr (Contains-append_left new (q ∷ []) (near_point p j) c) ];
-    }) small more (subst (Contains (new ++ q ∷ [])) e (Contains-push new q))
+    }
 
-pub gather_end : (left : Picture) (p : Point) (old new : List Point) → Lists Near near_point (near_total (length p)) p → GatheringBut left p 0 old new → (q : Point) → Contains new q ↔ (Contains old q ⊎ (IsTrue (at left q) × Near q p))
-gather_end left p old new h g q = (g.only q, λ c. back c)
-  where
-    back : (Contains old q ⊎ (IsTrue (at left q) × Near q p)) → Contains new q
-    back (inl c) = g.kept q c
-    back (inr (there, near)) =
-        let r = h.each q (near_sym q p near) in
-        elim (g.each r.0 r.1 (subst (λ z. IsTrue (at left z)) (sym r.2) there)) [
-          | inl i ↦ absurd (let z = bit_at-zero r.0 in omega arith)
-          | inr c ↦ subst (Contains new) r.2 c
-        ]
+    -- neighbour k is background
+    pub gather_no : (IsTrue (at left (near_point p k)) → ⊥) → Gathering left p next old new
+    gather_no none = record {
+      only = g.only;
+      kept = g.kept;
+      each = λ j m f. elim (g.each j m f) [
+        | inl t ↦ elim (moves j t) [ inl s ↦ absurd (none (subst (λ i. IsTrue (at left (near_point p i))) s f)) | inr n ↦ inl n ]
+        | inr a ↦ inr a
+      ];
+    }
+
+  -- nothing is left to do
+  pub gather_all : (todo : ℕ → Type 0) (old new : Picture) → Lists Near near_point (near_total (length p)) p → ((j : ℕ) → j < near_total (length p) → todo j → ⊥) → Gathering left p todo old new → (q : Point) → IsTrue (at new q) ↔ (IsTrue (at old q) ⊎ (IsTrue (at left q) × Near q p))
+  gather_all todo old new h done g q = (g.only q, λ c. back c)
+    where
+      back : (IsTrue (at old q) ⊎ (IsTrue (at left q) × Near q p)) → IsTrue (at new q)
+      back (inl a) = g.kept q a
+      back (inr (there, near)) =
+          let r = h.each q (near_sym q p near) in
+          elim (g.each r.0 r.1 (subst (λ z. IsTrue (at left z)) (sym r.2) there)) [
+            | inl t ↦ absurd (done r.0 r.1 t)
+            | inr a ↦ subst (λ z. IsTrue (at new z)) r.2 a
+          ]
 
 -- ---- the points round all of a patch
 
--- the list has the object points that are Near one of the points from place start to place i
-pub record GatheredTo (left : Picture) (taken : List Point) (start i : ℕ) (points : List Point) : Type 0 where
-  pub only : (q : Point) → Contains points q → IsTrue (at left q) × ((m : ℕ) × (start ≤ m) × (r : Point) × (slice_get taken m ≡ Some r) × Near q r)
-  pub each : (q : Point) → IsTrue (at left q) → (m : ℕ) → start ≤ m → m < i → (r : Point) → slice_get taken m ≡ Some r → Near q r → Contains points q
+-- the object points that are Near one of the points from place start to place i are marked
+pub record GatheredTo (left : Picture) (taken : List Point) (start i : ℕ) (marks : Picture) : Type 0 where
+  pub only : (q : Point) → IsTrue (at marks q) → IsTrue (at left q) × ((m : ℕ) × (start ≤ m) × (r : Point) × (slice_get taken m ≡ Some r) × Near q r)
+  pub each : (q : Point) → IsTrue (at left q) → (m : ℕ) → start ≤ m → m < i → (r : Point) → slice_get taken m ≡ Some r → Near q r → IsTrue (at marks q)
 
-pub gathered_more : (left : Picture) (taken : List Point) (start i : ℕ) (p : Point) (old new : List Point) → start ≤ i → slice_get taken i ≡ Some p → ((q : Point) → Contains new q ↔ (Contains old q ⊎ (IsTrue (at left q) × Near q p))) → GatheredTo left taken start i old → GatheredTo left taken start (i + 1) new
+pub gathered_none : (left : Picture) (taken : List Point) (start : ℕ) (marks : Picture) → AreMarked [] marks → GatheredTo left taken start start marks
+gathered_none left taken start marks h = record { only = λ q a. absurd (in_none q ((h.each q).0 a)); each = λ q object m a b r e n. absurd (omega arith) }
+
+pub gathered_more : (left : Picture) (taken : List Point) (start i : ℕ) (p : Point) (old new : Picture) → start ≤ i → slice_get taken i ≡ Some p → ((q : Point) → IsTrue (at new q) ↔ (IsTrue (at old q) ⊎ (IsTrue (at left q) × Near q p))) → GatheredTo left taken start i old → GatheredTo left taken start (i + 1) new
 gathered_more left taken start i p old new l there h g = record {
   only = λ q c. elim ((h q).0 c) [ inl o ↦ g.only q o | inr n ↦ (n.0, (i, l, p, there, n.1)) ];
   each = λ q object m a b r e n. elim (cases_lt m i) [
@@ -193,8 +136,8 @@ gathered_more left taken start i p old new l there h g = record {
   ];
 }
 
-pub gathered_all : (left : Picture) (taken : List Point) (start i : ℕ) (points : List Point) → length taken ≤ i → GatheredTo left taken start i points → (q : Point) → Contains points q ↔ (IsTrue (at left q) × IsNearTo (drop start taken) q)
-gathered_all left taken start i points l g q = (
+pub gathered_all : (left : Picture) (taken : List Point) (start i : ℕ) (marks : Picture) → length taken ≤ i → GatheredTo left taken start i marks → (q : Point) → IsTrue (at marks q) ↔ (IsTrue (at left q) × IsNearTo (drop start taken) q)
+gathered_all left taken start i marks l g q = (
   λ c.
       let r = g.only q c in
       let m = r.1 in

@@ -1,5 +1,5 @@
 //! The judge: it goes through the six faces of the volume, and through the patches of each.
-//! Exposed points are told in `face`, touching ones in `round`, and their order in `order`.
+//! Exposed points are told in `face`, and touching ones in `round`.
 ghost use Rattle.std.specs.Prelude.{◌≡◌, ◌+◌, ◌-◌, ◌*◌, ◌<◌, ◌≤◌, ◌^◌, ◌↔◌, [], ◌∷◌, ◌++◌, List, length, take, drop, IsTrue, IfOk, vec_capacity};
 ghost use Rattle.std.specs.Bool.{OnTrue};
 ghost use Rattle.shape_terms.specs.Points.{box_count};
@@ -56,8 +56,8 @@ pub struct PlaneJudge {
     plane: Naive,
     // and the points of it that were given, as a grid;
     recent: Grid<P3>,
-    // once it has them, the points that touch it, and their numbers in order,
-    list: Listed,
+    // once it has them, the numbers of the points that touch it in order, found with marks that are taken away again,
+    marks: Grid<P3>,
     touching: Vec<u32>,
     // and how many of these it refused.
     refused: u32,
@@ -87,7 +87,7 @@ impl Model for PlaneJudge {
       declared = j.declared;
       cursor = j.cursor;
       refused = j.refused;
-    }) j.plane (sides_of (point_of j.near.sides.lengths)) j.left j.recent j.taken j.list
+    }) j.plane (sides_of (point_of j.near.sides.lengths)) j.left j.recent j.taken j.marks
         j.touching.items (vec_capacity j.touching) };
 }
 
@@ -116,7 +116,7 @@ impl PlaneJudge {
                 axis: 0,
             },
             recent: Grid::new(alloc, sides)?,
-            list: Listed::new(alloc, sides)?,
+            marks: Grid::new(alloc, sides)?,
             touching,
             refused: 0,
         })
@@ -251,7 +251,7 @@ impl PlaneJudge {
                 &self.near,
                 &self.taken,
                 self.start,
-                &mut self.list,
+                &mut self.marks,
                 &mut self.touching,
             );
         }

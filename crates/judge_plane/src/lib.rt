@@ -5,7 +5,7 @@
 mod face;
 mod judge;
 mod listed;
-mod order;
+mod numbered;
 mod recent;
 mod round;
 

@@ -32,7 +32,8 @@ invariant_of-self c =
       recent_box = c.unmark.ensures.box_ ∙ k.taken_box;
       are_recent = subst (λ ps. AreMarked ps c.unmark.new.recent) (sym (ap (drop 0) empty)) c.unmark.ensures.none;
       taken_box = ap (λ (l : Listing). l.sides) c.clear.ensures ∙ k.taken_box;
-      list_box = k.list_box;
+      marks_box = k.marks_box;
+      unmarked = k.unmarked;
       fits = (let r = k.fits in omega (arith, r, c.clear-2.ensures.capacity));
       axis = λ l. (let a : c.args.axis ≡ c.axis_of.result = omega (arith, c.if-axis-axis_of.false) in a ∙ c.axis_of.ensures.value ∙ ap face_axis same);
       step = subst (λ ps. AreInStep i.grid m ps c.clear-2.new.self.items) (sym empty) (subst (λ ns. AreInStep i.grid m [] ns) (sym c.clear-2.ensures.items) step);
