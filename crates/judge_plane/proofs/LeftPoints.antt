@@ -19,7 +19,7 @@ use Rattle.judge_plane.proofs.Exposing.{kept, in_of_at, object_there, exposed_ye
 
 -- ---- point by point
 
-numbered : (E : Picture) (n : ℕ) (b : Bool) → n < box_count E.sides → record { sides = E.sides; values = slice_set E.values n b } ≡ with_value E (raster_point E.sides n) b
+pub numbered : (E : Picture) (n : ℕ) (b : Bool) → n < box_count E.sides → record { sides = E.sides; values = slice_set E.values n b } ≡ with_value E (raster_point E.sides n) b
 numbered E n b l = (let e = sym (raster_number-raster_point E.sides n l) in λ i. record { sides = E.sides; values = slice_set E.values (e i) b })
 
 pub exposed_more : (X : Picture) (face n : ℕ) (E E2 : Picture) (b : Bool) → AreExposedBelow X face n E → length E.values ≡ box_count E.sides → n < box_count X.sides → E2 ≡ record { sides = E.sides; values = slice_set E.values n b } → (IsTrue b ↔ Contains (exposed_at X face) (raster_point X.sides n)) → AreExposedBelow X face (n + 1) E2

@@ -1,7 +1,9 @@
-pub mod Placing
+pub mod Marking
+pub mod Numbering
 pub mod Exposing
 pub mod ObjectWalk
 pub mod LeftPoints
+pub mod LeastBits
 pub mod Rounds
 pub mod Rising
 pub mod Touching

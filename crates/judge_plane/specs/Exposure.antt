@@ -30,6 +30,14 @@ pub record AreLeft (exposed taken : List Point) (left : Picture) : Type 0 where
 abbrev pub IsNearTo : List Point → Point → Type 0
 IsNearTo patch q = (p : Point) × Contains patch p × Near q p
 
+-- q is Near an object point of the picture
+abbrev pub IsNearObject : Picture → Point → Type 0
+IsNearObject recent q = (p : Point) × IsTrue (at recent p) × Near q p
+
+-- the object points of the picture are the points of the list
+pub record AreMarked (points : List Point) (marks : Picture) : Type 0 where
+  pub each : (q : Point) → IsTrue (at marks q) ↔ Contains points q
+
 -- each exposed point with a smaller raster number is taken
 abbrev pub AreTakenBelow : Picture → (face : ℕ) → List Point → ℕ → Type 0
 AreTakenBelow X face taken n = (q : Point) → Contains (exposed_at X face) q → raster_number X.sides q < n → Contains taken q

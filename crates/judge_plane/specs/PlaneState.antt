@@ -10,7 +10,7 @@ use Rattle.report_terms.specs.Lines.{Line}
 use Rattle.report_terms.specs.FaceFacts.{face_axis}
 use Rattle.report_terms.specs.FaceLines.{FaceStanding, given_patch, face_standing, open_exposed}
 use Rattle.judge_plane.specs.Listings.{Listing}
-use Rattle.judge_plane.specs.Exposure.{exposed_at, AreLeft, AreTakenBelow, AreTouching, first_points}
+use Rattle.judge_plane.specs.Exposure.{exposed_at, AreLeft, AreMarked, AreTakenBelow, AreTouching, first_points}
 
 -- the picture, and where the lines stand
 pub record PlaneState : Type 0 where
@@ -85,14 +85,17 @@ pub record AreInStep (X : Picture) (c : Counts) (taken : List Point) (numbers : 
   pub refused : c.refused ≤ length numbers
   pub few : length numbers ≤ box_count X.sides
 
--- what the judge keeps: its lists are of points of the picture's box, its plane is of the axis of the face, the picture `left` has the points of the face that are not taken, and its numbers agree with those taken
-pub record IsKept (X : Picture) (c : Counts) (plane : Naive) (near : List ℕ) (left : Picture) (taken list : Listing) (numbers : List ℕ) (room : ℕ) : Type 0 where
+-- what the judge keeps: its points are of the picture's box, its plane is of the axis of the face, the picture `left` has the points of the face that are not taken, `recent` those that were taken of the last patch, `marks` none, and its numbers agree with those taken
+pub record IsKept (X : Picture) (c : Counts) (plane : Naive) (near : List ℕ) (left recent : Picture) (taken : Listing) (marks : Picture) (numbers : List ℕ) (room : ℕ) : Type 0 where
   pub solid : length X.sides ≡ 3
   pub near_box : near ≡ X.sides
   pub left_box : left.sides ≡ X.sides
   pub are_left : 0 < c.begun → AreLeft (exposed_at X (c.begun - 1)) taken.points left
+  pub recent_box : recent.sides ≡ X.sides
+  pub are_recent : AreMarked (drop c.start taken.points) recent
   pub taken_box : taken.sides ≡ X.sides
-  pub list_box : list.sides ≡ X.sides
+  pub marks_box : marks.sides ≡ X.sides
+  pub unmarked : AreMarked [] marks
   pub fits : box_count X.sides ≤ room
   pub axis : 0 < c.begun → plane.axis ≡ face_axis (c.begun - 1)
   pub step : AreInStep X c taken.points numbers

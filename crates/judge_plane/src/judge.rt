@@ -1,5 +1,5 @@
 //! The judge: it goes through the six faces of the volume, and through the patches of each.
-//! Exposed points are told in `face`, touching ones in `round`, and their order in `order`.
+//! Exposed points are told in `face`, and touching ones in `round`.
 ghost use Rattle.std.specs.Prelude.{◌≡◌, ◌+◌, ◌-◌, ◌*◌, ◌<◌, ◌≤◌, ◌^◌, ◌↔◌, [], ◌∷◌, ◌++◌, List, length, take, drop, IsTrue, IfOk, vec_capacity};
 ghost use Rattle.std.specs.Bool.{OnTrue};
 ghost use Rattle.shape_terms.specs.Points.{box_count};
@@ -20,6 +20,7 @@ ghost use Rattle.judge_plane.specs.PlaneState.{StandsFor, room_of, with_face, wi
 
 use crate::face::{FACES, axis_of, expose_all, sense_in};
 use crate::listed::Listed;
+use crate::recent::{mark, unmark};
 use crate::round::{find_round, touches};
 use shape_adj::NearNumbers;
 use shape_grid::Grid;
@@ -53,8 +54,10 @@ pub struct PlaneJudge {
     // how many points that patch is to have, and its plane,
     declared: u32,
     plane: Naive,
-    // once it has them, the points that touch it, and their numbers in order,
-    list: Listed,
+    // and the points of it that were given, as a grid;
+    recent: Grid<P3>,
+    // once it has them, the numbers of the points that touch it in order, found with marks that are taken away again,
+    marks: Grid<P3>,
     touching: Vec<u32>,
     // and how many of these it refused.
     refused: u32,
@@ -84,8 +87,8 @@ impl Model for PlaneJudge {
       declared = j.declared;
       cursor = j.cursor;
       refused = j.refused;
-    }) j.plane (sides_of (point_of j.near.sides.lengths)) j.left j.taken j.list j.touching.items
-        (vec_capacity j.touching) };
+    }) j.plane (sides_of (point_of j.near.sides.lengths)) j.left j.recent j.taken j.marks
+        j.touching.items (vec_capacity j.touching) };
 }
 
 impl PlaneJudge {
@@ -112,7 +115,8 @@ impl PlaneJudge {
                 mu: 0,
                 axis: 0,
             },
-            list: Listed::new(alloc, sides)?,
+            recent: Grid::new(alloc, sides)?,
+            marks: Grid::new(alloc, sides)?,
             touching,
             refused: 0,
         })
@@ -153,6 +157,7 @@ impl PlaneJudge {
         if face == FACES || !self.is_full() || axis != axis_of(face) || sense != sense_in(face) {
             return false;
         }
+        unmark(&self.taken, self.start, &mut self.recent);
         expose_all(&self.grid, face, &mut self.left);
         self.begun += 1;
         self.exposed = self.left.count();
@@ -186,6 +191,7 @@ impl PlaneJudge {
         if points > self.exposed - start || !is_proper::<P3>(&plane) {
             return false;
         }
+        unmark(&self.taken, self.start, &mut self.recent);
         self.start = start;
         self.declared = points;
         self.plane = plane;
@@ -221,7 +227,7 @@ impl PlaneJudge {
         if self.taken.len() == self.start {
             return self.is_first(p);
         }
-        self.left.has(p) && touches(&self.near, &self.taken, self.start, p)
+        self.left.has(p) && touches(&self.near, &self.recent, p)
     }
 
     // Takes an `on` line.
@@ -237,6 +243,7 @@ impl PlaneJudge {
             return false;
         }
         self.left.clear(p);
+        mark(&mut self.recent, p);
         self.taken.push(p);
         if self.taken.len() == self.start + self.declared {
             find_round(
@@ -244,7 +251,7 @@ impl PlaneJudge {
                 &self.near,
                 &self.taken,
                 self.start,
-                &mut self.list,
+                &mut self.marks,
                 &mut self.touching,
             );
         }

@@ -5,7 +5,8 @@
 mod face;
 mod judge;
 mod listed;
-mod order;
+mod numbered;
+mod recent;
 mod round;
 
 pub use judge::PlaneJudge;

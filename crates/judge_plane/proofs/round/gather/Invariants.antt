@@ -1,9 +1,12 @@
 use Rattle.std.proofs.Common.{◌≡◌}
+use Rattle.std.specs.Prelude.{vec_capacity}
+use Rattle.judge_plane.specs.Listings.{AreNumbered}
 use Rattle.judge_plane.proofs.Rounds.{GatheredTo}
 use Rattle.judge_plane.proofs.round.gather.Given as goal
 
 abbrev pub invariant-loop-i : goal.invariant-loop-i
 invariant-loop-i l = record {
-  sides : l.list.sides ≡ l.left.sides;
-  points : GatheredTo l.left l.taken.points l.start l.i l.list.points;
+  sides : l.marks.sides ≡ l.left.sides;
+  numbered : AreNumbered l.marks l.numbers.items (vec_capacity l.numbers);
+  points : GatheredTo l.left l.taken.points l.start l.i l.marks;
 }

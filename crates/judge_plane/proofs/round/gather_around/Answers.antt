@@ -1,49 +1,63 @@
-use Rattle.std.proofs.Common.{◌≡◌, ◌+◌, true, false, sym, ap, ◌∙◌, subst, arith}
-use Rattle.std.specs.Prelude.{IsTrue, Contains}
-use Rattle.shape_terms.specs.Points.{in_box}
-use Rattle.shape_terms.specs.Pictures.{at}
+use Rattle.std.proofs.Common.{◌≡◌, ◌+◌, ◌≤◌, ◌<◌, ℕ, true, false, sym, ap, ◌∙◌, subst, arith, inl, inr}
+use Rattle.std.specs.Prelude.{IsTrue, ◌⊎◌, ◌↔◌}
+use native.Mathlib.Decide.{ℕ_discrete}
+use Rattle.shape_terms.specs.Points.{Point, in_box, box_count, raster_point}
+use Rattle.shape_terms.specs.Adjacency.{near_point}
+use Rattle.shape_terms.specs.Pictures.{Picture, at}
 use Rattle.shape_terms.proofs.NeighbourNumbers.{near_listed_once}
 use Rattle.judge_plane.specs.Terms.{point_of}
-use Rattle.judge_plane.specs.Listings.{Listing}
 use Rattle.judge_plane.proofs.Exposing.{in_of_at, near_within}
 use Rattle.judge_plane.proofs.Rounds.{Gathering, gather_none, gather_yes, gather_no, gather_all}
 use Rattle.judge_plane.proofs.round.gather_around.Goals as goal
-use Rattle.judge_plane.proofs.round.gather_around.Goals.{then-has+then-not-lists, else-has, else-has-via-then-has+else-not-lists, else-has-via-else-has}
+use Rattle.judge_plane.proofs.round.gather_around.Goals.{then-has, else-has}
+
+moves : (k j : ℕ) → k ≤ j → (j ≡ k) ⊎ (k + 1 ≤ j)
+moves k j l = elim (ℕ_discrete j k) [ yes e ↦ inl e | no n ↦ inr (omega arith) ]
 
 pub near-q-requires-clause-within : goal.near-q-requires-clause-within
 near-q-requires-clause-within c = near_within c.args.left.now (point_of c.args.p) c.is_picture.ensures.in_range c.requires.inside
 
 pub loop-k-init : goal.loop-k-init
-loop-k-init c = record { sides = c.requires.box_; points = gather_none c.args.left.now (point_of c.args.p) c.args.list.now.points }
+loop-k-init c = record {
+  sides = c.requires.box_;
+  numbered = c.requires.numbered;
+  points = gather_none c.args.left.now (point_of c.args.p) (λ j. 0 ≤ j) c.args.marks.now (λ j l h. omega arith);
+}
 
-pub push-requires-clause-inside : goal.push-requires-clause-inside
-push-requires-clause-inside c = subst (λ s. IsTrue (in_box s (point_of c.near-q.result))) (sym c.loop-k.invariant.sides) (in_of_at c.args.left.now (point_of c.near-q.result) (sym c.has.ensures ∙ c.if-has.true))
+pub raster-requires : goal.raster-requires
+raster-requires c = subst (λ s. IsTrue (in_box s (point_of c.near-q.result))) (sym c.sides-sides.ensures.value) (in_of_at c.args.left.now (point_of c.near-q.result) (sym c.has.ensures ∙ c.if-has.true))
+
+pub put-requires-clause-place : goal.put-requires-clause-place
+put-requires-clause-place c = omega (arith, c.raster.ensures.below, ap box_count c.sides-sides.ensures.value, ap box_count c.loop-k.invariant.sides)
 
 pub loop-k-preserved : goal.loop-k-preserved
 loop-k-preserved c =
     let left = c.args.left.now in
     let p = point_of c.args.p in
     let q = point_of c.near-q.result in
-    let old = c.args.list.now.points in
-    let list = c.loop-k.list.points in
+    let marks = c.loop-k.marks in
     let g = c.loop-k.invariant.points in
+    let k = c.loop-k.k in
     elim c.if-has.branch [
-      | then-has+then-not-lists w ↦
-          let is = w.list-is ∙ w.push.ensures in
+      | then-has w ↦
+          let object : at left q ≡ true = sym c.has.ensures ∙ w.if-has.true in
+          let back : raster_point marks.sides w.raster.result ≡ q = ap (λ s. raster_point s w.raster.result) (c.loop-k.invariant.sides ∙ sym c.sides-sides.ensures.value) ∙ w.raster.ensures.back in
+          let put = subst (λ z. (r : Point) → IsTrue (at w.put.new.marks r) ↔ (IsTrue (at marks r) ⊎ (z ≡ r))) back w.put.ensures.points in
           record {
-            sides = ap (λ (l : Listing). l.sides) is ∙ c.loop-k.invariant.sides;
-            points = subst (Gathering left p (c.loop-k.k + 1) old) (sym (ap (λ (l : Listing). l.points) is)) (gather_yes left p q 26 c.loop-k.k old list (near_listed_once p) c.loop-k-test.true c.near-q.ensures g (sym c.has.ensures ∙ w.if-has.true));
+            sides = ap (λ (Y : Picture). Y.sides) w.marks-is ∙ w.put.ensures.box_ ∙ c.loop-k.invariant.sides;
+            numbered = rw (w.marks-is, w.numbers-is) w.put.ensures.numbered;
+            points = subst (Gathering left p (λ j. k + 1 ≤ j) c.args.marks.now) (sym w.marks-is) (gather_yes left p (λ j. k ≤ j) (λ j. k + 1 ≤ j) k c.args.marks.now marks g (moves k) q w.put.new.marks (near_listed_once p) c.loop-k-test.true c.near-q.ensures object put);
           }
       | else-has w ↦
-          let there : IsTrue (at left q) → Contains list q = elim w.else-has.branch [
-            | else-has-via-then-has+else-not-lists w' ↦ λ h. w'.lists.ensures.0 w'.if-not-lists.false
-            | else-has-via-else-has w' ↦ λ h. (let f : true ≡ false = sym h ∙ sym c.has.ensures ∙ w'.if-has.false in cc)
-          ] in
+          let none : IsTrue (at left (near_point p k)) → ⊥ = λ h. (let f : true ≡ false = sym h ∙ ap (at left) (sym c.near-q.ensures) ∙ sym c.has.ensures ∙ w.if-has.false in cc) in
           record {
-            sides = ap (λ (l : Listing). l.sides) w.list-is ∙ c.loop-k.invariant.sides;
-            points = subst (Gathering left p (c.loop-k.k + 1) old) (sym (ap (λ (l : Listing). l.points) w.list-is)) (gather_no left p q c.loop-k.k old list c.near-q.ensures g there);
+            sides = ap (λ (Y : Picture). Y.sides) w.marks-is ∙ c.loop-k.invariant.sides;
+            numbered = rw (w.marks-is, w.numbers-is) c.loop-k.invariant.numbered;
+            points = subst (Gathering left p (λ j. k + 1 ≤ j) c.args.marks.now) (sym w.marks-is) (gather_no left p (λ j. k ≤ j) (λ j. k + 1 ≤ j) k c.args.marks.now marks g (moves k) none);
           }
     ]
 
 pub returns-clause-points : goal.returns-clause-points
-returns-clause-points c = gather_all c.args.left.now (point_of c.args.p) 26 c.loop-k.k c.args.list.now.points c.loop-k.list.points (near_listed_once (point_of c.args.p)) (omega (arith, c.loop-k-test.false)) c.loop-k.invariant.points
+returns-clause-points c =
+    let p = point_of c.args.p in
+    gather_all c.args.left.now p (λ j. c.loop-k.k ≤ j) c.args.marks.now c.loop-k.marks (near_listed_once p) (λ j l m. (let n : j < 26 = l in omega (arith, n, m, c.loop-k-test.false))) c.loop-k.invariant.points

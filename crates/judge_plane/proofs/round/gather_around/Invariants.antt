@@ -1,10 +1,13 @@
-use Rattle.std.proofs.Common.{◌≡◌}
+use Rattle.std.proofs.Common.{◌≡◌, ◌≤◌}
+use Rattle.std.specs.Prelude.{vec_capacity}
 use Rattle.judge_plane.specs.Terms.{point_of}
+use Rattle.judge_plane.specs.Listings.{AreNumbered}
 use Rattle.judge_plane.proofs.Rounds.{Gathering}
 use Rattle.judge_plane.proofs.round.gather_around.Given as goal
 
 abbrev pub invariant-loop-k : goal.invariant-loop-k
 invariant-loop-k l = record {
-  sides : l.list.sides ≡ l.left.sides;
-  points : Gathering l.left (point_of l.p) l.k l.initial.list.points l.list.points;
+  sides : l.marks.sides ≡ l.left.sides;
+  numbered : AreNumbered l.marks l.numbers.items (vec_capacity l.numbers);
+  points : Gathering l.left (point_of l.p) (λ j. l.k ≤ j) l.initial.marks l.marks;
 }

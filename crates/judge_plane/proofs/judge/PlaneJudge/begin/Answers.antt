@@ -1,11 +1,17 @@
-use Rattle.std.proofs.Common.{◌≡◌, ◌+◌, ◌-◌, ◌<◌, [], length, ap, sym, ◌∙◌, subst, arith}
+use Rattle.std.proofs.Common.{◌≡◌, ◌+◌, ◌-◌, ◌<◌, [], length, drop, ap, sym, ◌∙◌, subst, arith}
 use Rattle.report_terms.specs.FaceFacts.{face_axis}
 use Rattle.judge_plane.specs.Listings.{Listing}
-use Rattle.judge_plane.specs.Exposure.{exposed_at, AreLeft}
+use Rattle.judge_plane.specs.Exposure.{exposed_at, AreLeft, AreMarked}
 use Rattle.judge_plane.specs.PlaneState.{Counts, AreInStep}
 use Rattle.judge_plane.proofs.LeftPoints.{left_all}
 use Rattle.judge_plane.proofs.Steps.{step_face}
 use Rattle.judge_plane.proofs.judge.PlaneJudge.begin.Goals as goal
+
+pub unmark-requires-clause-box_ : goal.unmark-requires-clause-box_
+unmark-requires-clause-box_ c = c.self.invariant.recent_box ∙ sym c.self.invariant.taken_box
+
+pub unmark-requires-clause-marked : goal.unmark-requires-clause-marked
+unmark-requires-clause-marked c = c.self.invariant.are_recent
 
 pub invariant_of-self : goal.invariant_of-self
 invariant_of-self c =
@@ -23,8 +29,11 @@ invariant_of-self c =
       near_box = k.near_box;
       left_box = c.expose_all.ensures.box_;
       are_left = λ l. subst (λ ps. AreLeft (exposed_at i.grid (i.begun + 1 - 1)) ps c.expose_all.new.exposed) (sym empty) (left_all (exposed_at i.grid (i.begun + 1 - 1)) c.expose_all.new.exposed points);
+      recent_box = c.unmark.ensures.box_ ∙ k.taken_box;
+      are_recent = subst (λ ps. AreMarked ps c.unmark.new.recent) (sym (ap (drop 0) empty)) c.unmark.ensures.none;
       taken_box = ap (λ (l : Listing). l.sides) c.clear.ensures ∙ k.taken_box;
-      list_box = k.list_box;
+      marks_box = k.marks_box;
+      unmarked = k.unmarked;
       fits = (let r = k.fits in omega (arith, r, c.clear-2.ensures.capacity));
       axis = λ l. (let a : c.args.axis ≡ c.axis_of.result = omega (arith, c.if-axis-axis_of.false) in a ∙ c.axis_of.ensures.value ∙ ap face_axis same);
       step = subst (λ ps. AreInStep i.grid m ps c.clear-2.new.self.items) (sym empty) (subst (λ ns. AreInStep i.grid m [] ns) (sym c.clear-2.ensures.items) step);

@@ -4,6 +4,7 @@ use Rattle.std.proofs.Math.Facts.{to_z-of_z}
 use Rattle.shape_terms.specs.Naive.{Naive as Plane, IsProper}
 use Rattle.report_terms.specs.FaceLines.{PatchIsFull, open_exposed}
 use Rattle.judge_plane.specs.PlaneState.{PlaneState, Counts}
+use Rattle.judge_plane.proofs.Marking.{marked_begun}
 use Rattle.judge_plane.proofs.Steps.{step_patch, patch_yes, patch_many, patch_improper, plane_begun, drop_whole}
 use Rattle.judge_plane.proofs.judge.PlaneJudge.begin_patch.Goals as goal
 use Rattle.judge_plane.proofs.judge.PlaneJudge.begin_patch.Goals.{then-points-self-via-then-points-self, then-points-self-via-else-points-self+then-not-is_proper}
@@ -48,6 +49,12 @@ returns-clause-next c =
     let plane = plane_begun c.args.points (record { a = c.args.a; mu = _; axis = i.plane.axis }) some ∙ ap (λ (mu : ℤ). record { a = take 3 c.args.a; mu = mu }) same in
     rw (← c.self.view_is) (λ j. record { begun = i.begun; taken = i.taken.points; patch = record { declared = c.args.points; plane = plane j; points = none j; refused = [] } })
 
+pub unmark-requires-clause-box_ : goal.unmark-requires-clause-box_
+unmark-requires-clause-box_ c = c.self.invariant.recent_box ∙ sym c.self.invariant.taken_box
+
+pub unmark-requires-clause-marked : goal.unmark-requires-clause-marked
+unmark-requires-clause-marked c = c.self.invariant.are_recent
+
 pub invariant_of-self : goal.invariant_of-self
 invariant_of-self c =
     let i = c.self.inside in
@@ -58,8 +65,11 @@ invariant_of-self c =
       near_box = k.near_box;
       left_box = k.left_box;
       are_left = k.are_left;
+      recent_box = c.unmark.ensures.box_ ∙ k.taken_box;
+      are_recent = marked_begun c.unmark.new.recent i.taken.points c.len-start.result c.len-start.ensures.value c.unmark.ensures.none;
       taken_box = k.taken_box;
-      list_box = k.list_box;
+      marks_box = k.marks_box;
+      unmarked = k.unmarked;
       fits = k.fits;
       axis = k.axis;
       step = step_patch i.grid n i.plane i.taken.points i.touching.items k.step c.len-start.result c.args.points c.len-start.ensures.value c.if-points-eq0.false (omega (arith, c.if-points-self.false));

@@ -6,12 +6,13 @@ use Rattle.judge_plane.specs.Terms.{point_of}
 use Rattle.judge_plane.specs.Exposure.{exposed_at, IsLeft}
 use Rattle.judge_plane.specs.PlaneState.{PlaneState}
 use Rattle.judge_plane.proofs.Exposing.{in_of_at}
+use Rattle.judge_plane.proofs.Marking.{near_test}
 use Rattle.judge_plane.proofs.Steps.{later_test, later_none}
 use Rattle.judge_plane.proofs.judge.PlaneJudge.is_next.Goals as goal
 use Rattle.judge_plane.proofs.judge.PlaneJudge.is_next.Goals.{then-has, else-has}
 
 pub touches-requires-clause-box_ : goal.touches-requires-clause-box_
-touches-requires-clause-box_ c = c.self.invariant.near_box ∙ sym c.self.invariant.taken_box
+touches-requires-clause-box_ c = c.self.invariant.near_box ∙ sym c.self.invariant.recent_box
 
 pub touches-requires-clause-inside : goal.touches-requires-clause-inside
 touches-requires-clause-inside c =
@@ -29,7 +30,7 @@ returns-clause-answer c =
     let begun : 0 < i.begun = subst (λ (s : PlaneState). 0 < s.standing.begun) (sym c.self.view_is) c.requires in
     let left = (c.self.invariant.are_left begun).each p in
     elim c.if-has.branch [
-      | then-has w ↦ rw (← c.self.view_is) (later_test exposed i.taken.points (drop i.start i.taken.points) p c.if-has.result w.touches.result some w.result-is (left.0 (sym c.has.ensures ∙ w.if-has.true)) w.touches.ensures)
+      | then-has w ↦ rw (← c.self.view_is) (later_test exposed i.taken.points (drop i.start i.taken.points) p c.if-has.result w.touches.result some w.result-is (left.0 (sym c.has.ensures ∙ w.if-has.true)) (near_test i.recent (drop i.start i.taken.points) p w.touches.result c.self.invariant.are_recent w.touches.ensures))
       | else-has w ↦
           let none : IsLeft exposed i.taken.points p → ⊥ = λ h. (let f : true ≡ false = sym (left.1 h) ∙ sym c.has.ensures ∙ w.if-has.false in cc) in
           rw (← c.self.view_is) (later_none exposed i.taken.points (drop i.start i.taken.points) p c.if-has.result some (w.result-is ∙ w.if-has.false) none)

@@ -9,6 +9,7 @@ use Rattle.judge_plane.specs.Exposure.{exposed_at, AreLeft, AreRound}
 use Rattle.judge_plane.specs.PlaneState.{PlaneState, Counts, IsKept}
 use Rattle.judge_plane.proofs.Exposing.{exposed_in}
 use Rattle.judge_plane.proofs.LeftPoints.{left_less, round_touches}
+use Rattle.judge_plane.proofs.Marking.{marked_taken}
 use Rattle.judge_plane.proofs.Steps.{left_of_next, more_points, begun_of, step_on}
 use Rattle.judge_plane.proofs.judge.PlaneJudge.take_on.Goals as goal
 
@@ -33,6 +34,16 @@ push-requires-clause-new c =
     let next = subst (λ (s : PlaneState). IsNextOn (open_exposed s.picture s.standing) s.standing.taken s.standing.patch.points p) (sym same) (c.is_next.ensures.answer.0 c.if-not-is_next.false) in
     let left = left_of_next (exposed_at j.grid (j.begun - 1)) j.taken.points (drop j.start j.taken.points) p next in
     left.left
+
+pub mark-requires : goal.mark-requires
+mark-requires c =
+    let j = c.self-2.inside in
+    let k = c.self-2.invariant in
+    let p = point_of c.args.p in
+    let same = c.self-2.view_is ∙ c.is_next.ensures.same in
+    let next = subst (λ (s : PlaneState). IsNextOn (open_exposed s.picture s.standing) s.standing.taken s.standing.patch.points p) (sym same) (c.is_next.ensures.answer.0 c.if-not-is_next.false) in
+    let left = left_of_next (exposed_at j.grid (j.begun - 1)) j.taken.points (drop j.start j.taken.points) p next in
+    subst (λ s. IsTrue (in_box s p)) (sym k.recent_box) (exposed_in j.grid (j.begun - 1) p left.there)
 
 pub clear-requires : goal.clear-requires
 clear-requires c =
@@ -65,14 +76,17 @@ invariant_of-self c =
     let points = ap (λ (l : Listing). l.points) c.push.ensures in
     let round = subst (λ ps. AreRound c.clear.new.self (drop j.start ps) c.find_round.new.numbers.items) points c.find_round.ensures.round in
     let touching = round_touches j.grid exposed (j.taken.points ++ p ∷ []) (drop j.start (j.taken.points ++ p ∷ [])) c.clear.new.self c.find_round.new.numbers.items rest rest_box (exposed_in j.grid (j.begun - 1)) round in
-    subst (λ t. IsKept j.grid n j.plane (sides_of (point_of j.near.sides.lengths)) c.clear.new.self t c.find_round.new.list c.find_round.new.numbers.items (vec_capacity c.find_round.new.numbers)) (sym c.push.ensures) (record {
+    subst (λ t. IsKept j.grid n j.plane (sides_of (point_of j.near.sides.lengths)) c.clear.new.self c.mark.new.recent t c.find_round.new.marks c.find_round.new.numbers.items (vec_capacity c.find_round.new.numbers)) (sym c.push.ensures) (record {
       solid = k.solid;
       near_box = k.near_box;
       left_box = rest_box;
       are_left = λ b. rest;
+      recent_box = c.mark.ensures.box_ ∙ k.recent_box;
+      are_recent = marked_taken c.mark.new.recent j.taken.points j.start p k.step.start (c.mark.ensures.marked (drop j.start j.taken.points) k.are_recent);
       taken_box = k.taken_box;
-      list_box = c.find_round.ensures.list_box ∙ rest_box;
-      fits = (let r = k.fits in omega (arith, r, c.find_round.ensures.capacity));
+      marks_box = c.find_round.ensures.box_ ∙ rest_box;
+      unmarked = c.find_round.ensures.none;
+      fits = omega (arith, c.find_round.ensures.room, ap box_count rest_box);
       axis = k.axis;
       step = step_on j.grid n j.plane j.taken.points j.touching.items k.step p c.find_round.new.numbers.items more left (λ e. touching) (let f = c.find_round.ensures.few in omega (arith, f, ap box_count rest_box));
     })
@@ -95,13 +109,16 @@ invariant_of-self-else-len-self c =
     let inside = subst (λ s. IsTrue (in_box s p)) (sym k.left_box) (exposed_in j.grid (j.begun - 1) p left.there) in
     let rest = subst (AreLeft exposed (j.taken.points ++ p ∷ [])) (sym c.clear.ensures) (left_less exposed j.taken.points j.left p (k.are_left begun) inside) in
     let points = ap (λ (l : Listing). length l.points) c.push.ensures in
-    subst (λ t. IsKept j.grid n j.plane (sides_of (point_of j.near.sides.lengths)) c.clear.new.self t j.list j.touching.items (vec_capacity j.touching)) (sym c.push.ensures) (record {
+    subst (λ t. IsKept j.grid n j.plane (sides_of (point_of j.near.sides.lengths)) c.clear.new.self c.mark.new.recent t j.marks j.touching.items (vec_capacity j.touching)) (sym c.push.ensures) (record {
       solid = k.solid;
       near_box = k.near_box;
       left_box = ap (λ (Y : Picture). Y.sides) c.clear.ensures ∙ k.left_box;
       are_left = λ b. rest;
+      recent_box = c.mark.ensures.box_ ∙ k.recent_box;
+      are_recent = marked_taken c.mark.new.recent j.taken.points j.start p k.step.start (c.mark.ensures.marked (drop j.start j.taken.points) k.are_recent);
       taken_box = k.taken_box;
-      list_box = k.list_box;
+      marks_box = k.marks_box;
+      unmarked = k.unmarked;
       fits = k.fits;
       axis = k.axis;
       step = step_on j.grid n j.plane j.taken.points j.touching.items k.step p j.touching.items more left (λ e. absurd (c.if-len-self.false (c.len.ensures.value ∙ points ∙ e))) k.step.few;
