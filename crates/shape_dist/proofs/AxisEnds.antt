@@ -1,44 +1,17 @@
--- Before the first axis and behind the last one.
+-- Behind the last axis.
 -- Laws over pictures, cells and numbers alone.
-use Rattle.std.proofs.Common.{◌≡◌, inl, inr, ℕ, ◌/◌, ◌<◌, ◌≤◌, false, List, length, refl, sym, ap, ◌∙◌, subst, arith}
+use Rattle.std.proofs.Common.{◌≡◌, ℕ, ◌<◌, ◌≤◌, List, length, sym, ap, ◌∙◌, subst, arith}
 use Rattle.std.specs.Prelude.{Option, None, IsTrue}
-use Rattle.std.proofs.lemmas.Bool.{cases_Bool}
 use Rattle.shape_terms.specs.Points.{Point, box_count, in_box, squared_distance}
-use Rattle.shape_terms.specs.Pictures.{Picture, at, Least}
+use Rattle.shape_terms.specs.Pictures.{Picture, Least}
 use Rattle.shape_terms.specs.FramedBox.{framed_sides, framed_point}
 use Rattle.number_terms.specs.Places.{framed_number}
 use Rattle.shape_terms.proofs.FramedBoxes.{length-framed_point}
 use Rattle.number_terms.proofs.FramedNumbers.{framed_number_below, framed_point-framed_number}
 use Rattle.shape_terms.proofs.NearestFound.{least_found, corner_background}
-use Rattle.shape_terms.proofs.FramedLines.{distance_same}
 use Rattle.number_terms.proofs.FramedEnds.{level_all, in_box_in_frame}
 use Rattle.shape_dist.specs.declared.found.Found.{Found}
-use Rattle.shape_dist.specs.Openings.{IsOpening}
 use Rattle.shape_dist.specs.Spreads.{found, IsNearestOn, HasNearestOn, AreNearestOn}
-
--- ---- no axis yet
-
-by_one : (i : ℕ) → i / 1 ≡ i
-by_one i = omega arith
-
-opening_at : (X : Picture) (i : ℕ) (o : Option Found) → i < box_count (framed_sides X.sides) → IsOpening X i o → HasNearestOn X 1 i o
-opening_at X i o l h = elim (cases_Bool (at X (framed_point X.sides i))) [
-  | inl t ↦ subst (HasNearestOn X 1 i) (sym (h.object t)) (λ r b e.
-      let same : r ≡ i = sym (by_one r) ∙ e ∙ by_one i in
-      let f : at X (framed_point X.sides i) ≡ false = ap (λ n. at X (framed_point X.sides n)) (sym same) ∙ b.1 in
-      cc)
-  | inr f ↦ subst (HasNearestOn X 1 i) (sym (h.bare f)) (record {
-    bare = (l, f);
-    level = refl;
-    distance = sym (distance_same (framed_point X.sides i));
-    least = λ r b e. omega arith;
-  })
-]
-
-pub opening : (X : Picture) (cells : List (Option Found)) → ((i : ℕ) → i < box_count (framed_sides X.sides) → IsOpening X i (found cells i)) → AreNearestOn X 1 cells
-opening X cells h i l = opening_at X i (found cells i) l (h i l)
-
--- ---- all axes
 
 -- the nearest of all framed points is the nearest of the whole space
 pub nearest_of_all : (X : Picture) (p : Point) (f : Found) → IsTrue (in_box X.sides p) → IsNearestOn X (box_count (framed_sides X.sides)) (framed_number X.sides p) f → Least X p (framed_point X.sides f.q) f.s

@@ -15,7 +15,7 @@ use Rattle.shape_dist.specs.declared.found.Found.{Found}
 use Rattle.shape_dist.specs.Spreads.{found, IsLeastOfLine, IsSpreadAt, HasSpread, IsNearestOn, HasNearestOn, AreNearestOn, moved, square_in}
 
 -- two cases of a cell
-cell_cases : {P : Type 0} (o : Option Found) → (o ≡ None → P) → ((f : Found) → o ≡ Some f → P) → P
+pub cell_cases : {P : Type 0} (o : Option Found) → (o ≡ None → P) → ((f : Found) → o ≡ Some f → P) → P
 cell_cases None a b = a refl
 cell_cases (Some f) a b = b f refl
 

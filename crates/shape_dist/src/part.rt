@@ -1,5 +1,5 @@
 //! A part of a line: its cells spread along it by the lower envelope of their squares.
-ghost use Rattle.std.specs.Prelude.{◌≡◌, ◌+◌, ◌*◌, ◌<◌, ◌≤◌, ◌^◌, ℕ, IfSome, IfOk, Option, Some, List, length, slice_index};
+ghost use Rattle.std.specs.Prelude.{◌≡◌, ◌+◌, ◌*◌, ◌<◌, ◌≤◌, ◌^◌, ℕ, IfSome, IfOk, Option, Some, None, List, length, slice_index};
 ghost use Rattle.shape_terms.specs.Rows.{cell};
 ghost use Rattle.shape_dist.specs.declared.found.Found.{Found};
 ghost use Rattle.shape_dist.specs.Spreads.{found, moved, square_in, AreSmall, IsSpreadAt};
@@ -9,6 +9,9 @@ use shape_envelope::envelope;
 use shape_space::{NoMemory, Row, Steps};
 use std::alloc::Global;
 use std::sync::ledger::Ledger;
+
+// The cells of a line that is no longer than this are compared with each other, for less than it costs to build its envelope.
+const SHORT: usize = 8;
 
 // The cells of a line, in order.
 fn line_of(
@@ -75,6 +78,51 @@ fn move_by(o: Option<Found>, x: u32, y: u32) -> Option<Found>
     }
 }
 
+// The lesser of two cells, and the later one where both have the same square.
+fn lesser(o: Option<Found>, later: Option<Found>) -> Option<Found>
+    ensures first { o ≡ None → result ≡ later }
+    ensures none { later ≡ None → result ≡ o }
+    ensures old { (f g : Found) → o ≡ Some f → later ≡ Some g → f.s < g.s → result ≡ Some f }
+    ensures new { (f g : Found) → o ≡ Some f → later ≡ Some g → g.s ≤ f.s → result ≡ Some g }
+{
+    match (o, later) {
+        (Some(f), Some(g)) if f.s < g.s => o,
+        (_, Some(_)) => later,
+        (_, None) => o,
+    }
+}
+
+// The least of what the cells of a line give its place x, by a look at each.
+fn least_of(line: &[Option<Found>], x: u32) -> Option<Found>
+    requires x_near { x < 4096 }
+    requires near { length line.now ≤ 4096 }
+    requires small { AreSmall line.now }
+    ensures { IsSpreadAt (found line.now) (length line.now) x result }
+{
+    let mut least = None;
+    for y in 0..line.len() {
+        least = lesser(least, move_by(line[y], x, y as u32));
+    }
+    least
+}
+
+// Gives each place of a short line the least of what its cells give it.
+fn store_least(cells: &mut [Option<Found>], base: usize, step: usize, line: &[Option<Found>])
+    requires apart { 0 < step }
+    requires inside { (y : ℕ) → y < length line.now → base + y * step < length cells.old }
+    requires few { length cells.old < 2 ^ 32 }
+    requires near { length line.now ≤ 4096 }
+    requires small { AreSmall line.now }
+    ensures on_line { (x : ℕ) → x < length line.now
+        → IsSpreadAt (found line.now) (length line.now) x (found cells.new (base + x * step)) }
+    ensures others { (i : ℕ) → ((x : ℕ) → x < length line.now → i ≡ base + x * step → ⊥)
+        → found cells.new i ≡ found cells.old i }
+{
+    for x in 0..line.len() {
+        cells[base + x * step] = least_of(line, x as u32);
+    }
+}
+
 // Gives each place of a line what the cell at its lowest place gives it.
 fn store(cells: &mut [Option<Found>], base: usize, step: usize, line: &[Option<Found>], out: &[u32])
     requires apart { 0 < step }
@@ -119,6 +167,10 @@ fn spread_copy<L: Ledger>(
         → ((x : ℕ) → x < length line.now → i ≡ base + x * step → ⊥)
         → found cells.new i ≡ found cells.old i) }
 {
+    if line.len() <= SHORT {
+        store_least(cells, base, step, line);
+        return Ok(());
+    }
     let row = row_of(alloc, line)?;
     let mut out = vec![in alloc; 0u32; line.len()]?;
     if !envelope(alloc, &row, &mut out, steps)? {

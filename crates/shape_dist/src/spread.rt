@@ -1,10 +1,10 @@
 //! One axis: along each of its lines the cells spread, part by part.
 //! A bare place, which has the square 0, stays as it is, and hides the places behind it: parts end at bare places.
-ghost use Rattle.std.specs.Prelude.{◌≡◌, ◌+◌, ◌*◌, ◌<◌, ◌≤◌, ◌^◌, ◌↔◌, ℕ, IsTrue, IfOk, Some, List, length};
+ghost use Rattle.std.specs.Prelude.{◌≡◌, ◌+◌, ◌*◌, ◌<◌, ◌≤◌, ◌^◌, ℕ, IfOk, Some, List, length};
 ghost use Rattle.shape_dist.specs.declared.found.Found.{Found};
 ghost use Rattle.shape_dist.specs.Spreads.{found, square_in, AreSmall, IsSpreadAt, HasSpread};
 
-use crate::found::Found;
+use crate::found::{Found, is_bare};
 use crate::part::spread_part;
 use shape_envelope::{line_count, line_start};
 use shape_space::{NoMemory, Steps};
@@ -13,16 +13,6 @@ use std::sync::ledger::Ledger;
 
 // So many bare places in a row end a part of a line. To take in fewer of them costs less than to begin another part.
 const REST: u32 = 4;
-
-// Whether a cell holds the square 0.
-fn is_bare(o: Option<Found>) -> bool
-    ensures { IsTrue result ↔ (square_in o ≡ Some 0) }
-{
-    match o {
-        Some(f) => f.s == 0,
-        None => false,
-    }
-}
 
 // The end of the part of a line that goes on at x: a bare place, or the end of the line.
 fn part_end(cells: &[Option<Found>], base: usize, step: usize, n: u32, x: u32) -> u32
