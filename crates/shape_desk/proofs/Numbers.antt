@@ -14,7 +14,7 @@ use Rattle.std.proofs.lemmas.Bool.{cases_lt}
 use Rattle.std.proofs.lemmas.List.{drop_more, length-take, length-drop, take_min, get_or-take}
 use Rattle.std.specs.List.{prefix_len}
 use borrow.Author.Tests.{ne_eqb}
-use Rattle.shape_desk.specs.Number.{number_front, HasNoLeadingZero, IsSizeOf, SpellsNumber}
+use Rattle.shape_desk.specs.Number.{number_front, HasNoLeadingZero, IsSizeOf, IsRunSoFar, SpellsNumber}
 
 -- ---- the run of digits
 
@@ -131,11 +131,6 @@ none_above ds m most f g s n l e =
 
 -- ---- the run, digit by digit
 
--- the first i bytes are digits, and m is told of them
-pub record IsRunSoFar (bytes : List ℕ) (i m : ℕ) : Type 0 where
-  pub within : i ≤ prefix_len is_ascii_digit bytes
-  pub size : IsSizeOf (digits_value 10 (take_while is_ascii_digit bytes)) (digits_value_after 10 m (drop i (take_while is_ascii_digit bytes)))
-
 length_run : (bs : List ℕ) → length (take_while is_ascii_digit bs) ≡ prefix_len is_ascii_digit bs
 length_run bs = omega (arith, length-take (prefix_len is_ascii_digit bs) bs, prefix_len-le-length is_ascii_digit bs)
 
@@ -197,6 +192,13 @@ run_ends bs i m l f r =
       | inr h ↦ omega (arith, r.within)
     ] in
     (e ∙ sym (length_run bs), run_done bs i m e r)
+
+-- where the bytes end, too
+pub run_whole : (bs : List ℕ) (i m : ℕ) → length bs ≤ i → IsRunSoFar bs i m → (i ≡ length (take_while is_ascii_digit bs)) × (length bs ≡ i) × IsSizeOf (digits_value 10 (take_while is_ascii_digit bs)) m
+run_whole bs i m l r =
+    let w = prefix_len-le-length is_ascii_digit bs in
+    let e : i ≡ prefix_len is_ascii_digit bs = omega (arith, r.within) in
+    (e ∙ sym (length_run bs), omega (arith, r.within), run_done bs i m e r)
 
 -- digits of the number 0 are those of no other
 pub none_zero : (ds : List ℕ) (size : ℕ) → size ≤ 2 ^ 63 → ds ≡ decimal size → size ≡ 0 → (n : ℕ) → 0 < n → n ≤ 2 ^ 63 → ds ≢ decimal n
