@@ -72,6 +72,7 @@ fn run_of(bytes: &[u8]) -> Run
 }
 
 // Whether there are digits at the front, and the first of several is not 0.
+#[inline(always)]
 fn has_no_leading_zero(bytes: &[u8]) -> bool
     ensures { IsTrue result ↔ HasNoLeadingZero (take_while is_ascii_digit bytes.now) }
 {
