@@ -1,5 +1,5 @@
 use Rattle.std.proofs.Common.{◌<◌, length, sym, ◌∙◌, arith}
-use Rattle.shape_desk.proofs.Numbers.{run_more, run_ends, run_whole, run_begun}
+use Rattle.shape_desk.proofs.Numbers.{run_more, run_ends, run_begun}
 use Rattle.shape_desk.proofs.number.run_of.Goals as goal
 
 pub returns-then-not-is_ascii_digit-clause-len : goal.returns-then-not-is_ascii_digit-clause-len
