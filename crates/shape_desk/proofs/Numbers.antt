@@ -193,13 +193,6 @@ run_ends bs i m l f r =
     ] in
     (e ∙ sym (length_run bs), run_done bs i m e r)
 
--- where the bytes end, too
-pub run_whole : (bs : List ℕ) (i m : ℕ) → length bs ≤ i → IsRunSoFar bs i m → (i ≡ length (take_while is_ascii_digit bs)) × (length bs ≡ i) × IsSizeOf (digits_value 10 (take_while is_ascii_digit bs)) m
-run_whole bs i m l r =
-    let w = prefix_len-le-length is_ascii_digit bs in
-    let e : i ≡ prefix_len is_ascii_digit bs = omega (arith, r.within) in
-    (e ∙ sym (length_run bs), omega (arith, r.within), run_done bs i m e r)
-
 -- digits of the number 0 are those of no other
 pub none_zero : (ds : List ℕ) (size : ℕ) → size ≤ 2 ^ 63 → ds ≡ decimal size → size ≡ 0 → (n : ℕ) → 0 < n → n ≤ 2 ^ 63 → ds ≢ decimal n
 none_zero ds size f e z n some l d = omega (arith, decimal_injective size n (omega arith) (omega arith) (sym e ∙ d))
