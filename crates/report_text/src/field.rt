@@ -10,6 +10,7 @@ use crate::words::Words;
 use shape_space::Point;
 
 /// Reads a coordinate.
+#[inline(always)]
 pub fn coordinate(words: &mut Words) -> Option<i32>
     ensures { ReadsForm (λ z. z) (signed w32 31) words.old words.new result }
 {
@@ -17,6 +18,7 @@ pub fn coordinate(words: &mut Words) -> Option<i32>
 }
 
 /// Reads a count.
+#[inline(always)]
 pub fn count(words: &mut Words) -> Option<u32>
     ensures { ReadsForm (λ n. n) count words.old words.new result }
 {
@@ -35,6 +37,7 @@ pub fn side(words: &mut Words) -> Option<u8>
 }
 
 /// Reads a weight or a squared distance.
+#[inline(always)]
 pub fn weight(words: &mut Words) -> Option<u64>
     ensures { ReadsForm (λ n. n) weight words.old words.new result }
 {
@@ -92,6 +95,7 @@ pub fn solid_coefficients(words: &mut Words) -> Option<[i64; 3]>
 }
 
 /// Reads the coordinates of a point.
+#[inline(always)]
 pub fn point<P: Point>(words: &mut Words) -> Option<P>
     ensures { ReadsForm P.coords (point P.DIM) words.old words.new result }
 {

@@ -14,7 +14,7 @@ use Rattle.std.proofs.lemmas.Bool.{cases_lt}
 use Rattle.std.proofs.lemmas.List.{drop_more, length-take, length-drop, take_min, get_or-take}
 use Rattle.std.specs.List.{prefix_len}
 use borrow.Author.Tests.{ne_eqb}
-use Rattle.shape_desk.specs.Number.{number_front, HasNoLeadingZero, IsSizeOf, SpellsNumber}
+use Rattle.shape_desk.specs.Number.{number_front, HasNoLeadingZero, IsSizeOf, IsRunSoFar, SpellsNumber}
 
 -- ---- the run of digits
 
@@ -130,11 +130,6 @@ none_above ds m most f g s n l e =
     omega (arith, s.same (omega arith))
 
 -- ---- the run, digit by digit
-
--- the first i bytes are digits, and m is told of them
-pub record IsRunSoFar (bytes : List ℕ) (i m : ℕ) : Type 0 where
-  pub within : i ≤ prefix_len is_ascii_digit bytes
-  pub size : IsSizeOf (digits_value 10 (take_while is_ascii_digit bytes)) (digits_value_after 10 m (drop i (take_while is_ascii_digit bytes)))
 
 length_run : (bs : List ℕ) → length (take_while is_ascii_digit bs) ≡ prefix_len is_ascii_digit bs
 length_run bs = omega (arith, length-take (prefix_len is_ascii_digit bs) bs, prefix_len-le-length is_ascii_digit bs)

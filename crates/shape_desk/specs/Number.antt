@@ -1,7 +1,9 @@
 -- Decimal numbers at the front of bytes: an optional minus sign and digits.
-use Rattle.std.specs.Prelude.{◌≡◌, ◌≢◌, ◌==◌, ◌<◌, ◌≤◌, ◌^◌, ℕ, false, List, [], ◌∷◌, length, get_or, take, take_while, if◌then◌else◌, Option, None, Some, ℤ, FitsSigned}
+use Rattle.std.specs.Prelude.{◌≡◌, ◌≢◌, ◌==◌, ◌<◌, ◌≤◌, ◌^◌, ℕ, false, List, [], ◌∷◌, length, get_or, take, drop, take_while, if◌then◌else◌, Option, None, Some, ℤ, FitsSigned}
 use Rattle.std.specs.Int.{w64}
 use Rattle.std.specs.Char.{is_ascii_digit}
+use Rattle.std.specs.List.{prefix_len}
+use Rattle.std.specs.Str.Parse.{digits_value_after, digits_value}
 use Rattle.std.specs.Fmt.{decimal, signed_decimal}
 
 -- the front that is read: a minus sign, if one stands first, and the longest run of digits
@@ -17,6 +19,11 @@ HasNoLeadingZero ds = (0 < length ds) × (get_or ds 0 0 ≡ 48 → length ds ≡
 pub record IsSizeOf (n m : ℕ) : Type 0 where
   pub same : n ≤ 2 ^ 63 → m ≡ n
   pub great : 2 ^ 63 < n → 2 ^ 63 < m
+
+-- the first i bytes are digits, and m is told of them: with the digits behind them it tells the size of the whole run
+pub record IsRunSoFar (bytes : List ℕ) (i m : ℕ) : Type 0 where
+  pub within : i ≤ prefix_len is_ascii_digit bytes
+  pub size : IsSizeOf (digits_value 10 (take_while is_ascii_digit bytes)) (digits_value_after 10 m (drop i (take_while is_ascii_digit bytes)))
 
 -- the longest run of digits at the front of bytes has this length, and is the spelling of n, which is at most 2 ^ 63
 pub record IsSpelledRun (bytes : List ℕ) (count n : ℕ) : Type 0 where

@@ -3,10 +3,13 @@
 ghost use Rattle.std.specs.Prelude.{◌≡◌, ◌≢◌, ◌↔◌, IsTrue, ◌≤◌, ◌<◌, ◌^◌, ◌+◌, ◌-◌, ◌*◌, ℕ, true, ◌∷◌, negsuc, length, get_or, take_while, decimal, MatchOption};
 ghost use Rattle.std.specs.Char.{is_ascii_digit};
 ghost use Rattle.std.specs.Str.Parse.{digits_value};
-ghost use Rattle.shape_desk.specs.Number.{ReadsNumber, HasNoLeadingZero, IsSizeOf, IsSpelledRun};
+ghost use Rattle.shape_desk.specs.Number.{ReadsNumber, HasNoLeadingZero, IsSizeOf, IsRunSoFar, IsSpelledRun};
 
 /// The greatest size of a negative number of 64 bits.
 const MAX_SIZE: u64 = 1 << 63;
+
+/// The number of digits past those of a short run.
+const SHORT: usize = 4;
 
 // The longest run of digits at the front of bytes: how many, and their value where it is at most 2 ^ 63, and else any greater number.
 #[derive(Clone, Copy)]
@@ -28,14 +31,15 @@ fn next_value(value: u64, digit: u8) -> u64
     }
 }
 
-// The run of digits at the front, whose first byte is a digit, in one look at its bytes.
-fn run_of(bytes: &[u8]) -> Run
-    requires { 0 < length (take_while is_ascii_digit bytes.now) }
+// The run of digits at the front, of which those up to a place were read.
+#[inline(never)]
+fn longer_run(bytes: &[u8], from: usize, begun: u64) -> Run
+    requires { IsRunSoFar bytes.now from begun }
     ensures len { result.len ≡ length (take_while is_ascii_digit bytes.now) }
     ensures value { IsSizeOf (digits_value 10 (take_while is_ascii_digit bytes.now)) result.value }
 {
-    let mut value = u64::from(bytes[0] - b'0');
-    for i in 1..bytes.len() {
+    let mut value = begun;
+    for i in from..bytes.len() {
         if !bytes[i].is_ascii_digit() {
             return Run { len: i, value };
         }
@@ -47,7 +51,28 @@ fn run_of(bytes: &[u8]) -> Run
     }
 }
 
+// The run of digits at the front, whose first byte is a digit, in one look at its bytes. Few runs are not short.
+#[inline(always)]
+fn run_of(bytes: &[u8]) -> Run
+    requires { 0 < length (take_while is_ascii_digit bytes.now) }
+    ensures len { result.len ≡ length (take_while is_ascii_digit bytes.now) }
+    ensures value { IsSizeOf (digits_value 10 (take_while is_ascii_digit bytes.now)) result.value }
+{
+    let mut value = u64::from(bytes[0] - b'0');
+    for i in 1..SHORT {
+        if i >= bytes.len() {
+            return Run { len: i, value };
+        }
+        if !bytes[i].is_ascii_digit() {
+            return Run { len: i, value };
+        }
+        value = next_value(value, bytes[i]);
+    }
+    longer_run(bytes, SHORT, value)
+}
+
 // Whether there are digits at the front, and the first of several is not 0.
+#[inline(always)]
 fn has_no_leading_zero(bytes: &[u8]) -> bool
     ensures { IsTrue result ↔ HasNoLeadingZero (take_while is_ascii_digit bytes.now) }
 {
@@ -59,6 +84,7 @@ fn has_no_leading_zero(bytes: &[u8]) -> bool
 }
 
 // The run of digits at the front, where it is the spelling of a number up to a greatest one.
+#[inline(always)]
 fn size_of(bytes: &[u8], greatest: u64) -> Option<Run>
     requires { greatest ≤ 2 ^ 63 }
     ensures { MatchOption result
@@ -86,6 +112,7 @@ fn negative(size: u64) -> i64
 }
 
 // Reads a number whose minus sign stands before these bytes.
+#[inline(never)]
 fn read_negative(bytes: &[u8]) -> Option<(i64, usize)>
     ensures { ReadsNumber (45 ∷ bytes.now) result }
 {
@@ -100,6 +127,7 @@ fn read_negative(bytes: &[u8]) -> Option<(i64, usize)>
 }
 
 // Reads a number that has no sign.
+#[inline(always)]
 fn read_unsigned(bytes: &[u8]) -> Option<(i64, usize)>
     requires { get_or bytes.now 0 0 ≢ 45 }
     ensures { ReadsNumber bytes.now result }

@@ -1,10 +1,12 @@
 -- From the words of a line to its bytes, and back.
 -- Laws for all lines at once; what the words of a kind are, its form says.
-use Rattle.std.proofs.Common.{◌≡◌, ◌≢◌, ℕ, ℤ, Option, Some, None, List, refl, sym, ap, ◌∙◌}
+use Rattle.std.proofs.Common.{◌≡◌, ◌≢◌, ℕ, ℤ, Option, Some, None, List, ◌∷◌, refl, sym, ap, ◌∙◌}
 use Rattle.std.specs.Prelude.{MatchOption}
 use Rattle.std.specs.List.{join_with_byte}
+use Rattle.std.specs.Option.{option_and_then}
+use Rattle.text_terms.specs.Tables.{all_read, kind_among, read_kind, read_line}
 use Rattle.text_terms.proofs.TableLaws.{read_only, read_none}
-use Rattle.report_terms.specs.Kinds.{first_word, form_of, table}
+use Rattle.report_terms.specs.Kinds.{Kind, kinds, first_word, form_of, table}
 use Rattle.report_terms.specs.Lines as Terms
 use Rattle.report_terms.specs.Lines.{split, axes_of, IsLineOf, line_words, spelling}
 use Rattle.report_terms.proofs.LineLaws.{is_table}
@@ -17,7 +19,7 @@ use Rattle.shape_refute.specs.declared.refusal.Refusal.{Refusal}
 use Rattle.shape_refute.specs.declared.refusal.Refusal.TheVariants.{Turned, Cut}
 use Rattle.shape_report.specs.declared.line.Line.{Line}
 use Rattle.shape_report.specs.LineOf.{line_of}
-use Rattle.shape_report.specs.Reading.{HasNoThird, ReadsLine}
+use Rattle.shape_report.specs.Reading.{HasNoThird, ReadsKind, ReadsFields, ReadsLine}
 use Rattle.shape_report.specs.Spelling.{split_text}
 
 -- the text of a line's words is its spelling
@@ -35,6 +37,20 @@ gap_text d t (Cut why) = refl
 
 split_spelling : (d : ℕ) (l : Terms.Line) → IsLineOf d l → split_words (spelling l) ≡ line_words l
 split_spelling d l a = split_words-join (first_word (split l).kind) ((form_of (axes_of l) (split l).kind).words (split l).fields) (words_of_line d l a)
+
+-- the fields behind the first word are those of its kind
+pub of_kind : {P : Type 0} (d : ℕ) (coords : P → List ℤ) (k : Kind) (word : List ℕ) (words : List (List ℕ)) (r : Option (Line P)) → word ≡ first_word k → ReadsKind d coords k words r → ReadsFields d coords word words r
+of_kind d coords k word words None e h =
+    let f = ap (λ w. kind_among first_word kinds w) e ∙ (is_table d).again k in
+    ap (λ o. all_read (option_and_then (λ j. read_kind (table d) j words) o)) f ∙ h
+of_kind d coords k word words (Some line) e h =
+    let f = ap (λ w. kind_among first_word kinds w) e ∙ (is_table d).again k in
+    (ap (λ o. option_and_then (λ j. read_kind (table d) j words) o) f ∙ h.0, h.1)
+
+-- a line is its first word and the fields behind it
+pub of_fields : {P : Type 0} (d : ℕ) (coords : P → List ℤ) (words : List (List ℕ)) (word : List ℕ) (left : List (List ℕ)) (r : Option (Line P)) → words ≡ word ∷ left → ReadsFields d coords word left r → ReadsLine d coords words r
+of_fields d coords words word left None e h = ap (λ ws. read_line (table d) ws) e ∙ h
+of_fields d coords words word left (Some line) e h = (ap (λ ws. read_line (table d) ws) e ∙ ap all_read h.0, h.1)
 
 -- a line has the words of a text exactly where it has its bytes
 pub from_words : {P : Type 0} (d : ℕ) (coords : P → List ℤ) (bytes : List ℕ) (r : Option (Line P)) → ReadsLine d coords (split_words bytes) r

@@ -1,11 +1,13 @@
 -- What reading the words of a line answers: what its form reads.
 -- One field is told in `report_text`; here stand a line's fields and a whole line, each answer for both outcomes.
 use Rattle.std.specs.Prelude.{◌≡◌, ℕ, ℤ, pos, List, [], ◌∷◌, drop, Option, None, Some}
-use Rattle.text_terms.specs.Tables.{read_kind, read_fields, read_line}
-use Rattle.report_terms.specs.Kinds.{Kind, table}
+use Rattle.text_terms.specs.Tables.{all_read, read_kind, read_fields, read_line}
+use Rattle.report_terms.specs.Kinds.{Kind, Split, first_word, table}
 use Rattle.report_terms.specs.Lines.{split}
 use Rattle.shape_report.specs.declared.line.Line.{Line}
 use Rattle.shape_report.specs.declared.line.Line.TheVariants.{Seg}
+use Rattle.shape_report.specs.declared.read.Frequent.{Frequent}
+use Rattle.shape_report.specs.declared.read.Frequent.TheVariants.{Near, At, On, Del, Other}
 use Rattle.shape_report.specs.LineOf.{line_of}
 
 -- a line of the plane has 0 for its third coefficient
@@ -13,15 +15,28 @@ abbrev pub HasNoThird : {P : Type 0} → Line P → Type 0
 HasNoThird (Seg b e n) = drop 2 n.a ≡ pos 0 ∷ []
 HasNoThird _ = Unit {0}
 
--- what reading the fields of a kind of line answers
-abbrev pub ReadsKind : {P : Type 0} → ℕ → (P → List ℤ) → Kind → (old new : List (List ℕ)) → Option (Line P) → Type 0
-ReadsKind d coords k old new None = read_kind (table d) k old ≡ None
-ReadsKind d coords k old new (Some l) = (read_kind (table d) k old ≡ Some (split (line_of coords l), new)) × HasNoThird l
+-- the word is the first one of a line of this kind, where the kind is told
+abbrev pub IsFrequent : List ℕ → Frequent → Type 0
+IsFrequent word Near = word ≡ first_word Kind.Near
+IsFrequent word At = word ≡ first_word Kind.At
+IsFrequent word On = word ≡ first_word Kind.On
+IsFrequent word Del = word ≡ first_word Kind.Del
+IsFrequent word Other = Unit {0}
 
--- what reading the fields behind a first word answers
-abbrev pub ReadsFields : {P : Type 0} → ℕ → (P → List ℤ) → List ℕ → (old new : List (List ℕ)) → Option (Line P) → Type 0
-ReadsFields d coords word old new None = read_fields (table d) word old ≡ None
-ReadsFields d coords word old new (Some l) = (read_fields (table d) word old ≡ Some (split (line_of coords l), new)) × HasNoThird l
+-- what reading the fields of a kind of line answers, where they are all words that are left
+abbrev pub ReadsKind : {P : Type 0} → ℕ → (P → List ℤ) → Kind → (words : List (List ℕ)) → Option (Line P) → Type 0
+ReadsKind d coords k words None = all_read (read_kind (table d) k words) ≡ None
+ReadsKind d coords k words (Some l) = (read_kind (table d) k words ≡ Some (split (line_of coords l), [])) × HasNoThird l
+
+-- what reading the words behind a first one answers
+abbrev pub ReadsFields : {P : Type 0} → ℕ → (P → List ℤ) → List ℕ → (words : List (List ℕ)) → Option (Line P) → Type 0
+ReadsFields d coords word words None = all_read (read_fields (table d) word words) ≡ None
+ReadsFields d coords word words (Some l) = (read_fields (table d) word words ≡ Some (split (line_of coords l), [])) × HasNoThird l
+
+-- whether no word is left: where some are, no value that was read before them is the whole line
+abbrev pub ReadsEnd : (words : List (List ℕ)) → Option (Unit {0}) → Type 0
+ReadsEnd words None = (s : Split) → all_read (Some (s, words)) ≡ None
+ReadsEnd words (Some _) = words ≡ []
 
 -- what reading a line answers
 abbrev pub ReadsLine : {P : Type 0} → ℕ → (P → List ℤ) → List (List ℕ) → Option (Line P) → Type 0

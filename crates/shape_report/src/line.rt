@@ -3,7 +3,7 @@
 ghost use Rattle.std.specs.Prelude.{◌≡◌};
 ghost use Rattle.report_terms.specs.Sections.{rank, section_of};
 
-use crate::read::line;
+use crate::read::{Frequent, at, del, fields, near, on, told_by};
 use crate::spell::spell;
 use report_text::{ReportLine, Text, Words};
 use shape_refute::{Bounds, Naive, Refusal, Refutation, Sense};
@@ -159,8 +159,19 @@ impl<P: Point> ReportLine for Line<P> {
 
     ghost last = { Terms.Line.End };
 
+    // A line of a kind of which reports have most lines is put right where it is wanted, and not copied on the way.
     fn read(bytes: &[u8]) -> Option<Line<P>> {
-        line(&mut Words::new(bytes))
+        let mut words = Words::new(bytes);
+        let word = words.next_word()?;
+        match told_by(word) {
+            Frequent::Near => return near(&mut words),
+            Frequent::At => return at(&mut words),
+            Frequent::On => return on(&mut words),
+            Frequent::Del => return del(&mut words),
+            Frequent::Other => (),
+        }
+        let line = fields(word, &mut words);
+        line
     }
 
     fn spell(&self, text: &mut Text) {

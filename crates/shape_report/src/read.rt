@@ -5,7 +5,7 @@ ghost use Rattle.report_terms.specs.Kinds.{Kind};
 ghost use Rattle.report_terms.specs.Lines as Terms;
 ghost use Rattle.report_terms.specs.Lines.{IsLineOf, spelling};
 ghost use Rattle.shape_report.specs.LineOf.{line_of};
-ghost use Rattle.shape_report.specs.Reading.{HasNoThird, ReadsKind, ReadsFields, ReadsLine};
+ghost use Rattle.shape_report.specs.Reading.{HasNoThird, IsFrequent, ReadsEnd, ReadsKind, ReadsFields};
 
 use crate::field::{name, number, sense};
 use crate::line::Line;
@@ -17,14 +17,23 @@ use report_text::{Words, kind, read_why};
 use shape_refute::{Bounds, Naive, Refusal, Turn};
 use shape_space::Point;
 
+// Whether no word is left, as a unit where that is so.
+#[inline(always)]
+fn end_of(words: &Words) -> Option<()>
+    ensures { ReadsEnd words.now result }
+{
+    words.end()
+}
+
 // Reads the fields of a `shape` line.
 fn shape<P: Point>(words: &mut Words) -> Option<Line<P>>
-    ensures { ReadsKind P.DIM P.coords Kind.Shape words.old words.new result }
+    ensures { ReadsKind P.DIM P.coords Kind.Shape words.old result }
 {
     let number = number::<P>(words)?;
     words.skip(kind::<P>())?;
     let sides = point(words)?;
     let rule = name(words)?;
+    end_of(words)?;
     Some(Line::Shape {
         number,
         sides,
@@ -34,11 +43,12 @@ fn shape<P: Point>(words: &mut Words) -> Option<Line<P>>
 
 // Reads the fields of a `parts` line.
 fn parts<P: Point>(words: &mut Words) -> Option<Line<P>>
-    ensures { ReadsKind P.DIM P.coords Kind.Parts words.old words.new result }
+    ensures { ReadsKind P.DIM P.coords Kind.Parts words.old result }
 {
     let points = count(words)?;
     let object = count(words)?;
     let background = count(words)?;
+    end_of(words)?;
     Some(Line::Parts {
         points,
         object,
@@ -47,18 +57,20 @@ fn parts<P: Point>(words: &mut Words) -> Option<Line<P>>
 }
 
 // Reads the fields of a `near` line.
-fn near<P: Point>(words: &mut Words) -> Option<Line<P>>
-    ensures { ReadsKind P.DIM P.coords Kind.Near words.old words.new result }
+#[inline(always)]
+pub(crate) fn near<P: Point>(words: &mut Words) -> Option<Line<P>>
+    ensures { ReadsKind P.DIM P.coords Kind.Near words.old result }
 {
     let p = point(words)?;
     let q = point(words)?;
     let s = weight(words)?;
+    end_of(words)?;
     Some(Line::Near { p, q, s })
 }
 
 // Reads the fields of a `contour` line. It is a line of flat pictures alone.
 fn contour<P: Point>(words: &mut Words) -> Option<Line<P>>
-    ensures { ReadsKind P.DIM P.coords Kind.Contour words.old words.new result }
+    ensures { ReadsKind P.DIM P.coords Kind.Contour words.old result }
 {
     if P::DIM != 2 {
         return None;
@@ -67,6 +79,7 @@ fn contour<P: Point>(words: &mut Words) -> Option<Line<P>>
     let side = side(words)?;
     let points = count(words)?;
     let segments = count(words)?;
+    end_of(words)?;
     Some(Line::Contour {
         p,
         side,
@@ -76,19 +89,21 @@ fn contour<P: Point>(words: &mut Words) -> Option<Line<P>>
 }
 
 // Reads the fields of an `at` line. It is a line of flat pictures alone.
-fn at<P: Point>(words: &mut Words) -> Option<Line<P>>
-    ensures { ReadsKind P.DIM P.coords Kind.At words.old words.new result }
+#[inline(always)]
+pub(crate) fn at<P: Point>(words: &mut Words) -> Option<Line<P>>
+    ensures { ReadsKind P.DIM P.coords Kind.At words.old result }
 {
     if P::DIM != 2 {
         return None;
     }
     let p = point(words)?;
+    end_of(words)?;
     Some(Line::At { p })
 }
 
 // Reads the fields of a `seg` line. It is a line of flat pictures alone.
 fn seg<P: Point>(words: &mut Words) -> Option<Line<P>>
-    ensures { ReadsKind P.DIM P.coords Kind.Seg words.old words.new result }
+    ensures { ReadsKind P.DIM P.coords Kind.Seg words.old result }
 {
     if P::DIM != 2 {
         return None;
@@ -98,6 +113,7 @@ fn seg<P: Point>(words: &mut Words) -> Option<Line<P>>
     let axis = flat_axis(words)?;
     let a = flat_coefficients(words)?;
     let mu = signed(words)?;
+    end_of(words)?;
     Some(Line::Seg {
         first,
         last,
@@ -107,7 +123,7 @@ fn seg<P: Point>(words: &mut Words) -> Option<Line<P>>
 
 // Reads the fields of a `least` line. It is a line of flat pictures alone.
 fn least<P: Point>(words: &mut Words) -> Option<Line<P>>
-    ensures { ReadsKind P.DIM P.coords Kind.Least words.old words.new result }
+    ensures { ReadsKind P.DIM P.coords Kind.Least words.old result }
 {
     if P::DIM != 2 {
         return None;
@@ -122,12 +138,13 @@ fn least<P: Point>(words: &mut Words) -> Option<Line<P>>
         low2,
         high2,
     };
+    end_of(words)?;
     Some(Line::Least { bounds })
 }
 
 // Reads the fields of a `turn` line. It is a line of flat pictures alone.
 fn turn<P: Point>(words: &mut Words) -> Option<Line<P>>
-    ensures { ReadsKind P.DIM P.coords Kind.Turn words.old words.new result }
+    ensures { ReadsKind P.DIM P.coords Kind.Turn words.old result }
 {
     if P::DIM != 2 {
         return None;
@@ -136,12 +153,13 @@ fn turn<P: Point>(words: &mut Words) -> Option<Line<P>>
     let i = count(words)?;
     let j = count(words)?;
     let refusal = Refusal::Turned(Turn { i, j });
+    end_of(words)?;
     Some(Line::Gap { axis, refusal })
 }
 
 // Reads the fields of a `cut` line. It is a line of flat pictures alone.
 fn cut<P: Point>(words: &mut Words) -> Option<Line<P>>
-    ensures { ReadsKind P.DIM P.coords Kind.Cut words.old words.new result }
+    ensures { ReadsKind P.DIM P.coords Kind.Cut words.old result }
 {
     if P::DIM != 2 {
         return None;
@@ -149,12 +167,13 @@ fn cut<P: Point>(words: &mut Words) -> Option<Line<P>>
     let axis = flat_axis(words)?;
     let why = read_why(words, 2)?;
     let refusal = Refusal::Cut(why);
+    end_of(words)?;
     Some(Line::Gap { axis, refusal })
 }
 
 // Reads the fields of a `face` line. It is a line of volumes alone.
 fn face<P: Point>(words: &mut Words) -> Option<Line<P>>
-    ensures { ReadsKind P.DIM P.coords Kind.Face words.old words.new result }
+    ensures { ReadsKind P.DIM P.coords Kind.Face words.old result }
 {
     if P::DIM != 3 {
         return None;
@@ -162,6 +181,7 @@ fn face<P: Point>(words: &mut Words) -> Option<Line<P>>
     let axis = solid_axis(words)?;
     let sense = sense(words)?;
     let points = count(words)?;
+    end_of(words)?;
     Some(Line::Face {
         axis,
         sense,
@@ -171,7 +191,7 @@ fn face<P: Point>(words: &mut Words) -> Option<Line<P>>
 
 // Reads the fields of a `patch` line. It is a line of volumes alone.
 fn patch<P: Point>(words: &mut Words) -> Option<Line<P>>
-    ensures { ReadsKind P.DIM P.coords Kind.Patch words.old words.new result }
+    ensures { ReadsKind P.DIM P.coords Kind.Patch words.old result }
 {
     if P::DIM != 3 {
         return None;
@@ -179,55 +199,63 @@ fn patch<P: Point>(words: &mut Words) -> Option<Line<P>>
     let points = count(words)?;
     let a = solid_coefficients(words)?;
     let mu = signed(words)?;
+    end_of(words)?;
     Some(Line::Patch { points, a, mu })
 }
 
 // Reads the fields of an `on` line. It is a line of volumes alone.
-fn on<P: Point>(words: &mut Words) -> Option<Line<P>>
-    ensures { ReadsKind P.DIM P.coords Kind.On words.old words.new result }
+#[inline(always)]
+pub(crate) fn on<P: Point>(words: &mut Words) -> Option<Line<P>>
+    ensures { ReadsKind P.DIM P.coords Kind.On words.old result }
 {
     if P::DIM != 3 {
         return None;
     }
     let p = point(words)?;
+    end_of(words)?;
     Some(Line::On { p })
 }
 
 // Reads the fields of an `off` line. It is a line of volumes alone.
 fn off<P: Point>(words: &mut Words) -> Option<Line<P>>
-    ensures { ReadsKind P.DIM P.coords Kind.Off words.old words.new result }
+    ensures { ReadsKind P.DIM P.coords Kind.Off words.old result }
 {
     if P::DIM != 3 {
         return None;
     }
     let p = point(words)?;
     let why = read_why(words, 3)?;
+    end_of(words)?;
     Some(Line::Off { p, why })
 }
 
 // Reads the fields of a `del` line.
-fn del<P: Point>(words: &mut Words) -> Option<Line<P>>
-    ensures { ReadsKind P.DIM P.coords Kind.Del words.old words.new result }
+#[inline(always)]
+pub(crate) fn del<P: Point>(words: &mut Words) -> Option<Line<P>>
+    ensures { ReadsKind P.DIM P.coords Kind.Del words.old result }
 {
     let p = point(words)?;
+    end_of(words)?;
     Some(Line::Del { p })
 }
 
 // Reads the fields of a `tip` line.
 fn tip<P: Point>(words: &mut Words) -> Option<Line<P>>
-    ensures { ReadsKind P.DIM P.coords Kind.Tip words.old words.new result }
+    ensures { ReadsKind P.DIM P.coords Kind.Tip words.old result }
 {
     let p = point(words)?;
+    end_of(words)?;
     Some(Line::Tip { p })
 }
 
 // Reads the fields of a `kept` line.
 fn kept<P: Point>(words: &mut Words) -> Option<Line<P>>
-    ensures { ReadsKind P.DIM P.coords Kind.Kept words.old words.new result }
+    ensures { ReadsKind P.DIM P.coords Kind.Kept words.old result }
 {
     let points = count(words)?;
     let object = count(words)?;
     let background = count(words)?;
+    end_of(words)?;
     Some(Line::Kept {
         points,
         object,
@@ -235,9 +263,47 @@ fn kept<P: Point>(words: &mut Words) -> Option<Line<P>>
     })
 }
 
+// Reads the fields of an `end` line, which has none.
+fn end<P: Point>(words: &Words) -> Option<Line<P>>
+    ensures { ReadsKind P.DIM P.coords Kind.End words.now result }
+{
+    end_of(words)?;
+    Some(Line::End)
+}
+
+/// The kinds of which reports have most lines.
+#[derive(Clone, Copy)]
+pub(crate) enum Frequent {
+    /// A `near` line.
+    Near,
+    /// An `at` line.
+    At,
+    /// An `on` line.
+    On,
+    /// A `del` line.
+    Del,
+    /// A line of another kind, or none.
+    Other,
+}
+
+// The kind that a first word tells, where it is one of those of which reports have most lines.
+#[inline(always)]
+pub(crate) fn told_by(word: &[u8]) -> Frequent
+    ensures { IsFrequent word.now result }
+{
+    match word {
+        b"near" => Frequent::Near,
+        b"at" => Frequent::At,
+        b"on" => Frequent::On,
+        b"del" => Frequent::Del,
+        _ => Frequent::Other,
+    }
+}
+
 // Reads the fields of a line of any kind, whose first word is given.
+#[inline(never)]
 fn any<P: Point>(word: &[u8], words: &mut Words) -> Option<Line<P>>
-    ensures { ReadsFields P.DIM P.coords word.now words.old words.new result }
+    ensures { ReadsFields P.DIM P.coords word.now words.old result }
 {
     if word == b"shape".as_slice() {
         return shape(words);
@@ -288,14 +354,15 @@ fn any<P: Point>(word: &[u8], words: &mut Words) -> Option<Line<P>>
         return kept(words);
     }
     if word == b"end".as_slice() {
-        return Some(Line::End);
+        return end(words);
     }
     None
 }
 
 // The same, sooner for the kinds of which reports have most lines: a word is compared with all of theirs at once.
-fn fields<P: Point>(word: &[u8], words: &mut Words) -> Option<Line<P>>
-    ensures { ReadsFields P.DIM P.coords word.now words.old words.new result }
+#[inline(never)]
+pub(crate) fn fields<P: Point>(word: &[u8], words: &mut Words) -> Option<Line<P>>
+    ensures { ReadsFields P.DIM P.coords word.now words.old result }
 {
     match word {
         b"near" => near(words),
@@ -313,18 +380,6 @@ fn fields<P: Point>(word: &[u8], words: &mut Words) -> Option<Line<P>>
     }
 }
 
-// Reads the words of a line.
-pub(crate) fn line<P: Point>(words: &mut Words) -> Option<Line<P>>
-    ensures { ReadsLine P.DIM P.coords words.old result }
-{
-    let word = words.next_word()?;
-    let line = fields(word, words);
-    if line.is_some() && words.end().is_none() {
-        return None;
-    }
-    line
-}
-
 /// Reads a line of a report from its bytes without the LF, for pictures whose points are of type `P`.
 ///
 /// `None` exactly where no line has this spelling: an unknown first word, a word too few or too many, a blank too
@@ -335,5 +390,7 @@ pub fn read_claim<P: Point>(bytes: &[u8]) -> Option<Line<P>>
     ensures { MatchOption result ((l : Terms.Line) → IsLineOf P.DIM l → spelling l ≢ bytes.now)
         (λ l. IsLineOf P.DIM (line_of P.coords l) × (spelling (line_of P.coords l) ≡ bytes.now) × HasNoThird l) }
 {
-    line(&mut Words::new(bytes))
+    let mut words = Words::new(bytes);
+    let word = words.next_word()?;
+    fields(word, &mut words)
 }
