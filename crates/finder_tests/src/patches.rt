@@ -4,7 +4,7 @@ ghost use Rattle.std.specs.Prelude.{◌<◌};
 
 use crate::pictures::{of_marks, put_point};
 use shape_adj::Pairing;
-use shape_plane::{Patch, patches};
+use shape_plane::{Parting, Patch, patches};
 use shape_refute::{Refutation, Sense, holds, refutes};
 use shape_space::{P2, P3};
 use std::alloc::Global;
@@ -49,6 +49,18 @@ fn put_patch<P: Pairing>(text: &mut String, alloc: Global, patch: &Patch<P>) -> 
     Ok(text.push(';')?)
 }
 
+// All patches of a face, one after another, as a text. No more are taken than the face has points.
+fn text_of<P: Pairing>(alloc: Global, mut parting: Parting<P>) -> Result<String, Fail> {
+    let mut text = String::new(alloc);
+    for _ in 0..=parting.count() {
+        match parting.next_patch(alloc)? {
+            Some(patch) => put_patch(&mut text, alloc, &patch)?,
+            None => break,
+        }
+    }
+    Ok(text)
+}
+
 // A volume of 3 by 1 by 2, which has a valley from below.
 const VALLEY: &[u8] = b"#.#.#.";
 
@@ -57,12 +69,7 @@ fn told(alloc: Global, axis: usize, sense: Sense) -> Result<String, Fail>
     requires { axis < 3 }
 {
     let grid = of_marks(alloc, P3 { x: 3, y: 1, z: 2 }, VALLEY)?;
-    let found = patches(alloc, &grid, axis, sense)?;
-    let mut text = String::new(alloc);
-    for i in 0..found.len() {
-        put_patch(&mut text, alloc, found.patch(i))?;
-    }
-    Ok(text)
+    text_of(alloc, patches(alloc, &grid, axis, sense)?)
 }
 
 #[test]
@@ -76,11 +83,7 @@ fn patches_of_a_valley(rt: HostRuntime) -> Result<(), Fail> {
 #[test]
 fn an_arch_of_the_plane_is_two_patches(rt: HostRuntime) -> Result<(), Fail> {
     let grid = of_marks(rt.alloc(), P2 { x: 3, y: 2 }, b"#.#.#.")?;
-    let found = patches(rt.alloc(), &grid, 1, Sense::Plus)?;
-    let mut text = String::new(rt.alloc());
-    for i in 0..found.len() {
-        put_patch(&mut text, rt.alloc(), found.patch(i))?;
-    }
+    let text = text_of(rt.alloc(), patches(rt.alloc(), &grid, 1, Sense::Plus)?)?;
     assert!(rt; text.as_str() == " 0 0, 1 1, 2 0 refused,; 2 0,;");
     Ok(())
 }

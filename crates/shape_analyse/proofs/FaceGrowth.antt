@@ -1,24 +1,20 @@
 -- A report grows by the good lines of faces.
 -- One law for each kind of line that is added.
-use Rattle.std.proofs.Common.{◌≡◌, ◌⊎◌, inl, inr, ◌+◌, ◌-◌, ◌<◌, ◌≤◌, ℕ, zero, suc, ℤ, List, [], ◌∷◌, ◌++◌, length, map, take, drop, refl, sym, ap, ◌∙◌, subst, arith, Some}
-use Rattle.std.specs.Prelude.{◌≢◌, ◌^◌, AllPairs, Contains, slice_get, filter, not, Bool, true, false, cond}
-use Rattle.std.proofs.lemmas.List.{append-nil, append_assoc, length-append, length-map, take_all, length-take-le, take-append-drop}
-use Rattle.std.proofs.lemmas.List.Elements.{All-contains, Contains-append_left, Contains-append_right, Contains-append_cases}
-use Rattle.std.proofs.lemmas.List.Kept.{AllPairs-filter}
+use Rattle.std.proofs.Common.{◌≡◌, ◌⊎◌, inl, inr, ◌+◌, ◌-◌, ◌<◌, ◌≤◌, ℕ, zero, suc, ℤ, List, [], ◌∷◌, ◌++◌, length, take, drop, refl, sym, ap, ◌∙◌, subst, arith, Some}
+use Rattle.std.specs.Prelude.{IsTrue, ◌↔◌, ◌≢◌, AllPairs, Contains, slice_get}
+use Rattle.std.proofs.lemmas.List.{drop_all, append-nil, append_assoc, length-append, length-map, take_all, length-take-le, take-append-drop}
+use Rattle.std.proofs.lemmas.List.Elements.{All-contains, Contains-append_right}
 use Rattle.std.proofs.lemmas.Option.{slice_get_within, get_or_from_slice_get}
-use Rattle.shape_terms.specs.Points.{Point, box_count, box_points, raster_point, raster_number}
+use Rattle.shape_terms.specs.Points.{Point}
 use Rattle.shape_terms.specs.Steps.{Before}
-use Rattle.shape_terms.specs.Adjacency.{Near, moved}
+use Rattle.shape_terms.specs.Adjacency.{Near}
 use Rattle.shape_terms.specs.Pictures.{Picture, at, object_points}
 use Rattle.shape_terms.specs.Naive.{IsProper, HoldsPoint}
 use Rattle.shape_terms.specs.Refutations.{Refutes}
-use Rattle.shape_terms.proofs.BoxLists.{length-box_points, get_or-box_points, few_objects}
-use Rattle.shape_terms.proofs.Boxes.{raster_number-raster_point}
 use Rattle.shape_terms.proofs.CrackOrder.{before_once, before_itself}
 use Rattle.shape_terms.proofs.SameCycles.{in_none}
-use Rattle.patch_terms.specs.Patches.{Sense, exposed_points, IsFirstLeft, Patch, IsPatch, IsPartition, FoundPatch, RefusedPoint, AreRefused, ArePatches, points_of, sense_step}
+use Rattle.patch_terms.specs.Patches.{Sense, exposed_points, IsFirstLeft, Patch, IsPartition, FoundPatch, RefusedPoint, points_of}
 use Rattle.patch_terms.proofs.PointLists.{across, no_more}
-use Rattle.patch_terms.proofs.FullPatches.{points_to, points_split}
 use Rattle.patch_terms.proofs.Places.{place_of, of_place, place_drop, place_take, of_front, place_map}
 use Rattle.report_terms.specs.Lines.{Line, IsLineOf}
 use Rattle.report_terms.specs.FaceFacts.{face_axis, face_sense}
@@ -28,24 +24,17 @@ use Rattle.report_terms.proofs.SectionLaws.{none_past, come_more, come_past, goo
 use Rattle.text_terms.proofs.ListPushes.{take_next}
 use Rattle.std.proofs.lemmas.Bool.{cases_lt}
 use Rattle.report_terms.proofs.FaceGroups.{standing_face, standing_patch, standing_on, standing_off}
-use Rattle.shape_plane.proofs.Refusing.{pairs_mapped}
+use Rattle.shape_plane.specs.Faces.{IsFace}
+use Rattle.shape_plane.specs.Parting.{IsPart, IsNextPatch, IsEmpty, IsLaterPoint, AreRefusedOf, patches_of}
+use Rattle.shape_plane.proofs.Partings.{points_more}
+use Rattle.shape_plane.proofs.Refusing.{pairs_mapped, patches_more}
+use Rattle.shape_plane.proofs.Exposing.{face_points, exposed_distinct}
+use Rattle.shape_plane.proofs.Parted.{parted_none, parted_more, parted_all}
 use Rattle.shape_analyse.specs.Growing.{Aim, IsGrowing, IsSurveyed}
-use Rattle.shape_analyse.specs.Facing.{IsFacing, HasFaces, AreFound, HasPatches, patches_of, points_before, refused_points, at_patch, IsSomePatch, IsSomeFace}
+use Rattle.shape_analyse.specs.Facing.{IsFacing, HasFaces, AreFound, HasPatches, points_found, refused_points, at_patch}
 use Rattle.shape_analyse.proofs.Growth.{good_more}
 
 -- ---- how many points are exposed
-
--- each point of a box once
-box_distinct : (sides : List ℕ) → AllPairs (λ p q. p ≢ q) (box_points sides)
-box_distinct sides i j d l m e =
-    let b : j < box_count sides = omega (arith, m, length-box_points sides) in
-    let a : i < box_count sides = omega (arith, l, b) in
-    let f : raster_point sides i ≡ raster_point sides j = sym (get_or-box_points sides i d a) ∙ (e ∙ get_or-box_points sides j d b) in
-    let n : i ≡ j = sym (raster_number-raster_point sides i a) ∙ (ap (raster_number sides) f ∙ raster_number-raster_point sides j b) in
-    omega (arith, l, n)
-
-exposed_distinct : (X : Picture) (t : ℕ) (sense : Sense) → AllPairs (λ p q. p ≢ q) (exposed_points X t sense)
-exposed_distinct X t sense = AllPairs-filter (λ p q. p ≢ q) _ (object_points X) (AllPairs-filter (λ p q. p ≢ q) (at X) (box_points X.sides) (box_distinct X.sides))
 
 -- a partition has as many points as the face has exposed ones
 pub as_many : (d : ℕ) (X : Picture) (t : ℕ) (sense : Sense) (patches : List Patch) → IsPartition d X t sense patches → length (points_of patches) ≡ length (exposed_points X t sense)
@@ -54,44 +43,24 @@ as_many d X t sense patches p =
     let b = no_more (exposed_points X t sense) (points_of patches) (exposed_distinct X t sense) (λ q c. (p.all q).0 c) in
     omega (arith, a, b)
 
--- ---- the points of the first patches
+-- ---- the patches found so far
 
-pub before_more : (found : List FoundPatch) (k : ℕ) (x : FoundPatch) → slice_get found k ≡ Some x → length (points_before found (k + 1)) ≡ length (points_before found k) + length x.patch.points
-before_more found k x there =
-    let e = points_to (patches_of found) k x.patch (place_map (λ (y : FoundPatch). y.patch) found k x there) in
-    ap (λ n. length (points_before found n)) (let q : k + 1 ≡ suc k = omega arith in q) ∙ (ap length e ∙ length-append (points_before found k) x.patch.points)
+pub found_none : (X : Aim) (f : ℕ) (face : Picture) → f < 6 → IsFace X.subject.picture (face_axis f) (face_sense f) face → AreFound X f [] face
+found_none X f face few is = record { few = few; face = face; is_face = is; parted = parted_none 3 (face_axis f) face }
 
-pub before_few : (found : List FoundPatch) (k : ℕ) → length (points_before found k) ≤ length (points_of (patches_of found))
-before_few found k = omega (arith, ap length (points_split (patches_of found) k), length-append (points_before found k) (points_of (drop k (patches_of found))))
+pub found_more : (X : Aim) (f : ℕ) (found : List FoundPatch) (left left' : Picture) (x : FoundPatch) → AreFound X f found left → IsNextPatch 3 (face_axis f) left left' x → AreFound X f (found ++ x ∷ []) left'
+found_more X f found left left' x are next = record { few = are.few; face = are.face; is_face = are.is_face; parted = parted_more 3 (face_axis f) are.face found left left' x are.parted next }
 
-pub before_all : (found : List FoundPatch) (k : ℕ) → length found ≤ k → points_before found k ≡ points_of (patches_of found)
-before_all found k l = ap points_of (take_all k (patches_of found) (omega (arith, l, length-map found (λ (y : FoundPatch). y.patch))))
+last_of : {A : Type 0} (xs : List A) (x : A) → slice_get (xs ++ x ∷ []) (length xs) ≡ Some x
+last_of [] x = refl
+last_of (y ∷ xs) x = last_of xs x
 
--- each of the patches of a face has few points
-pub some_patch : (found : List FoundPatch) (k : ℕ) (x : FoundPatch) → IsSomeFace found → slice_get found k ≡ Some x → IsSomePatch x
-some_patch found k x some there = record {
-  axis = some.axis;
-  after = map (λ (y : FoundPatch). y.patch) (drop (suc k) found);
-  refused = some.are.refused k x there;
-  few = omega (arith, before_more found k x there, before_few found (k + 1), some.few);
-}
+front_of : {A : Type 0} (xs ys : List A) → take (length xs) (xs ++ ys) ≡ xs
+front_of [] ys = refl
+front_of (x ∷ xs) ys = ap (λ l. x ∷ l) (front_of xs ys)
 
--- a face of a box with few points
-pub some_face : (X : Picture) (t : ℕ) (sense : Sense) (found : List FoundPatch) → box_count X.sides ≤ 2 ^ 23 → ArePatches 3 X t sense found → IsSomeFace found
-some_face X t sense found few are = record {
-  picture = X;
-  axis = t;
-  sense = sense;
-  are = are;
-  few = omega (arith, as_many 3 X t sense (patches_of found) are.partition, few_exposed, few_objects X, few);
-}
-  where
-    filter_few : (test : Point → Bool) (ps : List Point) → length (filter test ps) ≤ length ps
-    filter_few test [] = omega arith
-    filter_few test (p ∷ ps) = let r = filter_few test ps in elim (test p) as (λ b. length (cond b (p ∷ filter test ps) (filter test ps)) ≤ suc (length ps)) [ true ↦ omega (arith, r) | false ↦ omega (arith, r) ]
-
-    few_exposed : length (exposed_points X t sense) ≤ length (object_points X)
-    few_exposed = filter_few (λ p. not (at X (moved p (sense_step t sense)))) (object_points X)
+behind_last : {A : Type 0} (xs : List A) (x : A) → drop (suc (length xs)) (xs ++ x ∷ []) ≡ []
+behind_last xs x = drop_all (suc (length xs)) (xs ++ x ∷ []) (omega (arith, length-append xs (x ∷ [])))
 
 -- ---- one more line of a face
 
@@ -121,12 +90,12 @@ facing_more X s s2 lines l o k claim fields next =
     }
 
 -- the next face is begun
-pub face_begun : (X : Aim) (f : ℕ) (found : List FoundPatch) (lines : List Line) (n : ℕ) → HasFaces X f lines → AreFound X f found → n ≡ length (exposed_points X.subject.picture (face_axis f) (face_sense f)) → IsLineOf 3 (Line.Face (face_axis f) (face_sense f) n)
-    → HasPatches X f found 0 (lines ++ Line.Face (face_axis f) (face_sense f) n ∷ [])
-face_begun X f found lines n h are count fields =
+pub face_begun : (X : Aim) (f : ℕ) (lines : List Line) (n : ℕ) → HasFaces X f lines → f < 6 → n ≡ length (exposed_points X.subject.picture (face_axis f) (face_sense f)) → IsLineOf 3 (Line.Face (face_axis f) (face_sense f) n)
+    → HasPatches X f [] (lines ++ Line.Face (face_axis f) (face_sense f) n ∷ [])
+face_begun X f lines n h few count fields =
     let l = Line.Face (face_axis f) (face_sense f) n in
     let s : FaceStanding = record { begun = f + 1; taken = []; patch = given_patch [] } in
-    let claim : IsFaceHead X.subject.picture h.stand (face_axis f) (face_sense f) n = record { full = h.full; more = omega (arith, h.begun, are.few); axis = ap face_axis (sym h.begun); sense_is = ap face_sense (sym h.begun); points = count } in
+    let claim : IsFaceHead X.subject.picture h.stand (face_axis f) (face_sense f) n = record { full = h.full; more = omega (arith, h.begun, few); axis = ap face_axis (sym h.begun); sense_is = ap face_sense (sym h.begun); points = count } in
     let begun = ap (λ (w : FaceStanding). w.begun) h.facing.stands ∙ h.begun in
     let next = standing_face (lines_of Section.Faces lines) (face_axis f) (face_sense f) n ∙ ap (λ b. record { begun = b + 1; taken = []; patch = given_patch [] }) begun in
     record {
@@ -142,16 +111,13 @@ face_begun X f found lines n h are count fields =
 open_is : (Y : Picture) (f : ℕ) (s : FaceStanding) → s.begun ≡ f + 1 → open_exposed Y s ≡ exposed_points Y (face_axis f) (face_sense f)
 open_is Y f s e = ap (λ g. exposed_points Y (face_axis g) (face_sense g)) (let g : s.begun - 1 ≡ f = omega (arith, e) in g)
 
-module _ (X : Aim) (f : ℕ) (found : List FoundPatch) (k : ℕ) (x : FoundPatch) (are : AreFound X f found) (there : slice_get found k ≡ Some x) where
-  -- the exposed points, the points of earlier patches and those of later ones, and what this one refused
+module _ (X : Aim) (f : ℕ) (found : List FoundPatch) (left : Picture) (x : FoundPatch) (are : AreFound X f (found ++ x ∷ []) left) where
+  -- the exposed points, the points of earlier patches and of this one, and what it refused
   abbrev exposed : List Point
   exposed = exposed_points X.subject.picture (face_axis f) (face_sense f)
 
   abbrev before : List Point
-  before = points_before found k
-
-  abbrev rest : List Point
-  rest = points_of (drop (suc k) (patches_of found))
+  before = points_found found
 
   abbrev points : List Point
   points = x.patch.points
@@ -159,41 +125,54 @@ module _ (X : Aim) (f : ℕ) (found : List FoundPatch) (k : ℕ) (x : FoundPatch
   abbrev refs : List Point
   refs = refused_points x.refused
 
-  patch_there : slice_get (patches_of found) k ≡ Some x.patch
-  patch_there = place_map (λ (y : FoundPatch). y.patch) found k x there
+  all_points : points_found (found ++ x ∷ []) ≡ before ++ points
+  all_points = ap points_of (patches_more found x) ∙ points_more (patches_of found) x.patch
 
-  is_patch : IsPatch 3 (face_axis f) exposed (take k (patches_of found)) x.patch (drop (suc k) (patches_of found))
-  is_patch = are.are.partition.patch k x.patch patch_there
+  on_face : (q : Point) → IsTrue (at are.face q) ↔ Contains exposed q
+  on_face = face_points X.subject.picture (face_axis f) (face_sense f) are.face are.is_face
 
-  split : points_of (patches_of found) ≡ (before ++ points) ++ rest
-  split = points_split (patches_of found) (suc k) ∙ ap (λ l. l ++ rest) (points_to (patches_of found) k x.patch patch_there)
+  part : IsPart (face_axis f) (λ q. IsTrue (at are.face q)) (patches_of found) x.patch
+  part =
+      let ps = patches_of found in
+      let there = ap (λ l. slice_get l (length ps)) (patches_more found x) ∙ last_of ps x.patch in
+      let front = ap (take (length ps)) (patches_more found x) ∙ front_of ps (x.patch ∷ []) in
+      subst (λ l. IsPart (face_axis f) (λ q. IsTrue (at are.face q)) l x.patch) front (are.parted.parting.part (length ps) x.patch there)
 
-  once : AllPairs (λ p q. p ≢ q) ((before ++ points) ++ rest)
-  once = subst (AllPairs (λ p q. p ≢ q)) split are.are.partition.once
+  is_first : IsFirstLeft exposed before part.start
+  is_first = record { there = (on_face part.start).0 part.there; left = part.fresh; first = λ q c b. part.least q ((on_face q).1 c) b }
 
-  of_later : (p : Point) → Contains rest p → Contains exposed p
-  of_later p c = (are.are.partition.all p).1 (subst (λ l. Contains l p) (sym split) (Contains-append_right (before ++ points) rest p c))
+  once : AllPairs (λ p q. p ≢ q) (before ++ points)
+  once = subst (AllPairs (λ p q. p ≢ q)) all_points are.parted.parting.once
+
+  -- its points are exposed
+  is_exposed : (p : Point) → Contains (before ++ points) p → Contains exposed p
+  is_exposed p c = (on_face p).0 (are.parted.parting.taken p (subst (λ l. Contains l p) (sym all_points) c))
+
+  -- an exposed point that was not taken is left
+  is_left : (p : Point) → Contains exposed p → (Contains (before ++ points) p → ⊥) → IsTrue (at left p)
+  is_left p c n = elim (are.parted.parting.rest p ((on_face p).1 c)) [
+    | inl a ↦ a
+    | inr m ↦ absurd (n (subst (λ l. Contains l p) all_points m))
+  ]
 
   -- it has a point
   pub patch_some : 0 < length points
-  patch_some = slice_get_within points 0 is_patch.first.0 is_patch.first.1
+  patch_some = slice_get_within points 0 part.start part.first
 
   -- ---- its head
 
-  pub patch_begun : (lines : List Line) (a : List ℤ) (mu : ℤ) → HasPatches X f found k lines → record { a = a; mu = mu } ≡ x.patch.plane → IsLineOf 3 (Line.Patch (length points) a mu) → IsFacing X (at_patch f before x 0 0) (lines ++ Line.Patch (length points) a mu ∷ [])
+  pub patch_begun : (lines : List Line) (a : List ℤ) (mu : ℤ) → HasPatches X f found lines → record { a = a; mu = mu } ≡ x.patch.plane → IsLineOf 3 (Line.Patch (length points) a mu) → IsFacing X (at_patch f before x 0 0) (lines ++ Line.Patch (length points) a mu ∷ [])
   patch_begun lines a mu h plane fields =
       let s = h.stand in
       let l = Line.Patch (length points) a mu in
       let ls = lines_of Section.Faces lines in
-      let first = slice_get_within points 0 is_patch.first.0 is_patch.first.1 in
-      let total = as_many 3 X.subject.picture (face_axis f) (face_sense f) (patches_of found) are.are.partition in
-      let parts = ap length split ∙ length-append (before ++ points) rest in
+      let total = no_more (before ++ points) exposed once is_exposed in
       let claim : IsPatchHead X.subject.picture s (length points) (record { a = a; mu = mu }) = record {
         face = omega (arith, h.begun);
         full = h.full;
-        some = omega (arith, first);
-        left = omega (arith, total, parts, length-append before points, ap length h.taken, ap length (open_is X.subject.picture f s h.begun));
-        proper = subst (λ t. IsProper t (record { a = a; mu = mu })) (ap face_axis (let g : f ≡ s.begun - 1 = omega (arith, h.begun) in g)) (subst (IsProper (face_axis f)) (sym plane) is_patch.plane.proper);
+        some = omega (arith, patch_some);
+        left = omega (arith, total, length-append before points, ap length h.taken, ap length (open_is X.subject.picture f s h.begun));
+        proper = subst (λ t. IsProper t (record { a = a; mu = mu })) (ap face_axis (let g : f ≡ s.begun - 1 = omega (arith, h.begun) in g)) (subst (IsProper (face_axis f)) (sym plane) part.plane.proper);
       } in
       let begun = ap (λ (w : FaceStanding). w.begun) h.facing.stands ∙ h.begun in
       let taken : (face_standing ls).taken ≡ before ++ [] = ap (λ (w : FaceStanding). w.taken) h.facing.stands ∙ (h.taken ∙ sym (append-nil before)) in
@@ -204,25 +183,20 @@ module _ (X : Aim) (f : ℕ) (found : List FoundPatch) (k : ℕ) (x : FoundPatch
   -- ---- its points
 
   touching : (j : ℕ) (p : Point) → slice_get points j ≡ Some p → 0 < j → IsTouching exposed (before ++ take j points) (take j points) p
-  touching j p e some = record { there = there_in; left = λ c. apart c; near = near_one j e some }
+  touching j p e some = record { there = is_exposed p (Contains-append_right before points p (of_place points j p e)); left = λ c. apart c; near = near_one j e some }
     where
-      parts : (before ++ points) ++ rest ≡ (before ++ take j points) ++ (drop j points ++ rest)
-      parts =
-          ap (λ l. (before ++ l) ++ rest) (sym (take-append-drop j points))
-          ∙ (ap (λ l. l ++ rest) (sym (append_assoc before (take j points) (drop j points))) ∙ append_assoc (before ++ take j points) (drop j points) rest)
+      parts : before ++ points ≡ (before ++ take j points) ++ drop j points
+      parts = ap (λ l. before ++ l) (sym (take-append-drop j points)) ∙ sym (append_assoc before (take j points) (drop j points))
 
-      later : Contains (drop j points ++ rest) p
-      later = Contains-append_left (drop j points) rest p (of_place (drop j points) 0 p (place_drop j points 0 ∙ (ap (slice_get points) (let q : j + 0 ≡ j = omega arith in q) ∙ e)))
-
-      there_in : Contains exposed p
-      there_in = (are.are.partition.all p).1 (subst (λ l. Contains l p) (sym (split ∙ parts)) (Contains-append_right (before ++ take j points) (drop j points ++ rest) p later))
+      later : Contains (drop j points) p
+      later = of_place (drop j points) 0 p (place_drop j points 0 ∙ (ap (slice_get points) (let q : j + 0 ≡ j = omega arith in q) ∙ e))
 
       apart : Contains (before ++ take j points) p → ⊥
-      apart c = across (λ a b. a ≢ b) (before ++ take j points) (drop j points ++ rest) p p (subst (AllPairs (λ a b. a ≢ b)) parts once) c later refl
+      apart c = across (λ a b. a ≢ b) (before ++ take j points) (drop j points) p p (subst (AllPairs (λ a b. a ≢ b)) parts once) c later refl
 
       near_one : (j : ℕ) → slice_get points j ≡ Some p → 0 < j → (q : Point) × Contains (take j points) q × Near p q
       near_one zero e l = absurd (omega (arith, l))
-      near_one (suc i) e l = is_patch.grows i p e
+      near_one (suc i) e l = part.grows i p e
 
   next_on : (pts : List Point) (j : ℕ) (p : Point) → slice_get pts j ≡ Some p → (j ≡ 0 → IsFirstLeft exposed (before ++ []) p) → (0 < j → IsTouching exposed (before ++ take j pts) (take j pts) p) → IsNextOn exposed (before ++ take j pts) (take j pts) p
   next_on [] j p e a b = cc
@@ -231,9 +205,9 @@ module _ (X : Aim) (f : ℕ) (found : List FoundPatch) (k : ℕ) (x : FoundPatch
 
   first_left : (j : ℕ) (p : Point) → slice_get points j ≡ Some p → j ≡ 0 → IsFirstLeft exposed (before ++ []) p
   first_left j p e z =
-      let same : Some is_patch.first.0 ≡ Some p = sym is_patch.first.1 ∙ (ap (slice_get points) (sym z) ∙ e) in
-      let q : is_patch.first.0 ≡ p = cc in
-      subst (λ l. IsFirstLeft exposed l p) (sym (append-nil before)) (subst (IsFirstLeft exposed before) q is_patch.first.2)
+      let same : Some part.start ≡ Some p = sym part.first ∙ (ap (slice_get points) (sym z) ∙ e) in
+      let q : part.start ≡ p = cc in
+      subst (λ l. IsFirstLeft exposed l p) (sym (append-nil before)) (subst (IsFirstLeft exposed before) q is_first)
 
   pub patch_point : (lines : List Line) (j : ℕ) (p : Point) → IsFacing X (at_patch f before x j 0) lines → slice_get points j ≡ Some p → IsLineOf 3 (Line.On p) → IsFacing X (at_patch f before x (j + 1) 0) (lines ++ Line.On p ∷ [])
   patch_point lines j p o e fields =
@@ -245,7 +219,7 @@ module _ (X : Aim) (f : ℕ) (found : List FoundPatch) (k : ℕ) (x : FoundPatch
       let claim : IsOnLine X.subject.picture s p = record {
         more = omega (arith, within, length-take-le j points (omega (arith, within)));
         next = subst (λ es. IsNextOn es (before ++ take j points) (take j points) p) (sym is) (next_on points j p e (first_left j p e) (touching j p e));
-        held = subst (λ t. HoldsPoint t x.patch.plane p) (ap face_axis (let g : f ≡ f + 1 - 1 = omega arith in g)) (All-contains (HoldsPoint (face_axis f) x.patch.plane) points p is_patch.plane.holds (of_place points j p e));
+        held = subst (λ t. HoldsPoint t x.patch.plane p) (ap face_axis (let g : f ≡ f + 1 - 1 = omega arith in g)) (All-contains (HoldsPoint (face_axis f) x.patch.plane) points p part.plane.holds (of_place points j p e));
       } in
       let some : 0 < (face_standing ls).patch.declared = omega (arith, within, ap (λ (w : FaceStanding). w.patch.declared) o.stands) in
       let more : take j points ++ p ∷ [] ≡ take (j + 1) points = take_next points j p e ∙ ap (λ n. take n points) (let q : suc j ≡ j + 1 = omega arith in q) in
@@ -259,34 +233,22 @@ module _ (X : Aim) (f : ℕ) (found : List FoundPatch) (k : ℕ) (x : FoundPatch
   whole : take (length points) points ≡ points
   whole = take_all (length points) points (omega arith)
 
-  are_refused : AreRefused 3 (face_axis f) x.patch (map (λ (y : FoundPatch). y.patch) (drop (suc k) found)) x.refused
-  are_refused = are.are.refused k x there
-
-  after_is : points_of (map (λ (y : FoundPatch). y.patch) (drop (suc k) found)) ≡ rest
-  after_is = ap points_of (map-drop (suc k) found)
-    where
-      map-drop : (n : ℕ) (ys : List FoundPatch) → map (λ (y : FoundPatch). y.patch) (drop n ys) ≡ drop n (map (λ (y : FoundPatch). y.patch) ys)
-      map-drop zero ys = refl
-      map-drop (suc n) [] = refl
-      map-drop (suc n) (y ∷ ys) = map-drop n ys
+  are_refused : AreRefusedOf 3 (face_axis f) x.patch (IsLaterPoint left (patches_of (drop (suc (length found)) (found ++ x ∷ [])))) x.refused
+  are_refused = are.parted.refusing.each (length found) x (last_of found x)
 
   -- a point that touches the whole patch was refused, and each refused point touches it
   refused_touching : (q : Point) → IsTouching exposed (before ++ points) points q → Contains refs q
-  refused_touching q t = (are_refused.each q).1 (subst (λ l. Contains l q) (sym after_is) (in_rest (Contains-append_cases (before ++ points) rest q (subst (λ l. Contains l q) split ((are.are.partition.all q).0 t.there)))), t.near)
-    where
-      in_rest : Contains (before ++ points) q ⊎ Contains rest q → Contains rest q
-      in_rest (inl c) = absurd (t.left c)
-      in_rest (inr c) = c
+  refused_touching q t = (are_refused.each q).1 (inl (is_left q t.there t.left), t.near)
 
   touching_refused : (q : Point) → Contains refs q → IsTouching exposed (before ++ points) points q
   touching_refused q c =
       let e = (are_refused.each q).0 c in
-      let later = subst (λ l. Contains l q) after_is e.0 in
-      record {
-        there = of_later q later;
-        left = λ d. across (λ a b. a ≢ b) (before ++ points) rest q q once d later refl;
-        near = e.1;
-      }
+      let free = are.parted.parting.free q (alone e.0) in
+      record { there = (on_face q).0 free.0; left = λ d. free.1 (subst (λ l. Contains l q) (sym all_points) d); near = e.1 }
+    where
+      alone : IsLaterPoint left (patches_of (drop (suc (length found)) (found ++ x ∷ []))) q → IsTrue (at left q)
+      alone (inl a) = a
+      alone (inr m) = absurd (in_none q (subst (λ l. Contains (points_found l) q) (behind_last found x) m))
 
   rising : (i j : ℕ) (a b : Point) → i < j → slice_get refs i ≡ Some a → slice_get refs j ≡ Some b → Before a b
   rising i j a b l d e =
@@ -338,7 +300,7 @@ module _ (X : Aim) (f : ℕ) (found : List FoundPatch) (k : ℕ) (x : FoundPatch
       (next ∙ (λ i. record { begun = f + 1; taken = before ++ take n points; patch = record { declared = n; plane = x.patch.plane; points = take n points; refused = more i } }))
 
   -- it has all its lines
-  pub patch_done : (lines : List Line) → IsFacing X (at_patch f before x (length points) (length x.refused)) lines → HasPatches X f found (k + 1) lines
+  pub patch_done : (lines : List Line) → IsFacing X (at_patch f before x (length points) (length x.refused)) lines → HasPatches X f (found ++ x ∷ []) lines
   patch_done lines o =
       let n = length points in
       let r = length x.refused in
@@ -349,7 +311,7 @@ module _ (X : Aim) (f : ℕ) (found : List FoundPatch) (k : ℕ) (x : FoundPatch
         stand = s;
         facing = o;
         begun = refl;
-        taken = ap (λ l. before ++ l) whole ∙ (sym (points_to (patches_of found) k x.patch patch_there) ∙ ap (λ n. points_before found n) (let q : suc k ≡ k + 1 = omega arith in q));
+        taken = ap (λ l. before ++ l) whole ∙ sym all_points;
         full = record {
           points = ap length whole;
           refused = λ q t. subst (λ l. Contains l q) (sym all) (refused_touching q (subst (λ l. IsTouching exposed (before ++ l) l q) whole (subst (λ es. IsTouching es (before ++ take n points) (take n points) q) is t)));
@@ -358,16 +320,16 @@ module _ (X : Aim) (f : ℕ) (found : List FoundPatch) (k : ℕ) (x : FoundPatch
 
 -- ---- the section is complete
 
-pub face_done : (X : Aim) (f : ℕ) (found : List FoundPatch) (lines : List Line) → AreFound X f found → HasPatches X f found (length found) lines → HasFaces X (f + 1) lines
-face_done X f found lines are h =
-    let total = as_many 3 X.subject.picture (face_axis f) (face_sense f) (patches_of found) are.are.partition in
-    let all = ap points_of (take_all (length found) (patches_of found) (omega (arith, length-map found (λ (y : FoundPatch). y.patch)))) in
+pub face_done : (X : Aim) (f : ℕ) (found : List FoundPatch) (left : Picture) (lines : List Line) → AreFound X f found left → IsEmpty left → HasPatches X f found lines → HasFaces X (f + 1) lines
+face_done X f found left lines are none h =
+    let parts = parted_all 3 (face_axis f) X.subject.picture (face_sense f) are.face found left are.is_face are.parted none in
+    let total = as_many 3 X.subject.picture (face_axis f) (face_sense f) (patches_of found) parts.partition in
     record {
       stand = h.stand;
       facing = h.facing;
       begun = h.begun;
       full = λ _. record {
-        all = ap length (h.taken ∙ all) ∙ (total ∙ ap length (sym (open_is X.subject.picture f h.stand h.begun)));
+        all = ap length h.taken ∙ (total ∙ ap length (sym (open_is X.subject.picture f h.stand h.begun)));
         patch = h.full;
       };
     }

@@ -1,13 +1,15 @@
 -- A report of a volume while its faces are told: good lines that have come to the section of faces.
--- What was found of a face is handed in: its patches, each with its refused points.
-use Rattle.std.specs.Prelude.{◌≡◌, ◌+◌, ◌<◌, ◌^◌, ℕ, List, ◌++◌, length, map, take}
+-- What was found of a face so far is handed in: its patches, each with its refused points, and the points that are left.
+use Rattle.std.specs.Prelude.{◌≡◌, ◌+◌, ◌<◌, ◌^◌, ℕ, List, ◌++◌, length, map, take, IsTrue}
 use Rattle.shape_terms.specs.Points.{Point}
-use Rattle.shape_terms.specs.Pictures.{Picture}
-use Rattle.patch_terms.specs.Patches.{Sense, Patch, FoundPatch, RefusedPoint, AreRefused, ArePatches, points_of}
+use Rattle.shape_terms.specs.Pictures.{Picture, at}
+use Rattle.patch_terms.specs.Patches.{FoundPatch, RefusedPoint, points_of}
 use Rattle.report_terms.specs.Lines.{Line}
 use Rattle.report_terms.specs.FaceFacts.{face_axis, face_sense}
 use Rattle.report_terms.specs.FaceLines.{FaceStanding, face_standing, PatchIsFull, FacesAreFull, open_exposed}
 use Rattle.report_terms.specs.Sections.{Section, lines_of, HasCome}
+use Rattle.shape_plane.specs.Faces.{IsFace}
+use Rattle.shape_plane.specs.Parting.{IsParted, AreRefusedOf, patches_of}
 use Rattle.shape_analyse.specs.Growing.{Aim, AreGood}
 
 -- all lines before those of faces, and good lines of faces that stand at s
@@ -24,24 +26,23 @@ pub record HasFaces (X : Aim) (f : ℕ) (lines : List Line) : Type 0 where
   pub begun : stand.begun ≡ f
   pub full : FacesAreFull X.subject.picture stand
 
--- these are the patches of the face with a number, with their refused points
-pub record AreFound (X : Aim) (f : ℕ) (found : List FoundPatch) : Type 0 where
+-- these patches of the face with a number were found so far, and these of its exposed points are left
+pub record AreFound (X : Aim) (f : ℕ) (found : List FoundPatch) (left : Picture) : Type 0 where
   pub few : f < 6
-  pub are : ArePatches 3 X.subject.picture (face_axis f) (face_sense f) found
+  pub face : Picture
+  pub is_face : IsFace X.subject.picture (face_axis f) (face_sense f) face
+  pub parted : IsParted 3 (face_axis f) face found left
 
--- the patches without what they refused, and the points of the first k of them
-abbrev pub patches_of : List FoundPatch → List Patch
-patches_of found = map (λ (x : FoundPatch). x.patch) found
+-- the points of all patches found so far
+abbrev pub points_found : List FoundPatch → List Point
+points_found found = points_of (patches_of found)
 
-abbrev pub points_before : List FoundPatch → ℕ → List Point
-points_before found k = points_of (take k (patches_of found))
-
--- the first faces have all their lines, the next one was begun, and its first k patches have theirs
-pub record HasPatches (X : Aim) (f : ℕ) (found : List FoundPatch) (k : ℕ) (lines : List Line) : Type 0 where
+-- the first faces have all their lines, the next one was begun, and the patches found of it have theirs
+pub record HasPatches (X : Aim) (f : ℕ) (found : List FoundPatch) (lines : List Line) : Type 0 where
   pub stand : FaceStanding
   pub facing : IsFacing X stand lines
   pub begun : stand.begun ≡ f + 1
-  pub taken : stand.taken ≡ points_before found k
+  pub taken : stand.taken ≡ points_found found
   pub full : PatchIsFull (open_exposed X.subject.picture stand) stand
 
 -- the points that were refused
@@ -56,17 +57,9 @@ at_patch f before x j m = record {
   patch = record { declared = length x.patch.points; plane = x.patch.plane; points = take j x.patch.points; refused = take m (refused_points x.refused) };
 }
 
--- a patch of some face of a volume, with its refused points
+-- a patch of some face of a volume, with its refused points among those that were left
 pub record IsSomePatch (x : FoundPatch) : Type 0 where
   pub axis : ℕ
-  pub after : List Patch
-  pub refused : AreRefused 3 axis x.patch after x.refused
+  pub left : Picture
+  pub refused : AreRefusedOf 3 axis x.patch (λ q. IsTrue (at left q)) x.refused
   pub few : length x.patch.points < 2 ^ 32
-
--- all patches of some face of a volume
-pub record IsSomeFace (found : List FoundPatch) : Type 0 where
-  pub picture : Picture
-  pub axis : ℕ
-  pub sense : Sense
-  pub are : ArePatches 3 picture axis sense found
-  pub few : length (points_of (patches_of found)) < 2 ^ 32

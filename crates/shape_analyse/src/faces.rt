@@ -1,16 +1,16 @@
 //! The lines of the faces of a volume: each with its patches, their points, and the points that each refused.
 //! What is found of a face comes from `shape_plane`.
-ghost use Rattle.std.specs.Prelude.{◌≡◌, ◌<◌, ◌+◌, ◌^◌, ℕ, List, Some, slice_get, IfOk, OnOk, length};
+ghost use Rattle.std.specs.Prelude.{◌≡◌, ◌<◌, ◌+◌, ◌^◌, ◌++◌, ◌∷◌, [], ℕ, List, IfOk, OnOk, length};
 ghost use Rattle.shape_terms.specs.Pictures.{Picture};
-ghost use Rattle.patch_terms.specs.Patches.{FoundPatch, points_of};
+ghost use Rattle.patch_terms.specs.Patches.{FoundPatch};
 ghost use Rattle.report_terms.specs.FaceFacts.{face_axis, face_sense};
 ghost use Rattle.shape_refute.specs.Senses.{sense_of};
 ghost use Rattle.shape_analyse.specs.Growing.{Aim, IsTextOf};
 ghost use Rattle.shape_analyse.specs.Tallies.{exposed_in, exposed_count};
-ghost use Rattle.shape_analyse.specs.Facing.{IsFacing, HasFaces, HasPatches, AreFound, IsSomePatch, IsSomeFace, points_before, patches_of, at_patch};
+ghost use Rattle.shape_analyse.specs.Facing.{IsFacing, HasFaces, HasPatches, AreFound, IsSomePatch, points_found, at_patch};
 
 use shape_grid::Grid;
-use shape_plane::{Patch, Patches, patches};
+use shape_plane::{Parting, Patch, patches};
 use shape_refute::Sense;
 use shape_report::{Line, Report};
 use shape_space::{NoMemory, P3};
@@ -18,10 +18,10 @@ use std::alloc::Global;
 
 // Adds the `patch` line.
 fn add_head(patch: &Patch<P3>, report: &mut Report) -> Result<(), NoMemory>
-    ensures { (X : Aim) (f : ℕ) (found : List FoundPatch) (k : ℕ)
-        → AreFound X f found → slice_get found k ≡ Some patch.now.found
-        → IsTextOf (HasPatches X f found k) report.old → OnOk result (IsTextOf
-        (IsFacing X (at_patch f (points_before found k) patch.now.found 0 0)) report.new) }
+    ensures { (X : Aim) (f : ℕ) (found : List FoundPatch) (left : Picture)
+        → AreFound X f (found ++ patch.now.found ∷ []) left
+        → IsTextOf (HasPatches X f found) report.old → OnOk result (IsTextOf
+        (IsFacing X (at_patch f (points_found found) patch.now.found 0 0)) report.new) }
 {
     let plane = patch.naive();
     let a = plane.a;
@@ -36,10 +36,10 @@ fn add_head(patch: &Patch<P3>, report: &mut Report) -> Result<(), NoMemory>
 
 // Adds the points of a patch.
 fn add_points(patch: &Patch<P3>, report: &mut Report) -> Result<(), NoMemory>
-    ensures { (X : Aim) (f : ℕ) (found : List FoundPatch) (k : ℕ)
-        → AreFound X f found → slice_get found k ≡ Some patch.now.found
-        → IsTextOf (IsFacing X (at_patch f (points_before found k) patch.now.found 0 0)) report.old
-        → OnOk result (IsTextOf (IsFacing X (at_patch f (points_before found k) patch.now.found
+    ensures { (X : Aim) (f : ℕ) (found : List FoundPatch) (left : Picture)
+        → AreFound X f (found ++ patch.now.found ∷ []) left
+        → IsTextOf (IsFacing X (at_patch f (points_found found) patch.now.found 0 0)) report.old
+        → OnOk result (IsTextOf (IsFacing X (at_patch f (points_found found) patch.now.found
         (length patch.now.found.patch.points) 0)) report.new) }
 {
     for j in 0..patch.len() {
@@ -51,11 +51,11 @@ fn add_points(patch: &Patch<P3>, report: &mut Report) -> Result<(), NoMemory>
 // Adds the points that a patch refused.
 fn add_refused(patch: &Patch<P3>, report: &mut Report) -> Result<(), NoMemory>
     requires { IsSomePatch patch.now.found }
-    ensures { (X : Aim) (f : ℕ) (found : List FoundPatch) (k : ℕ)
-        → AreFound X f found → slice_get found k ≡ Some patch.now.found
-        → IsTextOf (IsFacing X (at_patch f (points_before found k) patch.now.found
+    ensures { (X : Aim) (f : ℕ) (found : List FoundPatch) (left : Picture)
+        → AreFound X f (found ++ patch.now.found ∷ []) left
+        → IsTextOf (IsFacing X (at_patch f (points_found found) patch.now.found
         (length patch.now.found.patch.points) 0)) report.old
-        → OnOk result (IsTextOf (IsFacing X (at_patch f (points_before found k) patch.now.found
+        → OnOk result (IsTextOf (IsFacing X (at_patch f (points_found found) patch.now.found
         (length patch.now.found.patch.points) (length patch.now.found.refused))) report.new) }
 {
     for m in 0..patch.refused() {
@@ -68,10 +68,10 @@ fn add_refused(patch: &Patch<P3>, report: &mut Report) -> Result<(), NoMemory>
 // Adds all lines of a patch.
 fn add_patch(patch: &Patch<P3>, report: &mut Report) -> Result<(), NoMemory>
     requires { IsSomePatch patch.now.found }
-    ensures { (X : Aim) (f : ℕ) (found : List FoundPatch) (k : ℕ)
-        → AreFound X f found → slice_get found k ≡ Some patch.now.found
-        → IsTextOf (HasPatches X f found k) report.old
-        → OnOk result (IsTextOf (HasPatches X f found (k + 1)) report.new) }
+    ensures { (X : Aim) (f : ℕ) (found : List FoundPatch) (left : Picture)
+        → AreFound X f (found ++ patch.now.found ∷ []) left
+        → IsTextOf (HasPatches X f found) report.old
+        → OnOk result (IsTextOf (HasPatches X f (found ++ patch.now.found ∷ [])) report.new) }
 {
     add_head(patch, report)?;
     add_points(patch, report)?;
@@ -79,28 +79,18 @@ fn add_patch(patch: &Patch<P3>, report: &mut Report) -> Result<(), NoMemory>
     Ok(())
 }
 
-// The number of points of all patches.
-fn exposed_points(found: &Patches<P3>) -> u32
-    requires { IsSomeFace found.now.patches }
-    ensures { result ≡ length (points_of (patches_of found.now.patches)) }
+// Takes all patches of a face, and adds the lines of each.
+fn add_patches(
+    alloc: Global,
+    parting: &mut Parting<P3>,
+    report: &mut Report,
+) -> Result<(), NoMemory>
+    ensures { (X : Aim) (f : ℕ) → parting.old.axis ≡ face_axis f → AreFound X f [] parting.old.left
+        → IsTextOf (HasPatches X f []) report.old
+        → OnOk result (IsTextOf (HasFaces X (f + 1)) report.new) }
 {
-    let mut n = 0;
-    for k in 0..found.len() {
-        n += found.patch(k).len();
-    }
-    n
-}
-
-// Adds the lines of each patch.
-fn add_patches(found: &Patches<P3>, report: &mut Report) -> Result<(), NoMemory>
-    requires { IsSomeFace found.now.patches }
-    ensures { (X : Aim) (f : ℕ) → AreFound X f found.now.patches
-        → IsTextOf (HasPatches X f found.now.patches 0) report.old
-        → OnOk result (IsTextOf
-        (HasPatches X f found.now.patches (length found.now.patches)) report.new) }
-{
-    for k in 0..found.len() {
-        add_patch(found.patch(k), report)?;
+    while let Some(patch) = parting.next_patch(alloc)? {
+        add_patch(&patch, report)?;
     }
     Ok(())
 }
@@ -113,18 +103,17 @@ fn add_face(alloc: Global, grid: &Grid<P3>, face: u8, report: &mut Report) -> Re
     ensures text { (X : Aim) → X.subject.picture ≡ grid.now → IsTextOf (HasFaces X face) report.old
         → OnOk result (IsTextOf (HasFaces X (face + 1)) report.new) }
 {
-    grid.is_picture();
     let axis = face / 2;
     let sense = sense_in(face);
-    let found = patches(alloc, grid, axis as usize, sense)?;
-    let points = exposed_points(&found);
+    let mut parting = patches(alloc, grid, axis as usize, sense)?;
+    let points = parting.count();
     let line: Line<P3> = Line::Face {
         axis,
         sense,
         points,
     };
     report.add(&line)?;
-    add_patches(&found, report)?;
+    add_patches(alloc, &mut parting, report)?;
     Ok(points)
 }
 

@@ -10,7 +10,7 @@ pub mod Rests
 pub mod Going
 pub mod Partings
 pub mod Unmarks
-pub mod Visiting
-pub mod NextVisits
+pub mod Passing
+pub mod Parted
 pub mod Layers
 pub mod Exposing

@@ -1,6 +1,6 @@
 -- A patch as it is kept: its points, its plane, and what it refused while it grew.
 -- How it grew belongs elsewhere.
-use Rattle.std.specs.Prelude.{◌≡◌, ℕ, ◌<◌, ◌^◌, List, map, length, All}
+use Rattle.std.specs.Prelude.{ℕ, ◌<◌, ◌^◌, List, map, length, All}
 use Rattle.shape_terms.specs.Points.{Point}
 use Rattle.shape_terms.specs.Refutations.{Refutation}
 use Rattle.patch_terms.specs.Patches.{RefusedPoint, FoundPatch}
@@ -28,22 +28,8 @@ pub record AxisPatch : Type 0 where
   pub axis : ℕ
   pub found : FoundPatch
 
--- patches with their refused points, and the axis of the face of all of them
-pub record AxisPatches : Type 0 where
-  pub axis : ℕ
-  pub patches : List FoundPatch
-
--- patches of an axis, without it
-abbrev pub patches_of_axis : ℕ → List AxisPatch → AxisPatches
-patches_of_axis axis xs = record { axis = axis; patches = map (λ (x : AxisPatch). x.found) xs }
-
 -- the plane is a proper one of the axis and holds the points, and the weights are small
 pub record IsFound (d axis : ℕ) (points : List Point) (plane : Naive) (refused : List Refusal) : Type 0 where
   pub held : IsHeld d axis points plane
   pub few : length refused < 2 ^ 32
   pub small : All (λ (r : Refusal). AreSmallWeights r.why) refused
-
--- the patches are not too many, and all of the axis
-pub record AreOfAxis (axis : ℕ) (xs : List AxisPatch) : Type 0 where
-  pub few : length xs < 2 ^ 32
-  pub axes : All (λ (x : AxisPatch). x.axis ≡ axis) xs

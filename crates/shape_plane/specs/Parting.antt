@@ -1,7 +1,7 @@
 -- The exposed points of a face, patch by patch.
 -- In which order a patch grows belongs elsewhere.
-use Rattle.std.specs.Prelude.{◌≡◌, ◌⊎◌, ◌↔◌, ℕ, suc, ◌≤◌, List, [], ◌∷◌, ◌++◌, map, take, drop, length, slice_get, Some, IsTrue, AllPairs, Contains}
-use Rattle.shape_terms.specs.Points.{Point, raster_number}
+use Rattle.std.specs.Prelude.{◌≡◌, ◌⊎◌, ◌↔◌, ℕ, suc, ◌<◌, ◌≤◌, List, [], ◌∷◌, ◌++◌, map, take, drop, slice_get, Some, IsTrue, AllPairs, Contains}
+use Rattle.shape_terms.specs.Points.{Point, box_count, raster_number}
 use Rattle.shape_terms.specs.Adjacency.{Near}
 use Rattle.shape_terms.specs.Steps.{Before}
 use Rattle.shape_terms.specs.Pictures.{Picture, at}
@@ -58,12 +58,38 @@ pub record IsNewPart (t : ℕ) (left left' : Picture) (x : Patch) : Type 0 where
   pub grows : Grows x.points
   pub plane : IsNaiveFor t x.points x.plane
 
--- the points of the box with raster numbers below i are left no more, and no point is marked as tried
-pub record IsVisited (d t : ℕ) (first : Picture) (i : ℕ) (found : List FoundPatch) (left tried : Picture) : Type 0 where
+-- the next patch, with the points that it refused among those that are left after it
+pub record IsNextPatch (d t : ℕ) (left left' : Picture) (x : FoundPatch) : Type 0 where
+  pub sides : left'.sides ≡ left.sides
+  pub part : IsNewPart t left left' x.patch
+  pub refused : AreRefusedOf d t x.patch (λ q. IsTrue (at left' q)) x.refused
+
+-- the points of the first picture fall into the patches found so far, each with its refused points, and those that are left
+pub record IsParted (d t : ℕ) (first : Picture) (found : List FoundPatch) (left : Picture) : Type 0 where
+  pub sides : left.sides ≡ first.sides
   pub parting : IsParting t (λ q. IsTrue (at first q)) (patches_of found) left
   pub refusing : IsRefusing d t found left
-  pub few : length found ≤ i
-  pub left_sides : left.sides ≡ first.sides
-  pub tried_sides : tried.sides ≡ first.sides
-  pub none : (q : Point) → IsTrue (at tried q) → ⊥
-  pub past : (q : Point) → IsTrue (at left q) → i ≤ raster_number first.sides q
+
+-- no point is left
+abbrev pub IsEmpty : Picture → Type 0
+IsEmpty left = (q : Point) → IsTrue (at left q) → ⊥
+
+-- ---- the points that are left, as the program keeps them
+
+-- the axis of a face, and its points that no patch has yet
+pub record Rest : Type 0 where
+  pub axis : ℕ
+  pub left : Picture
+
+-- no point with a raster number below i is left
+abbrev pub IsPast : Picture → ℕ → Type 0
+IsPast left i = (q : Point) → IsTrue (at left q) → i ≤ raster_number left.sides q
+
+-- a patch can grow from the first point left: the three boxes have the same sides, no point is marked as tried, and none with a raster number below i is left
+pub record IsReady (d t : ℕ) (left tried : Picture) (near : List ℕ) (i : ℕ) : Type 0 where
+  pub axis : t < d
+  pub tried_sides : tried.sides ≡ left.sides
+  pub near_sides : near ≡ left.sides
+  pub none : IsEmpty tried
+  pub within : i ≤ box_count left.sides
+  pub past : IsPast left i

@@ -2,11 +2,10 @@
 //! How they fall into patches belongs elsewhere.
 ghost use Rattle.std.specs.Prelude.{◌≡◌, ◌<◌, ◌≤◌, ◌+◌, ◌*◌, IfOk};
 ghost use Rattle.shape_terms.specs.Points.{sides_of, box_count};
-ghost use Rattle.patch_terms.specs.Patches.{ArePatches};
 ghost use Rattle.shape_plane.specs.Faces.{gap_of, HasExposed, IsExposing, IsFace};
 ghost use Rattle.shape_refute.specs.Senses.{sense_of};
 
-use crate::parts::{Patches, parts_of};
+use crate::parts::Parting;
 use shape_adj::Pairing;
 use shape_grid::Grid;
 use shape_refute::Sense;
@@ -98,21 +97,22 @@ fn exposed<P: Point>(
     Ok(left)
 }
 
-/// The partition of the exposed points of a face into patches, each with its plane of the axis and the points that it refused.
+/// The exposed points of a face, of which patches are taken one after another, until no point is left.
 ///
 /// Each patch begins with the first exposed point in raster order that no earlier patch has, and takes, one after the other, each
-/// exposed point near one of its points that a naive plane of the axis holds with all of them.
+/// exposed point near one of its points that a naive plane of the axis holds with all of them. What is taken so far and what is left
+/// stays parted (`IsParted`), by `parted_none` and `parted_more`; and once no point is left, all patches that were taken are the
+/// partition of the exposed points, each with its plane of the axis and the points that it refused (`ArePatches`), by `parted_all`.
 pub fn patches<P: Pairing>(
     alloc: Global,
     grid: &Grid<P>,
     axis: usize,
     sense: Sense,
-) -> Result<Patches<P>, NoMemory>
+) -> Result<Parting<P>, NoMemory>
     requires axis { axis < P.DIM }
-    ensures axis { IfOk result (λ found. found.axis ≡ axis) }
-    ensures patches { IfOk result (λ found.
-        ArePatches P.DIM grid.now axis (sense_of sense) found.patches) }
+    ensures axis { IfOk result (λ x. x.axis ≡ axis) }
+    ensures left { IfOk result (λ x. IsFace grid.now axis (sense_of sense) x.left) }
 {
-    let mut left = exposed(alloc, grid, axis, sense)?;
-    parts_of(alloc, axis, &mut left)
+    let left = exposed(alloc, grid, axis, sense)?;
+    Parting::new(alloc, axis, left)
 }

@@ -18,6 +18,6 @@ mod verdict;
 
 pub use face::patches;
 pub use growing::{Added, Growing};
-pub use parts::Patches;
+pub use parts::Parting;
 pub use patch::Patch;
 pub use verdict::{Verdict, decide};

@@ -1,10 +1,10 @@
 //! The patches that the points of a face fall into, each grown from the first point in raster order that is left.
 //! How a patch grows belongs elsewhere.
-ghost use Rattle.std.specs.Prelude.{◌≡◌, ◌<◌, ◌^◌, ◌+◌, ◌++◌, ◌∷◌, [], IsTrue, IfOk, Contains, map, length, ℕ, Some, slice_get};
-ghost use Rattle.shape_terms.specs.Points.{Point as Place, sides_of, in_box, box_count, raster_point};
-ghost use Rattle.shape_terms.specs.Pictures.{Picture, at};
+ghost use Rattle.std.specs.Prelude.{◌≡◌, ◌<◌, IsTrue, IfOk, IfSome, MatchOption, Contains, map, length, ℕ, Some, slice_get};
+ghost use Rattle.shape_terms.specs.Points.{Point as Place, sides_of, in_box};
+ghost use Rattle.shape_terms.specs.Pictures.{at, object_points};
 ghost use Rattle.shape_terms.specs.Steps.{Before};
-ghost use Rattle.shape_plane.specs.Parting.{IsNewPart, AreRefusedOf, IsVisited};
+ghost use Rattle.shape_plane.specs.Parting.{IsNextPatch, IsEmpty};
 ghost use Rattle.shape_plane.specs.Trials.{Refusal};
 
 use crate::grow::grow;
@@ -22,7 +22,7 @@ fn unmark<P: Point>(tried: &mut Grid<P>, refused: &Refusals<P>)
         → Contains (map (λ (r : Refusal). r.point) refused.now) q }
     requires inside { (k : ℕ) (r : Refusal) → slice_get refused.now k ≡ Some r
         → IsTrue (in_box tried.old.sides r.point) }
-    ensures none { (q : Place) → IsTrue (at tried.new q) → ⊥ }
+    ensures none { IsEmpty tried.new }
     ensures sides { tried.new.sides ≡ tried.old.sides }
 {
     tried.is_picture();
@@ -32,7 +32,7 @@ fn unmark<P: Point>(tried: &mut Grid<P>, refused: &Refusals<P>)
 }
 
 // Grows a patch from a point that is left, before which none is.
-fn next_patch<P: Pairing>(
+fn patch_from<P: Pairing>(
     alloc: Global,
     axis: usize,
     p: P,
@@ -44,16 +44,13 @@ fn next_patch<P: Pairing>(
     requires left { IsTrue (at left.old (P.coords p)) }
     requires near { sides_of (P.coords near.now.sides.lengths) ≡ left.old.sides }
     requires sides { tried.old.sides ≡ left.old.sides }
-    requires none { (q : Place) → IsTrue (at tried.old q) → ⊥ }
+    requires none { IsEmpty tried.old }
     requires least { (q : Place) → IsTrue (at left.old q) → Before q (P.coords p) → ⊥ }
     ensures sides { IfOk result (λ _. tried.new.sides ≡ left.new.sides) }
-    ensures none { IfOk result (λ _. (q : Place) → IsTrue (at tried.new q) → ⊥) }
-    ensures left { IfOk result (λ _. left.new.sides ≡ left.old.sides) }
+    ensures none { IfOk result (λ _. IsEmpty tried.new) }
     ensures cleared { IfOk result (λ _. IsTrue (at left.new (P.coords p)) → ⊥) }
     ensures axis { IfOk result (λ x. x.axis ≡ axis) }
-    ensures part { IfOk result (λ x. IsNewPart axis left.old left.new x.found.patch) }
-    ensures refused { IfOk result (λ x.
-        AreRefusedOf P.DIM axis x.found.patch (λ q. IsTrue (at left.new q)) x.found.refused) }
+    ensures next { IfOk result (λ x. IsNextPatch P.DIM axis left.old left.new x.found) }
 {
     left.is_picture();
     let mut grown = grow(alloc, axis, p, left, tried, near)?;
@@ -62,115 +59,86 @@ fn next_patch<P: Pairing>(
     Ok(Patch::new(grown.growing, grown.refused))
 }
 
-/// The patches of a face, in the order in which they have grown. Contracts see them as a list of patches with their refused points,
-/// beside the axis of the face.
+/// The exposed points of a face, of which patches are taken one after another. Contracts see the axis of the face and the points that
+/// no patch has yet.
 #[derive(Drop)]
-pub struct Patches<P: Point> {
+pub struct Parting<P: Pairing> {
     axis: usize,
-    items: Vec<Patch<P>>,
+    left: Grid<P>,
+    tried: Grid<P>,
+    near: NearNumbers<P>,
+    next: u32,
+    failed: bool,
 }
 
-impl<P: Point> Model for Patches<P> {
-    ghost use Rattle.shape_plane.specs.Found.{AxisPatches, patches_of_axis, AreOfAxis};
+impl<P: Pairing> Model for Parting<P> {
+    ghost use Rattle.std.specs.Prelude.{◌≡◌, false};
+    ghost use Rattle.shape_terms.specs.Points.{sides_of};
+    ghost use Rattle.shape_plane.specs.Parting.{Rest, IsReady};
 
-    ghost Value = { AxisPatches };
+    ghost Value = { Rest };
 
-    ghost view = { λ s. patches_of_axis s.axis s.items.items };
+    ghost view = { λ s. record { axis = s.axis; left = s.left } };
 
-    ghost invariant = { λ s. AreOfAxis s.axis s.items.items };
+    ghost invariant = { λ s. s.failed ≡ false → IsReady P.DIM s.axis s.left s.tried
+        (sides_of (P.coords s.near.sides.lengths)) s.next };
 }
 
-impl<P: Point> Patches<P> {
-    // None, of a face of an axis.
-    fn new(alloc: Global, axis: usize) -> Self
-        ensures axis { result.axis ≡ axis }
-        ensures patches { result.patches ≡ [] }
+impl<P: Pairing> Parting<P> {
+    /// The points of a grid, of which no patch was taken yet.
+    pub(crate) fn new(alloc: Global, axis: usize, left: Grid<P>) -> Result<Parting<P>, NoMemory>
+        requires axis { axis < P.DIM }
+        ensures axis { IfOk result (λ x. x.axis ≡ axis) }
+        ensures left { IfOk result (λ x. x.left ≡ left) }
     {
-        Patches {
+        let sides = left.sides();
+        let tried = Grid::new(alloc, sides)?;
+        let near = NearNumbers::new(alloc, sides)?;
+        Ok(Parting {
             axis,
-            items: Vec::new(alloc),
+            left,
+            tried,
+            near,
+            next: 0,
+            failed: false,
+        })
+    }
+
+    /// The number of points that are left.
+    pub fn count(&self) -> u32
+        ensures { result ≡ length (object_points self.now.left) }
+    {
+        self.left.count()
+    }
+
+    /// Takes the next patch away, which begins with the first point left in raster order; none where no point is left.
+    ///
+    /// Once there was no memory, each later call says so again.
+    pub fn next_patch(&mut self, alloc: Global) -> Result<Option<Patch<P>>, NoMemory>
+        ensures axis { self.new.axis ≡ self.old.axis }
+        ensures of_axis { IfOk result (λ x. IfSome x (λ patch. patch.axis ≡ self.old.axis)) }
+        ensures next { IfOk result (λ x. MatchOption x
+            (IsEmpty self.old.left × (self.new ≡ self.old))
+            (λ patch. IsNextPatch P.DIM self.old.axis self.old.left self.new.left patch.found)) }
+    {
+        if self.failed {
+            return Err(NoMemory);
         }
+        let Some(i) = self.left.first_from(self.next) else {
+            return Ok(None);
+        };
+        self.failed = true;
+        let p = self.left.sides().unraster(i);
+        let patch = patch_from(
+            alloc,
+            self.axis,
+            p,
+            &mut self.left,
+            &mut self.tried,
+            &self.near,
+        )?;
+        self.next = i + 1;
+        self.failed = false;
+        Ok(Some(patch))
     }
-
-    // Puts a patch of the axis last.
-    fn push(&mut self, patch: Patch<P>) -> Result<(), NoMemory>
-        requires few { length self.old.patches < 2 ^ 31 }
-        requires axis { patch.axis ≡ self.old.axis }
-        ensures axis { IfOk result (λ _. self.new.axis ≡ self.old.axis) }
-        ensures patches { IfOk result (λ _.
-            self.new.patches ≡ self.old.patches ++ patch.found ∷ []) }
-    {
-        self.items.push(patch)?;
-        Ok(())
-    }
-
-    /// The number of patches.
-    pub fn len(&self) -> u32
-        ensures { result ≡ length self.now.patches }
-    {
-        self.items.len() as u32
-    }
-
-    /// The patch at a place, from 0 on; it is of the axis of the face.
-    pub fn patch(&self, i: u32) -> &Patch<P>
-        requires { i < length self.now.patches }
-        ensures patch { slice_get self.now.patches i ≡ Some result.now.found }
-        ensures axis { result.now.axis ≡ self.now.axis }
-    {
-        &self.items[i as usize]
-    }
-}
-
-// Grows a patch from the point with a raster number, which is left.
-fn visit<P: Pairing>(
-    alloc: Global,
-    axis: usize,
-    i: u32,
-    left: &mut Grid<P>,
-    tried: &mut Grid<P>,
-    near: &NearNumbers<P>,
-    found: &mut Patches<P>,
-) -> Result<(), NoMemory>
-    requires axis { axis < P.DIM }
-    requires place { i < box_count left.old.sides }
-    requires left { IsTrue (at left.old (raster_point left.old.sides i)) }
-    requires near { sides_of (P.coords near.now.sides.lengths) ≡ left.old.sides }
-    requires of_axis { found.old.axis ≡ axis }
-    requires visited { (first : Picture)
-        × IsVisited P.DIM axis first i found.old.patches left.old tried.old }
-    ensures of_axis { IfOk result (λ _. found.new.axis ≡ axis) }
-    ensures sides { IfOk result (λ _. left.new.sides ≡ left.old.sides) }
-    ensures visited { (first : Picture)
-        → IsVisited P.DIM axis first i found.old.patches left.old tried.old
-        → IfOk result (λ _.
-        IsVisited P.DIM axis first (i + 1) found.new.patches left.new tried.new) }
-{
-    left.is_picture();
-    let p = left.sides().unraster(i);
-    let patch = next_patch(alloc, axis, p, left, tried, near)?;
-    found.push(patch)?;
-    Ok(())
-}
-
-/// The patches of an axis that all points of a grid fall into; none of them is left.
-pub fn parts_of<P: Pairing>(
-    alloc: Global,
-    axis: usize,
-    left: &mut Grid<P>,
-) -> Result<Patches<P>, NoMemory>
-    requires axis { axis < P.DIM }
-    ensures axis { IfOk result (λ found. found.axis ≡ axis) }
-    ensures parts { IfOk result (λ found. (tried : Picture) × IsVisited P.DIM axis left.old
-        (box_count left.old.sides) found.patches left.new tried) }
-{
-    let sides = left.sides();
-    let mut tried = Grid::new(alloc, sides)?;
-    let near = NearNumbers::new(alloc, sides)?;
-    let mut found = Patches::new(alloc, axis);
-    let mut next = 0;
-    while let Some(i) = left.first_from(next) {
-        visit(alloc, axis, i, left, &mut tried, &near, &mut found)?;
-        next = i + 1;
-    }
-    Ok(found)
 }

@@ -1,10 +1,10 @@
-use Rattle.std.proofs.Common.{◌≡◌, ℕ, List, Some}
-use Rattle.std.specs.Prelude.{slice_get}
+use Rattle.std.proofs.Common.{[], ◌∷◌, ◌++◌, ℕ, List}
+use Rattle.shape_terms.specs.Pictures.{Picture}
 use Rattle.patch_terms.specs.Patches.{FoundPatch}
 use Rattle.shape_analyse.specs.Growing.{Aim, IsTextOf}
-use Rattle.shape_analyse.specs.Facing.{IsFacing, AreFound, points_before, at_patch}
+use Rattle.shape_analyse.specs.Facing.{IsFacing, AreFound, points_found, at_patch}
 use Rattle.shape_analyse.proofs.faces.add_points.Given as goal
 
 abbrev pub invariant-loop-j : goal.invariant-loop-j
-invariant-loop-j l = (X : Aim) (f : ℕ) (found : List FoundPatch) (k : ℕ) → AreFound X f found → slice_get found k ≡ Some l.patch.found
-    → IsTextOf (IsFacing X (at_patch f (points_before found k) l.patch.found 0 0)) l.fn.report → IsTextOf (IsFacing X (at_patch f (points_before found k) l.patch.found l.j 0)) l.report
+invariant-loop-j l = (X : Aim) (f : ℕ) (found : List FoundPatch) (left : Picture) → AreFound X f (found ++ l.patch.found ∷ []) left
+    → IsTextOf (IsFacing X (at_patch f (points_found found) l.patch.found 0 0)) l.fn.report → IsTextOf (IsFacing X (at_patch f (points_found found) l.patch.found l.j 0)) l.report

@@ -7,7 +7,7 @@ use Rattle.shape_plane.proofs.Unmarks.{all_inside}
 use Rattle.shape_plane.proofs.Spreading.{got}
 use Rattle.shape_plane.proofs.Partings.{new_part, points_long}
 use Rattle.shape_plane.proofs.Refusing.{few_refused, small_refused, refused_of}
-use Rattle.shape_plane.proofs.parts.next_patch.Goals as goal
+use Rattle.shape_plane.proofs.parts.patch_from.Goals as goal
 
 pub unmark-requires-clause-inside : goal.unmark-requires-clause-inside
 unmark-requires-clause-inside g c =
@@ -24,17 +24,16 @@ new-requires-clause-small g c =
 pub returns-clause-cleared : goal.returns-clause-cleared
 returns-clause-cleared g c a = (c.in_ok-grown.ensures.spreading.left (g.P.Point.coords c.args.p) a).1 (got c.in_ok-grown.grown.growing.points 0 (g.P.Point.coords c.args.p) c.in_ok-grown.ensures.start)
 
-pub returns-clause-part : goal.returns-clause-part
-returns-clause-part g c =
-    let h = c.in_ok-grown.ensures in
-    new_part g.P.Point.DIM g.P.Pairing.NEAR_COUNT c.args.axis c.args.left.now c.grow.new.left c.grow.new.tried (g.P.Point.coords c.args.p) (length c.in_ok-grown.grown.growing.points) c.in_ok-grown.grown.growing c.in_ok-grown.grown.refused c.new.result.found.patch h c.new.ensures.points
-    (subst (λ (t : ℕ). IsNaiveFor t c.in_ok-grown.grown.growing.points c.new.result.found.patch.plane) h.axis c.new.ensures.plane) c.requires.left c.requires.least
-
-pub returns-clause-refused : goal.returns-clause-refused
-returns-clause-refused g c =
+pub returns-clause-next : goal.returns-clause-next
+returns-clause-next g c =
     let h = c.in_ok-grown.ensures in
     let going : IsGoing g.P.Point.DIM (length (near_steps g.P.Point.DIM)) c.args.axis c.args.left.now (g.P.Point.coords c.args.p) (length c.in_ok-grown.grown.growing.points) c.in_ok-grown.grown.growing c.grow.new.left c.grow.new.tried c.in_ok-grown.grown.refused =
     subst (λ (n : ℕ). IsGoing g.P.Point.DIM n c.args.axis c.args.left.now (g.P.Point.coords c.args.p) (length c.in_ok-grown.grown.growing.points) c.in_ok-grown.grown.growing c.grow.new.left c.grow.new.tried c.in_ok-grown.grown.refused) g.met.P.Pairing.near_total h in
-    refused_of g.P.Point.DIM c.args.axis c.args.left.now (g.P.Point.coords c.args.p) c.in_ok-grown.grown.growing c.grow.new.left c.grow.new.tried c.in_ok-grown.grown.refused c.sort.new.self c.new.result.found.patch c.new.result.found.refused
-    going (points_long g.P.Point.DIM c.args.axis c.args.left.now (spread_of c.in_ok-grown.grown.growing.points c.grow.new.left c.grow.new.tried c.in_ok-grown.grown.refused) c.is_picture.ensures.picture h.spreading)
-    c.sort.ensures.same c.sort.ensures.rising c.new.ensures.points c.new.ensures.refused
+    record {
+      sides = h.spreading.left_sides;
+      part = new_part g.P.Point.DIM g.P.Pairing.NEAR_COUNT c.args.axis c.args.left.now c.grow.new.left c.grow.new.tried (g.P.Point.coords c.args.p) (length c.in_ok-grown.grown.growing.points) c.in_ok-grown.grown.growing c.in_ok-grown.grown.refused c.new.result.found.patch h c.new.ensures.points
+          (subst (λ (t : ℕ). IsNaiveFor t c.in_ok-grown.grown.growing.points c.new.result.found.patch.plane) h.axis c.new.ensures.plane) c.requires.left c.requires.least;
+      refused = refused_of g.P.Point.DIM c.args.axis c.args.left.now (g.P.Point.coords c.args.p) c.in_ok-grown.grown.growing c.grow.new.left c.grow.new.tried c.in_ok-grown.grown.refused c.sort.new.self c.new.result.found.patch c.new.result.found.refused
+          going (points_long g.P.Point.DIM c.args.axis c.args.left.now (spread_of c.in_ok-grown.grown.growing.points c.grow.new.left c.grow.new.tried c.in_ok-grown.grown.refused) c.is_picture.ensures.picture h.spreading)
+          c.sort.ensures.same c.sort.ensures.rising c.new.ensures.points c.new.ensures.refused;
+    }
