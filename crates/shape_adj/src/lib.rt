@@ -16,6 +16,6 @@ mod solid;
 
 pub use answers::{Labels, Parts};
 pub use near::NearNumbers;
-pub use number::{is_inner, near_number, side_number};
+pub use number::{is_inner, near_number};
 pub use pairing::Pairing;
 pub use picture::{labels, parts};

@@ -2,7 +2,7 @@
 //! What is asked of the neighbours belongs elsewhere.
 ghost use Rattle.std.specs.Prelude.{◌≡◌, ◌<◌, ◌≤◌, ◌^◌, ◌↔◌, ℕ, pos, ◌≤ℤ◌, ◌*ℤ◌, ◌+ℤ◌, IsTrue, nat_abs, unsigned_abs};
 ghost use Rattle.shape_terms.specs.Points.{sides_of, in_box, box_count, raster_number, raster_point};
-ghost use Rattle.shape_terms.specs.Adjacency.{moved, near_point, side_point};
+ghost use Rattle.shape_terms.specs.Adjacency.{moved, near_point};
 ghost use Rattle.shape_adj.specs.Offsets.{IsShort, raster_offset};
 
 use crate::pairing::Pairing;
@@ -73,18 +73,6 @@ pub fn near_number<P: Pairing>(sides: &Sides<P>, i: u32, k: usize) -> u32
         (near_point (raster_point (sides_of (P.coords sides.now.lengths)) i) k) }
 {
     moved_number(sides, i, P::near_step(k))
-}
-
-/// The raster number of a side neighbour that is in the box, from that of the point. It costs no division.
-pub fn side_number<P: Pairing>(sides: &Sides<P>, i: u32, k: usize) -> u32
-    requires below { k < P.SIDE_COUNT }
-    requires point { i < box_count (sides_of (P.coords sides.now.lengths)) }
-    requires inside { IsTrue (in_box (sides_of (P.coords sides.now.lengths))
-        (side_point (raster_point (sides_of (P.coords sides.now.lengths)) i) k)) }
-    ensures { result ≡ raster_number (sides_of (P.coords sides.now.lengths))
-        (side_point (raster_point (sides_of (P.coords sides.now.lengths)) i) k) }
-{
-    moved_number(sides, i, P::side_step(k))
 }
 
 /// Whether all near neighbours of a point are in the box.
