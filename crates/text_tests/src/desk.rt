@@ -28,17 +28,14 @@ fn desk_of(
     Ok(MemoryDesk::new(alloc, files, Vec::new(alloc), bad, piece, room)?)
 }
 
-// A desk of the files `a` and `b`, whose fourth call of `begin` and `read` fails.
+// A desk of the file `a` and one without a name, whose fourth call of `begin` and `read` fails.
 fn two_files(alloc: Global) -> Result<MemoryDesk, Fail> {
     let mut files = Vec::new(alloc);
     files.push((
         Vec::from_slice(alloc, b"a")?,
         Vec::from_slice(alloc, b"123")?,
     ))?;
-    files.push((
-        Vec::from_slice(alloc, b"b")?,
-        Vec::from_slice(alloc, b"xy")?,
-    ))?;
+    files.push((Vec::from_slice(alloc, b"")?, Vec::from_slice(alloc, b"xy")?))?;
     let bad_reads = Vec::from_slice(alloc, &[4])?;
     Ok(MemoryDesk::new(alloc, files, bad_reads, Vec::new(alloc), 2, 0)?)
 }
@@ -49,7 +46,7 @@ fn reads_two_files(rt: HostRuntime) -> Result<(), Fail> {
     let mut buf = [0; 4];
     assert!(rt; desk.begin(Place::Report, b"c") == Err(Failed));
     desk.begin(Place::Picture, b"a")?;
-    desk.begin(Place::Report, b"b")?;
+    desk.begin(Place::Report, b"")?;
     assert!(rt; desk.read(Place::Picture, &mut buf) == Err(Failed));
     assert!(rt; desk.read(Place::Picture, &mut buf) == Ok(2) && buf == [b'1', b'2', 0, 0]);
     assert!(rt; desk.read(Place::Report, &mut buf) == Ok(2) && buf == [b'x', b'y', 0, 0]);

@@ -92,5 +92,7 @@ fn endless(rt: HostRuntime) -> Result<(), Fail> {
         return Err(Fail::from(AllocError));
     };
     assert!(rt; error(read_raw(rt.alloc(), &mut desk, sides)) == TRAILING);
+    // the volume and one byte more
+    assert!(rt; desk.blanks == u64::MAX - 9);
     Ok(())
 }

@@ -29,3 +29,16 @@ pub(crate) fn full(alloc: Global, x: i32, y: i32) -> Result<Grid<P2>, Fail> {
     }
     grid_of(alloc, P2 { x, y }, points.as_slice())
 }
+
+// The picture of these sides with object at the places of the ones, in raster order.
+pub(crate) fn picture(alloc: Global, x: i32, y: i32, values: &[u8]) -> Result<Grid<P2>, Fail> {
+    let mut grid = grid_of(alloc, P2 { x, y }, &[])?;
+    let sides = grid.sides();
+    for i in 0..sides.count() {
+        let p = sides.unraster(i);
+        if values.get(i as usize) == Some(&b'1') && grid.sides().inside(p) {
+            grid.set(p);
+        }
+    }
+    Ok(grid)
+}

@@ -172,6 +172,7 @@ near 1 0 1 -2 4\n\
 near 4 1 5 1 1\n\
 near 4 2 4 4 4\n\
 near 3 2 1 2 4\n\
+del 1 0\n\
 end\n";
 
 // Their drawing with numbers: of two points that are as deep, the first in raster order has it.
@@ -190,7 +191,7 @@ const TWO_NUMBERED: &str =
 <path stroke=\"#0072B2\" stroke-width=\".25\" d=\"\"/>\n\
 <path stroke=\"#E69F00\" stroke-width=\".25\" d=\"\"/>\n\
 <path transform=\"translate(-.2)\" stroke=\"#D55E00\" stroke-width=\".4\" stroke-dasharray=\".4 .6\" d=\"\"/>\n\
-<path transform=\"translate(-.25)\" stroke=\"#000\" stroke-width=\".5\" stroke-dasharray=\".5\" d=\"M0 0h2M4 1h1M4 2h1M3 2h1\"/>\n\
+<path transform=\"translate(-.25)\" stroke=\"#000\" stroke-width=\".5\" stroke-dasharray=\".5\" d=\"M0 0h1M4 1h1M4 2h1M3 2h1\"/>\n\
 <g transform=\"scale(.001)\" font-family=\"sans-serif\" font-size=\"78\" font-weight=\"bold\" text-anchor=\"middle\" fill=\"#909\" stroke=\"#fff\" stroke-width=\".2em\" paint-order=\"stroke\">\n\
 <text x=\"1000\" y=\"0\" dy=\".35em\">1</text>\n\
 <text x=\"3000\" y=\"2000\" dy=\".35em\">2</text>\n\

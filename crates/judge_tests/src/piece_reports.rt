@@ -1,6 +1,6 @@
 //! Reports of the fewest straight pieces of the contours of small pictures: each as a whole, and checked; and reports that do not hold.
 //! A further picture, and a further report that does not hold, is one more row of a table.
-use crate::grids::grid_of;
+use crate::grids::picture;
 use judge_pieces::check_pieces;
 use report_text::{Judgement, write_report};
 use shape_desk::{MemoryDesk, SteadyDesk};
@@ -9,19 +9,6 @@ use shape_pieces::pieces;
 use shape_space::P2;
 use std::alloc::{AllocError, Global};
 use std::test::Fail;
-
-// The picture of these sides with object at the places of the ones, in raster order.
-fn picture(alloc: Global, x: i32, y: i32, values: &[u8]) -> Result<Grid<P2>, Fail> {
-    let mut grid = grid_of(alloc, P2 { x, y }, &[])?;
-    let sides = grid.sides();
-    for i in 0..sides.count() {
-        let p = sides.unraster(i);
-        if values.get(i as usize) == Some(&b'1') && grid.sides().inside(p) {
-            grid.set(p);
-        }
-    }
-    Ok(grid)
-}
 
 // The report of a picture, as it is written.
 fn written(alloc: Global, grid: &Grid<P2>) -> Result<Vec<u8>, Fail> {
@@ -114,7 +101,7 @@ fn first_bad_lines(rt: HostRuntime) -> Result<(), Fail> {
             5,
             b"pieces 1 2 2\nchain 0 0 0 4 2\npiece 0 1 y 0 1 0\nturn x 0 0\npiece 2 3 y 0 1 1\nend\n".as_slice(),
         ),
-        // a piece that does not begin where the one before it ended
+        // a piece that does not begin behind the one before it
         (
             6,
             b"pieces 1 2 2\nchain 0 0 0 4 2\npiece 0 1 y 0 1 0\nturn x 0 0\nturn y 1 1\npiece 1 3 y 0 1 1\n".as_slice(),
@@ -137,5 +124,11 @@ fn first_bad_lines(rt: HostRuntime) -> Result<(), Fail> {
         };
         assert_eq!(rt; judged(alloc, &grid, text)?, expected);
     }
+
+    // a piece that begins where the one before it ended, on a line that holds it
+    let row = picture(alloc, 3, 1, b"111")?;
+    let text =
+        b"pieces 1 3 1\nchain 0 0 0 4 2\npiece 0 2 y 0 1 0\nturn x 0 0\nturn y 0 2\npiece 2 3 y 0 1 0\nend\n";
+    assert_eq!(rt; judged(alloc, &row, text)?, Judgement::No { line: 6 });
     Ok(())
 }

@@ -1,7 +1,7 @@
 use Rattle.std.proofs.Common.{◌≡◌, [], ◌∷◌, ◌∙◌, ap, subst, arith}
 use Rattle.shape_terms.specs.Points.{box_count, raster_point}
 use Rattle.shape_check.proofs.Distances.{DistancesTo, distances_more, distances_all}
-use Rattle.text_tests.proofs.distances.distances.Goals as goal
+use Rattle.judge_tests.proofs.distances.distances.Goals as goal
 
 pub loop-i-preserved : goal.loop-i-preserved
 loop-i-preserved c =

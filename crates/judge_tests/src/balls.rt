@@ -1,6 +1,6 @@
 //! Ball reports: which are answered yes, where others are first bad, and what the maker writes. All is found by hand.
 //! A further report is one more entry of a table, and its first bad line.
-use crate::grids::{full, grid_of};
+use crate::grids::{full, grid_of, picture};
 use judge_balls::check_balls;
 use report_text::{Judgement, WriteFault, write_report};
 use shape_balls::balls;
@@ -39,15 +39,16 @@ const SQUARE: [&[u8]; 16] = [
 const SQUARE_BAD: [u64; 16] = [YES, YES, 3, 3, 2, 2, 2, 2, 3, 3, 1, 1, 1, 2, 3, 4];
 
 /// Reports of two points, side by side.
-const PAIR: [&[u8]; 4] = [
+const PAIR: [&[u8]; 5] = [
     b"balls 1 pbm 2 1 1\nball 0 0 0 -1 1 0 0\nend\n",
     b"balls 1 pbm 2 1 2\nball 0 0 0 -1 1 0 0\nball 1 0 1 -1 1 1 0\nend\n",
     b"balls 1 pbm 2 1 2\nball 1 0 1 -1 1 1 0\nball 0 0 0 -1 1 0 0\nend\n",
     b"balls 1 pbm 2 1 2\nball 0 0 0 -1 1 0 0\nball 0 0 0 -1 1 0 0\nend\n",
+    b"balls 1 pbm 2 1 1\nball 0 0 0 -1 1 1 0\nend\n",
 ];
 
-/// The second point is in no ball; both have one; the centres fall; and a centre comes twice.
-const PAIR_BAD: [u64; 4] = [3, YES, 3, 3];
+/// The second point is in no ball; both have one; the centres fall; a centre comes twice; and an own point is on the rim.
+const PAIR_BAD: [u64; 5] = [3, YES, 3, 3, 2];
 
 // What a check of this text answers: the first bad line.
 fn bad_line<P: Point>(alloc: Global, grid: &Grid<P>, text: &[u8]) -> Result<u64, Fail> {
@@ -128,7 +129,7 @@ fn reports_are_made(rt: HostRuntime) -> Result<(), Fail> {
     Ok(())
 }
 
-// Two pixels have a ball each.
+// Two pixels have a ball each, and so have a square and a pixel apart from it.
 #[test]
 fn each_ball_is_told(rt: HostRuntime) -> Result<(), Fail> {
     let pair = balls(rt.alloc(), &full(rt.alloc(), 2, 1)?)?;
@@ -136,5 +137,7 @@ fn each_ball_is_told(rt: HostRuntime) -> Result<(), Fail> {
     if pair.len() == 2 {
         assert_eq!(rt; pair.ball(1).centre, P2 { x: 1, y: 0 });
     }
+    let apart = balls(rt.alloc(), &picture(rt.alloc(), 5, 3, b"111011110011100")?)?;
+    assert_eq!(rt; apart.len(), 2);
     Ok(())
 }
