@@ -229,7 +229,7 @@ fn reports_hold(rt: HostRuntime) -> Result<(), Fail> {
 }
 
 // A line of the square's report, another one in its place, and the first line that is bad then.
-const CHANGES: [(u64, &[u8], u64); 12] = [
+const CHANGES: [(u64, &[u8], u64); 13] = [
     (1, b"edges 1 2 1", 1),
     (2, b"cycle 0 0 1 8 8", 2),
     (2, b"cycle 0 0 0 8 7", 10),
@@ -242,6 +242,8 @@ const CHANGES: [(u64, &[u8], u64); 12] = [
     (4, b"arc 0 3 + + 1 2 0", 4),
     // both steps go to the right
     (11, b"bend 0 1", 11),
+    // both go down
+    (12, b"bend 1 2", 12),
     // the run of the gap bends
     (12, b"fold 1 2 2 2 1 0 1 4 0", 12),
     (18, b"end", 18),

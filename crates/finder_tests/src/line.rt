@@ -109,8 +109,7 @@ fn one_point_is_straight_for_both_axes(rt: HostRuntime) {
     for axis in 0..2 {
         match decide(&run, axis) {
             RunVerdict::Straight(line) => {
-                assert_eq!(rt; line.axis as usize, axis);
-                assert!(rt; holds_all(&line, &run));
+                assert!(rt; line.axis as usize == axis && holds_all(&line, &run));
             }
             _ => assert!(rt; false),
         }

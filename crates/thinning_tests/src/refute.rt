@@ -136,7 +136,7 @@ const FOUR: &[P2] = &[
 const TWO: &[P2] = &[P2 { x: 0, y: 1 }, P2 { x: 0, y: 0 }];
 
 // Points, an axis, weights of the place 1, of high places and of steps, and whether they refute the points.
-const WEIGHTS: [(&[P2], usize, u64, &[(u64, u32)], &[(u64, Step)], bool); 13] = [
+const WEIGHTS: [(&[P2], usize, u64, &[(u64, u32)], &[(u64, Step)], bool); 14] = [
     (BEND, 0, 2, &[(1, 0), (1, 2)], &[], true),
     (BEND, 1, 2, &[(1, 0), (1, 2)], &[], false),
     (BEND, 0, 2, &[(1, 0), (1, 1)], &[], false),
@@ -154,6 +154,7 @@ const WEIGHTS: [(&[P2], usize, u64, &[(u64, u32)], &[(u64, Step)], bool); 13] = 
         false,
     ),
     (TWO, 1, 1, &[(1, 0)], &[], true),
+    (TWO, 1, 1, &[(2, 0)], &[], false),
     (TWO, 1, 0, &[(1, 0)], &[], false),
     (TWO, 1, 0, &[(0, 0)], &[], false),
     (TWO, 1, 0, &[], &[], false),
