@@ -4,7 +4,7 @@ ghost use Rattle.std.specs.Prelude.{◌≡◌, ◌*◌, ◌<◌, ◌≤◌, ◌^
 ghost use Rattle.shape_terms.specs.Points.{box_count};
 ghost use Rattle.shape_terms.specs.Pictures.{at};
 ghost use Rattle.shape_terms.specs.FramedBox.{framed_sides};
-ghost use Rattle.judge_field.specs.Scanned.{IsLeastSquare, IsFirstSquare, IsScannedAt, AreSquaresOn, HasTwo};
+ghost use Rattle.judge_field.specs.Scanned.{IsLeastSquare, IsScannedAt, AreSquaresOn, HasTwo};
 
 use crate::first::scan_first;
 use crate::line::scan_lines;
@@ -41,27 +41,18 @@ impl<P: Point> Model for Scans<P> {
         × AreSquaresOn s.grid (box_count (framed_sides s.grid.sides)) s.squares.items };
 }
 
-// The square of a framed point before the first axis.
-fn first_square<P: Point>(grid: &Grid<P>, i: u32) -> u32
-    ensures { IsFirstSquare grid.now i result }
-{
-    if grid.has(grid.sides().framed_point(i)) {
-        FAR
-    } else {
-        0
-    }
-}
-
-// The squares of all framed points before the first axis.
+// The squares of all framed points before the first axis: FAR for an object point, and 0 for all others.
 fn first_squares<P: Point>(alloc: Global, grid: &Grid<P>) -> Result<Vec<u32>, NoMemory>
     ensures long { IfOk result (λ v. length v.items ≡ box_count (framed_sides grid.now.sides)) }
     ensures squares { IfOk result (λ v. AreSquaresOn grid.now 1 v.items) }
     ensures two { IfOk result (λ v. HasTwo v.items) }
 {
-    let n = grid.sides().framed_count();
-    let mut squares = Vec::with_capacity(alloc, n as usize)?;
-    for i in 0..n {
-        squares.push(first_square(grid, i))?;
+    let sides = grid.sides();
+    let mut squares = vec![in alloc; 0u32; sides.framed_count() as usize]?;
+    let mut next = 0;
+    while let Some(i) = grid.first_from(next) {
+        squares[sides.framed_number(sides.unraster(i)) as usize] = FAR;
+        next = i + 1;
     }
     Ok(squares)
 }

@@ -1,11 +1,53 @@
-use Rattle.std.proofs.Common.{◌≡◌, ◌∙◌, ap, arith}
-use Rattle.shape_terms.specs.Points.{box_count}
+use Rattle.std.proofs.Common.{◌≡◌, ◌<◌, ◌+◌, ◌^◌, ◌∙◌, ap, sym, subst, replicate, arith}
+use Rattle.std.proofs.Math.ListN.{set}
+use Rattle.shape_terms.specs.Points.{sides_of, box_count, raster_point}
 use Rattle.shape_terms.specs.FramedBox.{framed_sides}
+use Rattle.number_terms.specs.Places.{framed_number}
+use Rattle.number_terms.proofs.FramedEnds.{in_box_in_frame}
 use Rattle.judge_field.proofs.ScanAxes.{first_squares}
+use Rattle.judge_field.proofs.NextObjects.{next_object, blank_to_end}
+use Rattle.judge_field.proofs.FirstSquares.{HasFound, found_below, begun, one_more, all}
 use Rattle.judge_field.proofs.scans.first_squares.Goals as goal
+
+pub loop-i-init : goal.loop-i-init
+loop-i-init g c =
+    let X = c.args.grid.now in
+    let n : c.framed_count.result ≡ box_count (framed_sides X.sides) = c.framed_count.ensures.value ∙ ap (λ s. box_count (framed_sides s)) c.sides-sides.ensures.value in
+    let zeros = c.in_ok-squares.ensures.items_if_clones_equal (λ y e. e) ∙ ap (λ n. replicate n 0) n in
+    record { found = subst (HasFound X 0) (sym zeros) (begun X); low = omega arith }
+
+pub framed_number-requires : goal.framed_number-requires
+framed_number-requires g c = in_box_in_frame (sides_of (g.P.Point.coords c.sides-sides.result.lengths)) (g.P.Point.coords c.unraster.result) c.unraster.ensures.inside
+
+pub index_mut-requires : goal.index_mut-requires
+index_mut-requires g c =
+    let X = c.args.grid.now in
+    let i = c.in-Some.i in
+    let k : c.framed_number.result ≡ framed_number X.sides (raster_point X.sides i) = cc (c.framed_number.ensures, c.unraster.ensures.value, c.sides-sides.ensures.value) in
+    omega (arith, k, found_below X i c.in-Some.ensures.below, c.loop-i.invariant.found.long, c.loop-i.squares.ok.0)
+
+pub loop-i-smaller : goal.loop-i-smaller
+loop-i-smaller g c =
+    let l = c.in-Some.ensures.below in
+    let n = next_object c.args.grid.now c.loop-i.next c.in-Some.i c.loop-i.invariant.low l c.in-Some.ensures.next in
+    let a = n.low in
+    omega arith
+
+pub loop-i-preserved : goal.loop-i-preserved
+loop-i-preserved g c =
+    let X = c.args.grid.now in
+    let i = c.in-Some.i in
+    let l : i < box_count X.sides = c.in-Some.ensures.below in
+    let squares = c.loop-i.squares.items in
+    let k : c.framed_number.result ≡ framed_number X.sides (raster_point X.sides i) = cc (c.framed_number.ensures, c.unraster.ensures.value, c.sides-sides.ensures.value) in
+    let n = next_object X c.loop-i.next i c.loop-i.invariant.low l c.in-Some.ensures.next in
+    record {
+      found = subst (λ k. HasFound X (i + 1) (set squares k (2 ^ 26))) (sym k) (one_more X c.loop-i.next i squares l n c.loop-i.invariant.found);
+      low = omega arith;
+    }
 
 pub returns-clause-squares : goal.returns-clause-squares
 returns-clause-squares g c =
     let X = c.args.grid.now in
-    let n : c.framed_count-n.result ≡ box_count (framed_sides X.sides) = c.framed_count-n.ensures.value ∙ ap (λ s. box_count (framed_sides s)) c.sides.ensures.value in
-    first_squares X c.loop-i.squares.items (λ i l. c.loop-i.invariant.first i (omega arith))
+    let blank = blank_to_end X c.loop-i.next c.loop-i.invariant.low c.in_default.ensures.next in
+    first_squares X c.loop-i.squares.items (all X c.loop-i.next c.loop-i.squares.items blank c.loop-i.invariant.found)

@@ -1,9 +1,13 @@
-use Rattle.std.proofs.Common.{◌≡◌, ℕ, ◌<◌, length, get_or}
-use Rattle.judge_field.specs.Scanned.{IsFirstSquare}
+use Rattle.std.proofs.Common.{◌≤◌, ◌-◌}
+use Rattle.shape_terms.specs.Points.{box_count}
+use Rattle.judge_field.proofs.FirstSquares.{HasFound}
 use Rattle.judge_field.proofs.scans.first_squares.Given as goal
 
 abbrev pub invariant-loop-i : goal.invariant-loop-i
 invariant-loop-i g l = record {
-  long : length l.squares.items ≡ l.i;
-  first : (i : ℕ) → i < l.i → IsFirstSquare l.grid i (get_or l.squares.items i 0);
+  found : HasFound l.grid l.next l.squares.items;
+  low : l.next ≤ box_count l.grid.sides;
 }
+
+abbrev pub decreases-loop-i : goal.decreases-loop-i
+decreases-loop-i g l = box_count l.grid.sides - l.next
