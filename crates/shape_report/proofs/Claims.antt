@@ -62,6 +62,11 @@ from_words d coords bytes (Some line) h =
     (r.0, ap (join_with_byte 32) (sym (same_words d l r.0) ∙ r.1) ∙ join-split_words bytes, h.1)
 
 -- and so it is one of the kind of report
+pub of_claim : {P : Type 0} (d : ℕ) (coords : P → List ℤ) (bytes : List ℕ) (r : Option (Line P))
+    → MatchOption r ((l : Terms.Line) → IsLineOf d l → spelling l ≢ bytes) (λ line. IsLineOf d (line_of coords line) × (spelling (line_of coords line) ≡ bytes) × HasNoThird line)
+    → ReadsBytes (Terms.spelled d) (λ l. line_of coords l) bytes r
+of_claim d coords bytes None h = h
+of_claim d coords bytes (Some line) h = (h.0, h.1)
+
 pub read_bytes : {P : Type 0} (d : ℕ) (coords : P → List ℤ) (bytes : List ℕ) (r : Option (Line P)) → ReadsLine d coords (split_words bytes) r → ReadsBytes (Terms.spelled d) (λ l. line_of coords l) bytes r
-read_bytes d coords bytes None h = from_words d coords bytes None h
-read_bytes d coords bytes (Some line) h = let r = from_words d coords bytes (Some line) h in (r.0, r.1)
+read_bytes d coords bytes r h = of_claim d coords bytes r (from_words d coords bytes r h)

@@ -3,7 +3,7 @@
 ghost use Rattle.std.specs.Prelude.{◌≡◌};
 ghost use Rattle.report_terms.specs.Sections.{rank, section_of};
 
-use crate::read::{Frequent, at, del, fields, near, on, told_by};
+use crate::read::{Frequent, at, del, near, on, read_claim, told_by};
 use crate::spell::spell;
 use report_text::{ReportLine, Text, Words};
 use shape_refute::{Bounds, Naive, Refusal, Refutation, Sense};
@@ -159,19 +159,17 @@ impl<P: Point> ReportLine for Line<P> {
 
     ghost last = { Terms.Line.End };
 
-    // A line of a kind of which reports have most lines is put right where it is wanted, and not copied on the way.
+    // A line of a kind of which reports have most lines is read here, where its words stay at hand; any other is read by a call.
     fn read(bytes: &[u8]) -> Option<Line<P>> {
         let mut words = Words::new(bytes);
         let word = words.next_word()?;
         match told_by(word) {
-            Frequent::Near => return near(&mut words),
-            Frequent::At => return at(&mut words),
-            Frequent::On => return on(&mut words),
-            Frequent::Del => return del(&mut words),
-            Frequent::Other => (),
+            Frequent::Near => near(&mut words),
+            Frequent::At => at(&mut words),
+            Frequent::On => on(&mut words),
+            Frequent::Del => del(&mut words),
+            Frequent::Other => read_claim(bytes),
         }
-        let line = fields(word, &mut words);
-        line
     }
 
     fn spell(&self, text: &mut Text) {

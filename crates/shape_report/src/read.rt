@@ -386,6 +386,7 @@ pub(crate) fn fields<P: Point>(word: &[u8], words: &mut Words) -> Option<Line<P>
 /// many, a number that is not spelled in the one lawful way or is out of its range, another report number than 1, or
 /// than 2 for a flat picture, another kind of picture, or no lawful name of a rule. A line of the plane that is read has 0 for its third coefficient.
 /// It takes no memory.
+#[inline(never)]
 pub fn read_claim<P: Point>(bytes: &[u8]) -> Option<Line<P>>
     ensures { MatchOption result ((l : Terms.Line) → IsLineOf P.DIM l → spelling l ≢ bytes.now)
         (λ l. IsLineOf P.DIM (line_of P.coords l) × (spelling (line_of P.coords l) ≡ bytes.now) × HasNoThird l) }

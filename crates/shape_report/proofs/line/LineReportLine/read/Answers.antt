@@ -1,7 +1,7 @@
 use Rattle.std.proofs.Common.{sym, ◌∙◌}
 use Rattle.report_terms.specs.Kinds.{Kind}
 use Rattle.report_text.specs.Reading.{split_words}
-use Rattle.shape_report.proofs.Claims.{of_kind, of_fields, read_bytes}
+use Rattle.shape_report.proofs.Claims.{of_kind, of_fields, read_bytes, of_claim}
 use Rattle.shape_report.proofs.line.LineReportLine.read.Goals as goal
 
 pub returns-in-Near : goal.returns-in-Near
@@ -40,8 +40,5 @@ returns-in-Del g c =
     let fields = of_kind g.P.Point.DIM g.P.Point.coords Kind.Del word left c.del.result c.in-Del.ensures c.del.ensures in
     read_bytes g.P.Point.DIM g.P.Point.coords text c.del.result (of_fields g.P.Point.DIM g.P.Point.coords (split_words text) word left c.del.result is fields)
 
-pub returns : goal.returns
-returns g c =
-    let text = c.args.bytes.now in
-    let is = sym c.new-words.ensures ∙ c.in_ok-word.ensures in
-    read_bytes g.P.Point.DIM g.P.Point.coords text c.fields-line.result (of_fields g.P.Point.DIM g.P.Point.coords (split_words text) c.in_ok-word.word.now c.next_word.new.self c.fields-line.result is c.fields-line.ensures)
+pub returns-in-Other : goal.returns-in-Other
+returns-in-Other g c = of_claim g.P.Point.DIM g.P.Point.coords c.args.bytes.now c.read_claim.result c.read_claim.ensures
