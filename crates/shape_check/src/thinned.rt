@@ -1,8 +1,8 @@
 //! The judge of the lines of the thinning: its events, and the counts of the points left.
 //! How the events are followed stands in `judge_thin`.
 ghost use Rattle.std.specs.Prelude.{◌≡◌, ◌↔◌, ◌+◌, ◌<◌, true, false, IsTrue, IfOk, ℕ, List, [], ◌∷◌, ◌++◌};
-ghost use Rattle.shape_terms.specs.Pictures.{Picture, at};
-ghost use Rattle.thin_terms.specs.Thinning.{Rule, Event, HasDistance};
+ghost use Rattle.shape_terms.specs.Pictures.{Picture};
+ghost use Rattle.thin_terms.specs.Thinning.{Rule, Event};
 ghost use Rattle.report_terms.specs.Lines as Terms;
 ghost use Rattle.report_terms.specs.Sections.{Section};
 ghost use Rattle.report_terms.specs.ThinningLines.{IsKeptLine};
@@ -33,26 +33,17 @@ pub struct ThinnedJudge<P: SimpleMask> {
     pub kept: bool,
 }
 
-// The squared distance of an object point, and 0 of any other.
-fn distance_at<P: Point>(scans: &Scans<P>, p: P) -> u32
-    ensures { IsTrue (at scans.now (P.coords p)) → HasDistance scans.now (P.coords p) result }
-{
-    if scans.grid().has(p) {
-        scans.least(p)
-    } else {
-        0
-    }
-}
-
 /// The squared distances of the object points by raster number, from the least ones that were scanned.
 pub(crate) fn distances_of<P: Point>(alloc: Global, scans: &Scans<P>) -> Result<Vec<u32>, NoMemory>
     ensures { IfOk result (λ d. AreDistances scans.now d.items) }
 {
-    let sides = scans.grid().sides();
-    let n = sides.count();
-    let mut distances = Vec::with_capacity(alloc, n as usize)?;
-    for i in 0..n {
-        distances.push(distance_at(scans, sides.unraster(i)))?;
+    let grid = scans.grid();
+    let sides = grid.sides();
+    let mut distances = vec![in alloc; 0u32; sides.count() as usize]?;
+    let mut next = 0;
+    while let Some(i) = grid.first_from(next) {
+        distances[i as usize] = scans.least(sides.unraster(i));
+        next = i + 1;
     }
     Ok(distances)
 }

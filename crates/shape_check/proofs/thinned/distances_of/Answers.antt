@@ -1,10 +1,51 @@
-use Rattle.std.proofs.Common.{◌∙◌, ap}
-use Rattle.shape_terms.specs.Points.{raster_point}
-use Rattle.shape_check.proofs.Distances.{distances_more}
+use Rattle.std.proofs.Common.{◌≡◌, ◌+◌, ◌<◌, ◌≤◌, ℕ, sym, subst, arith, ◌∷◌, []}
+use Rattle.shape_terms.specs.Points.{box_count, raster_point}
+use Rattle.shape_terms.specs.Pictures.{Picture, objects_from}
+use Rattle.thin_terms.specs.Thinning.{HasDistance}
+use Rattle.judge_field.proofs.NextObjects.{IsNext, next_object}
+use Rattle.shape_check.proofs.Distances.{none_yet, distances_more, distances_all}
 use Rattle.shape_check.proofs.thinned.distances_of.Goals as goal
+
+-- what the grid finds is the next object point of the picture that was scanned
+found : (X Y : Picture) (next i : ℕ) → Y ≡ X → next ≤ box_count X.sides → i < box_count Y.sides → objects_from Y next ≡ raster_point Y.sides i ∷ objects_from Y (i + 1) → (i < box_count X.sides) × IsNext X next i
+found X Y next i e low = subst (λ Z. i < box_count Z.sides → objects_from Z next ≡ raster_point Z.sides i ∷ objects_from Z (i + 1) → (i < box_count X.sides) × IsNext X next i) (sym e) (λ l h. (l, next_object X next i low l h))
+
+pub loop-i-init : goal.loop-i-init
+loop-i-init g c =
+    let X = c.args.scans.now in
+    let all : c.count.result ≡ box_count X.sides = cc (c.count.ensures.value, c.sides-sides.ensures.value, c.grid-grid.ensures) in
+    record { so_far = none_yet X c.in_ok-distances.distances.items (omega (arith, all, c.in_ok-distances.ensures.len)); low = omega arith }
+
+pub least-requires : goal.least-requires
+least-requires g c =
+    let X = c.args.scans.now in
+    let n = found X c.grid-grid.result.now c.loop-i.next c.in-Some.i c.grid-grid.ensures c.loop-i.invariant.low c.in-Some.ensures.below c.in-Some.ensures.next in
+    let point : g.P.Point.coords c.unraster.result ≡ raster_point X.sides c.in-Some.i = cc (c.unraster.ensures.value, c.sides-sides.ensures.value, c.grid-grid.ensures) in
+    rw point n.1.object
+
+pub index_mut-requires : goal.index_mut-requires
+index_mut-requires g c =
+    let n = found c.args.scans.now c.grid-grid.result.now c.loop-i.next c.in-Some.i c.grid-grid.ensures c.loop-i.invariant.low c.in-Some.ensures.below c.in-Some.ensures.next in
+    omega (arith, n.0, c.loop-i.invariant.so_far.filled)
+
+pub loop-i-smaller : goal.loop-i-smaller
+loop-i-smaller g c =
+    let n = found c.args.scans.now c.grid-grid.result.now c.loop-i.next c.in-Some.i c.grid-grid.ensures c.loop-i.invariant.low c.in-Some.ensures.below c.in-Some.ensures.next in
+    omega (arith, n.0, n.1.low)
 
 pub loop-i-preserved : goal.loop-i-preserved
 loop-i-preserved g c =
     let X = c.args.scans.now in
-    let point = c.unraster.ensures.value ∙ ap (λ sides. raster_point sides c.loop-i.i) (c.sides-sides.ensures.value ∙ ap (λ Y. Y.sides) c.grid.ensures) in
-    rw c.in_ok-push.ensures.items (distances_more X c.loop-i.i c.distance_at.result c.loop-i.distances.items (g.P.Point.coords c.unraster.result) point c.distance_at.ensures c.loop-i.invariant)
+    let i = c.in-Some.i in
+    let s = c.least.result in
+    let n = found X c.grid-grid.result.now c.loop-i.next i c.grid-grid.ensures c.loop-i.invariant.low c.in-Some.ensures.below c.in-Some.ensures.next in
+    let point : g.P.Point.coords c.unraster.result ≡ raster_point X.sides i = cc (c.unraster.ensures.value, c.sides-sides.ensures.value, c.grid-grid.ensures) in
+    let nearest = subst (λ p. HasDistance X p s) point (c.least.ensures.q, c.least.ensures.least) in
+    record { so_far = distances_more X c.loop-i.next i s c.loop-i.distances.items n.0 n.1 nearest c.loop-i.invariant.so_far; low = omega (arith, n.0) }
+
+pub returns : goal.returns
+returns g c =
+    let X = c.args.scans.now in
+    let next = c.loop-i.next in
+    let none : objects_from X next ≡ [] = subst (λ Y. objects_from Y next ≡ []) c.grid-grid.ensures c.in_default.ensures.next in
+    distances_all X next c.loop-i.distances.items c.loop-i.invariant.low none c.loop-i.invariant.so_far

@@ -1,5 +1,13 @@
+use Rattle.std.proofs.Common.{◌≤◌, ◌-◌}
+use Rattle.shape_terms.specs.Points.{box_count}
 use Rattle.shape_check.proofs.Distances.{DistancesTo}
 use Rattle.shape_check.proofs.thinned.distances_of.Given as goal
 
 abbrev pub invariant-loop-i : goal.invariant-loop-i
-invariant-loop-i g l = DistancesTo l.scans l.i l.distances.items
+invariant-loop-i g l = record {
+  so_far : DistancesTo l.scans l.next l.distances.items;
+  low : l.next ≤ box_count l.scans.sides;
+}
+
+abbrev pub decreases-loop-i : goal.decreases-loop-i
+decreases-loop-i g l = box_count l.scans.sides - l.next
