@@ -223,7 +223,7 @@ fn reports_hold(rt: HostRuntime) -> Result<(), Fail> {
     let alloc = rt.alloc();
     for case in &CASES {
         let judgement = judged(alloc, case.x, case.y, case.values, case.report)?;
-        assert_eq!(rt; judgement, Judgement::Yes);
+        assert!(rt; judgement == Judgement::Yes);
     }
     Ok(())
 }
@@ -256,7 +256,7 @@ fn changed_lines_are_bad(rt: HostRuntime) -> Result<(), Fail> {
     for &(number, line, bad) in &CHANGES {
         let text = with_line(alloc, SQUARE, number, line)?;
         let judgement = judged(alloc, 2, 2, b"1111", text.as_slice())?;
-        assert_eq!(rt; judgement, Judgement::No { line: bad });
+        assert!(rt; judgement == Judgement::No { line: bad });
     }
     Ok(())
 }
@@ -271,9 +271,9 @@ fn reports_are_made(rt: HostRuntime) -> Result<(), Fail> {
             return Err(Fail::from(AllocError));
         }
         let report = edges(alloc, &grid)?;
-        assert_eq!(rt; line_ends(report.text()), line_ends(case.report));
+        assert!(rt; line_ends(report.text()) == line_ends(case.report));
         let judgement = judged(alloc, case.x, case.y, case.values, report.text())?;
-        assert_eq!(rt; judgement, Judgement::Yes);
+        assert!(rt; judgement == Judgement::Yes);
     }
     Ok(())
 }
@@ -283,7 +283,7 @@ fn reports_are_made(rt: HostRuntime) -> Result<(), Fail> {
 fn long_sides(rt: HostRuntime) -> Result<(), Fail> {
     for (x, y, is_small) in [(1, 1000, true), (1, 1001, false), (1001, 1, false)] {
         let grid = picture(rt.alloc(), x, y, b"")?;
-        assert_eq!(rt; has_small_sides(&grid), is_small);
+        assert!(rt; has_small_sides(&grid) == is_small);
     }
     Ok(())
 }

@@ -34,9 +34,11 @@ fn next_first(contour: &Contour, found: &Cover, k: u32) -> u32 {
 
 // How many axes are refused by weights in a gap.
 fn cuts(gap: &Gap) -> u32 {
-    let x = matches!(&gap.x, Refusal::Cut(_)) as u32;
-    let y = matches!(&gap.y, Refusal::Cut(_)) as u32;
-    x + y
+    match (&gap.x, &gap.y) {
+        (Refusal::Cut(_), Refusal::Cut(_)) => 2,
+        (Refusal::Cut(_), _) | (_, Refusal::Cut(_)) => 1,
+        _ => 0,
+    }
 }
 
 // Whether the line of a segment holds its points.

@@ -40,13 +40,8 @@ fn an_envelope(rt: HostRuntime) -> Result<(), Fail> {
     assert!(rt; some && !other);
     let first = out.get(0).copied();
     assert!(rt; first == Some(0) || first == Some(2));
-    assert_eq!(rt;
-        (
-            out.get(1).copied(),
-            out.get(2).copied(),
-            out.get(3).copied()
-        ),
-        (Some(2), Some(2), Some(2))
-    );
+    for i in 1..4 {
+        assert!(rt; out.get(i).copied() == Some(2));
+    }
     Ok(())
 }

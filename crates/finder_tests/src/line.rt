@@ -66,7 +66,7 @@ fn a_staircase_is_straight(rt: HostRuntime) {
     ];
     match decide(&run, 1) {
         RunVerdict::Straight(line) => {
-            assert_eq!(rt; (line.axis, line.a[2]), (1, 0));
+            assert!(rt; line.axis == 1 && line.a[2] == 0);
             assert!(rt; holds_all(&line, &run));
             assert!(rt; !holds(&line, P2 { x: 0, y: 1 }));
             assert!(rt; !holds(&line, P2 { x: 2, y: 0 }));
@@ -77,7 +77,7 @@ fn a_staircase_is_straight(rt: HostRuntime) {
         RunVerdict::Turned(turn) => assert!(rt; turns(&run, 0, &turn)),
         _ => assert!(rt; false),
     }
-    assert_eq!(rt; shown(&run, 1), Some((true, false)));
+    assert!(rt; shown(&run, 1) == Some((true, false)));
 }
 
 #[test]
@@ -93,7 +93,7 @@ fn a_bend_is_refused_or_turned(rt: HostRuntime) {
         RunVerdict::Refused(why) => {
             assert!(rt; refutes(&run, 1, &why));
             assert!(rt; !refutes(&run[0..4], 1, &why));
-            assert_eq!(rt; why.steps.len(), 0);
+            assert!(rt; why.steps.len() == 0);
         }
         _ => assert!(rt; false),
     }
@@ -128,7 +128,7 @@ fn a_falling_run_is_straight(rt: HostRuntime) {
     ];
     match decide(&run, 0) {
         RunVerdict::Straight(line) => {
-            assert_eq!(rt; line.axis, 0);
+            assert!(rt; line.axis == 0);
             assert!(rt; holds_all(&line, &run));
         }
         _ => assert!(rt; false),

@@ -61,7 +61,7 @@ fn fewest_pieces(rt: HostRuntime) -> Result<(), Fail> {
     ];
     for (grid, which, expected) in table {
         let found = places(&rt, alloc, grid, which)?;
-        assert_eq!(rt; found.as_slice(), expected);
+        assert!(rt; found.as_slice() == expected);
     }
     Ok(())
 }

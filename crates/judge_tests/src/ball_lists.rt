@@ -71,7 +71,7 @@ fn one_list_holds(rt: HostRuntime) -> Result<(), Fail> {
         for own in POINTS {
             let mut desk = SteadyDesk::new(Vec::new(alloc), listing(alloc, bits, own)?);
             let holds = check_balls(alloc, &square, &mut desk) == Ok(Judgement::Yes);
-            assert_eq!(rt; holds, bits == 16);
+            assert!(rt; holds == (bits == 16));
         }
     }
     Ok(())

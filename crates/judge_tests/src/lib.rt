@@ -8,7 +8,6 @@ mod ball_lists;
 mod balls;
 #[cfg(test)]
 mod cover_judge;
-pub mod distances;
 #[cfg(test)]
 mod field_judge;
 #[cfg(test)]

@@ -1,9 +1,9 @@
 //! The judge of thinnings: events of small pictures, found by hand, and the distances that it begins with.
 //! A further list of events is one more row of a table.
-use crate::distances::distances;
 use crate::grids::full;
 use judge_field::Scans;
 use judge_thin::ThinJudge;
+use shape_check::distances_of;
 use shape_report::{Line, read_claim};
 use shape_rules::{CurveEnds, EndRule, NoEnds};
 use shape_space::P2;
@@ -14,7 +14,7 @@ use std::test::Fail;
 fn judged(alloc: Global, rule: &mut dyn EndRule, lines: &str) -> Result<(usize, bool, u32), Fail> {
     let grid = full(alloc, 3, 3)?;
     let scans = Scans::new(alloc, &grid)?;
-    let mut judge = ThinJudge::new(alloc, &grid, distances(alloc, &scans)?)?;
+    let mut judge = ThinJudge::new(alloc, &grid, distances_of(alloc, &scans)?)?;
     rule.reset();
     let mut count: usize = 0;
     for text in lines.lines() {

@@ -16,3 +16,4 @@ mod whole;
 
 pub use check::{check_flat, check_solid};
 pub use report_text::{CheckFault, Judgement};
+pub use thinned::distances_of;

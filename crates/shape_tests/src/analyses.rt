@@ -15,7 +15,7 @@ fn a_full_picture(rt: HostRuntime) -> Result<(), Fail> {
         return Err(Fail::from(AllocError));
     };
     let bytes = analysis.report.text();
-    assert_eq!(rt; bytes.iter().filter(|&&c| c == b'\n').count(), 46);
+    assert!(rt; (bytes.iter().filter(|&&c| c == b'\n').count()) == 46);
     assert!(rt; bytes.starts_with(b"shape 2 pbm 3 3 none\nparts 9 1 1\nnear 0 0 ".as_slice()));
     let end =
         b"\ndel 0 0\ndel 1 0\ndel 2 0\ndel 0 1\ndel 2 1\ndel 0 2\ndel 1 2\ndel 2 2\nkept 1 1 1\nend\n";
@@ -27,10 +27,7 @@ fn a_full_picture(rt: HostRuntime) -> Result<(), Fail> {
             kinds.push(if *first == b'n' { *last } else { *first })?;
         }
     }
-    assert_eq!(rt;
-        kinds.as_slice(),
-        b"sp111141111caaaaaaaaslslslslttttttttddddddddke".as_slice()
-    );
+    assert!(rt; kinds.as_slice() == b"sp111141111caaaaaaaaslslslslttttttttddddddddke".as_slice());
     let tally = Tally {
         points: 9,
         parts: Parts {
@@ -44,7 +41,7 @@ fn a_full_picture(rt: HostRuntime) -> Result<(), Fail> {
         events: 8,
         kept: 1,
     };
-    assert_eq!(rt; analysis.tally, tally);
+    assert!(rt; analysis.tally == tally);
     Ok(())
 }
 
@@ -53,7 +50,7 @@ fn a_picture_with_ends(rt: HostRuntime) -> Result<(), Fail> {
     let alloc = rt.alloc();
     let grid = full(alloc, 3, 3)?;
     let mut shelf = rules(alloc)?;
-    assert_eq!(rt; shelf.len(), 3);
+    assert!(rt; shelf.len() == 3);
     let Ok(analysis) = analyse_flat(alloc, &grid, &mut shelf, 1) else {
         return Err(Fail::from(AllocError));
     };
@@ -98,8 +95,8 @@ fn a_volume(rt: HostRuntime) -> Result<(), Fail> {
     ] {
         faces.extend_from_slice(part)?;
     }
-    assert_eq!(rt; kinds.as_slice(), faces.as_slice());
-    assert_eq!(rt; analysis.tally.extent, Extent::Faces { exposed: 18 });
-    assert_eq!(rt; (analysis.tally.events, analysis.tally.kept), (2, 1));
+    assert!(rt; kinds.as_slice() == faces.as_slice());
+    assert!(rt; analysis.tally.extent == Extent::Faces { exposed: 18 });
+    assert!(rt; (analysis.tally.events, analysis.tally.kept) == (2, 1));
     Ok(())
 }

@@ -24,9 +24,9 @@ fn answers_again(
     desk: &mut MemoryDesk,
 ) -> Result<(), Fail> {
     let before = desk.output().len();
-    assert_eq!(rt; ran(alloc, known.case.line, desk)?, known.outcome);
+    assert!(rt; ran(alloc, known.case.line, desk)? == known.outcome);
     let len = before.saturating_add(known.text.len());
-    assert_eq!(rt; desk.output().len(), len);
+    assert!(rt; desk.output().len() == len);
     assert!(rt; desk.output().ends_with(known.text));
     Ok(())
 }
@@ -36,14 +36,14 @@ fn outlives(rt: &impl Abort, alloc: Global, known: Known<'_>, fault: Fault) -> R
     let mut desk = desk_of(alloc, known.case, fault)?;
     let outcome = ran(alloc, known.case.line, &mut desk)?;
     if outcome == known.outcome {
-        assert_eq!(rt; desk.output(), known.text);
+        assert!(rt; desk.output() == known.text);
         return Ok(true);
     }
     if fault.bad_read > 0 {
-        assert_eq!(rt; outcome, Outcome::ReadFault);
-        assert_eq!(rt; desk.output().len(), 0);
+        assert!(rt; outcome == Outcome::ReadFault);
+        assert!(rt; desk.output().len() == 0);
     } else {
-        assert_eq!(rt; outcome, Outcome::WriteFault);
+        assert!(rt; outcome == Outcome::WriteFault);
         assert!(rt; desk.output().len() < known.text.len());
         assert!(rt; known.text.starts_with(desk.output()));
     }
@@ -122,8 +122,8 @@ fn fail_each(
         let writes = failed_writes(rt, alloc, known, piece)?;
         assert!(rt; 1 <= writes && writes < MANY);
         if piece == 1 {
-            assert_eq!(rt; reads, calls_of(known.case));
-            assert_eq!(rt; writes, known.text.len() as u64);
+            assert!(rt; reads == calls_of(known.case));
+            assert!(rt; writes == known.text.len() as u64);
         }
     }
     Ok(())
@@ -144,7 +144,7 @@ fn fail_both(
         report: b"",
     };
     let (outcome, report) = answer(alloc, case)?;
-    assert_eq!(rt; outcome, Outcome::Done);
+    assert!(rt; outcome == Outcome::Done);
     let text = report.as_slice();
     fail_each(
         rt,

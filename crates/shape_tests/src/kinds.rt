@@ -26,15 +26,15 @@ fn reports_that_are_made_hold(rt: HostRuntime) -> Result<(), Fail> {
             report: b"",
         };
         let (outcome, report) = answer(alloc, case)?;
-        assert_eq!(rt; outcome, Outcome::Done);
+        assert!(rt; outcome == Outcome::Done);
         let case = Case {
             line: check,
             picture,
             report: report.as_slice(),
         };
         let (outcome, text) = answer(alloc, case)?;
-        assert_eq!(rt; outcome, Outcome::Yes);
-        assert_eq!(rt; text.as_slice(), b"yes\n".as_slice());
+        assert!(rt; outcome == Outcome::Yes);
+        assert!(rt; text.as_slice() == b"yes\n".as_slice());
     }
     Ok(())
 }
@@ -76,7 +76,7 @@ fn forged_lines_are_told(rt: HostRuntime) -> Result<(), Fail> {
             report: text.as_slice(),
         };
         let (outcome, _) = answer(alloc, case)?;
-        assert_eq!(rt; outcome, Outcome::No { line });
+        assert!(rt; outcome == Outcome::No { line });
     }
     Ok(())
 }
@@ -104,7 +104,7 @@ fn long_pictures_have_no_edge_report(rt: HostRuntime) -> Result<(), Fail> {
                 report: b"",
             };
             let (outcome, _) = answer(alloc, case)?;
-            assert_eq!(rt; outcome, wanted);
+            assert!(rt; outcome == wanted);
         }
     }
     Ok(())
@@ -132,8 +132,8 @@ fn words_of_further_kinds(rt: HostRuntime) -> Result<(), Fail> {
             report: b"",
         };
         let (outcome, text) = answer(alloc, case)?;
-        assert_eq!(rt; outcome, Outcome::Usage);
-        assert_eq!(rt; text.len(), 0);
+        assert!(rt; outcome == Outcome::Usage);
+        assert!(rt; text.len() == 0);
     }
     Ok(())
 }

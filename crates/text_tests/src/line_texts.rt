@@ -30,9 +30,9 @@ fn lines_are_read(rt: HostRuntime) {
     else {
         panic!(rt; "a `shape` line")
     };
-    assert_eq!(rt; number, 2);
-    assert_eq!(rt; sides, P2 { x: 3, y: 1024 });
-    assert_eq!(rt; rule.word(), b"none".as_slice());
+    assert!(rt; number == 2);
+    assert!(rt; sides == P2 { x: 3, y: 1024 });
+    assert!(rt; rule.word() == b"none".as_slice());
 }
 
 #[test]
@@ -70,13 +70,13 @@ fn lines_of_contours_are_read(rt: HostRuntime) {
     ) else {
         panic!(rt; "a `seg` line")
     };
-    assert_eq!(rt; (first, last), (1, 4));
+    assert!(rt; (first, last) == (1, 4));
     let naive = Naive {
         a: [i64::MIN, 3, 0],
         mu: -2,
         axis: 1,
     };
-    assert_eq!(rt; line, naive);
+    assert!(rt; line == naive);
 }
 
 #[test]
@@ -90,29 +90,29 @@ fn weights_are_read(rt: HostRuntime) {
     else {
         panic!(rt; "a `cut` line")
     };
-    assert_eq!(rt; axis, 1);
-    assert_eq!(rt; why.low.len(), 2);
-    assert_eq!(rt;
-        why.low.get(1),
-        Share {
-            weight: 1,
-            place: 4
-        }
+    assert!(rt; axis == 1);
+    assert!(rt; why.low.len() == 2);
+    assert!(rt;
+        why.low.get(1)
+            == Share {
+                weight: 1,
+                place: 4
+            }
     );
-    assert_eq!(rt; why.high.len(), 1);
-    assert_eq!(rt;
-        why.high.get(0),
-        Share {
-            weight: 2,
-            place: 2
-        }
+    assert!(rt; why.high.len() == 1);
+    assert!(rt;
+        why.high.get(0)
+            == Share {
+                weight: 2,
+                place: 2
+            }
     );
-    assert_eq!(rt; why.steps.len(), 2);
+    assert!(rt; why.steps.len() == 2);
     let back = StepShare {
         weight: 9223372036854775807,
         step: Step::Minus(0),
     };
-    assert_eq!(rt; why.steps.get(1), back);
+    assert!(rt; why.steps.get(1) == back);
 }
 
 const NONE: [&str; 47] = [

@@ -11,7 +11,7 @@ fn names(rt: HostRuntime) {
         b"abcdefghijklmnop".as_slice(),
     ] {
         match Name::new(word) {
-            Some(name) => assert_eq!(rt; name.word(), word),
+            Some(name) => assert!(rt; name.word() == word),
             None => assert!(rt; false, "this is a name"),
         }
     }
@@ -62,9 +62,9 @@ fn a_shelf(rt: HostRuntime) -> Result<(), Fail> {
         rule: Box::new(alloc, FewEnds::new(1))?,
     })?;
     let mut shelf = Shelf::new(rules);
-    assert_eq!(rt; shelf.len(), 2);
-    assert_eq!(rt; shelf.find(&few), Some(1));
-    assert_eq!(rt; shelf.name(1).word(), b"few".as_slice());
+    assert!(rt; shelf.len() == 2);
+    assert!(rt; shelf.find(&few) == Some(1));
+    assert!(rt; shelf.name(1).word() == b"few".as_slice());
     begin(shelf.rule(0));
     begin(shelf.rule(1));
     assert!(rt; ask(shelf.rule(1), &facts(1)) && !ask(shelf.rule(1), &facts(1)));
