@@ -33,7 +33,7 @@ pub struct ThinnedJudge<P: SimpleMask> {
     pub kept: bool,
 }
 
-/// The squared distances of the object points by raster number, from the least ones that were scanned, and 0 for the others.
+/// The squared distances of the object points by raster number, from the least ones that were scanned; what stands at other numbers is free.
 ///
 /// They are what a judge of thinnings is made of, and take four bytes for each point of the box.
 pub fn distances_of<P: Point>(alloc: Global, scans: &Scans<P>) -> Result<Vec<u32>, NoMemory>
