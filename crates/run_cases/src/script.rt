@@ -1,0 +1,158 @@
+//! The lines of cases, one after another: what each asks, and the files that they are about.
+//! A further line is one more row of `take`.
+use crate::case::{Case, answer_of};
+use crate::changes::{Change, changed, lines_of};
+use crate::escapes::unescaped;
+use crate::faults::fail_each;
+use crate::forging::{forge, judged, tell_fronts};
+use std::alloc::Global;
+use std::{io, mem};
+
+// The files of a case.
+#[derive(Clone, Copy)]
+enum Name {
+    A,
+    B,
+}
+
+/// What the lines up to here laid down.
+#[derive(Drop)]
+pub struct Script {
+    alloc: Global,
+    case: Case,
+    written: Vec<u8>,
+    // the file whose lines follow, up to a line `.`
+    open: Option<Name>,
+}
+
+// The place of a line, whose number from 1 on stands in front of a text, and the text.
+fn numbered(text: &str) -> (usize, &str) {
+    let (number, text) = text.split_once(' ').unwrap_or((text, ""));
+    let number: usize = number.parse().unwrap_or(0);
+    (number.saturating_sub(1), text)
+}
+
+impl Script {
+    /// Before the first line: two empty files.
+    pub fn new(alloc: Global) -> Script {
+        Script {
+            alloc,
+            case: Case {
+                words: String::new(alloc),
+                a: Vec::new(alloc),
+                b: Vec::new(alloc),
+            },
+            written: Vec::new(alloc),
+            open: None,
+        }
+    }
+
+    /// Takes the next line, and tells what it comes to.
+    pub fn take(&mut self, rt: &impl Print, line: &str) -> io::Result<()> {
+        if let Some(name) = self.open {
+            return self.take_text(name, line);
+        }
+        let (word, rest) = line.split_once(' ').unwrap_or((line, ""));
+        match word {
+            "a" => self.lay(Name::A, rest),
+            "b" => self.lay(Name::B, rest),
+            "bytes" => self.lay_bytes(rest),
+            "keep" => self.keep(),
+            "set" => self.set(rest),
+            "run" => self.run(rt, rest),
+            "count" => self.count(rt, rest),
+            "change" | "drop" | "twice" => self.change(rt, line),
+            "forge" => forge(rt, self.alloc, &self.case),
+            "fronts" => tell_fronts(rt, self.alloc, &self.case),
+            "faults" => fail_each(rt, self.alloc, &self.case, rest.parse().unwrap_or(1)),
+            _ => println!(rt; "{line}"),
+        }
+    }
+
+    // A line of the file that is open.
+    fn take_text(&mut self, name: Name, line: &str) -> io::Result<()> {
+        if line == "." {
+            self.open = None;
+            return Ok(());
+        }
+        let file = match name {
+            Name::A => &mut self.case.a,
+            Name::B => &mut self.case.b,
+        };
+        file.extend_from_slice(line.as_bytes())?;
+        Ok(file.push(b'\n')?)
+    }
+
+    // A file has this text, with escapes and without a line feed; where there is no text, its lines follow as they stand.
+    fn lay(&mut self, name: Name, text: &str) -> io::Result<()> {
+        let bytes = unescaped(self.alloc, text.as_bytes())?;
+        match name {
+            Name::A => self.case.a = bytes,
+            Name::B => self.case.b = bytes,
+        }
+        self.open = if text.is_empty() { Some(name) } else { None };
+        Ok(())
+    }
+
+    // The file `a` has these bytes, each written as a number.
+    fn lay_bytes(&mut self, text: &str) -> io::Result<()> {
+        let mut bytes = Vec::new(self.alloc);
+        for word in text.split_whitespace() {
+            bytes.push(word.parse().unwrap_or(0))?;
+        }
+        self.case.a = bytes;
+        Ok(())
+    }
+
+    // The file `b` has what the last run wrote.
+    fn keep(&mut self) -> io::Result<()> {
+        self.case.b = self.written.as_slice().to_vec(self.alloc)?;
+        Ok(())
+    }
+
+    // The line of `b` with the number in front of this text is replaced by what stands behind it.
+    fn set(&mut self, text: &str) -> io::Result<()> {
+        let (at, line) = numbered(text);
+        let b = mem::replace(&mut self.case.b, Vec::new(self.alloc));
+        let lines = lines_of(self.alloc, b.as_slice())?;
+        self.case.b = changed(self.alloc, lines.as_slice(), at, Change::Replaced(line))?;
+        Ok(())
+    }
+
+    // Runs words, and tells what was written and how it ended.
+    fn run(&mut self, rt: &impl Print, words: &str) -> io::Result<()> {
+        self.case.words = String::from_str(self.alloc, words)?;
+        let answer = answer_of(self.alloc, &self.case, self.case.b.as_slice())?;
+        match str::from_utf8(answer.text.as_slice()) {
+            Ok(text) => print!(rt; "> {words}\n{text}")?,
+            Err(_) => println!(rt; "> {words}\n{:?}", answer.text.as_slice())?,
+        }
+        println!(rt; "= {}", answer.end)?;
+        self.written = answer.text;
+        Ok(())
+    }
+
+    // Runs words, and tells how many lines were written and how it ended.
+    fn count(&mut self, rt: &impl Print, words: &str) -> io::Result<()> {
+        self.case.words = String::from_str(self.alloc, words)?;
+        let answer = answer_of(self.alloc, &self.case, self.case.b.as_slice())?;
+        let lines = lines_of(self.alloc, answer.text.as_slice())?.len();
+        println!(rt; "> {words}\n= {}, {lines} lines", answer.end)?;
+        self.written = answer.text;
+        Ok(())
+    }
+
+    // Tells what the last words say of a report with one change, at the line that is told behind the word.
+    fn change(&self, rt: &impl Print, line: &str) -> io::Result<()> {
+        let (word, rest) = line.split_once(' ').unwrap_or((line, ""));
+        let (at, text) = numbered(rest);
+        let change = match word {
+            "drop" => Change::LeftOut,
+            "twice" => Change::Doubled,
+            _ => Change::Replaced(text),
+        };
+        let lines = lines_of(self.alloc, self.case.b.as_slice())?;
+        let said = judged(self.alloc, &self.case, lines.as_slice(), at, change)?;
+        println!(rt; "{line}: {said}")
+    }
+}
