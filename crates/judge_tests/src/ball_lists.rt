@@ -4,6 +4,7 @@ use crate::grids::full;
 use judge_balls::check_balls;
 use report_text::Judgement;
 use shape_desk::SteadyDesk;
+use shape_space::P2;
 use std::alloc::Global;
 use std::test::Fail;
 
@@ -66,7 +67,7 @@ fn listing(alloc: Global, bits: u32, own: &[u8]) -> Result<Vec<u8>, Fail> {
 #[test]
 fn one_list_holds(rt: HostRuntime) -> Result<(), Fail> {
     let alloc = rt.alloc();
-    let square = full(alloc, 3, 3)?;
+    let square = full(alloc, P2 { x: 3, y: 3 })?;
     for bits in 0..512 {
         for own in POINTS {
             let mut desk = SteadyDesk::new(Vec::new(alloc), listing(alloc, bits, own)?);

@@ -1,4 +1,5 @@
-//! Tests of judges: those of nearest points, contours, faces and thinnings, and those of ball and piece reports beside what their makers write.
+//! Tests of calls of judges and of makers that no run of a program makes: lines that a reader never hands to a judge, the balls that a report hands out
+//! beside its text, and all lists of balls of a square. What a run shows of judges is data of `run_cases`.
 //! They ask public names alone, and the crates under test have no tests of their own: what is proved of them is proved once.
 #![tactic(auto)]
 
@@ -7,14 +8,6 @@ mod ball_lists;
 #[cfg(test)]
 mod balls;
 #[cfg(test)]
-mod cover_judge;
-#[cfg(test)]
-mod field_judge;
-#[cfg(test)]
 mod grids;
 #[cfg(test)]
-mod piece_reports;
-#[cfg(test)]
-mod plane_judge;
-#[cfg(test)]
-mod thin_judge;
+mod judges;
