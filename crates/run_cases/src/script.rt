@@ -123,9 +123,10 @@ impl Script {
     fn run(&mut self, rt: &impl Print, words: &str) -> io::Result<()> {
         self.case.words = String::from_str(self.alloc, words)?;
         let answer = answer_of(self.alloc, &self.case, self.case.b.as_slice())?;
-        match str::from_utf8(answer.text.as_slice()) {
-            Ok(text) => print!(rt; "> {words}\n{text}")?,
-            Err(_) => println!(rt; "> {words}\n{:?}", answer.text.as_slice())?,
+        let written = answer.text.as_slice();
+        match str::from_utf8(written) {
+            Ok(text) if !written.contains(&0) => print!(rt; "> {words}\n{text}")?,
+            _ => println!(rt; "> {words}\n{written:?}")?,
         }
         println!(rt; "= {}", answer.end)?;
         self.written = answer.text;

@@ -1,10 +1,10 @@
-//! Desks: what no clause says, that the calls succeed with ample memory, and the edges of lines and numbers by example.
-//! A further edge is one more row of a table.
+//! Desks: what no clause says, that the calls succeed with ample memory, and the edges of lines by example, as no program shows them.
+//! A further edge is one more row of a table. Which numbers are read stands in `lines.cases` of `run_cases`.
 ghost use Rattle.std.specs.Prelude.{◌≤◌};
 
 use shape_desk::{
     Desk, Failed, LineFault, LineReader, MemoryDesk, Place, SteadyDesk, put_all, put_line,
-    put_number, put_word, read_number,
+    put_number, put_word,
 };
 use std::alloc::Global;
 use std::test::Fail;
@@ -64,30 +64,6 @@ fn writes_until_the_room_is_used(rt: HostRuntime) -> Result<(), Fail> {
     assert!(rt; put_line(b"de", &mut desk) == Err(Failed));
     assert!(rt; desk.output() == b"abc\nde".as_slice());
     Ok(())
-}
-
-// Bytes, and the number that they begin with, with its length.
-const NUMBERS: [(&[u8], Option<(i64, usize)>); 13] = [
-    (b"0", Some((0, 1))),
-    (b"12x", Some((12, 2))),
-    (b"-7 8", Some((-7, 2))),
-    (b"9223372036854775807", Some((9223372036854775807, 19))),
-    (b"-9223372036854775808", Some((-9223372036854775808, 20))),
-    (b"9223372036854775808", None),
-    (b"-9223372036854775809", None),
-    (b"99999999999999999999999", None),
-    (b"-0", None),
-    (b"00", None),
-    (b"+1", None),
-    (b"-", None),
-    (b"", None),
-];
-
-#[test]
-fn reads_numbers(rt: HostRuntime) {
-    for (bytes, want) in &NUMBERS {
-        assert!(rt; read_number(bytes) == *want, "at {bytes:?}");
-    }
 }
 
 #[test]

@@ -1,4 +1,4 @@
-//! Tests of texts: desks, the readers of pictures and volumes, and the lines of reports as they are read and written.
+//! Tests of texts: of desks, of files that are too long to be held, and of lines of reports, as far as no run of a program shows it.
 //! They ask public names alone, and the crates under test have no tests of their own: what is proved of them is proved once.
 #![tactic(auto)]
 
@@ -7,8 +7,4 @@ mod desk;
 #[cfg(test)]
 mod line_texts;
 #[cfg(test)]
-mod picture;
-#[cfg(test)]
-mod report;
-#[cfg(test)]
-mod volume;
+mod long_files;
