@@ -1,42 +1,11 @@
 //! The numbers that an analysis gives beside its report, of pictures that no trial draws: a run shows those of trials alone.
-ghost use Rattle.std.specs.Prelude.{◌≤◌};
-
+use crate::pictures::stepped;
+use crate::runs::rules;
 use shape_adj::Parts;
 use shape_analyse::{Extent, Tally, analyse_flat, analyse_solid};
-use shape_cli::shelf;
-use shape_grid::Grid;
-use shape_rules::{CurveEnds, FewEnds, NoEnds, Shelf};
-use shape_space::{P2, P3, Point, Sides};
-use std::alloc::{AllocError, Global};
+use shape_space::{P2, P3};
+use std::alloc::AllocError;
 use std::test::Fail;
-
-// The picture of which every point is object whose raster number is a multiple of a step.
-fn stepped<P: Point>(alloc: Global, sides: P, step: u32) -> Result<Grid<P>, Fail>
-    requires { 1 ≤ step }
-{
-    let Some(sides) = Sides::try_new(sides) else {
-        return Err(Fail::from(AllocError));
-    };
-    let mut grid = Grid::new(alloc, sides)?;
-    for i in 0..sides.count() {
-        let p = sides.unraster(i);
-        if i % step == 0 && grid.sides().inside(p) {
-            grid.set(p);
-        }
-    }
-    Ok(grid)
-}
-
-// The rules of the program.
-fn rules(alloc: Global) -> Result<Shelf, Fail> {
-    let none = Box::new(alloc, NoEnds);
-    let curve = Box::new(alloc, CurveEnds);
-    let few = Box::new(alloc, FewEnds::new(2));
-    let (Ok(none), Ok(curve), Ok(few)) = (none, curve, few) else {
-        return Err(Fail::from(AllocError));
-    };
-    Ok(shelf(alloc, none, curve, few)?)
-}
 
 // A full picture of 3 by 3 points.
 const FULL: Tally = Tally {

@@ -1,7 +1,8 @@
-//! What the tests of runs share: words, a desk in memory, and a shelf with a rule of the caller.
+//! What the tests of runs share: words, a desk in memory, the rules of the program, and a shelf with a rule of the caller.
 //! No test stands here.
+use shape_cli::shelf;
 use shape_desk::MemoryDesk;
-use shape_rules::{EndRule, Entry, Name, Shelf};
+use shape_rules::{CurveEnds, EndRule, Entry, FewEnds, Name, NoEnds, Shelf};
 use std::alloc::{AllocError, Global};
 use std::test::Fail;
 
@@ -20,6 +21,17 @@ pub(crate) fn words(alloc: Global, line: &str) -> Result<Vec<Vec<u8>>, Fail> {
         words.push(word.as_bytes().to_vec(alloc)?)?;
     }
     Ok(words)
+}
+
+// The rules of the program.
+pub(crate) fn rules(alloc: Global) -> Result<Shelf, Fail> {
+    let none = Box::new(alloc, NoEnds);
+    let curve = Box::new(alloc, CurveEnds);
+    let few = Box::new(alloc, FewEnds::new(2));
+    let (Ok(none), Ok(curve), Ok(few)) = (none, curve, few) else {
+        return Err(Fail::from(AllocError));
+    };
+    Ok(shelf(alloc, none, curve, few)?)
 }
 
 // A shelf on which this rule stands alone, under the name `curve`.
