@@ -1,23 +1,17 @@
-//! What the tests of runs share: a desk in memory, a shelf of rules, and runs over them.
+//! What the tests of runs share: words, a desk in memory, the rules of the program, and a shelf with a rule of the caller.
 //! No test stands here.
-use shape_cli::{Outcome, run, shelf};
+use shape_cli::shelf;
 use shape_desk::MemoryDesk;
-use shape_rules::{CurveEnds, FewEnds, NoEnds, Shelf};
+use shape_rules::{CurveEnds, EndRule, Entry, FewEnds, Name, NoEnds, Shelf};
 use std::alloc::{AllocError, Global};
 use std::test::Fail;
 
-// A desk with one file, whose calls move 4 bytes at most.
-pub(crate) fn desk(
-    alloc: Global,
-    bytes: &[u8],
-    bad_reads: &[u64],
-    bad_writes: &[u64],
-) -> Result<MemoryDesk, Fail> {
+// A desk with the files `a` and `b`, whose calls move 4 bytes at most.
+pub(crate) fn desk(alloc: Global, picture: &[u8], report: &[u8]) -> Result<MemoryDesk, Fail> {
     let mut files = Vec::new(alloc);
-    files.push((b"a.pbm".to_vec(alloc)?, bytes.to_vec(alloc)?))?;
-    let bad_reads = bad_reads.to_vec(alloc)?;
-    let bad_writes = bad_writes.to_vec(alloc)?;
-    Ok(MemoryDesk::new(alloc, files, bad_reads, bad_writes, 4, 9000)?)
+    files.push((b"a".to_vec(alloc)?, picture.to_vec(alloc)?))?;
+    files.push((b"b".to_vec(alloc)?, report.to_vec(alloc)?))?;
+    Ok(MemoryDesk::new(alloc, files, Vec::new(alloc), Vec::new(alloc), 4, 9000)?)
 }
 
 // The words of a command line.
@@ -40,43 +34,12 @@ pub(crate) fn rules(alloc: Global) -> Result<Shelf, Fail> {
     Ok(shelf(alloc, none, curve, few)?)
 }
 
-// What the words of a command line come to, with the rules of the program.
-pub(crate) fn ran(alloc: Global, line: &str, desk: &mut MemoryDesk) -> Result<Outcome, Fail> {
-    Ok(run(alloc, &words(alloc, line)?, desk, rules(alloc)?))
-}
-
-// What a command writes over the picture `a.pbm`, where it is done.
-pub(crate) fn written(alloc: Global, line: &str, picture: &[u8]) -> Result<Vec<u8>, Fail> {
-    let mut desk = desk(alloc, picture, &[], &[])?;
-    match ran(alloc, line, &mut desk)? {
-        Outcome::Done => Ok(desk.output().to_vec(alloc)?),
-        _ => Err(Fail::from(AllocError)),
-    }
-}
-
-// The outcome of the check of the report `a.report` against the picture `a.pbm`, with the rules of a shelf.
-pub(crate) fn checked_by(
-    alloc: Global,
-    line: &str,
-    picture: &[u8],
-    report: &[u8],
-    shelf: Shelf,
-) -> Result<Outcome, Fail> {
-    let mut files = Vec::new(alloc);
-    files.push((b"a.pbm".to_vec(alloc)?, picture.to_vec(alloc)?))?;
-    files.push((b"a.report".to_vec(alloc)?, report.to_vec(alloc)?))?;
-    let mut desk = MemoryDesk::new(alloc, files, Vec::new(alloc), Vec::new(alloc), 100, 30)?;
-    let words = words(alloc, line)?;
-    Ok(run(alloc, &words, &mut desk, shelf))
-}
-
-// The same for a PBM, with the rules of the program.
-pub(crate) fn checked(alloc: Global, picture: &[u8], report: &[u8]) -> Result<Outcome, Fail> {
-    checked_by(
-        alloc,
-        "check pbm a.pbm a.report",
-        picture,
-        report,
-        rules(alloc)?,
-    )
+// A shelf on which this rule stands alone, under the name `curve`.
+pub(crate) fn single(alloc: Global, rule: Box<dyn EndRule>) -> Result<Shelf, Fail> {
+    let Some(name) = Name::new(b"curve") else {
+        return Err(Fail::from(AllocError));
+    };
+    let mut rules: Vec<Entry> = Vec::new(alloc);
+    rules.push(Entry { name, rule })?;
+    Ok(Shelf::new(rules))
 }
