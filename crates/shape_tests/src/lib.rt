@@ -1,11 +1,23 @@
-//! Tests of the layers that meet at the top, as far as they are no data: the laws of checks, how much of a report is read, the numbers of an
-//! analysis, and runs by rules of a caller. All other tests of analyses, checks and runs are cases that `run_cases` runs.
+//! Tests of texts, judges and runs, as far as they are no data: calls that no run of a program makes, desks, rules and files of a test's own, and the laws of checks.
+//! All else is cases that `run_cases` runs. They ask public names alone, and the crates under test have no tests: what is proved of them is proved once.
 #![tactic(auto)]
 
 #[cfg(test)]
 mod analyses;
 #[cfg(test)]
+mod ball_lists;
+#[cfg(test)]
+mod balls;
+#[cfg(test)]
 mod checks;
+#[cfg(test)]
+mod desk;
+#[cfg(test)]
+mod judges;
+#[cfg(test)]
+mod line_texts;
+#[cfg(test)]
+mod long_files;
 #[cfg(test)]
 mod pictures;
 #[cfg(test)]

@@ -1,6 +1,6 @@
 //! Every list of centres of the full square of 3 by 3: the one that holds is that of the centre alone.
 //! The ball of each other point is that point, and so is its own point; the centre's ball is tried with each own point.
-use crate::grids::full;
+use crate::pictures::stepped;
 use judge_balls::check_balls;
 use report_text::Judgement;
 use shape_desk::SteadyDesk;
@@ -67,7 +67,7 @@ fn listing(alloc: Global, bits: u32, own: &[u8]) -> Result<Vec<u8>, Fail> {
 #[test]
 fn one_list_holds(rt: HostRuntime) -> Result<(), Fail> {
     let alloc = rt.alloc();
-    let square = full(alloc, P2 { x: 3, y: 3 })?;
+    let square = stepped(alloc, P2 { x: 3, y: 3 }, 1)?;
     for bits in 0..512 {
         for own in POINTS {
             let mut desk = SteadyDesk::new(Vec::new(alloc), listing(alloc, bits, own)?);

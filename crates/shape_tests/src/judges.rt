@@ -1,5 +1,5 @@
 //! What no report asks of the judges of contours, faces and thinnings: lines that never come to them, and a count before it is wanted.
-use crate::grids::full;
+use crate::pictures::stepped;
 use judge_cover::CoverJudge;
 use judge_field::Scans;
 use judge_plane::PlaneJudge;
@@ -16,7 +16,7 @@ const ROW: P2 = P2 { x: 3, y: 1 };
 
 // Whether the judge of a row of three pixels takes a segment along it of this axis, once it took the points of its contour.
 fn takes_segment(alloc: Global, axis: u8) -> Result<bool, Fail> {
-    let mut judge = CoverJudge::new(alloc, &full(alloc, ROW)?, 1)?;
+    let mut judge = CoverJudge::new(alloc, &stepped(alloc, ROW, 1)?, 1)?;
     let contour = Line::Contour {
         p: P2::origin(),
         side: 0,
@@ -49,10 +49,13 @@ fn a_segment_of_another_axis(rt: HostRuntime) -> Result<(), Fail> {
 // Lines of other sections, which a check does not hand to these judges.
 #[test]
 fn lines_of_other_sections(rt: HostRuntime) -> Result<(), Fail> {
-    let mut contours = CoverJudge::new(rt.alloc(), &full(rt.alloc(), ROW)?, 1)?;
+    let mut contours = CoverJudge::new(rt.alloc(), &stepped(rt.alloc(), ROW, 1)?, 1)?;
     assert!(rt; !contours.take(&Line::End));
 
-    let mut faces = PlaneJudge::new(rt.alloc(), &full(rt.alloc(), P3 { x: 1, y: 1, z: 1 })?)?;
+    let mut faces = PlaneJudge::new(
+        rt.alloc(),
+        &stepped(rt.alloc(), P3 { x: 1, y: 1, z: 1 }, 1)?,
+    )?;
     let near = Line::Near {
         p: P3::origin(),
         q: P3 { x: 0, y: 0, z: -1 },
@@ -65,7 +68,7 @@ fn lines_of_other_sections(rt: HostRuntime) -> Result<(), Fail> {
 // A check asks how many points are left where the thinning is complete, and not before.
 #[test]
 fn points_left_before_the_end(rt: HostRuntime) -> Result<(), Fail> {
-    let grid = full(rt.alloc(), ROW)?;
+    let grid = stepped(rt.alloc(), ROW, 1)?;
     let scans = Scans::new(rt.alloc(), &grid)?;
     let mut judge = ThinJudge::new(rt.alloc(), &grid, distances_of(rt.alloc(), &scans)?)?;
     assert!(rt; judge.event(P2::origin(), false, &mut NoEnds)?);
