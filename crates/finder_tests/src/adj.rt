@@ -1,19 +1,18 @@
-//! Neighbours and components known from outside: counted by hand on small pictures.
+//! Neighbours and labels of components known from outside: counted by hand on small pictures.
 //! A further picture is one more row of a table.
 ghost use Rattle.std.specs.Prelude.{pos, negsuc};
 ghost use Rattle.shape_terms.specs.FramedBox.{IsWithin};
 
-use crate::pictures::{drawn, put_point};
-use shape_adj::{Pairing, labels, parts};
+use crate::pictures::{at, of_marks, put_point};
+use shape_adj::{Pairing, labels};
 use shape_grid::Grid;
 use shape_space::{P2, P3};
 use std::alloc::Global;
 use std::test::Fail;
 
-// The numbers of components of the object and of the background, and the labels in raster order.
+// The labels of the points, in raster order.
 fn told(alloc: Global, grid: &Grid<P2>) -> Result<String, Fail> {
-    let parts = parts(alloc, grid)?;
-    let mut text = format!(in alloc; "{} {}:", parts.object, parts.background)?;
+    let mut text = String::new(alloc);
     let labels = labels(alloc, grid)?;
     for i in 0..grid.sides().count() {
         write!(text, " {}", labels.label(i))?;
@@ -21,18 +20,19 @@ fn told(alloc: Global, grid: &Grid<P2>) -> Result<String, Fail> {
     Ok(text)
 }
 
-const COMPONENTS: [(&str, &str); 4] = [
-    ("../..", "0 1: 0 0 0 0"),
-    ("#./.#", "1 1: 1 0 0 1"),
-    ("###/#.#/###", "1 2: 1 1 1 1 0 1 1 1 1"),
-    ("#...#/..#.#", "3 1: 1 0 0 0 2 0 0 3 0 2"),
+// No object, two points at a corner, a ring, and three components. How many components there are, `components.cases` asks.
+const LABELS: [((i32, i32), &[u8], &str); 4] = [
+    ((2, 2), b"....", " 0 0 0 0"),
+    ((2, 2), b"#..#", " 1 0 0 1"),
+    ((3, 3), b"####.####", " 1 1 1 1 0 1 1 1 1"),
+    ((5, 2), b"#...#..#.#", " 1 0 0 0 2 0 0 3 0 2"),
 ];
 
 #[test]
-fn components_of_small_pictures(rt: HostRuntime) -> Result<(), Fail> {
-    for (rows, want) in &COMPONENTS {
-        let grid = drawn(rt.alloc(), rows)?;
-        assert!(rt; told(rt.alloc(), &grid)?.as_str() == *want, "{rows}");
+fn labels_of_small_pictures(rt: HostRuntime) -> Result<(), Fail> {
+    for ((w, h), marks, want) in &LABELS {
+        let grid = of_marks(rt.alloc(), at(*w, *h), marks)?;
+        assert!(rt; told(rt.alloc(), &grid)?.as_str() == *want, "{want}");
     }
     Ok(())
 }

@@ -1,65 +1,65 @@
 //! Boxes of the plane and of space, and their points, with values counted by hand.
 //! A further point is one more row of a table.
-use crate::pictures::{at, put_point};
+use crate::pictures::at;
 use shape_space::{P2, P3, Point, Sides, dot, raster_order, squared_distance};
-use std::alloc::Global;
 use std::cmp::Ordering;
-use std::test::Fail;
 
-// The sides of a box, its number of points and that of the frame, and the numbers of a point in both, `-` where it has none.
-fn numbers<P: Point>(alloc: Global, lengths: P, p: P) -> Result<String, Fail> {
-    let mut text = String::new(alloc);
-    let Some(sides) = Sides::try_new(lengths) else {
-        text.push_str("no box")?;
-        return Ok(text);
+// What is told of a box and a point: its number of points and that of the frame, and the numbers of the point in both, where it has them.
+type Told = Option<(u32, u32, Option<u32>, Option<u32>)>;
+
+fn numbers<P: Point>(lengths: P, p: P) -> Told {
+    let sides = Sides::try_new(lengths)?;
+    let inside = if sides.inside(p) {
+        Some(sides.raster(p))
+    } else {
+        None
     };
-    write!(text, "{} of {}", sides.count(), sides.framed_count())?;
-    if sides.inside(p) {
-        write!(text, ", inside {}", sides.raster(p))?;
-    }
-    if sides.in_frame(p) {
-        write!(text, ", framed {}", sides.framed_number(p))?;
-    }
-    Ok(text)
+    let framed = if sides.in_frame(p) {
+        Some(sides.framed_number(p))
+    } else {
+        None
+    };
+    Some((sides.count(), sides.framed_count(), inside, framed))
 }
 
 // The points of a box with this raster number and with this number in the frame.
-fn points<P: Point>(alloc: Global, lengths: P, i: u32) -> Result<String, Fail> {
-    let mut text = String::new(alloc);
-    if let Some(sides) = Sides::try_new(lengths) {
-        if i < sides.count() {
-            put_point(&mut text, sides.unraster(i), ",")?;
-        }
-        if i < sides.framed_count() {
-            put_point(&mut text, sides.framed_point(i), ".")?;
-        }
-    }
-    Ok(text)
+fn points<P: Point>(lengths: P, i: u32) -> (Option<P>, Option<P>) {
+    let Some(sides) = Sides::try_new(lengths) else {
+        return (None, None);
+    };
+    let inside = if i < sides.count() {
+        Some(sides.unraster(i))
+    } else {
+        None
+    };
+    let framed = if i < sides.framed_count() {
+        Some(sides.framed_point(i))
+    } else {
+        None
+    };
+    (inside, framed)
 }
 
-const FLAT: [((i32, i32), (i32, i32), &str); 8] = [
-    ((3, 2), (2, 1), "6 of 20, inside 5, framed 13"),
-    ((3, 2), (0, 1), "6 of 20, inside 3, framed 11"),
-    ((3, 2), (3, 2), "6 of 20, framed 19"),
-    ((3, 2), (3, 0), "6 of 20, framed 9"),
-    ((3, 2), (4, 2), "6 of 20"),
-    ((2048, 1), (0, 0), "2048 of 6150, inside 0, framed 2051"),
-    ((2049, 1), (0, 0), "no box"),
-    ((1, 0), (0, 0), "no box"),
+// The sides of a box, a point, and what is told of both.
+const FLAT: [((i32, i32), (i32, i32), Told); 8] = [
+    ((3, 2), (2, 1), Some((6, 20, Some(5), Some(13)))),
+    ((3, 2), (0, 1), Some((6, 20, Some(3), Some(11)))),
+    ((3, 2), (3, 2), Some((6, 20, None, Some(19)))),
+    ((3, 2), (3, 0), Some((6, 20, None, Some(9)))),
+    ((3, 2), (4, 2), Some((6, 20, None, None))),
+    ((2048, 1), (0, 0), Some((2048, 6150, Some(0), Some(2051)))),
+    ((2049, 1), (0, 0), None),
+    ((1, 0), (0, 0), None),
 ];
 
 #[test]
-fn flat_boxes(rt: HostRuntime) -> Result<(), Fail> {
+fn flat_boxes(rt: HostRuntime) {
     for ((w, h), (x, y), want) in &FLAT {
-        assert!(rt;
-            numbers(rt.alloc(), at(*w, *h), at(*x, *y))?.as_str() == *want,
-            "{want}"
-        );
+        assert!(rt; numbers(at(*w, *h), at(*x, *y)) == *want, "{w} {h} {x} {y}");
     }
-    assert!(rt; points(rt.alloc(), at(3, 2), 4)?.as_str() == " 1 1, 3 -1.");
-    assert!(rt; points(rt.alloc(), at(3, 2), 0)?.as_str() == " 0 0, -1 -1.");
-    assert!(rt; points(rt.alloc(), at(3, 2), 19)?.as_str() == " 3 2.");
-    Ok(())
+    assert!(rt; points(at(3, 2), 4) == (Some(at(1, 1)), Some(at(3, -1))));
+    assert!(rt; points(at(3, 2), 0) == (Some(at(0, 0)), Some(at(-1, -1))));
+    assert!(rt; points(at(3, 2), 19) == (None, Some(at(3, 2))));
 }
 
 // A point of space.
@@ -67,29 +67,28 @@ const fn solid(x: i32, y: i32, z: i32) -> P3 {
     P3 { x, y, z }
 }
 
-const SOLID: [((i32, i32, i32), (i32, i32, i32), &str); 5] = [
-    ((3, 2, 4), (2, 0, 3), "24 of 120, inside 20, framed 88"),
-    ((3, 2, 4), (0, 1, 1), "24 of 120, inside 9, framed 51"),
+const SOLID: [((i32, i32, i32), (i32, i32, i32), Told); 5] = [
+    ((3, 2, 4), (2, 0, 3), Some((24, 120, Some(20), Some(88)))),
+    ((3, 2, 4), (0, 1, 1), Some((24, 120, Some(9), Some(51)))),
     (
         (192, 1, 192),
         (0, 0, 0),
-        "36864 of 112908, inside 0, framed 777",
+        Some((36864, 112908, Some(0), Some(777))),
     ),
-    ((1, 1, 193), (0, 0, 0), "no box"),
-    ((1, 0, 1), (0, 0, 0), "no box"),
+    ((1, 1, 193), (0, 0, 0), None),
+    ((1, 0, 1), (0, 0, 0), None),
 ];
 
 #[test]
-fn solid_boxes(rt: HostRuntime) -> Result<(), Fail> {
+fn solid_boxes(rt: HostRuntime) {
     for ((w, h, d), (x, y, z), want) in &SOLID {
         assert!(rt;
-            numbers(rt.alloc(), solid(*w, *h, *d), solid(*x, *y, *z))?.as_str() == *want,
-            "{want}"
+            numbers(solid(*w, *h, *d), solid(*x, *y, *z)) == *want,
+            "{w} {h} {d} {x} {y} {z}"
         );
     }
-    assert!(rt; points(rt.alloc(), solid(3, 2, 4), 20)?.as_str() == " 2 0 3, -1 -1 0.");
-    assert!(rt; points(rt.alloc(), solid(3, 2, 4), 9)?.as_str() == " 0 1 1, 3 0 -1.");
-    Ok(())
+    assert!(rt; points(solid(3, 2, 4), 20) == (Some(solid(2, 0, 3)), Some(solid(-1, -1, 0))));
+    assert!(rt; points(solid(3, 2, 4), 9) == (Some(solid(0, 1, 1)), Some(solid(3, 0, -1))));
 }
 
 // Whether a point of a box comes before another.

@@ -1,9 +1,11 @@
-//! Tests of points, grids and finders, each crate by its public names alone.
+//! Tests of points, grids, exact tests, finders, rules and thinnings, each crate by its public names alone: of what no run of a program shows.
 //! The crates that they call have none of their own: what is proved of them is proved once.
 #![tactic(auto)]
 
 #[cfg(test)]
 mod adj;
+#[cfg(test)]
+mod bits;
 #[cfg(test)]
 mod boxes;
 pub mod close;
@@ -11,10 +13,6 @@ pub mod close;
 mod cover;
 #[cfg(test)]
 mod crack;
-#[cfg(test)]
-mod dist;
-#[cfg(test)]
-mod envelope;
 #[cfg(test)]
 mod grid;
 #[cfg(test)]
@@ -24,12 +22,20 @@ mod patches;
 #[cfg(test)]
 mod pictures;
 #[cfg(test)]
-mod pieces;
-#[cfg(test)]
 mod plane;
+#[cfg(test)]
+mod refute;
+#[cfg(test)]
+mod rules;
 #[cfg(test)]
 mod segment;
 #[cfg(test)]
+mod slope;
+#[cfg(test)]
 mod space;
+#[cfg(test)]
+mod thin;
+#[cfg(test)]
+mod topo;
 #[cfg(test)]
 mod trial;

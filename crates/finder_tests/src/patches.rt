@@ -1,12 +1,11 @@
-//! Patches of a face of small pictures and volumes, found by hand, and their evidence, judged again.
+//! Patches of a face of a flat picture, found by hand, and their evidence, judged again. Volumes stand in `patches.cases`.
 //! Weights are judged by `shape_refute`, which knows nothing of how they are found.
 ghost use Rattle.std.specs.Prelude.{◌<◌};
 
-use crate::pictures::{of_marks, put_point};
+use crate::pictures::{at, of_marks, put_point};
 use shape_adj::Pairing;
 use shape_plane::{Parting, Patch, patches};
 use shape_refute::{Refutation, Sense, holds, refutes};
-use shape_space::{P2, P3};
 use std::alloc::Global;
 use std::test::Fail;
 
@@ -61,28 +60,9 @@ fn text_of<P: Pairing>(alloc: Global, mut parting: Parting<P>) -> Result<String,
     Ok(text)
 }
 
-// A volume of 3 by 1 by 2, which has a valley from below.
-const VALLEY: &[u8] = b"#.#.#.";
-
-// The patches of the valley, from before or behind along an axis.
-fn told(alloc: Global, axis: usize, sense: Sense) -> Result<String, Fail>
-    requires { axis < 3 }
-{
-    let grid = of_marks(alloc, P3 { x: 3, y: 1, z: 2 }, VALLEY)?;
-    text_of(alloc, patches(alloc, &grid, axis, sense)?)
-}
-
-#[test]
-fn patches_of_a_valley(rt: HostRuntime) -> Result<(), Fail> {
-    let below = " 0 0 0, 1 0 1, 2 0 0 refused,; 2 0 0,;";
-    assert!(rt; told(rt.alloc(), 2, Sense::Minus)?.as_str() == below);
-    assert!(rt; told(rt.alloc(), 1, Sense::Minus)?.as_str() == " 0 0 0, 1 0 1, 2 0 0,;");
-    Ok(())
-}
-
 #[test]
 fn an_arch_of_the_plane_is_two_patches(rt: HostRuntime) -> Result<(), Fail> {
-    let grid = of_marks(rt.alloc(), P2 { x: 3, y: 2 }, b"#.#.#.")?;
+    let grid = of_marks(rt.alloc(), at(3, 2), b"#.#.#.")?;
     let text = text_of(rt.alloc(), patches(rt.alloc(), &grid, 1, Sense::Plus)?)?;
     assert!(rt; text.as_str() == " 0 0, 1 1, 2 0 refused,; 2 0,;");
     Ok(())

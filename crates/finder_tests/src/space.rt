@@ -1,36 +1,70 @@
-//! A row of four cells, and fractions, with values counted by hand. Boxes stand in `boxes`.
+//! A row of four cells with its envelope, and fractions, with values counted by hand. Boxes stand in `boxes`.
 //! The row counts its steps in a ledger of its own.
 ghost use Rattle.std.specs.Prelude.{◌≡◌};
 
-use shape_space::{Frac, Row, Steps};
+use shape_envelope::envelope;
+use shape_space::{Frac, NoMemory, Row, Steps};
 use std::alloc::Global;
 use std::marker::Brand;
 use std::sync::ledger::{Blank, Ledger};
 use std::test::Fail;
 
-// The first better places of the cells 4, empty, 0, 9, and whether the second and the third are filled.
-fn compared<L: Ledger>(alloc: Global, blank: Blank) -> Result<(i64, i64, bool, bool), Fail>
+// A row of the cells 4, empty, 0, 9.
+fn row_of_four(alloc: Global) -> Result<Row, NoMemory> {
+    let mut row = Row::new(alloc, 4)?;
+    row.set(0, Some(4));
+    row.set(2, Some(0));
+    row.set(3, Some(9));
+    Ok(row)
+}
+
+// What is found of that row: the first better places, and whether the second and the third are filled.
+#[derive(Drop)]
+struct Found {
+    early: i64,
+    late: i64,
+    empty: bool,
+    filled: bool,
+    // whether it has an envelope, and an empty row has one, and the envelope
+    some: bool,
+    none: bool,
+    envelope: Vec<u32>,
+}
+
+fn compared<L: Ledger>(alloc: Global, blank: Blank) -> Result<Found, NoMemory>
     requires name { blank.name ≡ L.name }
     requires parts { blank.parts ≡ L.parts }
     requires whole { blank.parts ≡ 1 }
 {
     let mut steps = Steps::<L>::new(blank);
-    let mut row = Row::new(alloc, 4)?;
-    row.set(0, Some(4));
-    row.set(2, Some(0));
-    row.set(3, Some(9));
-    let empty = row.filled(1, &mut steps);
-    let filled = row.filled(2, &mut steps);
-    let early = row.first_better(0, 2, &mut steps);
-    let late = row.first_better(2, 3, &mut steps);
-    Ok((early, late, empty, filled))
+    let row = row_of_four(alloc)?;
+    let blank_row = Row::new(alloc, 4)?;
+    let mut out = vec![in alloc; 7u32; row.len() as usize]?;
+    let mut other = vec![in alloc; 7u32; 4]?;
+    let some = envelope(alloc, &row, &mut out, &mut steps)?;
+    let none = envelope(alloc, &blank_row, &mut other, &mut steps)?;
+    Ok(Found {
+        early: row.first_better(0, 2, &mut steps),
+        late: row.first_better(2, 3, &mut steps),
+        empty: row.filled(1, &mut steps),
+        filled: row.filled(2, &mut steps),
+        some,
+        none,
+        envelope: out,
+    })
 }
 
 #[test]
 fn four_cells(rt: HostRuntime) -> Result<(), Fail> {
-    let (early, late, empty, filled) = compared::<Brand>(rt.alloc(), Blank::new(1))?;
-    assert!(rt; early == 0 && late == 7);
-    assert!(rt; filled && !empty);
+    let found = compared::<Brand>(rt.alloc(), Blank::new(1))?;
+    assert!(rt; found.early == 0 && found.late == 7);
+    assert!(rt; found.filled && !found.empty);
+    assert!(rt; found.some && !found.none);
+    let first = found.envelope.get(0).copied();
+    assert!(rt; first == Some(0) || first == Some(2));
+    for i in 1..4 {
+        assert!(rt; found.envelope.get(i).copied() == Some(2));
+    }
     Ok(())
 }
 

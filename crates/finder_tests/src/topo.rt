@@ -2,7 +2,7 @@
 //! A further row is a mask, or a picture, and its numbers.
 ghost use Rattle.std.specs.Prelude.{◌≡◌};
 
-use crate::pictures::{SQUARE, drawn};
+use crate::pictures::{at, square};
 use shape_grid::Grid;
 use shape_space::{P2, P3, Steps};
 use shape_topo::{MaskedGrid, SimpleMask, background_number, is_simple, mask_of, object_number};
@@ -74,48 +74,29 @@ fn the_spreads_and_the_counts(rt: HostRuntime) {
     }
 }
 
-// Whether the corner, the middle and the end of the first row of a grid are simple, where they are object.
-fn first_row<L: Ledger>(blank: Blank, grid: &Grid<P2>) -> [bool; 3]
+// Whether the corner, the middle and the end of the first row of a grid are simple, where they are object, and the same of a grid with masks.
+fn first_rows<L: Ledger>(
+    blank: Blank,
+    grid: &Grid<P2>,
+    masked: &MaskedGrid<P2>,
+) -> ([bool; 3], [bool; 3])
     requires name { blank.name ≡ L.name }
     requires parts { blank.parts ≡ L.parts }
     requires whole { blank.parts ≡ 1 }
 {
     let mut steps = Steps::<L>::new(blank);
     let mut row = [false; 3];
-    for x in 0..3usize {
-        let p = P2 { x: x as i32, y: 0 };
-        if grid.has(p) {
-            row[x] = is_simple(grid, p, &mut steps);
-        }
-    }
-    row
-}
-
-// The same of a grid with masks.
-fn first_masked<L: Ledger>(blank: Blank, grid: &MaskedGrid<P2>) -> [bool; 3]
-    requires name { blank.name ≡ L.name }
-    requires parts { blank.parts ≡ L.parts }
-    requires whole { blank.parts ≡ 1 }
-{
-    let mut steps = Steps::<L>::new(blank);
-    let mut row = [false; 3];
+    let mut other = [false; 3];
     for i in 0..3u32 {
-        if i < grid.sides().count() && grid.has(i) {
-            row[i as usize] = grid.is_simple(i, &mut steps);
+        let p = at(i as i32, 0);
+        if grid.has(p) {
+            row[i as usize] = is_simple(grid, p, &mut steps);
+        }
+        if i < masked.sides().count() && masked.has(i) {
+            other[i as usize] = masked.is_simple(i, &mut steps);
         }
     }
-    row
-}
-
-#[test]
-fn masks_of_a_square(rt: HostRuntime) -> Result<(), Fail> {
-    let grid = drawn(rt.alloc(), SQUARE)?;
-    assert!(rt;
-        mask_of(&grid, P2 { x: 0, y: 0 }) == 208 && mask_of(&grid, P2 { x: 1, y: 1 }) == 255
-    );
-    assert!(rt; mask_of(&grid, P2 { x: 3, y: -1 }) == 32);
-    assert!(rt; first_row::<Brand>(Blank::new(1), &grid) == [true, true, true]);
-    Ok(())
+    (row, other)
 }
 
 // The mask of the middle of a square of 3 by 3 and its number of near neighbours, where it is object.
@@ -128,9 +109,17 @@ fn middle(masked: &MaskedGrid<P2>) -> Option<(u32, u8)> {
     }
 }
 
+// The masks of a square, and those after the middle of its first row is gone: the corners of that row are ends then, and the
+// square has a notch.
 #[test]
-fn masks_after_a_deletion(rt: HostRuntime) -> Result<(), Fail> {
-    let mut masked = MaskedGrid::new(rt.alloc(), drawn(rt.alloc(), SQUARE)?)?;
+fn masks_of_a_square(rt: HostRuntime) -> Result<(), Fail> {
+    let grid = square(rt.alloc())?;
+    assert!(rt;
+        mask_of(&grid, at(0, 0)) == 208
+            && mask_of(&grid, at(1, 1)) == 255
+            && mask_of(&grid, at(3, -1)) == 32
+    );
+    let mut masked = MaskedGrid::new(rt.alloc(), grid.copy(rt.alloc())?)?;
     assert!(rt; middle(&masked) == Some((255, 8)));
     let top = 1;
     if top < masked.sides().count() {
@@ -138,8 +127,8 @@ fn masks_after_a_deletion(rt: HostRuntime) -> Result<(), Fail> {
     }
     assert!(rt; middle(&masked) == Some((253, 7)));
     assert!(rt; top < masked.sides().count() && !masked.has(top));
-    // the corners of the first row are ends now, and the square has a notch
-    assert!(rt; first_masked::<Brand>(Blank::new(1), &masked) == [true, false, true]);
+    let (row, other) = first_rows::<Brand>(Blank::new(1), &grid, &masked);
+    assert!(rt; row == [true, true, true] && other == [true, false, true]);
     assert!(rt; masked.grid().count() == 8);
     assert!(rt; masked.into_grid().count() == 8);
     Ok(())
