@@ -115,9 +115,9 @@ fn middle(masked: &MaskedGrid<P2>) -> Option<(u32, u8)> {
 fn masks_of_a_square(rt: HostRuntime) -> Result<(), Fail> {
     let grid = square(rt.alloc())?;
     assert!(rt;
-        mask_of(&grid, at(0, 0)) == 208
-            && mask_of(&grid, at(1, 1)) == 255
-            && mask_of(&grid, at(3, -1)) == 32
+        mask_of(&grid, P2 { x: 0, y: 0 }) == 208
+            && mask_of(&grid, P2 { x: 1, y: 1 }) == 255
+            && mask_of(&grid, P2 { x: 3, y: -1 }) == 32
     );
     let mut masked = MaskedGrid::new(rt.alloc(), grid.copy(rt.alloc())?)?;
     assert!(rt; middle(&masked) == Some((255, 8)));

@@ -63,3 +63,10 @@ pub fn answer_of(alloc: Global, case: &Case, b: &[u8]) -> io::Result<Answer> {
     let text = desk.output().to_vec(alloc)?;
     Ok(Answer { text, end })
 }
+
+impl Case {
+    /// What the case comes to on a steady desk.
+    pub fn run(&self, alloc: Global) -> io::Result<Answer> {
+        answer_of(alloc, self, self.b.as_slice())
+    }
+}

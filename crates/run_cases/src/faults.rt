@@ -1,6 +1,6 @@
 //! Each call of a desk fails in turn, while a case runs: the run tells the fault, what it wrote is the front of the right answer,
 //! and a further run over the same desk gives the right answer.
-use crate::case::{Answer, Case, Fault, STEADY, answer_of, desk_of};
+use crate::case::{Answer, Case, Fault, STEADY, desk_of};
 use crate::programs::ended;
 use shape_desk::MemoryDesk;
 use std::alloc::Global;
@@ -107,7 +107,7 @@ fn failed(
 
 /// Lets each call of a case fail in turn, to the end of the run, where no call moves more than `piece` bytes.
 pub fn fail_each(rt: &impl Print, alloc: Global, case: &Case, piece: usize) -> io::Result<()> {
-    let right = answer_of(alloc, case, case.b.as_slice())?;
+    let right = case.run(alloc)?;
     for (calls, name) in [(Calls::Reads, "reads"), (Calls::Writes, "writes")] {
         match failed(alloc, case, &right, calls, piece)? {
             Ok(count) => println!(rt; "each of {count} {name} of up to {piece} bytes fails well")?,

@@ -1,6 +1,6 @@
 //! The lines of cases, one after another: what each asks, and the files that they are about.
 //! A further line is one more row of `take`.
-use crate::case::{Case, answer_of};
+use crate::case::Case;
 use crate::changes::{Change, changed, lines_of};
 use crate::escapes::unescaped;
 use crate::faults::fail_each;
@@ -122,7 +122,7 @@ impl Script {
     // Runs words, and tells what was written and how it ended.
     fn run(&mut self, rt: &impl Print, words: &str) -> io::Result<()> {
         self.case.words = String::from_str(self.alloc, words)?;
-        let answer = answer_of(self.alloc, &self.case, self.case.b.as_slice())?;
+        let answer = self.case.run(self.alloc)?;
         let written = answer.text.as_slice();
         match str::from_utf8(written) {
             Ok(text) if !written.contains(&0) => print!(rt; "> {words}\n{text}")?,
@@ -136,7 +136,7 @@ impl Script {
     // Runs words, and tells how many lines were written and how it ended.
     fn count(&mut self, rt: &impl Print, words: &str) -> io::Result<()> {
         self.case.words = String::from_str(self.alloc, words)?;
-        let answer = answer_of(self.alloc, &self.case, self.case.b.as_slice())?;
+        let answer = self.case.run(self.alloc)?;
         let lines = lines_of(self.alloc, answer.text.as_slice())?.len();
         println!(rt; "> {words}\n= {}, {lines} lines", answer.end)?;
         self.written = answer.text;
