@@ -32,6 +32,12 @@ fn refused(rt: &impl Abort, segment: &Segment, run: &[P2], axis: usize, p: P2) {
 }
 
 #[test]
+fn close_points(rt: HostRuntime) {
+    assert!(rt; is_close(at(3, 3), at(2, 4)) && is_close(at(3, 3), at(3, 3)));
+    assert!(rt; !is_close(at(3, 3), at(5, 3)) && !is_close(at(3, 3), at(4, 1)));
+}
+
+#[test]
 fn a_step_grows_and_refuses(rt: HostRuntime) {
     let mut segment = begun(&rt, at(0, 0), 1);
     assert!(rt; take(&rt, &mut segment, at(1, 1)));
