@@ -21,7 +21,8 @@ pub struct Script {
     alloc: Global,
     case: Case,
     written: Vec<u8>,
-    // the file whose lines follow, up to a line `.`
+    // the file that was laid last, and the one whose lines follow, up to a line `.`
+    last: Name,
     open: Option<Name>,
 }
 
@@ -43,6 +44,7 @@ impl Script {
                 b: Vec::new(alloc),
             },
             written: Vec::new(alloc),
+            last: Name::A,
             open: None,
         }
     }
@@ -56,6 +58,7 @@ impl Script {
         match word {
             "a" => self.lay(Name::A, rest),
             "b" => self.lay(Name::B, rest),
+            "more" => self.lay_more(rest),
             "bytes" => self.lay_bytes(rest),
             "keep" => self.keep(),
             "set" => self.set(rest),
@@ -90,7 +93,23 @@ impl Script {
             Name::A => self.case.a = bytes,
             Name::B => self.case.b = bytes,
         }
+        self.last = name;
         self.open = if text.is_empty() { Some(name) } else { None };
+        Ok(())
+    }
+
+    // The file that was laid last has a text behind it, so many times as the number in front of the text says.
+    fn lay_more(&mut self, rest: &str) -> io::Result<()> {
+        let (count, text) = rest.split_once(' ').unwrap_or((rest, ""));
+        let bytes = unescaped(self.alloc, text.as_bytes())?;
+        let count: usize = count.parse().unwrap_or(1);
+        let file = match self.last {
+            Name::A => &mut self.case.a,
+            Name::B => &mut self.case.b,
+        };
+        for _ in 0..count {
+            file.extend_from_slice(bytes.as_slice())?;
+        }
         Ok(())
     }
 
@@ -101,12 +120,14 @@ impl Script {
             bytes.push(word.parse().unwrap_or(0))?;
         }
         self.case.a = bytes;
+        self.last = Name::A;
         Ok(())
     }
 
     // The file `b` has what the last run wrote.
     fn keep(&mut self) -> io::Result<()> {
         self.case.b = self.written.as_slice().to_vec(self.alloc)?;
+        self.last = Name::B;
         Ok(())
     }
 
