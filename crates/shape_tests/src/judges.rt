@@ -5,10 +5,11 @@ use judge_field::Scans;
 use judge_plane::PlaneJudge;
 use judge_thin::ThinJudge;
 use shape_check::distances_of;
+use shape_grid::Grid;
 use shape_refute::Naive;
 use shape_report::Line;
 use shape_rules::NoEnds;
-use shape_space::{P2, P3, Point};
+use shape_space::{NoMemory, P2, P3, Point};
 use std::alloc::{AllocError, Global};
 use std::test::Fail;
 
@@ -46,31 +47,43 @@ fn a_segment_of_another_axis(rt: HostRuntime) -> Result<(), Fail> {
     Ok(())
 }
 
-// Lines of other sections, which a check does not hand to these judges.
-#[test]
-fn lines_of_other_sections(rt: HostRuntime) -> Result<(), Fail> {
-    let mut contours = CoverJudge::new(rt.alloc(), &stepped(rt.alloc(), ROW, 1)?, 1)?;
-    assert!(rt; !contours.take(&Line::End));
+// Whether the judge of the contours of a picture takes the last line of a report.
+fn contours_take_an_end(alloc: Global, grid: &Grid<P2>) -> Result<bool, NoMemory> {
+    Ok(CoverJudge::new(alloc, grid, 1)?.take(&Line::End))
+}
 
-    let mut faces = PlaneJudge::new(
-        rt.alloc(),
-        &stepped(rt.alloc(), P3 { x: 1, y: 1, z: 1 }, 1)?,
-    )?;
+// Whether the judge of the faces of a volume takes a line of a nearest point.
+fn faces_take_a_near(alloc: Global, grid: &Grid<P3>) -> Result<bool, NoMemory> {
     let near = Line::Near {
         p: P3::origin(),
         q: P3 { x: 0, y: 0, z: -1 },
         s: 1,
     };
-    assert!(rt; !faces.take(&near));
+    Ok(PlaneJudge::new(alloc, grid)?.take(&near))
+}
+
+// Lines of other sections, which a check does not hand to these judges.
+#[test]
+fn lines_of_other_sections(rt: HostRuntime) -> Result<(), Fail> {
+    let row = stepped(rt.alloc(), ROW, 1)?;
+    assert!(rt; !contours_take_an_end(rt.alloc(), &row)?);
+    let voxel = stepped(rt.alloc(), P3 { x: 1, y: 1, z: 1 }, 1)?;
+    assert!(rt; !faces_take_a_near(rt.alloc(), &voxel)?);
     Ok(())
+}
+
+// The judge of the thinning of a picture.
+fn thinning_of(alloc: Global, grid: &Grid<P2>) -> Result<ThinJudge<P2>, NoMemory> {
+    let scans = Scans::new(alloc, grid)?;
+    let distances = distances_of(alloc, &scans)?;
+    ThinJudge::new(alloc, grid, distances)
 }
 
 // A check asks how many points are left where the thinning is complete, and not before.
 #[test]
 fn points_left_before_the_end(rt: HostRuntime) -> Result<(), Fail> {
-    let grid = stepped(rt.alloc(), ROW, 1)?;
-    let scans = Scans::new(rt.alloc(), &grid)?;
-    let mut judge = ThinJudge::new(rt.alloc(), &grid, distances_of(rt.alloc(), &scans)?)?;
+    let row = stepped(rt.alloc(), ROW, 1)?;
+    let mut judge = thinning_of(rt.alloc(), &row)?;
     assert!(rt; judge.event(P2::origin(), false, &mut NoEnds)?);
     assert!(rt; !judge.finished() && judge.left() == 2);
     Ok(())
