@@ -7,22 +7,22 @@ use std::io;
 
 /// The words of a command, and the files `a` and `b` that it may read.
 #[derive(Drop)]
-pub struct Case {
-    pub words: String,
-    pub a: Vec<u8>,
-    pub b: Vec<u8>,
+pub(crate) struct Case {
+    pub(crate) words: String,
+    pub(crate) a: Vec<u8>,
+    pub(crate) b: Vec<u8>,
 }
 
 /// How a desk fails: the calls with these numbers, where 0 is none, and no call moves more bytes than a piece.
 #[derive(Clone, Copy)]
-pub struct Fault {
-    pub bad_read: u64,
-    pub bad_write: u64,
-    pub piece: usize,
+pub(crate) struct Fault {
+    pub(crate) bad_read: u64,
+    pub(crate) bad_write: u64,
+    pub(crate) piece: usize,
 }
 
 /// A desk on which no call fails.
-pub const STEADY: Fault = Fault {
+pub(crate) const STEADY: Fault = Fault {
     bad_read: 0,
     bad_write: 0,
     piece: 3,
@@ -30,21 +30,26 @@ pub const STEADY: Fault = Fault {
 
 /// What a run wrote, and how it ended.
 #[derive(Drop)]
-pub struct Answer {
-    pub text: Vec<u8>,
-    pub end: String,
+pub(crate) struct Answer {
+    pub(crate) text: Vec<u8>,
+    pub(crate) end: String,
 }
 
 // No run here writes more bytes.
 const ROOM: usize = 200000;
 
 /// Want of memory as the error of a program.
-pub fn wanting(_: NoMemory) -> io::Error {
+pub(crate) fn wanting(_: NoMemory) -> io::Error {
     io::Error::from(AllocError)
 }
 
 /// A desk with the files of a case, the second with this text.
-pub fn desk_of(alloc: Global, case: &Case, b: &[u8], fault: Fault) -> io::Result<MemoryDesk> {
+pub(crate) fn desk_of(
+    alloc: Global,
+    case: &Case,
+    b: &[u8],
+    fault: Fault,
+) -> io::Result<MemoryDesk> {
     let mut files = Vec::new(alloc);
     files.push((b"a".to_vec(alloc)?, case.a.as_slice().to_vec(alloc)?))?;
     files.push((b"b".to_vec(alloc)?, b.to_vec(alloc)?))?;
@@ -57,7 +62,7 @@ pub fn desk_of(alloc: Global, case: &Case, b: &[u8], fault: Fault) -> io::Result
 }
 
 /// What a case comes to on a steady desk, where `b` has this text.
-pub fn answer_of(alloc: Global, case: &Case, b: &[u8]) -> io::Result<Answer> {
+pub(crate) fn answer_of(alloc: Global, case: &Case, b: &[u8]) -> io::Result<Answer> {
     let mut desk = desk_of(alloc, case, b, STEADY)?;
     let end = ended(alloc, case.words.as_str(), &mut desk)?;
     let text = desk.output().to_vec(alloc)?;
@@ -66,7 +71,7 @@ pub fn answer_of(alloc: Global, case: &Case, b: &[u8]) -> io::Result<Answer> {
 
 impl Case {
     /// What the case comes to on a steady desk.
-    pub fn run(&self, alloc: Global) -> io::Result<Answer> {
+    pub(crate) fn run(&self, alloc: Global) -> io::Result<Answer> {
         answer_of(alloc, self, self.b.as_slice())
     }
 }

@@ -1,11 +1,11 @@
-//! Changes of a text at one of its lines. A further change is one more variant, and its row of `put_line`.
+//! Changes of a text at one of its lines. A further change is one more variant, and its row of `put_changed`.
 use std::alloc::Global;
 use std::io;
 
 /// What becomes of a line: another text stands there, or nothing, or the line twice; or the next line comes before it; or its
 /// digit at this place, of all its digits, is raised by one, where it is no 9.
 #[derive(Clone, Copy)]
-pub enum Change<'a> {
+pub(crate) enum Change<'a> {
     Replaced(&'a str),
     LeftOut,
     Doubled,
@@ -14,7 +14,7 @@ pub enum Change<'a> {
 }
 
 /// The lines of a text, each without its line feed; the last one, behind the last line feed, is left out where it is empty.
-pub fn lines_of(alloc: Global, text: &[u8]) -> io::Result<Vec<&[u8]>> {
+pub(crate) fn lines_of(alloc: Global, text: &[u8]) -> io::Result<Vec<&[u8]>> {
     let mut lines = Vec::new(alloc);
     for line in text.split(|&c| c == b'\n') {
         lines.push(line)?;
@@ -26,7 +26,7 @@ pub fn lines_of(alloc: Global, text: &[u8]) -> io::Result<Vec<&[u8]>> {
 }
 
 /// How many digits a line has.
-pub fn digits_of(line: &[u8]) -> usize {
+pub(crate) fn digits_of(line: &[u8]) -> usize {
     line.iter().filter(|c| c.is_ascii_digit()).count()
 }
 
@@ -69,7 +69,7 @@ fn put_changed(text: &mut Vec<u8>, line: &[u8], next: &[u8], change: Change<'_>)
 }
 
 /// The text of these lines with a change at the line of this number, from 0 on. Each line gets its line feed.
-pub fn changed(
+pub(crate) fn changed(
     alloc: Global,
     lines: &[&[u8]],
     at: usize,

@@ -23,7 +23,7 @@ fn meant(behind: &[u8]) -> (u8, usize) {
 }
 
 /// The bytes of a text, in which `\n`, `\r`, `\t` and `\x` with two digits of a number to the base 16 stand for single bytes.
-pub fn unescaped(alloc: Global, text: &[u8]) -> io::Result<Vec<u8>> {
+pub(crate) fn unescaped(alloc: Global, text: &[u8]) -> io::Result<Vec<u8>> {
     let mut bytes = Vec::new(alloc);
     let mut passed: usize = 0;
     for (i, byte) in text.iter().enumerate() {

@@ -8,7 +8,7 @@ use std::io;
 
 /// Which calls of a desk fail.
 #[derive(Clone, Copy, PartialEq, Eq)]
-pub enum Calls {
+pub(crate) enum Calls {
     Reads,
     Writes,
 }
@@ -106,7 +106,12 @@ fn failed(
 }
 
 /// Lets each call of a case fail in turn, to the end of the run, where no call moves more than `piece` bytes.
-pub fn fail_each(rt: &impl Print, alloc: Global, case: &Case, piece: usize) -> io::Result<()> {
+pub(crate) fn fail_each(
+    rt: &impl Print,
+    alloc: Global,
+    case: &Case,
+    piece: usize,
+) -> io::Result<()> {
     let right = case.run(alloc)?;
     for (calls, name) in [(Calls::Reads, "reads"), (Calls::Writes, "writes")] {
         match failed(alloc, case, &right, calls, piece)? {

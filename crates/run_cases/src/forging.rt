@@ -6,7 +6,7 @@ use std::alloc::Global;
 use std::io;
 
 /// What the run of a case writes where `b` has this text, without the line feed at its end.
-pub fn verdict(alloc: Global, case: &Case, b: &[u8]) -> io::Result<String> {
+pub(crate) fn verdict(alloc: Global, case: &Case, b: &[u8]) -> io::Result<String> {
     let answer = answer_of(alloc, case, b)?;
     let Ok(text) = str::from_utf8(answer.text.as_slice()) else {
         return Ok(answer.end);
@@ -18,7 +18,7 @@ pub fn verdict(alloc: Global, case: &Case, b: &[u8]) -> io::Result<String> {
 }
 
 /// What is said of a report with one change.
-pub fn judged(
+pub(crate) fn judged(
     alloc: Global,
     case: &Case,
     lines: &[&[u8]],
@@ -52,7 +52,7 @@ fn tell_line(
 }
 
 /// Tells what is said of each report that differs from `b` in one small way, line by line.
-pub fn forge(rt: &impl Print, alloc: Global, case: &Case) -> io::Result<()> {
+pub(crate) fn forge(rt: &impl Print, alloc: Global, case: &Case) -> io::Result<()> {
     let lines = lines_of(alloc, case.b.as_slice())?;
     for at in 0..lines.len() {
         tell_line(rt, alloc, case, lines.as_slice(), at)?;
@@ -61,7 +61,7 @@ pub fn forge(rt: &impl Print, alloc: Global, case: &Case) -> io::Result<()> {
 }
 
 /// Tells what is said of each front of `b`, once for all that get the same answer.
-pub fn tell_fronts(rt: &impl Print, alloc: Global, case: &Case) -> io::Result<()> {
+pub(crate) fn tell_fronts(rt: &impl Print, alloc: Global, case: &Case) -> io::Result<()> {
     let mut last = String::new(alloc);
     for len in 0..case.b.len() {
         let said = verdict(alloc, case, &case.b.as_slice()[..len])?;

@@ -33,7 +33,7 @@ fn shape_ended<D: Desk>(alloc: Global, words: &[Vec<u8>], desk: &mut D) -> io::R
 
 /// Runs a command line over a desk, and says how it ended. Behind the words `draw`, `measure` and `mask` stand those of the
 /// programs that make something of a report, all others are words of `shape`.
-pub fn ended<D: Desk>(alloc: Global, line: &str, desk: &mut D) -> io::Result<String> {
+pub(crate) fn ended<D: Desk>(alloc: Global, line: &str, desk: &mut D) -> io::Result<String> {
     let (program, rest) = line.split_once(' ').unwrap_or((line, ""));
     match program {
         "draw" => told(

@@ -17,7 +17,7 @@ enum Name {
 
 /// What the lines up to here laid down.
 #[derive(Drop)]
-pub struct Script {
+pub(crate) struct Script {
     alloc: Global,
     case: Case,
     written: Vec<u8>,
@@ -35,7 +35,7 @@ fn numbered(text: &str) -> (usize, &str) {
 
 impl Script {
     /// Before the first line: two empty files.
-    pub fn new(alloc: Global) -> Script {
+    pub(crate) fn new(alloc: Global) -> Script {
         Script {
             alloc,
             case: Case {
@@ -50,7 +50,7 @@ impl Script {
     }
 
     /// Takes the next line, and tells what it comes to.
-    pub fn take(&mut self, rt: &impl Print, line: &str) -> io::Result<()> {
+    pub(crate) fn take(&mut self, rt: &impl Print, line: &str) -> io::Result<()> {
         if let Some(name) = self.open {
             return self.take_text(name, line);
         }
