@@ -9,26 +9,22 @@ use std::marker::Brand;
 use std::sync::ledger::{Blank, Ledger};
 use std::test::Fail;
 
-// The first better places of the cells 4, empty, 0, 9, and whether the second and the third are filled.
-fn compared<L: Ledger>(alloc: Global, blank: Blank) -> Result<(i64, i64, bool, bool), Fail>
-    requires name { blank.name ≡ L.name }
-    requires parts { blank.parts ≡ L.parts }
-    requires whole { blank.parts ≡ 1 }
-{
-    let mut steps = Steps::<L>::new(blank);
-    let mut row = Row::new(alloc, 4)?;
-    row.set(0, Some(4));
-    row.set(2, Some(0));
-    row.set(3, Some(9));
-    let empty = row.filled(1, &mut steps);
-    let filled = row.filled(2, &mut steps);
-    let early = row.first_better(0, 2, &mut steps);
-    let late = row.first_better(2, 3, &mut steps);
-    Ok((early, late, empty, filled))
+// What is found of the cells 4, empty, 0, 9, and of a row of empty cells.
+#[derive(Drop)]
+struct Cells {
+    // the first better places of the first and third, and of the third and last cell
+    early: i64,
+    late: i64,
+    // whether the second and the third are filled
+    second: bool,
+    third: bool,
+    // whether the cells have an envelope, and the empty ones, and that envelope
+    some: bool,
+    none: bool,
+    envelope: Vec<u32>,
 }
 
-// The envelope of these cells, and whether they and an empty row have one.
-fn envelopes<L: Ledger>(alloc: Global, blank: Blank) -> Result<(bool, bool, Vec<u32>), Fail>
+fn cells_found<L: Ledger>(alloc: Global, blank: Blank) -> Result<Cells, Fail>
     requires name { blank.name ≡ L.name }
     requires parts { blank.parts ≡ L.parts }
     requires whole { blank.parts ≡ 1 }
@@ -38,30 +34,36 @@ fn envelopes<L: Ledger>(alloc: Global, blank: Blank) -> Result<(bool, bool, Vec<
     row.set(0, Some(4));
     row.set(2, Some(0));
     row.set(3, Some(9));
+    let second = row.filled(1, &mut steps);
+    let third = row.filled(2, &mut steps);
+    let early = row.first_better(0, 2, &mut steps);
+    let late = row.first_better(2, 3, &mut steps);
     let empty = Row::new(alloc, 4)?;
     let mut out = vec![in alloc; 7u32; row.len() as usize]?;
-    let mut none = vec![in alloc; 7u32; 4]?;
+    let mut other = vec![in alloc; 7u32; 4]?;
     let some = envelope(alloc, &row, &mut out, &mut steps)?;
-    let other = envelope(alloc, &empty, &mut none, &mut steps)?;
-    Ok((some, other, out))
+    let none = envelope(alloc, &empty, &mut other, &mut steps)?;
+    Ok(Cells {
+        early,
+        late,
+        second,
+        third,
+        some,
+        none,
+        envelope: out,
+    })
 }
 
 #[test]
 fn four_cells(rt: HostRuntime) -> Result<(), Fail> {
-    let (early, late, empty, filled) = compared::<Brand>(rt.alloc(), Blank::new(1))?;
-    assert!(rt; early == 0 && late == 7);
-    assert!(rt; filled && !empty);
-    Ok(())
-}
-
-#[test]
-fn an_envelope(rt: HostRuntime) -> Result<(), Fail> {
-    let (some, other, out) = envelopes::<Brand>(rt.alloc(), Blank::new(1))?;
-    assert!(rt; some && !other);
-    let first = out.get(0).copied();
+    let found = cells_found::<Brand>(rt.alloc(), Blank::new(1))?;
+    assert!(rt; found.early == 0 && found.late == 7);
+    assert!(rt; found.third && !found.second);
+    assert!(rt; found.some && !found.none);
+    let first = found.envelope.get(0).copied();
     assert!(rt; first == Some(0) || first == Some(2));
     for i in 1..4 {
-        assert!(rt; out.get(i).copied() == Some(2));
+        assert!(rt; found.envelope.get(i).copied() == Some(2));
     }
     Ok(())
 }

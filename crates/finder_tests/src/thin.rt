@@ -1,45 +1,17 @@
-//! The thinning of a full square by a rule of the test's own, with events found by hand, and the counter of its tests.
-//! The rules of the programs stand in `orders.cases`.
-ghost use Rattle.std.specs.Prelude.{◌≡◌, ◌≤◌, ◌==◌, [], ◌∷◌, if◌then◌else◌, slice_index};
-ghost use Rattle.thin_terms.specs.Thinning.{rule_by};
+//! The counter of a thinning of a full square, and what it leaves. The events of thinnings stand in `orders.cases`.
+//! A rule with a state of its own is run by `shape_tests`.
+ghost use Rattle.std.specs.Prelude.{◌≡◌, ◌≤◌};
 
 use crate::pictures::square;
 use shape_dist::nearest;
 use shape_grid::Grid;
-use shape_rules::{EndRule, Facts};
+use shape_rules::{EndRule, NoEnds};
 use shape_space::{NoMemory, P2, Steps};
 use shape_thin::{Event, Thinning, thin};
 use std::alloc::Global;
 use std::marker::Brand;
 use std::sync::ledger::{Blank, Ledger};
 use std::test::Fail;
-
-// Marks each second point.
-#[derive(Drop)]
-struct Alternate {
-    turn: u64,
-}
-
-impl EndRule for Alternate {
-    ghost state = { λ r. r.turn ∷ [] };
-
-    ghost means = { λ r. rule_by (0 ∷ []) (λ s f. slice_index s 0 == 1)
-        (λ s f. (if slice_index s 0 == 1 then 0 else 1) ∷ []) };
-
-    fn reset(&mut self) {
-        self.turn = 0;
-    }
-
-    fn keep(&mut self, _facts: &Facts) -> bool {
-        if self.turn == 1 {
-            self.turn = 0;
-            true
-        } else {
-            self.turn = 1;
-            false
-        }
-    }
-}
 
 // What is asked of a counter: that it stands at 73 at most.
 fn is_few<L: Ledger>(steps: &Steps<L>)
@@ -81,11 +53,11 @@ fn told(alloc: Global, thinning: &Thinning<P2>) -> Result<String, Fail> {
 }
 
 #[test]
-fn a_rule_with_a_state(rt: HostRuntime) -> Result<(), Fail> {
+fn a_square_takes_few_steps(rt: HostRuntime) -> Result<(), Fail> {
     let grid = square(rt.alloc())?;
-    let mut rule: Box<dyn EndRule> = Box::new(rt.alloc(), Alternate { turn: 1 })?;
+    let mut rule: Box<dyn EndRule> = Box::new(rt.alloc(), NoEnds)?;
     let thinning = counted::<Brand>(rt.alloc(), Blank::new(1), &grid, &mut rule)?;
-    let want = "5: del 0 0 tip 1 0 del 2 0 tip 0 1 del 2 1 tip 0 2 del 1 2 tip 2 2";
+    let want = "1: del 0 0 del 1 0 del 2 0 del 0 1 del 2 1 del 0 2 del 1 2 del 2 2";
     assert!(rt; told(rt.alloc(), &thinning)?.as_str() == want);
     Ok(())
 }
