@@ -43,7 +43,8 @@ fn gaps_at<P: Pairing>(alloc: Global, sides: &Sides<P>, i: u32) -> Result<Vec<u3
     requires inner { (k : ℕ) → k < P.NEAR_COUNT
         → IsTrue (in_box (sides_of (P.coords sides.now.lengths))
         (near_point (raster_point (sides_of (P.coords sides.now.lengths)) i) k)) }
-    ensures { IfOk result (λ v. AreGaps (sides_of (P.coords sides.now.lengths)) near_point v.items) }
+    ensures { IfOk result
+        (λ v. AreGaps (sides_of (P.coords sides.now.lengths)) near_point v.items) }
 {
     let mut gaps = Vec::new(alloc);
     for k in 0..P::NEAR_COUNT {

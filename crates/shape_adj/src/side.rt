@@ -69,7 +69,8 @@ impl<P: Pairing> SideNumbers<P> {
     fn reaches(&self, p: P, inside: bool, k: usize) -> bool
         requires below { k < P.SIDE_COUNT }
         requires within { IsWithin (negsuc 0) (pos 4096) (P.coords p) }
-        requires inside { inside ≡ in_box (sides_of (P.coords self.now.sides.lengths)) (P.coords p) }
+        requires inside { inside
+            ≡ in_box (sides_of (P.coords self.now.sides.lengths)) (P.coords p) }
         ensures { result ≡ in_frame (sides_of (P.coords self.now.sides.lengths))
             (side_point (P.coords p) k) }
     {
@@ -85,7 +86,8 @@ impl<P: Pairing> SideNumbers<P> {
         requires place { i < box_count (framed_sides (sides_of (P.coords self.now.sides.lengths))) }
         requires is { P.coords p ≡ framed_point (sides_of (P.coords self.now.sides.lengths)) i }
         requires within { IsWithin (negsuc 0) (pos 4096) (P.coords p) }
-        requires inside { inside ≡ in_box (sides_of (P.coords self.now.sides.lengths)) (P.coords p) }
+        requires inside { inside
+            ≡ in_box (sides_of (P.coords self.now.sides.lengths)) (P.coords p) }
         ensures { let sides = sides_of (P.coords self.now.sides.lengths) in
             IsTrue result ↔ IsFramedTrue sides values.now (side_point (framed_point sides i) k) }
     {

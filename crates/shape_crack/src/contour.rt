@@ -145,8 +145,8 @@ pub(crate) fn trace_marked(
     requires crack { IsCrack grid.now (crack_of start) }
     requires room { vec_len marks.old.bytes ≡ box_count grid.now.sides }
     ensures contour { IfOk result (IsContourFrom grid.now (crack_of start)) }
-    ensures marked { OnOk result (IsCycleMarked grid.now (crack_of start) (is_marked marks.old.bytes.items)
-        (is_marked marks.new.bytes.items)) }
+    ensures marked { OnOk result (IsCycleMarked grid.now (crack_of start)
+        (is_marked marks.old.bytes.items) (is_marked marks.new.bytes.items)) }
     ensures len { vec_len marks.new.bytes ≡ vec_len marks.old.bytes }
 {
     grid.is_picture();
