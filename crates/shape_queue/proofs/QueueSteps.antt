@@ -1,16 +1,17 @@
 -- The keys of a queue while a rank is put into its set or taken out, and the least of them.
 -- Laws over keys and lists alone.
 use Rattle.std.proofs.Common.{◌≡◌, ◌⊎◌, inl, inr, ℕ, ◌*◌, ◌<◌, ◌≤◌, Bool, true, false, cond, eqb, ltb, List, length, set, replicate, get_or, slice_index, refl, sym, ◌∙◌, ap, subst, arith}
-use Rattle.std.specs.Prelude.{◌&&◌}
+use Rattle.std.specs.Prelude.{◌&&◌, slice_get}
 use Rattle.std.proofs.lemmas.Bool.{eqb-true, eq-eqb, ltb-true, lt-ltb}
-use Rattle.std.proofs.lemmas.List.{length-set, length-replicate, get_or-replicate, get_or-set_same, get_or-set_other, get_or_default}
+use Rattle.std.proofs.lemmas.List.{length-set, length-replicate, get_or-replicate, get_or-set_same, get_or-set_other}
+use Rattle.std.proofs.lemmas.Option.{get_or_from_slice_get}
 use Rattle.std.specs.BTreeMap.{is_at}
 use native.Mathlib.Decide.{ℕ_discrete, dec_lt}
 use Rattle.shape_bits.specs.Sets.{In, bit_of, IsPut, IsLeast}
 use Rattle.shape_bits.specs.Truths.{is_in}
 use Rattle.shape_queue.specs.declared.key.Key.{Key}
 use Rattle.shape_queue.specs.Keys.{key_cmp, IsLeastKey, Queued, has}
-use Rattle.shape_queue.specs.Ranks.{rank_in, Precedes, AreRanks, AreQueued, AreFitting}
+use Rattle.shape_queue.specs.Ranks.{rank_in, Precedes, AreQueued, AreFitting}
 use Rattle.shape_queue.specs.Waiting.{key_at, Put}
 use Rattle.shape_queue.proofs.KeyOrder.{at_itself, at_only, by_key, same_key, not_greater}
 use Rattle.shape_queue.proofs.RankLaws.{rank_small, rank_rises, rank_apart}
@@ -92,10 +93,6 @@ put_rank q new i b l p k = elim (by_key (key_at q.distances i) k) [
   | inr f ↦ others q new i (bool_of b) l p k f ∙ sym (ap (λ t. cond t b (has q k)) f)
 ]
 
--- what is read at a place is its rank
-pub rank_read : (ds ranks : List ℕ) (i r : ℕ) → AreRanks ds ranks → i < length ds → r ≡ get_or ranks i r → r ≡ rank_in ds i
-rank_read ds ranks i r h l e = let n = h.filled in e ∙ get_or_default ranks i r 0 (omega (arith, l, n)) ∙ h.each i l
-
 -- the set has room for the rank of a place
 pub rank_within : (ds waiting : List ℕ) (i r : ℕ) → length ds ≤ 64 * length waiting → i < length ds → r ≡ rank_in ds i → r < 64 * length waiting
 rank_within ds waiting i r room l e = let s = rank_small ds i l in omega arith
@@ -124,11 +121,11 @@ queued_put ds waiting new queued i b l h p =
       ];
     }
 
-pub fitting_put : (ds ranks places waiting new : List ℕ) (queued : List Bool) (i : ℕ) (b : Bool) → i < length ds → AreFitting ds ranks places waiting queued
-    → IsPut waiting new (rank_in ds i) (bool_of b) → AreFitting ds ranks places new (set queued i b)
-fitting_put ds ranks places waiting new queued i b l h p = record {
+pub fitting_put : (ds ranks : List ℕ) (keys : List Key) (waiting new : List ℕ) (queued : List Bool) (i : ℕ) (b : Bool) → i < length ds → AreFitting ds ranks keys waiting queued
+    → IsPut waiting new (rank_in ds i) (bool_of b) → AreFitting ds ranks keys new (set queued i b)
+fitting_put ds ranks keys waiting new queued i b l h p = record {
   ranks_are = h.ranks_are;
-  places_are = h.places_are;
+  keys_are = h.keys_are;
   room = let e = p.room in let r = h.room in omega (arith, e, r);
   inside = λ r w. elim (ℕ_discrete r (rank_in ds i)) [ yes e ↦ (i, l, sym e) | no n ↦ h.inside r (sym (p.others r n) ∙ w) ];
   queued_are = queued_put ds waiting new queued i b l h.queued_are p;
@@ -143,26 +140,32 @@ none_queued ds waiting none = record {
 
 -- ---- the least key
 
-module _ (ds ranks places waiting : List ℕ) (queued : List Bool) (h : AreFitting ds ranks places waiting queued) (r : ℕ) (least : IsLeast waiting r) where
-  -- its place
-  pub least_place : (slice_index places r < length ds) × (rank_in ds (slice_index places r) ≡ r)
-  least_place =
-      let i = h.inside r least.there in
-      let e : slice_index places r ≡ i.0 = ap (slice_index places) (sym i.2) ∙ h.places_are.each i.0 i.1 in
-      (subst (λ p. p < length ds) (sym e) i.1, ap (rank_in ds) e ∙ i.2)
+module _ (ds ranks : List ℕ) (keys : List Key) (waiting : List ℕ) (queued : List Bool) (h : AreFitting ds ranks keys waiting queued) (r : ℕ) (least : IsLeast waiting r) where
+  -- it is the rank of a place
+  place : (i : ℕ) × (i < length ds) × (rank_in ds i ≡ r)
+  place = h.inside r least.there
 
-  pub least_has : has (record { distances = ds; waiting = waiting }) (key_at ds (slice_index places r)) ≡ true
-  least_has =
-      let p = least_place in
-      has_place (record { distances = ds; waiting = waiting }) (slice_index places r) p.0 ∙ ap (λ x. eqb (bit_of waiting x) 1) p.1
-      ∙ eq-eqb (bit_of waiting r) 1 least.there
+  pub least_within : r < length keys
+  least_within = let p = place in let s = rank_small ds p.0 p.1 in let n = h.keys_are.filled in omega (arith, s, n, p.2)
 
-  pub least_key : IsLeastKey (has (record { distances = ds; waiting = waiting })) (key_at ds (slice_index places r))
-  least_key k w =
+  -- its key is that of the place
+  key_read : (key : Key) → key ≡ get_or keys r key → key ≡ key_at ds place.0
+  key_read key e =
+      let p = place in
+      e ∙ get_or_from_slice_get keys r (key_at ds p.0) key (ap (slice_get keys) (sym p.2) ∙ h.keys_are.each p.0 p.1)
+
+  pub least_has : (key : Key) → key ≡ get_or keys r key → has (record { distances = ds; waiting = waiting }) key ≡ true
+  least_has key e =
+      let p = place in
+      ap (has (record { distances = ds; waiting = waiting })) (key_read key e) ∙ has_place (record { distances = ds; waiting = waiting }) p.0 p.1
+      ∙ ap (λ x. eqb (bit_of waiting x) 1) p.2 ∙ eq-eqb (bit_of waiting r) 1 least.there
+
+  pub least_key : (key : Key) → key ≡ get_or keys r key → IsLeastKey (has (record { distances = ds; waiting = waiting })) key
+  least_key key e = subst (IsLeastKey (has (record { distances = ds; waiting = waiting }))) (sym (key_read key e)) (λ k w.
       let t = has_tells (record { distances = ds; waiting = waiting }) k w in
-      let p = least_place in
+      let p = place in
       let a = least.least (rank_in ds k.place) t.waits in
-      not_greater (key_at ds (slice_index places r)) k (λ o.
-      let before : Precedes ds k.place (slice_index places r) = subst (λ d. (d < slice_index ds (slice_index places r)) ⊎ ((d ≡ slice_index ds (slice_index places r)) × (k.place < slice_index places r))) t.same o in
-      let s = rank_rises ds k.place (slice_index places r) t.inside before in
-      omega (arith, a, s, p.1))
+      not_greater (key_at ds p.0) k (λ o.
+      let before : Precedes ds k.place p.0 = subst (λ d. (d < slice_index ds p.0) ⊎ ((d ≡ slice_index ds p.0) × (k.place < p.0))) t.same o in
+      let s = rank_rises ds k.place p.0 t.inside before in
+      omega (arith, a, s, p.2)))

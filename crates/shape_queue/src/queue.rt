@@ -5,54 +5,56 @@ ghost use Rattle.shape_queue.specs.declared.key.Key.{Key};
 ghost use Rattle.shape_queue.specs.Keys.{has, IsLeastKey};
 ghost use Rattle.shape_queue.specs.Waiting.{key_at, Put};
 
+use crate::banded::Banded;
 use crate::key::Key;
-use crate::ranks::{places_of, ranks_of};
+use crate::ranks::{banded_ranks, keys_of};
 use shape_bits::{Bits, Numbers};
 use shape_space::NoMemory;
 use std::alloc::Global;
 use std::marker::Model;
 
-/// The places that wait, by the ranks of all places, and a bit for each place that tells the same.
+/// The places that wait, by the ranks of all places, and a bit for each place that tells the same. Each rank has its key.
 ///
 /// The bits of near places are near to one another, while their ranks are far apart: a look that changes nothing reads no rank.
 #[derive(Drop)]
 pub struct Queue {
-    distances: Vec<u32>,
-    ranks: Vec<u32>,
-    places: Vec<u32>,
+    ranks: Banded,
+    keys: Vec<Key>,
     waiting: Numbers,
     queued: Bits,
 }
 
 impl Model for Queue {
     ghost use Rattle.shape_queue.specs.Keys.{Queued};
-    ghost use Rattle.shape_queue.specs.Ranks.{AreFitting};
+    ghost use Rattle.shape_queue.specs.Ranks.{distances_by, AreFitting};
 
     ghost Value = { Queued };
 
-    ghost view = { λ q. record { distances = q.distances.items; waiting = q.waiting } };
+    ghost view = { λ q. record {
+      distances = distances_by q.ranks q.keys.items;
+      waiting = q.waiting;
+    } };
 
-    ghost invariant = { λ q. AreFitting q.distances.items q.ranks.items q.places.items q.waiting
-        q.queued };
+    ghost invariant = { λ q. AreFitting (distances_by q.ranks q.keys.items) q.ranks q.keys.items
+        q.waiting q.queued };
 }
 
 impl Queue {
     /// An empty queue of places with these squared distances. It takes all memory that it ever needs.
-    pub fn new(alloc: Global, distances: Vec<u32>) -> Result<Queue, NoMemory>
+    ///
+    /// The width is how many places a row has. It matters for speed alone: any width is right.
+    pub fn new(alloc: Global, width: u32, distances: Vec<u32>) -> Result<Queue, NoMemory>
         requires { length distances.items ≤ 2 ^ 23 }
         ensures none { IfOk result (λ q. (k : Key) → has q k ≡ false) }
         ensures distances { IfOk result (λ q. q.distances ≡ distances.items) }
     {
-        let greatest = distances.iter().copied().max().unwrap_or(0);
-        let bound = greatest as usize + 1;
-        let ranks = ranks_of(alloc, distances.as_slice(), bound)?;
-        let places = places_of(alloc, distances.as_slice(), ranks.as_slice())?;
+        let ranks = banded_ranks(alloc, distances.as_slice(), width)?;
+        let keys = keys_of(alloc, distances.as_slice(), &ranks)?;
         let waiting = Numbers::new(alloc, distances.len())?;
         let queued = Bits::new(alloc, distances.len())?;
         Ok(Queue {
-            distances,
             ranks,
-            places,
+            keys,
             waiting,
             queued,
         })
@@ -75,7 +77,7 @@ impl Queue {
         ensures put { Put (has self.old) (has self.new) (key_at self.old.distances place) waits }
         ensures distances { self.new.distances ≡ self.old.distances }
     {
-        let rank = self.ranks[place as usize] as usize;
+        let rank = self.ranks.get(place) as usize;
         if waits {
             self.queued.set(place as usize);
             self.waiting.insert(rank);
@@ -93,11 +95,7 @@ impl Queue {
     {
         match self.waiting.least() {
             None => None,
-            Some(rank) => {
-                let place = self.places[rank];
-                let distance = self.distances[place as usize];
-                Some(Key { distance, place })
-            }
+            Some(rank) => Some(self.keys[rank]),
         }
     }
 }

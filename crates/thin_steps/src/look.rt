@@ -50,7 +50,7 @@ pub(crate) fn look_at_all<P: SimpleMask, L: Ledger>(
     ensures few { steps.new ≤ steps.old + length (object_points left.now) }
 {
     let sides = left.sides();
-    let mut keys = Queue::new(alloc, distances)?;
+    let mut keys = Queue::new(alloc, sides.side(0) as u32, distances)?;
     for i in 0..sides.count() {
         if left.has(i) {
             look_at(left, &mut keys, i, steps);
