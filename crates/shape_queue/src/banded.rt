@@ -1,7 +1,7 @@
 //! Numbers for the places of rows, kept so that places one above the other are near in memory.
 //! Where each number stands is a matter of `specs/Bands`; what the numbers are belongs elsewhere.
-ghost use Rattle.std.specs.Prelude.{◌≡◌, ℕ, ◌<◌, ◌≤◌, ◌^◌, length, slice_index, IfOk};
-ghost use Rattle.shape_queue.specs.Bands.{band_place, band_room, AreBanded};
+ghost use Rattle.std.specs.Prelude.{◌≡◌, ℕ, ◌<◌, ◌≤◌, ◌^◌, length, replicate, slice_index, slice_set, IfOk};
+ghost use Rattle.shape_queue.specs.Bands.{band_place};
 
 use shape_space::NoMemory;
 use std::alloc::Global;
@@ -27,14 +27,15 @@ impl Model for Banded {
 }
 
 impl Banded {
-    /// These numbers, in rows of a width. It matters for speed alone: one below 1 or above 4096 is taken as the nearest of these.
-    pub(crate) fn of(alloc: Global, numbers: &[u32], width: u32) -> Result<Banded, NoMemory>
-        requires { length numbers.now ≤ 2 ^ 23 }
-        ensures { IfOk result (λ b. b ≡ numbers.now) }
+    /// A zero for each of so many places, in rows of a width. The width matters for speed alone: below 1 or above 4096 the nearest of these is taken.
+    pub(crate) fn new(alloc: Global, len: usize, width: u32) -> Result<Banded, NoMemory>
+        requires { len ≤ 2 ^ 23 }
+        ensures { IfOk result (λ b. b ≡ replicate len 0) }
     {
         let width = width.clamp(1, 4096);
-        let len = numbers.len();
-        let numbers = bands_of(alloc, numbers, width)?;
+        let columns = width as usize;
+        let room = (len / columns / 32 + 1) * columns * 32;
+        let numbers = vec![in alloc; 0u32; room]?;
         Ok(Banded {
             width,
             len,
@@ -49,23 +50,14 @@ impl Banded {
     {
         self.numbers[place_in_bands(i, self.width) as usize]
     }
-}
 
-// The numbers in bands, in rows of this width.
-fn bands_of(alloc: Global, numbers: &[u32], width: u32) -> Result<Vec<u32>, NoMemory>
-    requires few { length numbers.now ≤ 2 ^ 23 }
-    requires some { 1 ≤ width }
-    requires most { width ≤ 4096 }
-    ensures room { IfOk result (λ v. length v.items ≡ band_room width (length numbers.now)) }
-    ensures banded { IfOk result (λ v. AreBanded width numbers.now (length numbers.now) v.items) }
-{
-    let columns = width as usize;
-    let room = (numbers.len() / columns / 32 + 1) * columns * 32;
-    let mut bands = vec![in alloc; 0u32; room]?;
-    for i in 0..numbers.len() {
-        bands[place_in_bands(i as u32, width) as usize] = numbers[i];
+    /// Gives a place another number.
+    pub(crate) fn set(&mut self, i: u32, number: u32)
+        requires { i < length self.old }
+        ensures { self.new ≡ slice_set self.old i number }
+    {
+        self.numbers[place_in_bands(i, self.width) as usize] = number;
     }
-    Ok(bands)
 }
 
 // Where the number of a place stands, in rows of this width.

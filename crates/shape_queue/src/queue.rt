@@ -7,7 +7,7 @@ ghost use Rattle.shape_queue.specs.Waiting.{key_at, Put};
 
 use crate::banded::Banded;
 use crate::key::Key;
-use crate::ranks::{banded_ranks, keys_of};
+use crate::ranks::{keys_of, ranks_of};
 use shape_bits::{Bits, Numbers};
 use shape_space::NoMemory;
 use std::alloc::Global;
@@ -48,7 +48,9 @@ impl Queue {
         ensures none { IfOk result (λ q. (k : Key) → has q k ≡ false) }
         ensures distances { IfOk result (λ q. q.distances ≡ distances.items) }
     {
-        let ranks = banded_ranks(alloc, distances.as_slice(), width)?;
+        let greatest = distances.iter().copied().max().unwrap_or(0);
+        let bound = greatest as usize + 1;
+        let ranks = ranks_of(alloc, distances.as_slice(), bound, width)?;
         let keys = keys_of(alloc, distances.as_slice(), &ranks)?;
         let waiting = Numbers::new(alloc, distances.len())?;
         let queued = Bits::new(alloc, distances.len())?;
