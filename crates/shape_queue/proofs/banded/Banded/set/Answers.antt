@@ -1,18 +1,18 @@
 use Rattle.std.proofs.Common.{◌≡◌, ◌∙◌, length, vec_len, set, ap, rules, arith}
-use Rattle.shape_queue.proofs.BandLaws.{place_within, room_for, number_put, put_are}
+use Rattle.shape_queue.proofs.BandLaws.{place_within, has_room, number_put, put_are}
 use Rattle.shape_queue.proofs.banded.Banded.set.Goals as goal
 
 pub place_in_bands-requires-clause-few : goal.place_in_bands-requires-clause-few
 place_in_bands-requires-clause-few c =
     let b = c.self.inside in
-    omega (arith, c.self.invariant.few, place_within b.width b.len c.args.i b.numbers.items c.args.self.now c.self.view_is c.requires)
+    (has_room b.width b.len c.args.i b.numbers.items c.args.self.now c.self.invariant c.self.view_is c.requires).few
 
 pub index_mut-requires : goal.index_mut-requires
 index_mut-requires c =
     let b = c.self.inside in
-    let l = place_within b.width b.len c.args.i b.numbers.items c.args.self.now c.self.view_is c.requires in
+    let r = has_room b.width b.len c.args.i b.numbers.items c.args.self.now c.self.invariant c.self.view_is c.requires in
     let v : length b.numbers.items ≡ vec_len b.numbers = search rules in
-    omega (arith, room_for b.width b.len c.args.i b.numbers.items c.self.invariant l, c.place_in_bands.ensures, v)
+    omega (arith, r.room, c.place_in_bands.ensures, v)
 
 pub invariant_of-self : goal.invariant_of-self
 invariant_of-self c =
