@@ -28,7 +28,7 @@ _WORDS = (
     ("read failed", "a file could not be read", "is it there, and may you read it?"),
     ("write failed", "the output could not be written", "is the disk full?"),
     ("no memory", "not enough memory", "give fewer --jobs"),
-    ("usage: ", "the program `shape` that is found is of another version", "build it anew, or name the folder of the new one in SHAPE_BIN"),
+    ("usage: ", "the program shape that is found is of another version", "build it anew, or name the folder of the new one in SHAPE_BIN"),
 )  # fmt: skip
 
 
