@@ -9,7 +9,7 @@ mod product;
 
 use ending::Ending;
 use host_desk::HostDesk;
-use product::{Product, product_called};
+use product::{Product, product_of};
 use shape_cli::{Outcome, run, shelf};
 use shape_rules::{CurveEnds, FewEnds, NoEnds};
 use std::env::{self, Env};
@@ -73,12 +73,10 @@ fn run_product<R: Files + Print + AllocGlobal>(
 
 // Runs the words: those behind that of a product by the product's own call, and all others as those of a command.
 fn run_words<R: Files + Print + AllocGlobal>(rt: &R, words: &[Vec<u8>]) -> Ending {
-    if let Some((first, rest)) = words.split_first() {
-        if let Some(product) = product_called(first.as_slice()) {
-            return run_product(rt, product, rest);
-        }
+    match product_of(words) {
+        Some((product, rest)) => run_product(rt, product, rest),
+        None => Ending::of_command(run_command(rt, words)),
     }
-    Ending::of_command(run_command(rt, words))
 }
 
 fn main(rt: HostRuntime) -> ExitCode {

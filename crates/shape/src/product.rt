@@ -1,6 +1,6 @@
 //! What is made of a report: the word that asks for each product, and the call that makes it.
 //! A further product is a variant, and an arm or a line of each table.
-ghost use Rattle.std.specs.Prelude.{◌≡◌, ◌≢◌, ◌↔◌, MatchOption};
+ghost use Rattle.std.specs.Prelude.{◌≡◌, ◌≢◌, ◌↔◌, ◌∷◌, ℕ, List, MatchOption};
 ghost use Rattle.shape_desk.specs.Files.{KeepsFiles, texts};
 ghost use Rattle.shape.specs.Products.{product_word, AreNoWords, Ran};
 
@@ -19,8 +19,8 @@ pub enum Product {
     Mask,
 }
 
-/// The product that this word asks for.
-pub(crate) fn product_called(word: &[u8]) -> Option<Product>
+// The product that this word asks for.
+fn product_called(word: &[u8]) -> Option<Product>
     ensures { MatchOption result ((p : Product) → word.now ≢ product_word p)
         (λ p. word.now ≡ product_word p) }
 {
@@ -34,6 +34,17 @@ pub(crate) fn product_called(word: &[u8]) -> Option<Product>
         return Some(Product::Mask);
     }
     None
+}
+
+/// The product that the first word asks for, and the words behind it.
+pub(crate) fn product_of<'a>(words: &'a [Vec<u8>]) -> Option<(Product, &'a [Vec<u8>])>
+    ensures { MatchOption result
+        ((p : Product) (rest : List (List ℕ)) → texts words.now ≢ product_word p ∷ rest)
+        (λ r. texts words.now ≡ product_word r.0 ∷ texts r.1.now) }
+{
+    let (first, rest) = words.split_first()?;
+    let product = product_called(first.as_slice())?;
+    Some((product, rest))
 }
 
 impl Product {
