@@ -1,4 +1,4 @@
-"""The comparison of the programs with the second reading: picture by picture, each report, what is made of it, and its changed versions."""
+"""The comparison of the program with the second reading: picture by picture, each report, what is made of it, and its changed versions."""
 from collections import Counter
 
 from second import analysis, balls, edges, pieces
@@ -6,7 +6,7 @@ from second.forged import WAYS, Forging
 from second.making import make
 from second.masks import MASKS, mask
 from second.picture import RULES
-from second.programs import Difference
+from second.program import Difference
 from second.tables import table
 from second.texts import first_bad
 
@@ -25,8 +25,8 @@ class Report:
 class Comparison:
     """What was compared, and how often."""
 
-    def __init__(self, draw, programs):
-        self.draw, self.programs = draw, programs
+    def __init__(self, draw, program):
+        self.draw, self.program = draw, program
         self.made, self.files, self.cases, self.held, self.sizes = Counter(), Counter(), Counter(), 0, Counter()
 
     def run(self, pictures, volumes, changed):
@@ -38,7 +38,7 @@ class Comparison:
 
     def compare(self, picture, changed):
         self.sizes[picture.axes] += 1
-        self.programs.lay(picture)
+        self.program.lay(picture)
         reports = [self.analysis(picture, rule) for rule in RULES] + [self.further(picture, kind) for kind in self.kinds(picture)]
         for _ in range(changed):
             self.change(picture, reports)
@@ -50,22 +50,22 @@ class Comparison:
 
     def analysis(self, picture, rule):
         """The analysis by a rule, and the tables and masks of it."""
-        report = Report("analysis", "check", analysis, self.programs.made("analyse", rule))
+        report = Report("analysis", "check", analysis, self.program.made("analyse", rule))
         words = ["shape", "2" if picture.axes == 2 else "1", picture.word, *map(str, picture.sides), rule]
         self.agree(picture, "the heading", report.lines[0], " ".join(words))
         told = self.holds(picture, report)
-        path = self.programs.write("report", report.text)
-        given = self.programs.run("shape_measure", path)[0]
+        path = self.program.write("report", report.text)
+        given = self.program.run("measure", path)[0]
         self.agree(picture, "the table by " + rule, given, table(picture, rule, told, given))
         for name in MASKS:
-            given = self.programs.run("shape_mask", name, path)[0]
+            given = self.program.run("mask", name, path)[0]
             self.agree(picture, "the mask %s by %s" % (name, rule), given, mask(picture, rule, name))
         self.files["tables"] += 1
         self.files["masks"] += len(MASKS)
         return report
 
     def further(self, picture, kind):
-        report = Report(kind, "check" + kind, FURTHER[kind], self.programs.made(kind))
+        report = Report(kind, "check" + kind, FURTHER[kind], self.program.made(kind))
         self.holds(picture, report)
         return report
 
@@ -74,7 +74,7 @@ class Comparison:
         bad, told = first_bad(report.reading.read, picture, report.text)
         self.agree(picture, report.kind, None, bad, report.text)
         self.agree(picture, "what %s shows" % report.kind, True, report.reading.shows(picture, told), report.text)
-        self.agree(picture, report.check, self.programs.checked(report.check, report.text), None, report.text)
+        self.agree(picture, report.check, self.program.checked(report.check, report.text), None, report.text)
         self.made[report.kind] += 1
         return told
 
@@ -85,7 +85,7 @@ class Comparison:
         report, place, way, text = self.changed(picture, reports)
         bad, told = first_bad(report.reading.read, picture, text)
         what = "%s, line %d, %s" % (report.kind, place + 1, way.__name__)
-        self.agree(picture, what, self.programs.checked(report.check, text), bad, text)
+        self.agree(picture, what, self.program.checked(report.check, text), bad, text)
         if bad is None:
             self.agree(picture, "what it shows: " + what, True, report.reading.shows(picture, told), text)
         self.held += bad is None
@@ -106,7 +106,7 @@ class Comparison:
 
     def agree(self, picture, what, given, wanted, text=b""):
         if given != wanted:
-            self.programs.write("different", text)
+            self.program.write("different", text)
             told = "sides %s, points %s\n%s: the program says %r, the second reading %r" % (picture.sides, picture.order, what, given, wanted)
             raise Difference(told + "\n" + text.decode("latin-1"))
 

@@ -1,4 +1,4 @@
-"""The files of `shape_mask` by plain code, word for word from docs/USING.md: the object, the points left, and the distances."""
+"""The files of `shape mask` by plain code, word for word from docs/USING.md: the object, the points left, and the distances."""
 from math import isqrt
 
 MASKS = ("skeleton", "object", "distances")

@@ -1,4 +1,4 @@
-"""The table of `shape_measure` by plain code: what each column is of each object, word for word from docs/USING.md and docs/MEASURING.md.
+"""The table of `shape measure` by plain code: what each column is of each object, word for word from docs/USING.md and docs/MEASURING.md.
 
 All but the lengths of borders is found from the picture and its thinning; these go by the segments that the report tells.
 """

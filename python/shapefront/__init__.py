@@ -1,4 +1,4 @@
-"""The front door of `shape`: images in, tables, drawings and arrays out. Every number comes out of the proved programs.
+"""The front door of `shape`: images in, tables, drawings and arrays out. Every number comes out of the proved program.
 
     import shapefront
     report = shapefront.analyse(image < 100, "curve")     # an array of booleans, of two or three dimensions

@@ -1,4 +1,4 @@
-"""Analyses and checks arrays of booleans, by the proved programs: for one's own programs."""
+"""Analyses and checks arrays of booleans, by the proved program: for one's own programs."""
 from __future__ import annotations
 
 import tempfile
@@ -54,7 +54,7 @@ def analyse(mask: np.ndarray, rule: str = "none") -> Analysis:
 def report_of(source: Source, rule: str, about: object = "the array") -> bytes:
     """The text of a fresh report. A Fault about `about` where it is refused."""
     with tempfile.TemporaryFile() as out:
-        answer = call("shape", "analyse", *source.words, rule, out=out)
+        answer = call("analyse", *source.words, rule, out=out)
         if answer.status:
             raise explained(about, answer)
         out.seek(0)
@@ -75,7 +75,7 @@ def check(mask: np.ndarray, report: str | Path | bytes | Analysis) -> Verdict:
 
 def verdict(source: Source, report: Path, command: str = "check") -> Verdict:
     """What the proved program answers of a picture's file and a report's file, both as they are."""
-    answer = call("shape", command, *source.words, report)
+    answer = call(command, *source.words, report)
     if answer.status == 0 and answer.text == "yes\n":
         return Verdict()
     if answer.status == 1:

@@ -1,4 +1,4 @@
-"""Checks reports against their pictures, and tables and drawings against their reports, all by the proved programs."""
+"""Checks reports against their pictures, and tables and drawings against their reports, all by the proved program."""
 from __future__ import annotations
 
 import re
@@ -16,7 +16,7 @@ from .folder import run_of, tables_of
 from .networks import Network, part, parts_of
 from .pictures import Source
 from .products import DRAWINGS
-from .programs import call, explained, has, sums
+from .programs import NAME, call, explained, sums
 from .report import counts_of, text_of
 from .why import reason as reason_of
 
@@ -31,16 +31,14 @@ _COMMANDS = {
 
 @dataclass(frozen=True)
 class Finding:
-    """What a check of one file found: its name as it is shown, whether it is right, and in words why not, or what was left out."""
+    """What a check of one file found: its name as it is shown, whether it is right, and in words why not."""
 
     name: str
     holds: bool
     why: str = ""
 
     def __str__(self) -> str:
-        if self.holds:
-            return f"{self.name}: yes" + (f" ({self.why})" if self.why else "")
-        return f"{self.name}: no, {self.why}"
+        return f"{self.name}: yes" if self.holds else f"{self.name}: no, {self.why}"
 
 
 def check_report(name: str, source: Source, report: Path) -> Finding:
@@ -65,7 +63,7 @@ def _fresh(source: Source, make: str, rule: str) -> bytes:
     if make == "analyse":
         return report_of(source, rule if rule in ("none", "curve", "few") else "none", source.path)
     with tempfile.TemporaryFile() as out:
-        answer = call("shape", make, *source.words, out=out)
+        answer = call(make, *source.words, out=out)
         if answer.status:
             raise explained(source.path, answer)
         out.seek(0)
@@ -120,32 +118,29 @@ def _check_all(name: str, stem: str, report: Path) -> Finding:
     found = check_report(name, picture_of(stem, report), report)
     if not found.holds:
         return found
-    record, left_out = read_json(report.with_name(stem + ".json")), []
+    record = read_json(report.with_name(stem + ".json"))
     if record is not None and (record.get("parts"), record.get("kept")) != counts_of(report):
         return Finding(name, False, f"the report holds, but its record {stem}.json says other counts")
     for words, written in _made_of(report, stem, record or {}):
-        program = words[0][0]
-        if written.exists() and not has(program):
-            left_out.append(f"{shown(written)} was not checked: {program} is not found")
-        elif written.exists() and not any(_is_written(choice, report, written) for choice in words):
-            made_by = (record or {}).get("programs", {}).get(program, sums()[program])
-            other = "" if made_by == sums()[program] else ", and was made by another version of it"
-            return Finding(name, False, f"the report holds, but {shown(written)} is not what {program} makes of it{other}")
+        if written.exists() and not any(_is_written(choice, report, written) for choice in words):
+            made_by = (record or {}).get("programs", {}).get(NAME, sums()[NAME])
+            other = "" if made_by == sums()[NAME] else ", and was made by another version of it"
+            return Finding(name, False, f"the report holds, but {shown(written)} is not what `{NAME} {words[0][0]}` makes of it{other}")
     for written, data in _arranged(report.with_name(stem)):
         if not written.exists() or written.read_bytes() != data:
             return Finding(name, False, f"the report holds, but {shown(written)} is not what the reports and tables of its parts say")
-    return Finding(name, True, ", ".join(left_out))
+    return Finding(name, True)
 
 
 def _made_of(report: Path, stem: str, record: dict) -> Iterator[tuple[tuple[tuple[str, ...], ...], Path]]:
-    """The files that are made of a report, there or not, each with the program and its words, of which any may have made it."""
-    yield (("shape_measure",),), report.with_name(stem + ".csv")
+    """The files that are made of a report, there or not, each with the words of which any may have made it."""
+    yield (("measure",),), report.with_name(stem + ".csv")
     yield DRAWINGS, report.with_name(stem + ".svg")
-    yield (("shape_mask", "skeleton"),), part(report.with_name(stem), "skeleton", ".pbm")
+    yield (("mask", "skeleton"),), part(report.with_name(stem), "skeleton", ".pbm")
     for kind in record.get("masks", []):
         for name in record.get("files", {}):
             if name.startswith(f"{stem}.{kind}.") and "/" not in name:
-                yield (("shape_mask", kind),), report.with_name(name)
+                yield (("mask", kind),), report.with_name(name)
 
 
 def _arranged(stem: Path) -> Iterator[tuple[Path, bytes]]:
@@ -159,7 +154,7 @@ def _arranged(stem: Path) -> Iterator[tuple[Path, bytes]]:
 
 
 def _is_written(words: tuple[str, ...], report: Path, written: Path) -> bool:
-    """Whether a file is exactly what a program with these words makes of the report."""
+    """Whether a file is exactly what the program makes of the report by these words."""
     text, _ = text_of(report)
     with _plain(text, report) as plain, tempfile.TemporaryFile() as out:
         if call(*words, plain, out=out).status:

@@ -1,4 +1,4 @@
-"""From images to pictures of two values: what `shapes measure` and `shapes volume` hand to the proved programs."""
+"""From images to pictures of two values: what `shapes measure` and `shapes volume` hand to the proved program."""
 from __future__ import annotations
 
 import re

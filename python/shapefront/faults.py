@@ -14,4 +14,4 @@ class Fault(Exception):
 
 
 class Missing(Fault):
-    """A proved program that is not where programs are looked for."""
+    """The proved program, or a package, that is not where it is looked for."""

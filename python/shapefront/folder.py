@@ -125,5 +125,3 @@ def _warnings(images: list[Image]) -> Iterator[str]:
         yield f"the objects were taken to be dark in {dark} images and light in {len(chosen) - dark}: give --dark or --light where all are alike"
     if len({cut["threshold"] for cut in cuts if cut["how"].startswith("chosen")}) > 1:
         yield "each image has a threshold of its own, told below: give --threshold where their areas are to be compared"
-    if not sums()["shape_measure"]:
-        yield "the program shape_measure is not found: there is no objects.csv; pictures.csv has a row for each picture"

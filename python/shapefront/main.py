@@ -15,7 +15,7 @@ from .files import make_folder, shown, write
 from .folder import finish
 from .making import Plan, clear_aside
 from .original import check_original
-from .programs import find, has
+from .programs import find
 from .report import Analysis, read
 from .words import options_of, parser, pixel_of, settings_of
 
@@ -25,21 +25,14 @@ DONE, FAILED, USAGE, NOTHING, STOPPED = 0, 1, 2, 3, 130
 def measure(words: argparse.Namespace) -> int:
     """`shapes measure` and `shapes volume`: all that the images give, in one folder."""
     pixel, is_volume, settings = pixel_of(words), words.command == "volume", settings_of(words)
-    find("shape")
-    if words.network:
-        _network(words)
+    find()
+    if words.network and words.rule != "curve":
+        raise Fault("--network", f"the rule {words.rule} does not keep the ends of branches", "leave out --rule")
     images, passed = images_of(words.images, is_volume)
     if passed:
         print(f"passed over, as their names are not those of images: {passed} of the files", file=sys.stderr)
     if not images:
         raise Fault(shown(words.images[0]), "no image is in this folder", "name the files themselves")
-    for program, made in (
-        ("shape_measure", "objects.csv"),
-        ("shape_draw", "drawings"),
-        *([("shape_mask", "masks")] if words.masks else []),
-    ):
-        if not has(program):
-            print(f"{program}: this program is not found, so no {made}; all else goes on", file=sys.stderr)
     if any(path.is_dir() and path.resolve() == words.folder.resolve() for path in words.images):
         raise Fault("-o", "the folder of the images themselves", "choose another one for what is written")
     make_folder(words.folder)
@@ -53,17 +46,9 @@ def measure(words: argparse.Namespace) -> int:
     return FAILED if failed else DONE
 
 
-def _network(words: argparse.Namespace) -> None:
-    """A Fault where no networks can be measured: by another rule of the thinning, or without the programs for it."""
-    if words.rule != "curve":
-        raise Fault("--network", f"the rule {words.rule} does not keep the ends of branches", "leave out --rule")
-    find("shape_mask")
-    find("shape_measure")
-
-
 def check(words: argparse.Namespace) -> int:
     """`shapes check`: one line a file, and one status."""
-    find("shape")
+    find()
     if words.report is None:
         if not words.image.is_dir():
             raise Fault(shown(words.image), "not a folder", "give a folder, or an image and its report")

@@ -1,7 +1,7 @@
 """Makes all that one picture gives: its file, its report, checked, its table and its drawing; and a record of how.
 
 Everything is made in a folder aside and then renamed, the record last. So what has a record is whole, and a second run with the
-same picture, rule and programs leaves it as it is.
+same picture, rule and program leaves it as it is.
 """
 from __future__ import annotations
 
@@ -19,7 +19,7 @@ from .faults import Fault
 from .files import ASIDE, gzipped, read_json, shown, sum_of, sum_of_bytes, write_json
 from .pictures import sides_of, spelled, suffix_of
 from .products import draw, measured, write_mask, write_network
-from .programs import has, sums
+from .programs import sums
 from .report import counts_of
 
 Record = dict[str, Any]
@@ -101,7 +101,7 @@ def _products(picture: Picture, plan: Plan, work: Path) -> Record:
     image.write_bytes(spelled(picture.mask))
     report = measured(image, stem, plan.rule, picture.key)
     draw(report, stem, picture)
-    for kind in plan.masks if has("shape_mask") else ():
+    for kind in plan.masks:
         write_mask(kind, report, stem, picture)
     if plan.network:
         write_network(stem, report, picture)

@@ -1,4 +1,4 @@
-"""Networks: the skeleton of a picture, its branches and its junctions as pictures of their own, measured by the proved programs.
+"""Networks: the skeleton of a picture, its branches and its junctions as pictures of their own, measured by the proved program.
 
 A junction is a connected set of points of the skeleton with three neighbours or more, and a branch one of its other points. Each
 is a picture's object, so all lengths, points and places of `networks.csv` and `branches.csv` come out of reports and tables.
@@ -123,7 +123,7 @@ class Network:
 
 
 def length(row: dict[str, str]) -> Decimal:
-    """The length of a line one pixel thin, by its row in a table of `shape_measure`: half of the borders that go along it.
+    """The length of a line one pixel thin, by its row in a table of `shape measure`: half of the borders that go along it.
 
     A border goes through the middles of the line's own pixels, by its segments; the table has it as the edge of an object, which
     is longer by twice the root of 2 outside, and shorter by that in a hole.

@@ -1,4 +1,4 @@
-"""Pictures and volumes of two values, as the proved programs read them: a raw PBM, or a file of one byte a voxel."""
+"""Pictures and volumes of two values, as the proved program reads them: a raw PBM, or a file of one byte a voxel."""
 from __future__ import annotations
 
 import re
@@ -37,7 +37,7 @@ def spelled(mask: np.ndarray) -> bytes:
 
 
 def pbm_mask(data: bytes) -> np.ndarray:
-    """The picture in the bytes of a raw PBM without comments, as the programs and `spelled` write it."""
+    """The picture in the bytes of a raw PBM without comments, as `spelled` and the program write it."""
     head = _PBM.match(data)
     if head is None:
         raise Fault("a mask", "no raw PBM", "was it changed?")
@@ -47,7 +47,7 @@ def pbm_mask(data: bytes) -> np.ndarray:
 
 
 def checked_mask(mask: np.ndarray, name: str = "the array") -> np.ndarray:
-    """The array as booleans. A Fault where it is none of two or three axes with sides that the programs take."""
+    """The array as booleans. A Fault where it is none of two or three axes with sides that the program takes."""
     mask = np.asarray(mask)
     if mask.dtype != bool:
         raise Fault(name, f"an array of {mask.dtype}, not of booleans", "compare it with a threshold: `image > t`")
@@ -61,7 +61,7 @@ def checked_mask(mask: np.ndarray, name: str = "the array") -> np.ndarray:
 
 @dataclass(frozen=True)
 class Source:
-    """A picture's file with the words that name it to the proved programs: `pbm FILE`, or `raw X Y Z FILE`."""
+    """A picture's file with the words that name it to the proved program: `pbm FILE`, or `raw X Y Z FILE`."""
 
     path: Path
     sides: tuple[int, ...] = ()

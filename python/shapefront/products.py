@@ -1,4 +1,4 @@
-"""What the proved programs make of a picture and its report: the report, the table, the drawing, the masks and the network's parts."""
+"""What the proved program makes of a picture and its report: the report, the table, the drawing, the masks and the network's parts."""
 from __future__ import annotations
 
 import os
@@ -9,33 +9,30 @@ from .convert import Picture
 from .faults import Fault
 from .networks import Network, part, parts_of
 from .pictures import Source, suffix_of
-from .programs import Answer, call, explained, has, made
+from .programs import Answer, call, explained, made
 
-# The words of `shape_draw`, the best drawing first: one with the numbers of the objects, where the program knows this word.
-DRAWINGS = (("shape_draw", "labels"), ("shape_draw",))
+# The words for a drawing, the best one first: with the numbers of the objects, where the program knows this word.
+DRAWINGS = (("draw", "labels"), ("draw",))
 
 
 def measured(image: Path, stem: Path, rule: str, about: str) -> Path:
-    """Analyses a picture's file, checks the report, and measures it where the program for that is there. The report's file.
+    """Analyses a picture's file, checks the report, and writes its table. The report's file.
 
-    The names of the files that it writes begin with `stem`. A Fault about the image `about` where a program refuses.
+    The names of the files that it writes begin with `stem`. A Fault about the image `about` where the program refuses.
     """
     report, source = stem.with_name(stem.name + ".report"), Source.of(image)
     with open(report, "wb") as out:
-        made("shape", "analyse", *source.words, rule, out=out, about=about)
+        made("analyse", *source.words, rule, out=out, about=about)
     answer = verdict(source, report)
     if not answer:
         raise Fault(about, f"its fresh report does not hold ({answer})", "this must never be: is the disk or the memory broken?")
-    if has("shape_measure"):
-        with open(stem.with_name(stem.name + ".csv"), "wb") as out:
-            made("shape_measure", report, out=out, about=about)
+    with open(stem.with_name(stem.name + ".csv"), "wb") as out:
+        made("measure", report, out=out, about=about)
     return report
 
 
 def draw(report: Path, stem: Path, picture: Picture) -> None:
-    """Draws a report where the program for that is there. A volume that it refuses has no drawing; a Fault of a flat picture."""
-    if not has("shape_draw"):
-        return
+    """Draws a report. A volume that the program refuses has no drawing; a Fault of a flat picture."""
     drawing = stem.with_name(stem.name + ".svg")
     answer = _drawn(report, drawing)
     if answer.status:
@@ -46,9 +43,9 @@ def draw(report: Path, stem: Path, picture: Picture) -> None:
 
 def _drawn(report: Path, drawing: Path) -> Answer:
     """Draws a report by the first words that the program takes; how it ended by these, or by the last ones."""
-    for program, *words in DRAWINGS:
+    for words in DRAWINGS:
         with open(drawing, "wb") as out:
-            answer = call(program, *words, report, out=out)
+            answer = call(*words, report, out=out)
         if not answer.status:
             break
     return answer
@@ -58,7 +55,7 @@ def write_mask(kind: str, report: Path, stem: Path, picture: Picture) -> None:
     """Writes a picture of what a report says: a PBM or a PGM, or of a volume raw bytes, whose sides its name tells."""
     path = stem.with_name(f"{stem.name}.{kind}")
     with open(path, "wb") as out:
-        made("shape_mask", kind, report, out=out, about=picture.key)
+        made("mask", kind, report, out=out, about=picture.key)
     with open(path, "rb") as file:
         suffix = {b"P1": ".pbm", b"P4": ".pbm", b"P2": ".pgm", b"P5": ".pgm"}.get(file.read(2), "")
     if picture.mask.ndim == 3:
@@ -69,11 +66,11 @@ def write_mask(kind: str, report: Path, stem: Path, picture: Picture) -> None:
 def write_network(stem: Path, report: Path, picture: Picture) -> None:
     """Writes the pictures of the parts of a network, their reports and their tables, and the tables arranged from these.
 
-    A Fault where a program refuses.
+    A Fault where the program refuses.
     """
     skeleton = part(stem, "skeleton", ".pbm")
     with open(skeleton, "wb") as out:
-        made("shape_mask", "skeleton", report, out=out, about=picture.key)
+        made("mask", "skeleton", report, out=out, about=picture.key)
     for name, data in parts_of(skeleton.read_bytes()).items():
         image = part(stem, name, ".pbm")
         image.write_bytes(data)

@@ -1,6 +1,6 @@
-"""Finds the proved programs and calls them. All measuring is done there.
+"""Finds the proved program `shape` and calls it. All measuring is done there.
 
-A program is looked for in the folder that SHAPE_BIN names, then in the clone of the repository that this package lies in, then
+It is looked for in the folder that SHAPE_BIN names, then in the clone of the repository that this package lies in, then
 on the PATH.
 """
 from __future__ import annotations
@@ -16,10 +16,10 @@ from typing import IO
 from .faults import Fault, Missing
 from .files import sum_of
 
-NAMES = ("shape", "shape_measure", "shape_draw", "shape_mask")
+NAME = "shape"
 SIDE_FLAT, SIDE_SOLID = 2048, 192
 
-# What the programs' words mean for one who gave images, by their beginnings: the reason, and what to do.
+# What the program's words mean for one who gave images, by their beginnings: the reason, and what to do.
 _WORDS = (
     ("not a PBM", "not a PBM", "its first two bytes are not P1 or P4"),
     ("a side is too large", f"a side is above {SIDE_FLAT} pixels, or {SIDE_SOLID} voxels", "give --fit, which makes it smaller"),
@@ -28,30 +28,31 @@ _WORDS = (
     ("read failed", "a file could not be read", "is it there, and may you read it?"),
     ("write failed", "the output could not be written", "is the disk full?"),
     ("no memory", "not enough memory", "give fewer --jobs"),
+    ("usage: ", "the program shape that is found is of another version", "build it anew, or name the folder of the new one in SHAPE_BIN"),
 )  # fmt: skip
 
 
-def _places(name: str) -> list[Path]:
+def _places() -> list[Path]:
     given = os.environ.get("SHAPE_BIN")
-    clone = Path(__file__).resolve().parents[2] / "crates" / name / "out" / name
-    return ([Path(given) / name] if given else []) + [clone]
+    clone = Path(__file__).resolve().parents[2] / "crates" / NAME / "out" / NAME
+    return ([Path(given) / NAME] if given else []) + [clone]
 
 
-def find(name: str) -> Path:
-    """Where a program is. Missing, a Fault, where it is nowhere."""
-    for place in _places(name):
+def find() -> Path:
+    """Where the program is. Missing, a Fault, where it is nowhere."""
+    for place in _places():
         if place.is_file() and os.access(place, os.X_OK):
             return place
-    on_path = shutil.which(name)
+    on_path = shutil.which(NAME)
     if on_path is None:
-        raise Missing(name, "this program is not found", f"build it by `rt run` in crates/{name}, or name its folder in SHAPE_BIN")
+        raise Missing(NAME, "this program is not found", f"build it by `rt run` in crates/{NAME}, or name its folder in SHAPE_BIN")
     return Path(on_path)
 
 
-def has(name: str) -> bool:
-    """Whether a program is found."""
+def has() -> bool:
+    """Whether the program is found."""
     try:
-        return bool(find(name))
+        return bool(find())
     except Missing:
         return False
 
@@ -62,43 +63,43 @@ def _sum_at(path: Path, _changed: int) -> str | None:
 
 
 def sums() -> dict[str, str | None]:
-    """The SHA-256 sums of all programs; None for one that is not found."""
-    found = {name: find(name) for name in NAMES if has(name)}
-    return {name: _sum_at(found[name], found[name].stat().st_mtime_ns) if name in found else None for name in NAMES}
+    """The SHA-256 sum of the program, by its name. Missing, a Fault, where it is not found."""
+    path = find()
+    return {NAME: _sum_at(path, path.stat().st_mtime_ns)}
 
 
 @dataclass(frozen=True)
 class Answer:
-    """How a program ended: its status, what it wrote (where that was not sent to a file), and its line on standard error."""
+    """How the program ended: its status, what it wrote (where that was not sent to a file), and its line on standard error."""
 
     status: int
     text: str
     message: str
 
 
-def call(name: str, *words: object, out: IO[bytes] | None = None) -> Answer:
-    """Calls a program; what it writes goes to `out` where that is given. A Fault where it is not found or ends by a signal."""
-    path = find(name)
+def call(*words: object, out: IO[bytes] | None = None) -> Answer:
+    """Calls the program; what it writes goes to `out` where that is given. A Fault where it is not found or ends by a signal."""
+    path = find()
     try:
         done = subprocess.run([path, *map(str, words)], stdin=subprocess.DEVNULL, stdout=out or subprocess.PIPE, stderr=subprocess.PIPE)
     except OSError as error:
         raise Fault(path, f"cannot be run ({error.strerror})", "is it built for this machine?") from error
     if done.returncode < 0:
         raise Fault(path, f"was ended by signal {-done.returncode}", "give fewer --jobs, if memory is short")
-    message = done.stderr.decode(errors="replace").strip().removeprefix(name + ": ")
+    message = done.stderr.decode(errors="replace").strip().removeprefix(NAME + ": ")
     return Answer(done.returncode, (done.stdout or b"").decode(errors="replace"), message)
 
 
 def explained(about: object, answer: Answer) -> Fault:
-    """What a refusal of a program means, about the file that it was given."""
+    """What a refusal of the program means, about the file that it was given."""
     for words, reason, remedy in _WORDS:
         if answer.message.startswith(words):
             return Fault(about, f"{reason} ({answer.message})" if answer.message != reason else reason, remedy)
     return Fault(about, answer.message or f"refused with status {answer.status}")
 
 
-def made(name: str, *words: object, out: IO[bytes], about: object) -> None:
-    """Calls a program that writes a file. A Fault about the file `about` where it refuses."""
-    answer = call(name, *words, out=out)
+def made(*words: object, out: IO[bytes], about: object) -> None:
+    """Calls the program for a file that it writes. A Fault about the file `about` where it refuses."""
+    answer = call(*words, out=out)
     if answer.status:
         raise explained(about, answer)

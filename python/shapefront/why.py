@@ -1,6 +1,6 @@
 """Why a line is the first bad one: what it says, and what a fresh report of the same picture says there.
 
-The truth comes out of the proved programs alone. Which of several true lines a report has is in places its maker's choice; then
+The truth comes out of the proved program alone. Which of several true lines a report has is in places its maker's choice; then
 the fresh line is one that would do, and it is said so.
 """
 from __future__ import annotations

@@ -1,4 +1,4 @@
-"""What the tests share: pictures, the repository's files, and whether programs and packages are there."""
+"""What the tests share: pictures, the repository's files, and whether the program and packages are there."""
 from __future__ import annotations
 
 import contextlib
@@ -24,12 +24,7 @@ def installed(*packages: str) -> bool:
     return all(importlib.util.find_spec(package) for package in packages)
 
 
-def needs_programs(*names: str):
-    return unittest.skipUnless(all(map(programs.has, names)), f"not all of the programs {', '.join(names)} are built")
-
-
-needs_shape = unittest.skipUnless(programs.has("shape"), "the program shape is not built")
-needs_draw = unittest.skipUnless(programs.has("shape_draw"), "the program shape_draw is not built")
+needs_shape = unittest.skipUnless(programs.has(), "the program shape is not built")
 slow = unittest.skipUnless(os.environ.get("SHAPES_SLOW"), "it takes minutes: set SHAPES_SLOW=1")
 needs_pillow = unittest.skipUnless(installed("PIL"), "Pillow is not installed")
 
@@ -45,7 +40,7 @@ def random_mask(seed: int, *shape: int) -> np.ndarray:
 
 
 class InFolder(unittest.TestCase):
-    """A test in an empty folder of its own, with the stubs of `shape_measure` and `shape_mask` where these are not built."""
+    """A test in an empty folder of its own."""
 
     def setUp(self) -> None:
         holder = tempfile.TemporaryDirectory()
@@ -54,7 +49,7 @@ class InFolder(unittest.TestCase):
         self.addCleanup(os.chdir, os.getcwd())
         os.chdir(self.folder)
         self.addCleanup(os.environ.__setitem__, "PATH", os.environ["PATH"])
-        os.environ["PATH"] = f"{Path(sys.executable).parent}:{os.environ['PATH']}:{HERE / 'stubs'}"
+        os.environ["PATH"] = f"{Path(sys.executable).parent}:{os.environ['PATH']}"
 
     def shapes(self, *words: object) -> tuple[int, list[str], list[str]]:
         """Runs the command: its status, and the lines on standard output and standard error."""

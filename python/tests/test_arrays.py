@@ -1,4 +1,4 @@
-"""Arrays analysed and checked by the proved programs, beside what scipy says of them."""
+"""Arrays analysed and checked by the proved program, beside what scipy says of them."""
 import unittest
 
 import numpy as np

@@ -3,7 +3,7 @@ import shutil
 import subprocess
 from pathlib import Path
 
-from .common import STORED, InFolder, needs_draw, needs_pillow, needs_shape
+from .common import STORED, InFolder, needs_pillow, needs_shape
 
 from shapefront import programs
 
@@ -58,7 +58,7 @@ class Checking(InFolder):
 
     def test_further_kinds(self):
         for kind in ("edges", "pieces", "balls"):
-            text = subprocess.run([programs.find("shape"), kind, "pbm", "word.pbm"], stdout=subprocess.PIPE).stdout
+            text = subprocess.run([programs.find(), kind, "pbm", "word.pbm"], stdout=subprocess.PIPE).stdout
             Path(f"word.{kind}").write_bytes(text)
             self.assertEqual(self.found("word.pbm", f"word.{kind}"), (0, [f"word.{kind}: yes"]))
             lines = text.split(b"\n")
@@ -107,14 +107,13 @@ class CheckingAFolder(InFolder):
         status, out, _ = self.shapes("check", "out")
         self.assertEqual(
             (status, out[1]),
-            (1, "out/word.pbm: no, the report holds, but out/word.pbm.csv is not what shape_measure makes of it"),
+            (1, "out/word.pbm: no, the report holds, but out/word.pbm.csv is not what `shape measure` makes of it"),
         )
 
-    @needs_draw
     def test_a_changed_drawing(self):
         path = Path("out/word.pbm.svg")
         path.write_text(path.read_text().replace("svg", "gvs"))
-        self.assertIn("but out/word.pbm.svg is not what shape_draw makes of it", self.shapes("check", "out")[1][1])
+        self.assertIn("but out/word.pbm.svg is not what `shape draw` makes of it", self.shapes("check", "out")[1][1])
 
     def test_the_original_image(self):
         self.assertEqual(self.shapes("check", "word.pbm", "out/word.pbm.report")[:2], (0, ["out/word.pbm.report: yes"]))

@@ -160,7 +160,7 @@ class Measuring(InFolder):
             np.testing.assert_array_equal(values > 0, wanted)
         self.assertEqual(self.shapes("check", "out")[0], 0)
         Path("out/000.png.skeleton.pbm").write_text("P1 1 1 1")
-        self.assertIn("but out/000.png.skeleton.pbm is not what shape_mask makes of it", self.shapes("check", "out")[1][0])
+        self.assertIn("but out/000.png.skeleton.pbm is not what `shape mask` makes of it", self.shapes("check", "out")[1][0])
 
     def test_volumes(self):
         mask = random_mask(7, 8, 10, 12)
@@ -210,7 +210,7 @@ class Measuring(InFolder):
 
     def test_a_program_is_missing(self):
         self.save(1)
-        places, programs._places = programs._places, lambda name: []
+        places, programs._places = programs._places, lambda: []
         path, os.environ["PATH"] = os.environ["PATH"], ""
         try:
             status, _, error = self.shapes("measure", "in")

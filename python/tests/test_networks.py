@@ -8,7 +8,7 @@ from pathlib import Path
 
 import numpy as np
 
-from .common import ROOT, STORED, InFolder, needs_pillow, needs_programs, needs_shape
+from .common import ROOT, STORED, InFolder, needs_pillow, needs_shape
 
 from shapefront import read
 from shapefront.networks import length, split
@@ -48,7 +48,6 @@ class Parts(unittest.TestCase):
 
 @needs_shape
 @needs_pillow
-@needs_programs("shape_measure", "shape_mask")
 class KnownNetworks(InFolder):
     def test_strokes_of_a_width(self):
         widths = {"4.pbm": 4, "6.pbm": 6, "10.pbm": 10}

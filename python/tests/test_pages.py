@@ -1,7 +1,7 @@
 """Runs every command of docs/FRONT.md in order, in one shell, and compares what it prints with the page.
 
 A block that begins with ```sh is run. The block without a word that follows it is what it prints, standard error among it; `...`
-there stands for any lines; what is said of a missing `shape_measure` is passed over. ```sh and the names of Python packages or programs: the block is left out where one of them is missing.
+there stands for any lines. ```sh and the names of Python packages or programs: the block is left out where one of them is missing.
 A block of another kind, such as ```make Makefile, is written to the file that it names.
 """
 import os
@@ -15,14 +15,12 @@ from pathlib import Path
 
 from .common import ROOT, installed, needs_shape, slow
 
-from shapefront import programs
-
 PAGE = ROOT / "docs" / "FRONT.md"
 FENCE = re.compile(r"^```(?P<words>[^\n]*)\n(?P<text>.*?)^```$", re.S | re.M)
 
 
 def there(name):
-    return programs.has(name) if name.startswith("shape") else installed(name) or shutil.which(name) is not None
+    return installed(name) or shutil.which(name) is not None
 
 
 def blocks(page):
@@ -50,8 +48,7 @@ class Pages(unittest.TestCase):
             path = f"{Path(sys.executable).parent}:{os.environ['PATH']}"
             values = {**os.environ, "HOME": home, "CLONE": str(ROOT), "PATH": path}
             run = subprocess.run(["bash", "-c", f"exec 2>&1\ncd {home}\n{script}"], stdout=subprocess.PIPE, text=True, env=values)
-        printed = re.sub(r"^.*shape_measure.* is not found.*\n", "", run.stdout, flags=re.M)
-        parts = re.split(r"^<<\d+>>\n", printed, flags=re.M)[1:]
+        parts = re.split(r"^<<\d+>>\n", run.stdout, flags=re.M)[1:]
         self.assertEqual(len(parts), len(told))
         for (commands, wanted, _), printed in zip(told, parts):
             if wanted is not None:

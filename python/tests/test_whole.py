@@ -16,7 +16,7 @@ from pathlib import Path
 
 import numpy as np
 
-from .common import HERE, InFolder, installed, needs_pillow, needs_programs, needs_shape, random_mask, slow
+from .common import HERE, InFolder, installed, needs_pillow, needs_shape, random_mask, slow
 
 import shapefront
 
@@ -41,7 +41,6 @@ def table(path):
 @slow
 @needs_shape
 @needs_pillow
-@needs_programs("shape_measure")
 @unittest.skipUnless(installed("skimage", "scipy"), "scikit-image is not installed")
 class TwelveImages(InFolder):
     # The image; what the summary says of its threshold, the side of the objects and what was done to it; each right by eye.
@@ -119,7 +118,6 @@ class TwelveImages(InFolder):
 @slow
 @needs_shape
 @needs_pillow
-@needs_programs("shape_measure")
 class TwoHundred(InFolder):
     def setUp(self):
         super().setUp()

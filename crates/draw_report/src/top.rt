@@ -14,7 +14,7 @@ use shape_desk::Desk;
 use std::alloc::Global;
 
 /// What the program says of words that it does not take.
-pub const USAGE: &str = "usage: shape_draw [labels] REPORT, shape_draw REPORT FURTHER";
+pub const USAGE: &str = "usage: shape draw [labels] REPORT, shape draw REPORT FURTHER";
 
 // Does what two words say.
 fn run_two<D: Desk>(alloc: Global, word: &[u8], name: &[u8], desk: &mut D) -> Outcome

@@ -15,4 +15,4 @@ pub use law::holding_measures;
 pub use outlined::Outlined;
 pub use report_making::Outcome;
 pub use tables::Tables;
-pub use top::run;
+pub use top::{USAGE, run};

@@ -10,6 +10,9 @@ use report_making::{Outcome, run_named};
 use shape_desk::Desk;
 use std::alloc::Global;
 
+/// What the program says of words that it does not take.
+pub const USAGE: &str = "usage: shape measure REPORT";
+
 /// Does what the words of a command line say, without the program's name: the one word is the name of a report's file, and
 /// the table of its objects is written.
 ///

@@ -1,10 +1,15 @@
 //! The program `shape`: the words of the command line, the real desk, and what the user sees of the outcome.
-//! All that it decides is decided by `shape_cli::run`.
+//! All that it decides is decided by `shape_cli::run`, or by the `run` of the product that the first word names.
 #![tactic(auto)]
 
 ghost use Rattle.std.specs.Prelude.{◌≡◌, ◌⊎◌};
 
+mod ending;
+mod product;
+
+use ending::Ending;
 use host_desk::HostDesk;
+use product::{Product, product_of};
 use shape_cli::{Outcome, run, shelf};
 use shape_rules::{CurveEnds, FewEnds, NoEnds};
 use std::env::{self, Env};
@@ -33,16 +38,16 @@ fn without_words(error: &io::Error) -> Outcome
 }
 
 // Prints what went wrong.
-fn complain<R: Eprint>(rt: &R, outcome: Outcome) -> io::Result<()> {
-    let text = outcome.text();
-    match outcome.number() {
+fn complain<R: Eprint>(rt: &R, ending: Ending) -> io::Result<()> {
+    let text = ending.text;
+    match ending.number {
         Some(number) => eprintln!(rt; "shape: {text} {number}"),
         None => eprintln!(rt; "shape: {text}"),
     }
 }
 
-// Runs the words by the rules `none`, `curve` and `few`; the last marks two points at most.
-fn run_words<R: Files + Print + AllocGlobal>(rt: &R, words: &[Vec<u8>]) -> Outcome {
+// Runs the words of a command by the rules `none`, `curve` and `few`; the last marks two points at most.
+fn run_command<R: Files + Print + AllocGlobal>(rt: &R, words: &[Vec<u8>]) -> Outcome {
     let alloc = rt.alloc();
     let none = Box::new(alloc, NoEnds);
     let curve = Box::new(alloc, CurveEnds);
@@ -56,15 +61,33 @@ fn run_words<R: Files + Print + AllocGlobal>(rt: &R, words: &[Vec<u8>]) -> Outco
     }
 }
 
+// Makes a product by the words behind its own.
+fn run_product<R: Files + Print + AllocGlobal>(
+    rt: &R,
+    product: Product,
+    words: &[Vec<u8>],
+) -> Ending {
+    let outcome = product.run(rt.alloc(), words, &mut HostDesk::new(rt));
+    Ending::of_product(outcome, product.usage())
+}
+
+// Runs the words: those behind that of a product by the product's own call, and all others as those of a command.
+fn run_words<R: Files + Print + AllocGlobal>(rt: &R, words: &[Vec<u8>]) -> Ending {
+    match product_of(words) {
+        Some((product, rest)) => run_product(rt, product, rest),
+        None => Ending::of_command(run_command(rt, words)),
+    }
+}
+
 fn main(rt: HostRuntime) -> ExitCode {
-    let outcome = match words(&rt) {
+    let ending = match words(&rt) {
         Ok(words) => run_words(&rt, &words),
-        Err(error) => without_words(&error),
+        Err(error) => Ending::of_command(without_words(&error)),
     };
-    let status = outcome.status();
+    let status = ending.status;
     if status >= 2 {
         // Where standard error takes nothing, the status alone tells.
-        let _ = complain(&rt, outcome);
+        let _ = complain(&rt, ending);
     }
     ExitCode::from(status)
 }

@@ -47,9 +47,13 @@ forms_of first last about = flat_map (λ source. codes ", " ++ (first ++ (source
 abbrev pub further_forms : FurtherKind → List ℕ
 further_forms kind = forms_of (row_of kind).word [] (row_of kind).about ++ forms_of (codes "check" ++ (row_of kind).word) (codes " REPORT") (row_of kind).about
 
--- the forms of the words of all commands
+-- the forms of the words that make something of a report, which other calls of the program take
+abbrev pub product_forms : List ℕ
+product_forms = codes ", draw [labels] REPORT, draw REPORT FURTHER, measure REPORT, mask skeleton|object|distances REPORT"
+
+-- the forms of the words of all commands, and last of those that make something of a report
 abbrev pub usage_text : List ℕ
-usage_text = codes "usage: analyse pbm FILE RULE, analyse raw X Y Z FILE RULE, check pbm FILE REPORT, check raw X Y Z FILE REPORT, trial pbm SEED SIDE, trial raw SEED SIDE" ++ flat_map further_forms further_kinds
+usage_text = codes "usage: analyse pbm FILE RULE, analyse raw X Y Z FILE RULE, check pbm FILE REPORT, check raw X Y Z FILE REPORT, trial pbm SEED SIDE, trial raw SEED SIDE" ++ (flat_map further_forms further_kinds ++ product_forms)
 
 -- the text on standard error
 abbrev pub message_of : Outcome → List ℕ

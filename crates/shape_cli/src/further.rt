@@ -34,7 +34,7 @@ pub enum FurtherKind {
     Balls,
 }
 
-/// The forms of words of all commands.
+/// The forms of words of all commands, and last of those that make something of a report.
 pub(crate) fn usage() -> &'static str
     ensures { result.now ≡ usage_text }
 {
@@ -43,6 +43,7 @@ pub(crate) fn usage() -> &'static str
         ", edges pbm FILE, checkedges pbm FILE REPORT",
         ", pieces pbm FILE, checkpieces pbm FILE REPORT",
         ", balls pbm FILE, balls raw X Y Z FILE, checkballs pbm FILE REPORT, checkballs raw X Y Z FILE REPORT",
+        ", draw [labels] REPORT, draw REPORT FURTHER, measure REPORT, mask skeleton|object|distances REPORT",
     )
 }
 

@@ -1,4 +1,4 @@
-"""The built programs, and the files that they are run on."""
+"""The built program, and the files that it is run on."""
 import os
 import subprocess
 
@@ -6,14 +6,14 @@ from second.picture import file_of
 
 
 class Difference(Exception):
-    """The programs and the second reading do not say the same."""
+    """The program and the second reading do not say the same."""
 
 
-class Programs:
-    """The programs of a folder of crates, in a folder of files."""
+class Program:
+    """The program, in a folder of files."""
 
-    def __init__(self, crates, folder):
-        self.crates, self.folder, self.source = crates, folder, []
+    def __init__(self, file, folder):
+        self.file, self.folder, self.source = file, folder, []
 
     def path(self, name):
         return os.path.join(self.folder, name)
@@ -23,12 +23,11 @@ class Programs:
             out.write(data)
         return self.path(name)
 
-    def run(self, name, *words):
-        """What a program writes, and its status."""
-        program = os.path.join(self.crates, name, "out", name)
-        done = subprocess.run([program, *words], stdout=subprocess.PIPE, stderr=subprocess.PIPE, close_fds=False, check=False)
+    def run(self, *words):
+        """What the program writes, and its status."""
+        done = subprocess.run([self.file, *words], stdout=subprocess.PIPE, stderr=subprocess.PIPE, close_fds=False, check=False)
         if done.returncode not in (0, 1) or done.stderr:
-            raise Difference("%s %s: status %d, %r" % (name, " ".join(words), done.returncode, done.stderr))
+            raise Difference("shape %s: status %d, %r" % (" ".join(words), done.returncode, done.stderr))
         return done.stdout, done.returncode
 
     def lay(self, picture):
@@ -38,11 +37,11 @@ class Programs:
 
     def made(self, form, *rule):
         """The report of the picture of a form."""
-        return self.run("shape", form, *self.source, *rule)[0]
+        return self.run(form, *self.source, *rule)[0]
 
     def checked(self, form, text):
         """The number of the first bad line of a text, None where the program says yes."""
-        out, status = self.run("shape", form, *self.source, self.write("report", text))
+        out, status = self.run(form, *self.source, self.write("report", text))
         if (out, status) == (b"yes\n", 0):
             return None
         words = out.decode("latin-1").split(" ")

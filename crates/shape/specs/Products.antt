@@ -1,0 +1,41 @@
+-- What is made of a report: the word that asks for each product, the words that it takes, and what a run by such words did.
+-- A further product is one more case of each definition.
+use Rattle.std.specs.Prelude.{◌≡◌, ◌≢◌, ℕ, List, [], ◌∷◌, codes}
+use Rattle.shape_desk.specs.Desk.{DeskState}
+use Rattle.report_making.specs.Made.{exactly}
+use Rattle.report_making.specs.Runs as Report
+use Rattle.report_making.specs.declared.outcome.Outcome.{Outcome}
+use Rattle.draw_report.specs.Drawings.{IsDrawing, IsNumberedDrawing}
+use Rattle.draw_report.specs.Overs.{RanOver}
+use Rattle.draw_report.specs.Words.{labels_word, AreNoForm}
+use Rattle.measure_report.specs.TableTexts.{IsTableText}
+use Rattle.masking.specs.Masks.{mask_bytes}
+use Rattle.masking.specs.Words.{mask_word}
+use Rattle.masking.specs.declared.mask.Mask.{Mask}
+use Rattle.shape.specs.declared.product.Product.{Product}
+use Rattle.shape.specs.declared.product.Product.TheVariants as product
+
+-- the word that asks for a product
+abbrev pub product_word : Product → List ℕ
+product_word product.Drawing = codes "draw"
+product_word product.Table = codes "measure"
+product_word product.Mask = codes "mask"
+
+-- the words are none that the product takes behind its own
+abbrev pub AreNoWords : Product → List (List ℕ) → Type 0
+AreNoWords product.Drawing words = AreNoForm words
+AreNoWords product.Table words = (name : List ℕ) → words ≢ name ∷ []
+AreNoWords product.Mask words = (mask : Mask) (name : List ℕ) → words ≢ mask_word mask ∷ name ∷ []
+
+-- what a run did that draws what these words say
+abbrev pub Drew : List (List ℕ) → DeskState → DeskState → Outcome → Type 0
+Drew words old new outcome =
+    ((name : List ℕ) → words ≡ name ∷ [] → Report.Ran IsDrawing name old new outcome)
+    × ((name : List ℕ) → words ≡ labels_word ∷ name ∷ [] → Report.Ran IsNumberedDrawing name old new outcome)
+    × ((analysis further : List ℕ) → words ≡ analysis ∷ further ∷ [] → analysis ≢ labels_word → RanOver analysis further old new outcome)
+
+-- what a run did that makes a product by these words behind its own
+abbrev pub Ran : Product → List (List ℕ) → DeskState → DeskState → Outcome → Type 0
+Ran product.Drawing words old new outcome = Drew words old new outcome
+Ran product.Table words old new outcome = (name : List ℕ) → words ≡ name ∷ [] → Report.Ran IsTableText name old new outcome
+Ran product.Mask words old new outcome = (mask : Mask) (name : List ℕ) → words ≡ mask_word mask ∷ name ∷ [] → Report.Ran (exactly (mask_bytes mask)) name old new outcome
