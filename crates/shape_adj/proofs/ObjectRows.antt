@@ -1,7 +1,7 @@
 -- A row of values for the places of the framed box, all true at first, while the object points are taken out of it one after the
 -- other. The points of one row of the box have places in order, so one place tells the others.
-use Rattle.std.proofs.Common.{◌≡◌, ◌+◌, ◌-◌, ◌*◌, ◌/◌, ◌%◌, ◌<◌, ◌≤◌, ◌↔◌, ℕ, Bool, true, false, pos, ◌+ℤ◌, List, [], ◌∷◌, length, set, get_or, get_or-set_same, get_or-set_other, length-set, sym, ◌∙◌, ap, arith}
-use Rattle.std.specs.Prelude.{nat_abs}
+use Rattle.std.proofs.Common.{◌≡◌, ◌+◌, ◌-◌, ◌*◌, ◌/◌, ◌%◌, ◌<◌, ◌≤◌, ◌↔◌, ℕ, Bool, true, false, ℤ, pos, ◌+ℤ◌, List, [], ◌∷◌, length, set, get_or, get_or-set_same, get_or-set_other, length-set, sym, ◌∙◌, ap, arith}
+use Rattle.std.specs.Prelude.{nat_abs, ◌≤ℤ◌}
 use Rattle.std.proofs.lemmas.Int.{ints}
 use Rattle.std.proofs.lemmas.Bool.{and_parts, false_from_ne_true}
 use native.Mathlib.Decide.{dec_lt, ℕ_discrete}
@@ -37,9 +37,10 @@ row_step n sides i j some l h =
     sums a b r s e = omega arith
 
 -- the rest of the row of a point of the box
-pub row_from : (ns : Point) (i n : ℕ) → 1 ≤ length ns → n ≡ nat_abs (coordinate ns 0) → 1 ≤ n → IsRow (sides_of ns) i (i - i % n + n) (placed (sides_of ns) i)
-row_from [] i n long e some = absurd (omega arith)
-row_from (x ∷ ns) i n long e some = rw e (record { each = λ j l h. row_step (nat_abs x) (sides_of ns) i j (omega arith) l h })
+pub row_from : (ns : Point) (i : ℕ) (side : ℤ) (end place : ℕ) → 1 ≤ length ns → side ≡ coordinate ns 0 → pos 1 ≤ℤ side → end ≡ i - i % nat_abs side + nat_abs side → place ≡ placed (sides_of ns) i → IsRow (sides_of ns) i end place
+row_from [] i side end place long e some f p = absurd (omega arith)
+row_from (x ∷ ns) i side end place long e some f p =
+    rw (f, p, e) (record { each = λ j l h. row_step (nat_abs x) (sides_of ns) i j (let a : pos 1 ≤ℤ x = rw e at some in omega (arith, ints)) l h })
 
 -- ---- the row of values
 

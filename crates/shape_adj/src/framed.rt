@@ -1,6 +1,6 @@
 //! The background points of a grid as places of the framed box: all places but those of the object points.
 //! The points of one row of the box have places in order, so a place is told from that of a point before it.
-ghost use Rattle.std.specs.Prelude.{◌≡◌, ◌↔◌, ◌^◌, ◌<◌, ◌≤◌, ℕ, IfOk, length};
+ghost use Rattle.std.specs.Prelude.{◌≡◌, ◌↔◌, ◌+◌, ◌-◌, ◌%◌, ◌^◌, ◌<◌, ◌≤◌, ◌≤ℤ◌, ℕ, pos, nat_abs, IfOk, length};
 ghost use Rattle.shape_terms.specs.Points.{sides_of, box_count};
 ghost use Rattle.shape_terms.specs.FramedBox.{framed_sides};
 ghost use Rattle.number_terms.specs.Places.{BackgroundPlace};
@@ -34,6 +34,16 @@ fn all_true(alloc: Global, len: u32) -> Result<Bits, NoMemory>
     Ok(values)
 }
 
+// The first point behind the row of the one with raster number `i`, where a row has so many points.
+fn end_of_row(i: u32, side: i32) -> u32
+    requires few { i < 8388608 }
+    requires some { pos 1 ≤ℤ side }
+    ensures { result ≡ i - i % nat_abs side + nat_abs side }
+{
+    let n = side as u32;
+    i - i % n + n
+}
+
 // The row of a point: the one that is given, or else the next.
 fn row_of<P: Pairing>(sides: &Sides<P>, row: Row, i: u32) -> Row
     requires point { i < box_count (sides_of (P.coords sides.now.lengths)) }
@@ -47,10 +57,9 @@ fn row_of<P: Pairing>(sides: &Sides<P>, row: Row, i: u32) -> Row
     if i < row.end {
         row
     } else {
-        let n = sides.side(0) as u32;
         Row {
             first: i,
-            end: i - i % n + n,
+            end: end_of_row(i, sides.side(0)),
             place: sides.framed_number(sides.unraster(i)),
         }
     }

@@ -10,7 +10,7 @@ use shape_space::{Point, Sides};
 
 // A number of boxes of a side, as a number of points.
 fn boxes(n: i64, side: i32) -> i64
-    requires few { unsigned_abs n ≤ 2 ^ 24 }
+    requires few { unsigned_abs n ≤ 16777216 }
     requires some { pos 1 ≤ℤ side }
     requires most { side ≤ℤ pos 2048 }
     ensures { result ≡ n *ℤ side }

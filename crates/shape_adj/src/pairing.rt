@@ -1,6 +1,6 @@
 //! The adjacency of object points and that of background points, by numbered neighbours.
 //! A further dimension is one more `impl` of `Pairing`.
-ghost use Rattle.std.specs.Prelude.{◌≡◌, ◌<◌, ◌≤◌, ◌↔◌, [], ◌∷◌, ℕ, length, pos, negsuc, refl, nat_abs};
+ghost use Rattle.std.specs.Prelude.{◌≡◌, ◌<◌, ◌≤◌, ◌≤ℤ◌, ◌+ℤ◌, ◌↔◌, [], ◌∷◌, ℕ, length, pos, negsuc, refl, nat_abs};
 ghost use Rattle.std.specs.Int.{bit_at};
 ghost use Rattle.shape_terms.specs.FramedBox.{IsWithin};
 ghost use Rattle.shape_terms.specs.Adjacency.{Near, Side, Round, Lists, city_distance, near_steps, side_steps, near_step, side_step, near_point, side_point};
@@ -78,6 +78,17 @@ pub trait Pairing: Point {
     ghost side_in_round: { (p q : Self) → Side (Self.coords p) (Self.coords q) → Round (Self.coords p) (Self.coords q) };
 }
 
+// A coordinate of a framed box, moved by a short step.
+#[inline]
+pub(crate) fn stepped(x: i32, step: i32) -> i32
+    requires low { negsuc 1 ≤ℤ x }
+    requires high { x ≤ℤ pos 4096 }
+    requires short { nat_abs step ≤ 1 }
+    ensures { result ≡ x +ℤ step }
+{
+    x + step
+}
+
 // The step to a near neighbour in the plane.
 fn flat_near_step(k: usize) -> P2
     requires { k < 8 }
@@ -152,16 +163,16 @@ impl Pairing for P2 {
     fn near(&self, k: usize) -> P2 {
         let step = flat_near_step(k);
         P2 {
-            x: self.x + step.x,
-            y: self.y + step.y,
+            x: stepped(self.x, step.x),
+            y: stepped(self.y, step.y),
         }
     }
 
     fn side(&self, k: usize) -> P2 {
         let step = flat_side_step(k);
         P2 {
-            x: self.x + step.x,
-            y: self.y + step.y,
+            x: stepped(self.x, step.x),
+            y: stepped(self.y, step.y),
         }
     }
 }

@@ -6,7 +6,7 @@ ghost use Rattle.shape_terms.proofs.AdjacencySymmetric.{near_sym, side_sym};
 ghost use Rattle.shape_terms.proofs.NeighbourNumbers.{near_listed_once, side_listed_once, side_is_round};
 ghost use Rattle.number_terms.proofs.RoundSets.{solid_round};
 
-use crate::pairing::Pairing;
+use crate::pairing::{Pairing, stepped};
 use shape_space::P3;
 
 // The step to a near neighbour.
@@ -109,18 +109,18 @@ impl Pairing for P3 {
     fn near(&self, k: usize) -> P3 {
         let step = solid_near_step(k);
         P3 {
-            x: self.x + step.x,
-            y: self.y + step.y,
-            z: self.z + step.z,
+            x: stepped(self.x, step.x),
+            y: stepped(self.y, step.y),
+            z: stepped(self.z, step.z),
         }
     }
 
     fn side(&self, k: usize) -> P3 {
         let step = solid_side_step(k);
         P3 {
-            x: self.x + step.x,
-            y: self.y + step.y,
-            z: self.z + step.z,
+            x: stepped(self.x, step.x),
+            y: stepped(self.y, step.y),
+            z: stepped(self.z, step.z),
         }
     }
 }

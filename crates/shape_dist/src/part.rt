@@ -1,6 +1,7 @@
 //! A part of a line: its cells spread along it by the lower envelope of their squares.
 ghost use Rattle.std.specs.Prelude.{◌≡◌, ◌+◌, ◌*◌, ◌<◌, ◌≤◌, ◌^◌, ℕ, IfSome, IfOk, Option, Some, None, List, length, slice_index};
 ghost use Rattle.shape_terms.specs.Rows.{cell};
+ghost use Rattle.shape_terms.specs.AxisLines.{gap};
 ghost use Rattle.shape_dist.specs.declared.found.Found.{Found};
 ghost use Rattle.shape_dist.specs.Spreads.{found, moved, square_in, AreSmall, IsSpreadAt};
 
@@ -61,6 +62,18 @@ fn row_of(alloc: Global, line: &[Option<Found>]) -> Result<Row, NoMemory>
     Ok(row)
 }
 
+// The square of the way from one place of a line to another.
+#[inline]
+fn square_of_way(x: u32, y: u32) -> u32
+    requires x_near { x < 4096 }
+    requires y_near { y < 4096 }
+    ensures value { result ≡ gap x y * gap x y }
+    ensures small { result ≤ 16777216 }
+{
+    let way = x.abs_diff(y);
+    way * way
+}
+
 // What a cell gives another one: the square of the way is added.
 fn move_by(o: Option<Found>, x: u32, y: u32) -> Option<Found>
     requires small { IfSome o (λ f. f.s ≤ 2 ^ 30) }
@@ -68,11 +81,11 @@ fn move_by(o: Option<Found>, x: u32, y: u32) -> Option<Found>
     requires y_near { y < 4096 }
     ensures { result ≡ moved o x y }
 {
-    let way = x.abs_diff(y);
+    let square = square_of_way(x, y);
     match o {
         Some(f) => Some(Found {
             q: f.q,
-            s: f.s + way * way,
+            s: f.s + square,
         }),
         None => None,
     }

@@ -6,6 +6,17 @@ ghost use Rattle.shape_refute.specs.PairTerms.{MeetsBoth};
 use crate::bound::Bound;
 use crate::range::{is_some, narrowed, up_to_size};
 
+// A product of two small numbers.
+#[inline]
+fn product(b: i64, room: i64) -> i64
+    requires b_small { unsigned_abs b ≤ 16384 }
+    requires room_small { unsigned_abs room ≤ 8193 }
+    ensures value { result ≡ b *ℤ room }
+    ensures small { unsigned_abs result ≤ 134234112 }
+{
+    b * room
+}
+
 // The greatest whole number less than a product.
 fn less(b: i64, room: i64) -> i64
     requires b_small { unsigned_abs b ≤ 16384 }
@@ -13,7 +24,7 @@ fn less(b: i64, room: i64) -> i64
     ensures value { result ≡ b *ℤ room -ℤ pos 1 }
     ensures small { unsigned_abs result ≤ 268435456 }
 {
-    b * room - 1
+    product(b, room) - 1
 }
 
 // Whether some slope with the denominator b meets both bounds.

@@ -2,7 +2,8 @@
 //! Which runs are straight belongs elsewhere.
 ghost use Rattle.std.specs.Prelude.{◌≡◌, ◌<◌, ◌+◌, ◌≤◌, ◌↔◌, ◌⊎◌, ◌-ℤ◌, IsTrue, length, map, pos, negsuc};
 ghost use Rattle.shape_terms.specs.Points.{coordinate};
-ghost use Rattle.shape_terms.specs.Turns.{IsTurn, change_at};
+ghost use Rattle.shape_terms.specs.Turns.{IsTurn, change_at, other_axis};
+ghost use Rattle.shape_terms.specs.Refutations.{point_at};
 ghost use Rattle.shape_refute.specs.Terms.{flat_point};
 
 use shape_space::{P2, Point};
@@ -23,13 +24,23 @@ fn gap(from: i32, to: i32) -> i64
     to as i64 - from as i64
 }
 
+// The other coordinate of a place of the run.
+#[inline]
+fn other_at(points: &[P2], axis: usize, i: usize) -> i32
+    requires axis { axis < 2 }
+    requires place { i < length points.now }
+    ensures { result ≡ coordinate (point_at (map flat_point points.now) i) (other_axis axis) }
+{
+    points[i].coord(1 - axis)
+}
+
 // How much the other coordinate changes from a place of the run to the next.
 fn change(points: &[P2], axis: usize, i: usize) -> i64
     requires axis { axis < 2 }
     requires place { i + 1 < length points.now }
     ensures { result ≡ change_at (map flat_point points.now) axis i }
 {
-    gap(points[i].coord(1 - axis), points[i + 1].coord(1 - axis))
+    gap(other_at(points, axis, i), other_at(points, axis, i + 1))
 }
 
 // Whether two changes are both 1, or both -1.
