@@ -22,6 +22,10 @@ first_behind (x ∷ xs) zero y ys e =
     (ap Some f, g, omega arith)
 first_behind (x ∷ xs) (suc n) y ys e = let h = first_behind xs n y ys e in (h.0, h.1, omega (arith, h.2))
 
+-- a place of a list has one point
+pub some_same : (x y : Point) → Some x ≡ Some y → x ≡ y
+some_same x y e = cc
+
 -- no object point is left, so no line names the next one
 pub none_left : (X : Picture) (objects next taken n : ℕ) (p : Point) → IsInStep X objects next taken → objects_from X next ≡ [] → n ≡ taken → slice_get (object_points X) n ≡ Some p → ⊥
 none_left X objects next taken n p s e is claim =

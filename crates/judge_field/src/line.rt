@@ -3,7 +3,7 @@
 ghost use Rattle.std.specs.Prelude.{◌≡◌, ◌+◌, ◌*◌, ◌<◌, ◌≤◌, ◌^◌, ℕ, IfOk, length, slice_index};
 ghost use Rattle.judge_field.specs.Scanned.{IsLeastAlong, HasScanned};
 
-use crate::part::scan_part;
+use crate::part::{scan_part, square_at};
 use shape_envelope::{line_count, line_start};
 use shape_space::{NoMemory, Steps};
 use std::alloc::Global;
@@ -23,7 +23,7 @@ fn part_end(squares: &[u32], start: usize, step: usize, side: u32, x: u32) -> u3
 {
     let mut end = x;
     for y in x..side {
-        if squares[start + y as usize * step] != 0 {
+        if square_at(squares, start, step, y) != 0 {
             end = y + 1;
         } else if y - end + 1 == REST {
             return end;

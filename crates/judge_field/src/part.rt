@@ -9,6 +9,16 @@ use shape_space::{NoMemory, Row, Steps};
 use std::alloc::Global;
 use std::sync::ledger::Ledger;
 
+// The square at a place of a line.
+#[inline(always)]
+pub(crate) fn square_at(squares: &[u32], start: usize, step: usize, y: u32) -> u32
+    requires inside { start + y * step < length squares.now }
+    requires few { length squares.now < 2 ^ 32 }
+    ensures { result ≡ slice_index squares.now (start + y * step) }
+{
+    squares[start + y as usize * step]
+}
+
 // The squares of a line as a row.
 fn row_of(
     alloc: Global,
@@ -27,7 +37,7 @@ fn row_of(
 {
     let mut row = Row::new(alloc, side)?;
     for y in 0..side {
-        row.set(y, Some(squares[start + y as usize * step] as u64));
+        row.set(y, Some(square_at(squares, start, step, y) as u64));
     }
     Ok(row)
 }
@@ -61,7 +71,7 @@ fn store(next: &mut [u32], squares: &[u32], start: usize, step: usize, lowest: &
 {
     for x in 0..lowest.len() {
         let y = lowest[x];
-        next[start + x * step] = given(squares[start + y as usize * step], x as u32, y);
+        next[start + x * step] = given(square_at(squares, start, step, y), x as u32, y);
     }
 }
 

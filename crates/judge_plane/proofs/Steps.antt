@@ -55,6 +55,31 @@ equal_test p q b e =
       λ h. e ∙ d.1 (let z : p.z ≡ q.z = cc in z, (let y : p.y ≡ q.y = cc in y, let x : p.x ≡ q.x = cc in x)),
     )
 
+-- at first no face is begun
+pub step_none : (X : Picture) (numbers : List ℕ) → numbers ≡ [] → AreInStep X (record { begun = 0; exposed = 0; start = 0; declared = 0; cursor = 0; refused = 0 }) [] numbers
+step_none X numbers e = record {
+  faces = omega arith;
+  none = λ z. refl;
+  exposed = λ l. absurd (omega arith);
+  within = λ p h. absurd (in_none p h);
+  below = λ q h l. absurd (omega arith);
+  start = omega arith;
+  given = omega arith;
+  declared = omega arith;
+  early = λ l. refl;
+  touching = λ z. rw e (record {
+    rising = λ i l. absurd (omega arith);
+    below = λ m h. absurd (none_there m h);
+    each = λ q t. absurd (in_none t.near.0 t.near.1);
+    only = λ m h. absurd (none_there m h);
+  });
+  refused = omega arith;
+  few = omega (arith, ap length e);
+}
+  where
+    none_there : (m : ℕ) → Contains [] m → ⊥
+    none_there m h = (let l = h.1 in omega arith)
+
 -- a number that is not below another, where nothing holds
 pub none_passed : {P : Type 0} (m n : ℕ) → n ≤ m → (P → ⊥) → IsTrue (nat_lt m n) ↔ P
 none_passed m n l none = ((λ t. absurd (let h = ltb-true m n t in omega arith)), λ h. absurd (none h))

@@ -53,7 +53,8 @@ whole_number text z n s l =
     let e : text ≡ signed_decimal z = sym (take_all n text (omega arith)) ∙ s.front ∙ s.spelling in
     ap split_words e ∙ split_words-join (signed_decimal z) [] (long_form.clean z s.fits)
 
-within : (text : List ℕ) (z : ℤ) (n : ℕ) → SpellsNumber text z n → n ≢ length text → n < length text
+-- a number that is not the whole text ends before its end
+pub within : (text : List ℕ) (z : ℤ) (n : ℕ) → SpellsNumber text z n → n ≢ length text → n < length text
 within text z n s d = omega (arith, s.len, ap length s.front, ap length (take-append-drop n text), length-append (take n text) (drop n text), d)
 
 -- a number with a blank behind it is the first word, and the others are those behind the blank

@@ -77,9 +77,9 @@ fn has_no_leading_zero(bytes: &[u8]) -> bool
     ensures { IsTrue result ↔ HasNoLeadingZero (take_while is_ascii_digit bytes.now) }
 {
     match bytes {
-        [b'0', b'0'..=b'9', ..] => false,
-        [b'0'..=b'9', ..] => true,
-        _ => false,
+        [b'0', second, ..] => !second.is_ascii_digit(),
+        [first, ..] => first.is_ascii_digit(),
+        [] => false,
     }
 }
 

@@ -1,10 +1,12 @@
 -- From the words of a line to its bytes, and back.
 -- Laws for all lines at once; what the words of a kind are, its form says.
-use Rattle.std.proofs.Common.{◌≡◌, ◌≢◌, ℕ, ℤ, Option, Some, None, List, ◌∷◌, refl, sym, ap, ◌∙◌}
+use Rattle.std.proofs.Common.{◌≡◌, ◌≢◌, ℕ, ℤ, Option, Some, None, true, List, ◌∷◌, refl, sym, ap, ◌∙◌}
 use Rattle.std.specs.Prelude.{MatchOption}
 use Rattle.std.specs.List.{join_with_byte}
 use Rattle.std.specs.Option.{option_and_then}
+use Rattle.text_terms.specs.Forms.{is_same}
 use Rattle.text_terms.specs.Tables.{all_read, kind_among, read_kind, read_line}
+use Rattle.text_terms.proofs.FormLaws.{same_only}
 use Rattle.text_terms.proofs.TableLaws.{read_only, read_none}
 use Rattle.report_terms.specs.Kinds.{Kind, kinds, first_word, form_of, table}
 use Rattle.report_terms.specs.Lines as Terms
@@ -46,6 +48,10 @@ of_kind d coords k word words None e h =
 of_kind d coords k word words (Some line) e h =
     let f = ap (λ w. kind_among first_word kinds w) e ∙ (is_table d).again k in
     (ap (λ o. option_and_then (λ j. read_kind (table d) j words) o) f ∙ h.0, h.1)
+
+-- and so they are where the word was compared with that of the kind
+pub of_word : {P : Type 0} (d : ℕ) (coords : P → List ℤ) (k : Kind) (word is : List ℕ) (words : List (List ℕ)) (r : Option (Line P)) → is_same word is ≡ true → is ≡ first_word k → ReadsKind d coords k words r → ReadsFields d coords word words r
+of_word d coords k word is words r e f h = of_kind d coords k word words r (same_only word is e ∙ f) h
 
 -- a line is its first word and the fields behind it
 pub of_fields : {P : Type 0} (d : ℕ) (coords : P → List ℤ) (words : List (List ℕ)) (word : List ℕ) (left : List (List ℕ)) (r : Option (Line P)) → words ≡ word ∷ left → ReadsFields d coords word left r → ReadsLine d coords words r

@@ -9,10 +9,10 @@ use report_text::{ReportLine, Text, Words};
 use shape_refute::{Bounds, Naive, Refusal, Refutation, Sense};
 use shape_rules::Name;
 use shape_space::Point;
+use std::alloc::AllocError;
 use std::marker::Model;
 
 /// A line of a report of a picture whose points are of type `P`.
-#[derive(Clone, Copy)]
 pub enum Line<P> {
     /// The heading: the number of the report, which is 1, or 2 for a flat picture, the sides of the picture, and the rule of the thinning.
     Shape {
@@ -103,6 +103,20 @@ pub enum Line<P> {
     /// The last line.
     End,
 }
+
+impl<P: Copy> Clone for Line<P> {
+    ghost use Rattle.std.specs.Prelude.{⊤};
+
+    ghost is_clone = { λ old new. new ≡ old };
+
+    ghost is_infallible = { λ _. ⊤ };
+
+    fn clone(&self) -> Result<Line<P>, AllocError> {
+        Ok(*self)
+    }
+}
+
+impl<P: Copy> Copy for Line<P> {}
 
 impl<P: Point> Line<P> {
     ghost use Rattle.shape_report.specs.LineOf.{line_of};

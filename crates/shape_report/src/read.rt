@@ -1,9 +1,15 @@
 //! Reading one line of a report: the inverse of its spelling.
 //! A further kind of line is one more case of `fields` and a function that reads its fields one after another.
-ghost use Rattle.std.specs.Prelude.{◌≡◌, ◌≢◌, MatchOption};
+ghost use Rattle.std.specs.Prelude.{◌≡◌, ◌≢◌, ◌∷◌, [], pos, take, drop, MatchOption, IfSome};
+ghost use Rattle.std.specs.Int.{w64};
+ghost use Rattle.text_terms.specs.Forms.{signed, letter, name, behind, ◌⨾◌};
+ghost use Rattle.text_terms.specs.Fields.{point, row};
+ghost use Rattle.text_terms.specs.PictureKinds.{kind_word};
 ghost use Rattle.report_terms.specs.Kinds.{Kind};
 ghost use Rattle.report_terms.specs.Lines as Terms;
 ghost use Rattle.report_terms.specs.Lines.{IsLineOf, spelling};
+ghost use Rattle.shape_rules.specs.Names.{word_of};
+ghost use Rattle.report_text.specs.Reading.{ReadsForm};
 ghost use Rattle.shape_report.specs.LineOf.{line_of};
 ghost use Rattle.shape_report.specs.Reading.{HasNoThird, IsFrequent, ReadsEnd, ReadsKind, ReadsFields};
 
@@ -15,6 +21,7 @@ use report_text::field::{
 };
 use report_text::{Words, kind, read_why};
 use shape_refute::{Bounds, Naive, Refusal, Turn};
+use shape_rules::Name;
 use shape_space::Point;
 
 // Whether no word is left, as a unit where that is so.
@@ -25,14 +32,23 @@ fn end_of(words: &Words) -> Option<()>
     words.end()
 }
 
+// Reads the kind of picture, its sides and the name of its rule.
+fn heading<P: Point>(words: &mut Words) -> Option<(P, Name)>
+    ensures { ReadsForm (λ p. (P.coords p.0, word_of p.1))
+        (behind (kind_word P.DIM) (point P.DIM ⨾ name)) words.old words.new result }
+{
+    words.skip(kind::<P>())?;
+    let sides = point(words)?;
+    let rule = name(words)?;
+    Some((sides, rule))
+}
+
 // Reads the fields of a `shape` line.
 fn shape<P: Point>(words: &mut Words) -> Option<Line<P>>
     ensures { ReadsKind P.DIM P.coords Kind.Shape words.old result }
 {
     let number = number::<P>(words)?;
-    words.skip(kind::<P>())?;
-    let sides = point(words)?;
-    let rule = name(words)?;
+    let (sides, rule) = heading::<P>(words)?;
     end_of(words)?;
     Some(Line::Shape {
         number,
@@ -101,6 +117,18 @@ pub(crate) fn at<P: Point>(words: &mut Words) -> Option<Line<P>>
     Some(Line::At { p })
 }
 
+// Reads a naive line of the plane.
+fn naive(words: &mut Words) -> Option<Naive>
+    ensures form { ReadsForm (λ n. (n.axis, (take 2 n.a, n.mu)))
+        (letter 2 ⨾ row 2 ⨾ signed w64 63) words.old words.new result }
+    ensures third { IfSome result (λ n. drop 2 n.a ≡ pos 0 ∷ []) }
+{
+    let axis = flat_axis(words)?;
+    let a = flat_coefficients(words)?;
+    let mu = signed(words)?;
+    Some(Naive { a, mu, axis })
+}
+
 // Reads the fields of a `seg` line. It is a line of flat pictures alone.
 fn seg<P: Point>(words: &mut Words) -> Option<Line<P>>
     ensures { ReadsKind P.DIM P.coords Kind.Seg words.old result }
@@ -110,15 +138,9 @@ fn seg<P: Point>(words: &mut Words) -> Option<Line<P>>
     }
     let first = count(words)?;
     let last = count(words)?;
-    let axis = flat_axis(words)?;
-    let a = flat_coefficients(words)?;
-    let mu = signed(words)?;
+    let line = naive(words)?;
     end_of(words)?;
-    Some(Line::Seg {
-        first,
-        last,
-        line: Naive { a, mu, axis },
-    })
+    Some(Line::Seg { first, last, line })
 }
 
 // Reads the fields of a `least` line. It is a line of flat pictures alone.

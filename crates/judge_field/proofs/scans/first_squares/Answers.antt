@@ -1,4 +1,4 @@
-use Rattle.std.proofs.Common.{◌≡◌, ◌<◌, ◌+◌, ◌^◌, ◌∙◌, ap, sym, subst, replicate, arith}
+use Rattle.std.proofs.Common.{◌≡◌, ◌<◌, ◌+◌, ◌^◌, ◌∙◌, ap, sym, subst, refl, replicate, arith}
 use Rattle.std.proofs.Math.ListN.{set}
 use Rattle.shape_terms.specs.Points.{sides_of, box_count, raster_point}
 use Rattle.shape_terms.specs.FramedBox.{framed_sides}
@@ -23,7 +23,7 @@ pub index_mut-requires : goal.index_mut-requires
 index_mut-requires g c =
     let X = c.args.grid.now in
     let i = c.in-Some.i in
-    let k : c.framed_number.result ≡ framed_number X.sides (raster_point X.sides i) = cc (c.framed_number.ensures, c.unraster.ensures.value, c.sides-sides.ensures.value) in
+    let k : c.framed_number.result ≡ framed_number X.sides (raster_point X.sides i) = c.framed_number.ensures ∙ rw (c.unraster.ensures.value, c.sides-sides.ensures.value) refl in
     omega (arith, k, found_below X i c.in-Some.ensures.below, c.loop-i.invariant.found.long, c.loop-i.squares.ok.0)
 
 pub loop-i-smaller : goal.loop-i-smaller
@@ -39,7 +39,7 @@ loop-i-preserved g c =
     let i = c.in-Some.i in
     let l : i < box_count X.sides = c.in-Some.ensures.below in
     let squares = c.loop-i.squares.items in
-    let k : c.framed_number.result ≡ framed_number X.sides (raster_point X.sides i) = cc (c.framed_number.ensures, c.unraster.ensures.value, c.sides-sides.ensures.value) in
+    let k : c.framed_number.result ≡ framed_number X.sides (raster_point X.sides i) = c.framed_number.ensures ∙ rw (c.unraster.ensures.value, c.sides-sides.ensures.value) refl in
     let n = next_object X c.loop-i.next i c.loop-i.invariant.low l c.in-Some.ensures.next in
     record {
       found = subst (λ k. HasFound X (i + 1) (set squares k (2 ^ 26))) (sym k) (one_more X c.loop-i.next i squares l n c.loop-i.invariant.found);

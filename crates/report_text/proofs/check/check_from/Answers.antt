@@ -167,3 +167,42 @@ returns-then-has_ended-clause-kept g c = λ X text start.
     let come = inv.come X text start in
     let end : IfTold left (λ bytes. bytes ≡ []) = rw c.in-End.is at c.in_ok-next_text.ensures.answer in
     if_told text (λ t h. text_at_end R is F c.lines.line t left h ((c.if-has_ended.ensures X h.lines h.follows).0 refl) end) come
+
+pub returns-in_err-next_text-clause-kept : goal.returns-in_err-next_text-clause-kept
+returns-in_err-next_text-clause-kept g c = λ X text start. let p = err_from_is_err_and c.from_residual.result c.from_residual.ensures.1 in rw p.1 tt
+
+pub returns-in_err-take-in-Some-clause-kept : goal.returns-in_err-take-in-Some-clause-kept
+returns-in_err-take-in-Some-clause-kept g c = λ X text start. let p = err_from_is_err_and c.from_residual-in_err-take-in-Some.result c.from_residual-in_err-take-in-Some.ensures.1 in rw p.1 tt
+
+pub returns-then-not-branch-clause-kept : goal.returns-then-not-branch-clause-kept
+returns-then-not-branch-clause-kept g c = λ X text start. tt
+
+pub returns-in-None-clause-kept : goal.returns-in-None-clause-kept
+returns-in-None-clause-kept g c = λ X text start. tt
+
+pub returns-in-Bad-clause-kept : goal.returns-in-Bad-clause-kept
+returns-in-Bad-clause-kept g c = λ X text start. tt
+
+pub returns-in-End-clause-kept : goal.returns-in-End-clause-kept
+returns-in-End-clause-kept g c = λ X text start. tt
+
+pub returns-in_err-next_text-clause-reads : goal.returns-in_err-next_text-clause-reads
+returns-in_err-next_text-clause-reads g c = OnlyReadsAt-more c.lines.invariant.reads c.next_text.ensures.reads
+
+pub returns-in_err-take-in-Some-clause-reads : goal.returns-in_err-take-in-Some-clause-reads
+returns-in_err-take-in-Some-clause-reads g c = OnlyReadsAt-more c.lines.invariant.reads c.next_text.ensures.reads
+
+pub returns-then-not-branch-clause-reads : goal.returns-then-not-branch-clause-reads
+returns-then-not-branch-clause-reads g c = OnlyReadsAt-more c.lines.invariant.reads c.next_text.ensures.reads
+
+pub returns-in-None-clause-reads : goal.returns-in-None-clause-reads
+returns-in-None-clause-reads g c = OnlyReadsAt-more c.lines.invariant.reads c.next_text.ensures.reads
+
+pub returns-in-Bad-clause-reads : goal.returns-in-Bad-clause-reads
+returns-in-Bad-clause-reads g c = OnlyReadsAt-more c.lines.invariant.reads c.next_text.ensures.reads
+
+pub returns-then-has_ended-clause-reads : goal.returns-then-has_ended-clause-reads
+returns-then-has_ended-clause-reads g c = OnlyReadsAt-more c.lines.invariant.reads c.next_text.ensures.reads
+
+pub returns-in-End-clause-reads : goal.returns-in-End-clause-reads
+returns-in-End-clause-reads g c = OnlyReadsAt-more c.lines.invariant.reads c.next_text.ensures.reads

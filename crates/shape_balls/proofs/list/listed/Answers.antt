@@ -1,4 +1,4 @@
-use Rattle.std.proofs.Common.{◌≡◌, ◌++◌, ◌∷◌, [], ◌<◌, false, refl, sym, ◌∙◌, arith, rules, length}
+use Rattle.std.proofs.Common.{◌≡◌, ◌++◌, ◌∷◌, [], ◌<◌, false, refl, ap, sym, ◌∙◌, arith, length}
 use Rattle.std.proofs.lemmas.List.{get_or_read, length-map}
 use Rattle.std.proofs.lemmas.Option.{get_or_from_slice_get}
 use Rattle.shape_window.specs.Marks.{is_marked}
@@ -20,11 +20,11 @@ loop-i-preserved g c =
     elim c.if-index.branch [
       | then-index+in_ok-push w ↦ (
           let f = w.near-f.result in
-          let items : c.if-index.balls.items ≡ c.loop-i.balls.items ++ record { centre = f.p; near = f.q; s = f.s; own = f.p } ∷ [] = search rules in
+          let items : c.if-index.balls.items ≡ c.loop-i.balls.items ++ record { centre = f.p; near = f.q; s = f.s; own = f.p } ∷ [] = ap (λ v. v.items) w.balls-is ∙ w.in_ok-push.ensures.items in
           rw items (chosen_push X facts c.requires.field kept c.args.covered.now.items c.requires.keeping (ball_of g.P.Point.coords)
           c.loop-i.i c.loop-i.balls.items _ (g.P.Point.coords f.p) (g.P.Point.coords f.q) f.s l (sym read ∙ w.if-index.true) (get_or_from_slice_get facts c.loop-i.i _ (record { p = []; q = []; s = 0 }) w.near-f.ensures) refl c.loop-i.invariant))
       | else-index w ↦ (
-          let items : c.if-index.balls.items ≡ c.loop-i.balls.items = search rules in
+          let items : c.if-index.balls.items ≡ c.loop-i.balls.items = ap (λ v. v.items) w.balls-is in
           rw items (chosen_skip X facts kept c.loop-i.i _ (sym read ∙ w.if-index.false) c.loop-i.invariant))
     ]
 

@@ -1,4 +1,5 @@
 use Rattle.std.proofs.Common.{◌≡◌, true, false, List, length, map, refl, ap, sym, subst, ◌∙◌, arith}
+use Rattle.std.proofs.lemmas.Bool.{false≢true}
 use Rattle.std.proofs.lemmas.List.{length-map}
 use Rattle.shape_terms.specs.Points.{Point}
 use Rattle.edge_terms.specs.EdgeEvidence.{IsEdgeEvidence}
@@ -18,11 +19,11 @@ returns-then-not-shows-clause-answer c =
     let run = c.gap_places-run.result in
     let path = open_is i.cycles s c.args.self.now c.cycle.result.now c.path-path.result.now c.self.view_is c.cycle.ensures c.path-path.ensures in
     let is = ap (λ (p : List Point). arc p run.first run.last) path ∙ c.gap_places-run.ensures.run in (
-      λ f. absurd (cc),
+      λ f. absurd (false≢true f),
       λ g.
           let t = c.shows.ensures.answer.1 (subst (λ (r : List Point). IsEdgeEvidence r gap) (sym is) g.shows) in
           let q : true ≡ false = sym t ∙ c.if-not-shows.true in
-          cc,
+          sym q,
     )
 
 pub returns-clause-answer : goal.returns-clause-answer

@@ -1,11 +1,12 @@
 use Rattle.std.proofs.Common.{◌≡◌, ◌+◌, ℕ, List, length, Some, true, false, Bool, refl, sym, ap, ◌∙◌}
+use Rattle.std.proofs.lemmas.Bool.{false≢true}
 use Rattle.std.specs.Prelude.{not, slice_get}
 use Rattle.shape_terms.specs.Points.{Point, raster_point}
 use Rattle.shape_terms.specs.Pictures.{Picture, object_points, Least}
 use Rattle.report_terms.specs.Lines as Terms
 use Rattle.report_terms.specs.Sections.{NearClaim}
 use Rattle.judge_field.specs.FieldState.{FieldState}
-use Rattle.judge_field.proofs.NextPoint.{next_is, none_is, next_left, next_is_object, stands_push}
+use Rattle.judge_field.proofs.NextPoint.{some_same, next_is, none_is, next_left, next_is_object, stands_push}
 use Rattle.judge_field.proofs.judge.FieldJudge.take_near.Goals as goal
 
 not_false : (b : Bool) → false ≡ not b → b ≡ true
@@ -15,7 +16,7 @@ not_false false e = cc
 pub returns-in_default-clause-answer : goal.returns-in_default-clause-answer
 returns-in_default-clause-answer g c =
     let i = c.self.inside in
-    λ lines s. (λ f. cc, λ claim. absurd (none_is c.args.self.now i.scans i.objects i.next i.taken c.self.view_is c.self.invariant (rw c.grid-grid.ensures at c.in_default.ensures.next) lines s (g.P.Point.coords c.args.p) claim.0))
+    λ lines s. (λ f. absurd (false≢true f), λ claim. absurd (none_is c.args.self.now i.scans i.objects i.next i.taken c.self.view_is c.self.invariant (rw c.grid-grid.ensures at c.in_default.ensures.next) lines s (g.P.Point.coords c.args.p) claim.0))
 
 pub returns-then-ne-clause-answer : goal.returns-then-ne-clause-answer
 returns-then-ne-clause-answer g c =
@@ -23,15 +24,14 @@ returns-then-ne-clause-answer g c =
     let next = next_is c.args.self.now i.scans i.objects i.next i.taken c.in-Some.i c.self.view_is c.self.invariant (rw c.grid-grid.ensures at c.in-Some.ensures.next) in
     let point : g.P.Point.coords c.unraster-point.result ≡ raster_point i.scans.sides c.in-Some.i = c.unraster-point.ensures.value ∙ rw (c.sides.ensures.value, c.grid-grid.ensures) refl in
     λ lines s. (
-      λ f. cc,
+      λ f. absurd (false≢true f),
       λ claim.
           let n = next lines s in
           let m = claim.0 in
-          let e : raster_point i.scans.sides c.in-Some.i ≡ g.P.Point.coords c.args.p = cc in
+          let e : raster_point i.scans.sides c.in-Some.i ≡ g.P.Point.coords c.args.p = some_same _ _ (sym n ∙ m) in
           let same = g.met.P.Point.same c.unraster-point.result c.args.p (point ∙ e) in
           let equal : g.P.PartialEq.eq c.args.p c.unraster-point.result ≡ true = ap (g.P.PartialEq.eq c.args.p) same ∙ g.met.P.Eq.laws.refl c.args.p in
-          let f : true ≡ false = c.if-ne.ensures ∙ ap not equal in
-          cc,
+          absurd (false≢true (sym (c.if-ne.ensures ∙ ap not equal))),
     )
 
 pub is_least-requires : goal.is_least-requires

@@ -1,4 +1,5 @@
 use Rattle.std.proofs.Common.{◌≡◌, ◌-◌, true, false, [], ◌∷◌, ◌++◌, length, drop, subst, ap, sym, ◌∙◌, arith}
+use Rattle.std.proofs.lemmas.Bool.{false≢true}
 use Rattle.std.specs.Prelude.{IsTrue, vec_capacity}
 use Rattle.shape_terms.specs.Points.{sides_of, in_box, box_count}
 use Rattle.shape_terms.specs.Pictures.{Picture}
@@ -67,8 +68,7 @@ invariant_of-self c =
     let left = left_of_next exposed j.taken.points (drop j.start j.taken.points) p next in
     let more = more_points j.grid n j.taken.points j.touching.items k.step (λ e. (
     let t = c.has_points.ensures.1 (subst (λ (s : PlaneState). length s.standing.patch.points ≡ s.standing.patch.declared) same e) in
-    let f : true ≡ false = sym t ∙ c.if-has_points.false in
-    cc)) in
+    false≢true (sym c.if-has_points.false ∙ t))) in
     let begun = begun_of j.grid n j.taken.points j.touching.items k.step (omega (arith, more)) in
     let inside = subst (λ s. IsTrue (in_box s p)) (sym k.left_box) (exposed_in j.grid (j.begun - 1) p left.there) in
     let rest = subst (AreLeft exposed (j.taken.points ++ p ∷ [])) (sym c.clear.ensures) (left_less exposed j.taken.points j.left p (k.are_left begun) inside) in
@@ -103,8 +103,7 @@ invariant_of-self-else-len-self c =
     let left = left_of_next exposed j.taken.points (drop j.start j.taken.points) p next in
     let more = more_points j.grid n j.taken.points j.touching.items k.step (λ e. (
     let t = c.has_points.ensures.1 (subst (λ (s : PlaneState). length s.standing.patch.points ≡ s.standing.patch.declared) same e) in
-    let f : true ≡ false = sym t ∙ c.if-has_points.false in
-    cc)) in
+    false≢true (sym c.if-has_points.false ∙ t))) in
     let begun = begun_of j.grid n j.taken.points j.touching.items k.step (omega (arith, more)) in
     let inside = subst (λ s. IsTrue (in_box s p)) (sym k.left_box) (exposed_in j.grid (j.begun - 1) p left.there) in
     let rest = subst (AreLeft exposed (j.taken.points ++ p ∷ [])) (sym c.clear.ensures) (left_less exposed j.taken.points j.left p (k.are_left begun) inside) in

@@ -5,7 +5,7 @@ use Rattle.text_terms.specs.Forms.{signed}
 use Rattle.text_terms.proofs.Words.{long_form}
 use Rattle.report_text.specs.Reading.{split_words, words_left}
 use Rattle.report_text.proofs.FormReads.{as_form}
-use Rattle.report_text.proofs.NumberWords.{none_first, longer_first, whole_number, number_first}
+use Rattle.report_text.proofs.NumberWords.{none_first, longer_first, whole_number, number_first, within}
 use Rattle.report_text.proofs.words.Words.next_number.Goals as goal
 
 pub returns-in_err-value : goal.returns-in_err-value
@@ -37,3 +37,6 @@ returns c =
     let left = split_words (take (length text - (n + 1)) (drop (n + 1) text)) in
     let is : c.args.self.now ≡ split_words text = sym c.self.view_is ∙ ap words_left c.in_ok-text.was in
     rw (to_z-of_z s.fits) (as_form (λ z. z) (signed w64 63) long_form c.args.self.now left (Some z) (record { range = s.fits; split = is ∙ number_first text z n s c.if-len-text.false c.if-text-len-ne32.false }))
+
+pub bounds-text-len : goal.bounds-text-len
+bounds-text-len c = within c.in_ok-text.text.now c.in_ok-value.value c.in_ok-value.len c.in_ok-value.ensures c.if-len-text.false
