@@ -23,6 +23,10 @@ both : {E : Type 0} (A B C : Type 0) (r : Result Bool E) → IfOk r (λ b. IsTru
 both A B C (Ok b) a f g = OnTrue_from b (C × B) (λ e. (g (a.0 e), OnTrue_at e f))
 both A B C (Err e) a f g = tt
 
+-- a fact that holds in any case is one more of an answer that is true
+pub also : {E : Type 0} (A B : Type 0) (r : Result Bool E) → A → IfOk r (λ b. OnTrue b B) → IfOk r (λ b. OnTrue b (A × B))
+also A B r a f = IfOk-weaker r _ _ (λ b h. OnTrue_from b (A × B) (λ e. (a, OnTrue_at e h))) f
+
 module _ {E : Type 0} (X : Subject) (s : Section) (lines : List Line) (l : Line) (answer : Result Bool E) where
   module _ (may : MayCome X s lines l) where
     -- what is good after a line of the section or a later one is so too

@@ -1,11 +1,15 @@
 -- Judges in a row, one for each section: which lines a row stands for.
 -- What a judge stands for is handed in; a further section is one more judge in the row.
-use Rattle.std.specs.Prelude.{◌≡◌, ◌≤◌, ℕ, Bool, true, false, List, [], length}
+use Rattle.std.specs.Prelude.{◌≡◌, ◌≤◌, ℕ, suc, Bool, true, false, List, [], length}
 use Rattle.thin_terms.specs.Thinning.{Rule}
 use Rattle.text_terms.specs.Reports.{EndsWith}
 use Rattle.report_terms.specs.Lines.{Line}
 use Rattle.report_terms.specs.Subjects.{Subject}
 use Rattle.report_terms.specs.Sections.{Section, rank, section_of, lines_of, number_of, HasCome, GoodAfter, NamesRule}
+
+-- the second section comes right behind the first
+abbrev pub IsNext : Section → Section → Type 0
+IsNext s t = rank t ≡ suc (rank s)
 
 -- the heading has this number, and names this rule on the shelf and no other
 pub record IsRuledBy (X : Subject) (heading : List Line) (number : ℕ) (rule : Rule) : Type 0 where

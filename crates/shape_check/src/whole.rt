@@ -11,7 +11,7 @@ use crate::counts::{CountsJudge, PictureCounts};
 use crate::end::EndJudge;
 use crate::judges::Row;
 use crate::outline::{NoContours, NoFaces};
-use crate::then::Then;
+use crate::then::{Then, before};
 use crate::thinned::{ThinnedJudge, distances_of};
 use judge_cover::CoverJudge;
 use judge_field::FieldJudge;
@@ -73,13 +73,8 @@ fn wait_for<P: SimpleMask>(alloc: Global, grid: &Grid<P>) -> Result<Common<P>, N
 
 /// The judges of a flat picture, behind the heading.
 pub type Flat = Then<
-    P2,
     CountsJudge,
-    Then<
-        P2,
-        FieldJudge<P2>,
-        Then<P2, CoverJudge, Then<P2, NoFaces, Then<P2, ThinnedJudge<P2>, EndJudge>>>,
-    >,
+    Then<FieldJudge<P2>, Then<CoverJudge, Then<NoFaces, Then<ThinnedJudge<P2>, EndJudge>>>>,
 >;
 
 impl Row<P2> for Flat {
@@ -87,11 +82,12 @@ impl Row<P2> for Flat {
         let common = wait_for(alloc, grid)?;
         let cover = CoverJudge::new(alloc, grid, number)?;
         grid.is_picture();
-        let row = Then::new(common.thinned, EndJudge { taken: false });
-        let row = Then::new(NoFaces, row);
-        let row = Then::new(cover, row);
-        let row = Then::new(common.field, row);
-        Ok(Then::new(common.counts, row))
+        let row = before::<P2, _, _>(common.thinned, EndJudge { taken: false });
+        let row = before::<P2, _, _>(NoFaces, row);
+        let row = before::<P2, _, _>(cover, row);
+        let row = before::<P2, _, _>(common.field, row);
+        let row = before::<P2, _, _>(common.counts, row);
+        Ok(row)
     }
 
     ghost first = { refl };
@@ -99,13 +95,8 @@ impl Row<P2> for Flat {
 
 /// The judges of a volume, behind the heading.
 pub type Solid = Then<
-    P3,
     CountsJudge,
-    Then<
-        P3,
-        FieldJudge<P3>,
-        Then<P3, NoContours, Then<P3, PlaneJudge, Then<P3, ThinnedJudge<P3>, EndJudge>>>,
-    >,
+    Then<FieldJudge<P3>, Then<NoContours, Then<PlaneJudge, Then<ThinnedJudge<P3>, EndJudge>>>>,
 >;
 
 impl Row<P3> for Solid {
@@ -113,11 +104,12 @@ impl Row<P3> for Solid {
         let common = wait_for(alloc, grid)?;
         let plane = PlaneJudge::new(alloc, grid)?;
         grid.is_picture();
-        let rest = Then::new(common.thinned, EndJudge { taken: false });
-        let rest = Then::new(plane, rest);
-        let rest = Then::new(NoContours, rest);
-        let rest = Then::new(common.field, rest);
-        Ok(Then::new(common.counts, rest))
+        let row = before::<P3, _, _>(common.thinned, EndJudge { taken: false });
+        let row = before::<P3, _, _>(plane, row);
+        let row = before::<P3, _, _>(NoContours, row);
+        let row = before::<P3, _, _>(common.field, row);
+        let row = before::<P3, _, _>(common.counts, row);
+        Ok(row)
     }
 
     ghost first = { refl };

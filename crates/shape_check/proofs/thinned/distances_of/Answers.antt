@@ -1,4 +1,4 @@
-use Rattle.std.proofs.Common.{◌≡◌, ◌+◌, ◌<◌, ◌≤◌, ℕ, sym, subst, arith, ◌∷◌, []}
+use Rattle.std.proofs.Common.{◌≡◌, ◌+◌, ◌<◌, ◌≤◌, ◌∙◌, ℕ, List, ap, sym, subst, arith, ◌∷◌, []}
 use Rattle.shape_terms.specs.Points.{box_count, raster_point}
 use Rattle.shape_terms.specs.Pictures.{Picture, objects_from}
 use Rattle.thin_terms.specs.Thinning.{HasDistance}
@@ -10,17 +10,21 @@ use Rattle.shape_check.proofs.thinned.distances_of.Goals as goal
 found : (X Y : Picture) (next i : ℕ) → Y ≡ X → next ≤ box_count X.sides → i < box_count Y.sides → objects_from Y next ≡ raster_point Y.sides i ∷ objects_from Y (i + 1) → (i < box_count X.sides) × IsNext X next i
 found X Y next i e low = subst (λ Z. i < box_count Z.sides → objects_from Z next ≡ raster_point Z.sides i ∷ objects_from Z (i + 1) → (i < box_count X.sides) × IsNext X next i) (sym e) (λ l h. (l, next_object X next i low l h))
 
+-- its sides are those of that picture
+same_sides : (X Y : Picture) (sides : List ℕ) → sides ≡ Y.sides → Y ≡ X → sides ≡ X.sides
+same_sides X Y sides e f = subst (λ Z. sides ≡ Z.sides) f e
+
 pub loop-i-init : goal.loop-i-init
 loop-i-init g c =
     let X = c.args.scans.now in
-    let all : c.count.result ≡ box_count X.sides = cc (c.count.ensures.value, c.sides-sides.ensures.value, c.grid-grid.ensures) in
+    let all : c.count.result ≡ box_count X.sides = c.count.ensures.value ∙ ap box_count (same_sides X _ _ c.sides-sides.ensures.value c.grid-grid.ensures) in
     record { so_far = none_yet X c.in_ok-distances.distances.items (omega (arith, all, c.in_ok-distances.ensures.len)); low = omega arith }
 
 pub least-requires : goal.least-requires
 least-requires g c =
     let X = c.args.scans.now in
     let n = found X c.grid-grid.result.now c.loop-i.next c.in-Some.i c.grid-grid.ensures c.loop-i.invariant.low c.in-Some.ensures.below c.in-Some.ensures.next in
-    let point : g.P.Point.coords c.unraster.result ≡ raster_point X.sides c.in-Some.i = cc (c.unraster.ensures.value, c.sides-sides.ensures.value, c.grid-grid.ensures) in
+    let point : g.P.Point.coords c.unraster.result ≡ raster_point X.sides c.in-Some.i = c.unraster.ensures.value ∙ ap (λ s. raster_point s c.in-Some.i) (same_sides X _ _ c.sides-sides.ensures.value c.grid-grid.ensures) in
     rw point n.1.object
 
 pub index_mut-requires : goal.index_mut-requires
@@ -39,7 +43,7 @@ loop-i-preserved g c =
     let i = c.in-Some.i in
     let s = c.least.result in
     let n = found X c.grid-grid.result.now c.loop-i.next i c.grid-grid.ensures c.loop-i.invariant.low c.in-Some.ensures.below c.in-Some.ensures.next in
-    let point : g.P.Point.coords c.unraster.result ≡ raster_point X.sides i = cc (c.unraster.ensures.value, c.sides-sides.ensures.value, c.grid-grid.ensures) in
+    let point : g.P.Point.coords c.unraster.result ≡ raster_point X.sides i = c.unraster.ensures.value ∙ ap (λ s. raster_point s i) (same_sides X _ _ c.sides-sides.ensures.value c.grid-grid.ensures) in
     let nearest = subst (λ p. HasDistance X p s) point (c.least.ensures.q, c.least.ensures.least) in
     record { so_far = distances_more X c.loop-i.next i s c.loop-i.distances.items n.0 n.1 nearest c.loop-i.invariant.so_far; low = omega (arith, n.0) }
 

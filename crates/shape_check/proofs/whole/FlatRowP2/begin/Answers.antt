@@ -7,8 +7,8 @@ returns-clause-waits c =
     let cover = c.in_ok-cover.ensures in
     let X = c.args.grid.now in
     let n = c.args.number in
-    let thinned = c.new-row.ensures.waits X n k.thinned refl in
-    let faces = c.new-row-2.ensures.waits X n (λ by now. (c.is_picture.ensures.picture.axes, refl)) thinned in
-    let contours = c.new-row-3.ensures.waits X n (λ by now. (cover.number, cover.stands)) faces in
-    let nearest = c.new-row-4.ensures.waits X n (λ by now. (k.picture, k.field)) contours in
-    c.new-2.ensures.waits X n (λ by now. (k.counts, rw k.counts_wait refl)) nearest
+    let thinned = c.before-row.ensures.waits X n k.thinned refl in
+    let faces = c.before-row-2.ensures.waits X n (λ by now. (c.is_picture.ensures.picture.axes, refl)) thinned in
+    let contours = c.before-row-3.ensures.waits X n (λ by now. (cover.number, cover.stands)) faces in
+    let nearest = c.before-row-4.ensures.waits X n (λ by now. (k.picture, k.field)) contours in
+    c.before-row-5.ensures.waits X n (λ by now. (k.counts, rw k.counts_wait refl)) nearest

@@ -7,8 +7,8 @@ returns-clause-waits c =
     let plane = c.in_ok-plane.ensures in
     let X = c.args.grid.now in
     let n = c.args._number in
-    let thinned = c.new-rest.ensures.waits X n k.thinned refl in
-    let faces = c.new-rest-2.ensures.waits X n (λ by now. plane.stands) thinned in
-    let contours = c.new-rest-3.ensures.waits X n (λ by now. (c.is_picture.ensures.picture.axes, refl)) faces in
-    let nearest = c.new-rest-4.ensures.waits X n (λ by now. (k.picture, k.field)) contours in
-    c.new-2.ensures.waits X n (λ by now. (k.counts, rw k.counts_wait refl)) nearest
+    let thinned = c.before-row.ensures.waits X n k.thinned refl in
+    let faces = c.before-row-2.ensures.waits X n (λ by now. plane.stands) thinned in
+    let contours = c.before-row-3.ensures.waits X n (λ by now. (c.is_picture.ensures.picture.axes, refl)) faces in
+    let nearest = c.before-row-4.ensures.waits X n (λ by now. (k.picture, k.field)) contours in
+    c.before-row-5.ensures.waits X n (λ by now. (k.counts, rw k.counts_wait refl)) nearest
