@@ -1,5 +1,5 @@
 //! The weights that refute a run, read from the words of a line.
-//! A further kind of step is one more case of `any_step`; what weights show is no matter here.
+//! A further kind of step is one more case of `any_step` or of `step_along`; what weights show is no matter here.
 ghost use Rattle.std.specs.Prelude.{◌≡◌, ◌≤◌, ◌↔◌, IsTrue, ◌+◌, ◌++◌, [], ◌∷◌, length};
 ghost use Rattle.text_terms.specs.Forms.{natural, counted};
 ghost use Rattle.text_terms.specs.Weights.{step, IsStepIn, share, step_share, why};
@@ -11,8 +11,8 @@ use crate::field::{count, weight};
 use crate::words::Words;
 use shape_refute::{Refutation, Share, Shares, Step, StepShare, StepShares};
 
-// The most entries of a list of weights.
-const MOST: u32 = 4;
+// A list of weights has fewer entries.
+const TOO_MANY: u32 = 5;
 
 // Reads a weight and a place.
 fn share(words: &mut Words) -> Option<Share>
@@ -28,7 +28,7 @@ fn few(words: &mut Words) -> Option<u32>
     ensures { ReadsForm (λ n. n) (natural 5) words.old words.new result }
 {
     let len = count(words)?;
-    if len <= MOST { Some(len) } else { None }
+    if len < TOO_MANY { Some(len) } else { None }
 }
 
 // Reads the number of places, and each with its weight.
@@ -43,18 +43,27 @@ fn shares(words: &mut Words) -> Option<Shares>
     Some(shares)
 }
 
+// The step along an axis of space that a sign and a letter name.
+fn step_along(sign: u8, letter: u8) -> Option<Step>
+    ensures { (left : _) → ReadsForm shift_of (step 3) ((117 ∷ 112 ∷ sign ∷ letter ∷ []) ∷ left) left result }
+{
+    if letter < b'x' || letter > b'z' {
+        return None;
+    }
+    match sign {
+        b'+' => Some(Step::Plus(letter - b'x')),
+        b'-' => Some(Step::Minus(letter - b'x')),
+        _ => None,
+    }
+}
+
 // Reads the word of a step of space.
 fn any_step(words: &mut Words) -> Option<Step>
     ensures { ReadsForm shift_of (step 3) words.old words.new result }
 {
-    match words.next_word()? {
-        b"up" => Some(Step::Up),
-        b"up+x" => Some(Step::Plus(0)),
-        b"up-x" => Some(Step::Minus(0)),
-        b"up+y" => Some(Step::Plus(1)),
-        b"up-y" => Some(Step::Minus(1)),
-        b"up+z" => Some(Step::Plus(2)),
-        b"up-z" => Some(Step::Minus(2)),
+    match *words.next_word()? {
+        [b'u', b'p'] => Some(Step::Up),
+        [b'u', b'p', sign, letter] => step_along(sign, letter),
         _ => None,
     }
 }
