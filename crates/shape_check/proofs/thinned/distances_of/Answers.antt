@@ -20,6 +20,9 @@ loop-i-init g c =
     let all : c.count.result ≡ box_count X.sides = c.count.ensures.value ∙ ap box_count (same_sides X _ _ c.sides-sides.ensures.value c.grid-grid.ensures) in
     record { so_far = none_yet X c.in_ok-distances.distances.items (omega (arith, all, c.in_ok-distances.ensures.len)); low = omega arith }
 
+pub unraster-requires : goal.unraster-requires
+unraster-requires g c = subst (λ s. c.in-Some.i < box_count s) (sym c.sides-sides.ensures.value) c.in-Some.ensures.below
+
 pub least-requires : goal.least-requires
 least-requires g c =
     let X = c.args.scans.now in
