@@ -1,15 +1,22 @@
 -- Rows of pairs of a list of points, while pairs and points are added.
 -- How pairs are found belongs elsewhere.
-use Rattle.std.proofs.Common.{◌≡◌, ℕ, zero, suc, ◌+◌, ◌⊎◌, inl, inr, List, [], ◌∷◌, ◌++◌, length, map, refl, ap, sym, subst, ◌∙◌, arith}
+use Rattle.std.proofs.Common.{take, pos, ◌≡◌, ℕ, zero, suc, ◌+◌, ◌⊎◌, inl, inr, List, [], ◌∷◌, ◌++◌, length, map, refl, ap, sym, subst, ◌∙◌, arith}
 use Rattle.std.proofs.lemmas.List.{get_or_append_left, length-append, map-append, append_assoc, length-map}
 use Rattle.std.proofs.lemmas.List.Elements.{All-push}
 use Rattle.shape_terms.specs.Points.{Point}
+use Rattle.shape_terms.specs.Naive.{IsProper}
 use Rattle.shape_terms.specs.Refutations.{point_at}
+use Rattle.shape_refute.specs.declared.refutation.Refutation.{Refutation}
+use Rattle.shape_refute.specs.Weights.{refutation_of}
+use Rattle.shape_slope.specs.declared.answer.Slopes.{Slopes as Coefficients}
+use Rattle.shape_slope.specs.declared.answer.Solved.{Solved}
+use Rattle.shape_slope.specs.declared.answer.Solved.TheVariants.{Slopes, Clash}
 use Rattle.shape_slope.specs.declared.pair.Pair.{Pair}
 use Rattle.shape_slope.specs.declared.row.Row.{Row}
-use Rattle.shape_slope.specs.Pairs.{IsPair, ArePairs, pair_row}
+use Rattle.shape_slope.specs.Pairs.{IsPair, ArePairs, AreSmallCoefficients, pair_row}
+use Rattle.shape_slope.specs.Solved.{IsSolved}
 use Rattle.shape_slope.specs.Systems.{bounding_rows}
-use Rattle.shape_plane.specs.Verdicts.{AreRowsOf, HasGrown}
+use Rattle.shape_plane.specs.Verdicts.{AreRowsOf, HasGrown, IsRefuted}
 
 -- ---- one pair more
 
@@ -34,6 +41,10 @@ grown_more n t points old mid new pair h p (inr e) = record {
   more = h.more ++ pair_row t points pair ∷ [];
   same = e ∙ ap (λ (r : List Row). r ++ pair_row t points pair ∷ []) h.same ∙ append_assoc old h.more (pair_row t points pair ∷ []);
 }
+
+-- a pair first, and then more
+pub grown_after : (n t : ℕ) (points : List Point) (old mid new : List Row) (row : Row) → mid ≡ old ++ row ∷ [] → HasGrown n t points mid new → HasGrown n t points old new
+grown_after n t points old mid new row e h = record { rows = h.rows; more = row ∷ h.more; same = h.same ∙ ap (λ (r : List Row). r ++ h.more) e ∙ append_assoc old (row ∷ []) h.more }
 
 -- ---- one point more
 
@@ -62,4 +73,14 @@ rows_pushed f t old new p rows e h =
     (subst (λ (l : List Point). AreRowsOf (length l) t l rows) (sym (ap (map f) e ∙ map-append f old (p ∷ [])))
     (rows_longer t (map f old) (f p) rows (subst (λ (n : ℕ). AreRowsOf n t (map f old) rows) (sym (length-map old f)) h)))
 
--- ---- back to a mark
+-- ---- what slopes and clashes say
+
+module _ (d t : ℕ) (points : List Point) (pairs : List Pair) (v : Solved) where
+  pub slopes_small : (s : Coefficients) → v ≡ Slopes s → IsSolved d t points pairs v → AreSmallCoefficients d s.a
+  slopes_small s e h = (subst (IsSolved d t points pairs) e h).1
+
+  pub slopes_proper : (s : Coefficients) → v ≡ Slopes s → IsSolved d t points pairs v → IsProper t (record { a = take d s.a; mu = pos 0 })
+  slopes_proper s e h = (subst (IsSolved d t points pairs) e h).0.proper
+
+  pub clash_refutes : (why : Refutation) → v ≡ Clash why → IsSolved d t points pairs v → IsRefuted d t points (refutation_of why)
+  clash_refutes why e h = let w = (subst (IsSolved d t points pairs) e h).weights in record { refutes = w.refutes; small = w.small }

@@ -1,6 +1,7 @@
 pub mod Holding
 pub mod Deciding
 pub mod Adding
+pub mod Extending
 pub mod Longer
 pub mod Spreading
 pub mod Sorting
@@ -14,3 +15,4 @@ pub mod Passing
 pub mod Parted
 pub mod Layers
 pub mod Exposing
+pub mod Tries

@@ -1,14 +1,15 @@
 -- The points that are left, passed in raster order.
 -- How a patch grows stands elsewhere.
 use Rattle.std.proofs.Common.{◌≡◌, ℕ, zero, suc, ◌+◌, ◌-◌, ◌<◌, ◌≤◌, ◌⊎◌, inl, inr, Bool, true, false, refl, ap, sym, ◌∙◌, subst, arith, List, [], ◌∷◌, get_or}
-use Rattle.std.specs.Prelude.{IsTrue, filter}
+use Rattle.std.specs.Prelude.{IsTrue, filter, replicate}
 use Rattle.std.specs.Ordering.{nat_cmp}
 use Rattle.std.specs.Cmp.{nat_cmp_is}
 use Rattle.std.specs.declared.cmp.Ordering.TheVariants.{Less, Equal, Greater}
-use Rattle.std.proofs.lemmas.List.{drop_all}
+use Rattle.std.proofs.lemmas.Bool.{and_parts, false≢true}
+use Rattle.std.proofs.lemmas.List.{drop_all, get_or-replicate}
 use native.Mathlib.Decide.{ℕ_discrete}
 use Rattle.shape_terms.specs.Points.{Point, in_box, box_count, box_points, raster_number, raster_point}
-use Rattle.shape_terms.specs.Pictures.{Picture, at, objects_from}
+use Rattle.shape_terms.specs.Pictures.{Picture, at, blank, objects_from}
 use Rattle.shape_terms.specs.Steps.{Before}
 use Rattle.shape_terms.proofs.RasterOrder.{raster_rises}
 use Rattle.shape_terms.proofs.Boxes.{raster_point_in, raster_number-raster_point, raster_point-raster_number, raster_below}
@@ -106,4 +107,21 @@ ready_next d t left tried left' tried' near n i p x h past l b e w et none out =
   within = (let s = ap box_count w.sides in omega (arith, l, s));
   past = λ q a. (let o = w.part.free q a in
       subst (λ (s : List ℕ). i + 1 ≤ raster_number s q) (sym w.sides) (passed left i p q b e (in_sides left q o.0) (λ z. out (subst (λ (v : Point). IsTrue (at left' v)) z a)) (past q o.0)));
+}
+
+-- ---- before the first patch
+
+blank_empty : (sides : List ℕ) → IsEmpty (blank sides)
+blank_empty sides q a =
+    let b = and_parts (in_box sides q) (get_or (replicate (box_count sides) false) (raster_number sides q) false) a in
+    false≢true (sym (get_or-replicate (box_count sides) (raster_number sides q) false false (raster_below sides q b.0)) ∙ b.1)
+
+pub ready_first : (d t : ℕ) (left tried : Picture) (near sides : List ℕ) → t < d → sides ≡ left.sides → tried ≡ blank sides → near ≡ sides → IsReady d t left tried near 0
+ready_first d t left tried near sides l e b n = record {
+  axis = l;
+  tried_sides = ap (λ (T : Picture). T.sides) b ∙ e;
+  near_sides = n ∙ e;
+  none = subst IsEmpty (sym b) (blank_empty sides);
+  within = omega arith;
+  past = λ q a. omega arith;
 }

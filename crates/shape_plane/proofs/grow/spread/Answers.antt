@@ -1,5 +1,8 @@
-use Rattle.std.proofs.Common.{ℕ, sym, subst, ◌∙◌, arith}
+use Rattle.std.proofs.Common.{ℕ, List, sym, subst, ◌∙◌, arith}
+use Rattle.std.specs.Prelude.{Contains}
 use Rattle.std.specs.Int.Count.{count_trailing_zeros}
+use Rattle.std.proofs.lemmas.List.Elements.{Contains-append_left}
+use Rattle.shape_terms.specs.Points.{Point}
 use Rattle.shape_plane.specs.Trials.{spread_of, IsSpreading}
 use Rattle.shape_plane.proofs.Rests.{least_in, rest_less}
 use Rattle.shape_plane.proofs.Going.{round_first, round_more, round_last}
@@ -20,6 +23,14 @@ loop-rest-preserved g c =
 pub try_neighbour-requires-clause-below : goal.try_neighbour-requires-clause-below
 try_neighbour-requires-clause-below g c = c.loop-rest.invariant.below (count_trailing_zeros 32 c.loop-rest.rest) (least_in c.loop-rest.rest (omega arith) (omega arith))
 
+pub try_neighbour-requires-clause-point : goal.try_neighbour-requires-clause-point
+try_neighbour-requires-clause-point g c =
+    let l = c.loop-rest.invariant.later in
+    subst (λ (k : List Point). Contains k (g.P.Point.coords c.args.around.now.point)) (sym l.points) (Contains-append_left c.args.growing.now.points l.more (g.P.Point.coords c.args.around.now.point) c.requires.point)
+
+pub try_neighbour-requires-clause-sides : goal.try_neighbour-requires-clause-sides
+try_neighbour-requires-clause-sides g c = c.loop-rest.invariant.sides
+
 pub try_neighbour-requires-clause-spreading : goal.try_neighbour-requires-clause-spreading
 try_neighbour-requires-clause-spreading g c =
     let w = c.requires.spreading in (
@@ -34,4 +45,16 @@ try_neighbour-requires-clause-near g c =
 
 pub returns-clause-settled : goal.returns-clause-settled
 returns-clause-settled g c =
-    round_last g.P.Point.DIM g.P.Pairing.NEAR_COUNT (g.P.Point.coords c.args.around.now.point) c.loop-rest.rest c.args.growing.now c.loop-rest.growing c.args.left.now c.args.tried.now c.loop-rest.left c.loop-rest.tried c.args.refused.now c.loop-rest.refused c.loop-rest.invariant (omega arith)
+    round_last g.P.Point.DIM g.P.Pairing.NEAR_COUNT (g.P.Point.coords c.args.around.now.point) c.loop-rest.rest c.args.growing.now c.loop-rest.growing c.args.left.now c.args.tried.now c.loop-rest.left c.loop-rest.tried c.args.refused.now c.loop-rest.refused c.loop-rest.invariant c.loop-rest-test.false
+
+pub returns-clause-axis : goal.returns-clause-axis
+returns-clause-axis g c = c.loop-rest.invariant.axis
+
+pub returns-clause-sides : goal.returns-clause-sides
+returns-clause-sides g c = c.loop-rest.invariant.sides
+
+pub returns-clause-later : goal.returns-clause-later
+returns-clause-later g c = c.loop-rest.invariant.later
+
+pub returns-clause-spreads : goal.returns-clause-spreads
+returns-clause-spreads g c = c.loop-rest.invariant.spreads

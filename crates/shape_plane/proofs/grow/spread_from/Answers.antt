@@ -1,7 +1,9 @@
-use Rattle.std.proofs.Common.{ℕ, ◌<◌, sym, subst}
+use Rattle.std.proofs.Common.{ℕ, ◌<◌, sym, subst, ◌∙◌}
+use Rattle.std.specs.Prelude.{Contains}
 use Rattle.shape_terms.specs.Adjacency.{near_point}
 use Rattle.shape_plane.specs.Trials.{spread_of, IsSettled, IsSpreading}
 use Rattle.shape_plane.proofs.Going.{going_more, going_in_box}
+use Rattle.shape_plane.proofs.Spreading.{got}
 use Rattle.shape_plane.proofs.Neighbours.{within_sides}
 use Rattle.shape_plane.proofs.grow.spread_from.Goals as goal
 
@@ -24,3 +26,14 @@ spread-requires-clause-spreading g c =
       w.1,
       subst (λ (t : ℕ). IsSpreading g.P.Point.DIM t w.1 (spread_of c.args.growing.now.points c.args.left.now c.args.tried.now c.args.refused.now)) (sym w.3.axis) w.3.spreading,
     )
+
+pub spread-requires-clause-point : goal.spread-requires-clause-point
+spread-requires-clause-point g c =
+    subst (λ (z : g.row.P.Denot). Contains c.args.growing.now.points (g.P.Point.coords z)) (sym c.new-around.ensures.point)
+    (got c.args.growing.now.points c.args.k (g.P.Point.coords c.point.result) c.point.ensures)
+
+pub spread-requires-clause-near : goal.spread-requires-clause-near
+spread-requires-clause-near g c = rw c.new-around.ensures.near c.requires.near
+
+pub spread-requires-clause-sides : goal.spread-requires-clause-sides
+spread-requires-clause-sides g c = let w = c.requires.going in w.3.spreading.left_sides ∙ sym w.3.spreading.tried_sides

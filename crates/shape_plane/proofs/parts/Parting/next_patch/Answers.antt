@@ -1,8 +1,8 @@
-use Rattle.std.proofs.Common.{◌≡◌, ◌∙◌, ap, subst, refl, List, ℕ}
+use Rattle.std.proofs.Common.{◌≡◌, ◌<◌, ◌∙◌, ap, sym, subst, refl, List, ℕ}
 use Rattle.std.specs.Prelude.{IsTrue}
-use Rattle.shape_terms.specs.Points.{in_box, raster_number, raster_point}
+use Rattle.shape_terms.specs.Points.{in_box, box_count, raster_number, raster_point}
 use Rattle.shape_terms.specs.Pictures.{at}
-use Rattle.shape_plane.specs.Parting.{Rest, IsEmpty}
+use Rattle.shape_plane.specs.Parting.{Rest, IsEmpty, IsNextPatch}
 use Rattle.shape_plane.proofs.Passing.{past_next, past_end, none_before, ready_next}
 use Rattle.shape_plane.proofs.parts.Parting.next_patch.Goals as goal
 
@@ -36,3 +36,21 @@ invariant_of-self-2 g c =
     (subst (λ (s : List ℕ). IsTrue (in_box s (g.P.Point.coords c.unraster-p.result))) c.sides.ensures.value c.unraster-p.ensures.inside)
     (subst (λ (s : List ℕ). raster_number s (g.P.Point.coords c.unraster-p.result) ≡ c.in-Some.i) c.sides.ensures.value c.unraster-p.ensures.back)
     h.next h.sides h.none h.cleared
+
+pub unraster-p-requires : goal.unraster-p-requires
+unraster-p-requires g c = subst (λ (s : List ℕ). c.in-Some.i < box_count s) (sym c.sides.ensures.value) c.in-Some.ensures.below
+
+pub patch_from-requires-clause-axis : goal.patch_from-requires-clause-axis
+patch_from-requires-clause-axis g c = (c.self.invariant c.if-self.false).axis
+
+pub patch_from-requires-clause-near : goal.patch_from-requires-clause-near
+patch_from-requires-clause-near g c = (c.self.invariant c.if-self.false).near_sides
+
+pub patch_from-requires-clause-sides : goal.patch_from-requires-clause-sides
+patch_from-requires-clause-sides g c = (c.self.invariant c.if-self.false).tried_sides
+
+pub patch_from-requires-clause-none : goal.patch_from-requires-clause-none
+patch_from-requires-clause-none g c = (c.self.invariant c.if-self.false).none
+
+pub returns-clause-next : goal.returns-clause-next
+returns-clause-next g c = subst (λ (r : Rest). IsNextPatch g.P.Point.DIM r.axis r.left c.patch_from.new.left c.in_ok-patch.patch.found) c.self.view_is c.in_ok-patch.ensures.next
