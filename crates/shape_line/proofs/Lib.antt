@@ -16,3 +16,4 @@ pub mod LowestLines
 pub mod LeastSegments
 pub mod GrownRuns
 pub mod RunVerdicts
+pub mod FrameLines
