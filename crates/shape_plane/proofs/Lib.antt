@@ -16,3 +16,4 @@ pub mod Parted
 pub mod Layers
 pub mod Exposing
 pub mod Tries
+pub mod Axes
