@@ -1,19 +1,21 @@
 -- What rows say of the first slope, where a row stands behind them.
 -- Which rows are added belongs elsewhere.
-use Rattle.std.proofs.Common.{◌≡◌, ℕ, ◌+◌, ◌<◌, ◌++◌, ◌∷◌, [], List, length, ap, sym, subst, ◌∙◌, arith}
-use Rattle.std.specs.Prelude.{ℤ, pos, ◌<ℤ◌}
-use Rattle.std.proofs.lemmas.List.{get_or_append_left, length-append}
+use Rattle.std.proofs.Common.{map, take, get_or, ◌≡◌, ℕ, ◌+◌, ◌<◌, ◌++◌, ◌∷◌, [], List, length, ap, sym, subst, ◌∙◌, arith}
+use Rattle.std.specs.Prelude.{ℤ}
+use Rattle.std.proofs.lemmas.List.{get_or_append_left, length-append, map-append, take_more}
 use Rattle.std.proofs.lemmas.List.Elements.{All-push}
 use Rattle.std.proofs.Math.Seq.{get_or-append_seam}
 use native.Mathlib.Decide.{ℕ_discrete}
+use Rattle.shape_terms.specs.Points.{Point}
+use Rattle.shape_slope.specs.declared.pair.Pair.{Pair}
 use Rattle.shape_slope.specs.declared.row.Row.{Row}
-use Rattle.shape_slope.specs.declared.combination.Combination.{Combination}
 use Rattle.shape_slope.specs.declared.range.Range.{Range}
 use Rattle.shape_slope.specs.declared.range.Narrowed.{Narrowed}
 use Rattle.shape_slope.specs.declared.range.Narrowed.TheVariants.{Room, Clash}
-use Rattle.shape_slope.specs.Rows.{row_at, level, IsGap, IsSmall, IsRow, IsSystem}
-use Rattle.shape_slope.specs.Combinations.{IsCombination}
-use Rattle.shape_slope.specs.Ranges.{LeaveRoom, IsMet, HasNarrower, IsWhole, HasWhole}
+use Rattle.shape_slope.specs.Rows.{row_at, IsGap, IsSmall, IsRow, IsSystem}
+use Rattle.shape_slope.specs.Ranges.{IsMet, HasNarrower, IsWhole, HasWhole}
+use Rattle.shape_slope.specs.Pairs.{pair_row}
+use Rattle.shape_slope.specs.Systems.{bounding_rows, rows_for}
 use Rattle.shape_slope.specs.Knowing.{IsKnown}
 use Rattle.shape_slope.proofs.Narrowing.{whole_more}
 
@@ -53,3 +55,11 @@ narrowed_whole rows old (Clash c) j w h = h
 
 pub known_more : (rows new : List Row) (row : Row) (n : Narrowed) → new ≡ rows ++ row ∷ [] → IsSystem new → HasWhole new (length rows + 1) n → IsKnown new n
 known_more rows new row n e s h = record { system = s; whole = subst (λ (k : ℕ). HasWhole new k n) (sym (ap length e ∙ length-append rows (row ∷ []))) h }
+
+-- ---- the rows of a list of pairs, where one pair more is met
+
+pub rows_next : (t : ℕ) (points : List Point) (pairs : List Pair) (i : ℕ) (pair d : Pair) (rows new : List Row) → i < length pairs → pair ≡ get_or pairs i d → rows ≡ rows_for t points (take i pairs) → new ≡ rows ++ pair_row t points pair ∷ []
+    → new ≡ rows_for t points (take (i + 1) pairs)
+rows_next t points pairs i pair d rows new l p e n =
+    n ∙ ap (λ (r : List Row). r ++ pair_row t points pair ∷ []) e
+    ∙ ap (λ (r : List Row). bounding_rows t ++ r) (sym (map-append (pair_row t points) (take i pairs) (pair ∷ [])) ∙ ap (map (pair_row t points)) (ap (λ (z : Pair). take i pairs ++ z ∷ []) p ∙ sym (take_more pairs i d l)))

@@ -77,7 +77,6 @@ fn together(f: Frac, g: Frac) -> Solution
 }
 
 // The slopes that meet all rows, where the bounds of the first leave room.
-#[tactic(auto, using(crate::proofs::Solving::span_room))]
 fn slopes_within(rows: &[Row], r: Range) -> Solution
     requires system { IsSystem rows.now }
     requires whole { IsWhole rows.now (length rows.now) r }
