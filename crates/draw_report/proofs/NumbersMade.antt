@@ -1,6 +1,6 @@
 -- The table whose numbers are drawn is that of the lines, and the drawing is put together of its parts.
 -- Lists alone; nothing is read here.
-use Rattle.std.proofs.Common.{◌≡◌, ℕ, List, [], ◌++◌, ap, ◌∙◌, subst, map}
+use Rattle.std.proofs.Common.{◌≡◌, ℕ, List, ap, ◌∙◌, subst, map}
 use Rattle.shape_terms.specs.Pictures.{Picture}
 use Rattle.report_lines.specs.Said.{Said}
 use Rattle.measure_terms.specs.Facts.{facts}
@@ -8,10 +8,9 @@ use Rattle.measure_terms.specs.Tables.{rows, IsTable}
 use Rattle.measuring.specs.Told.{measures_told}
 use Rattle.measuring.specs.TellsTable.{TellsTable}
 use Rattle.measuring.specs.declared.table.Table.{Table}
-use Rattle.drawing.proofs.LayerLaws.{three}
 
 -- a table of pictures and numbers that are what is said
-tells_said : (s : Said) (object : Picture) (squares : List ℕ) (left : Picture) (t : Table) → object ≡ s.object → squares ≡ s.squares → left ≡ s.left → TellsTable object squares left t → TellsTable s.object s.squares s.left t
+pub tells_said : (s : Said) (object : Picture) (squares : List ℕ) (left : Picture) (t : Table) → object ≡ s.object → squares ≡ s.squares → left ≡ s.left → TellsTable object squares left t → TellsTable s.object s.squares s.left t
 tells_said s object squares left t o q l h =
     subst (λ (X : Picture). TellsTable X s.squares s.left t) o
     (subst (λ (n : List ℕ). TellsTable object n s.left t) q
@@ -26,11 +25,5 @@ table_kept s t h = record {
 }
 
 -- the same of what lines say, which is what was kept
-pub table_made : (kept s : Said) (object : Picture) (squares : List ℕ) (left : Picture) (t : Table) → kept ≡ s → object ≡ kept.object → squares ≡ kept.squares → left ≡ kept.left
-    → TellsTable object squares left t → IsTable s.object s.squares s.left (map (measures_told s.object.sides) t.rows.items)
-table_made kept s object squares left t e o q l h =
-    table_kept s t (subst (λ (z : Said). TellsTable z.object z.squares z.left t) e (tells_said kept object squares left t o q l h))
-
--- three texts put one behind the other, on none
-pub three_parts : (s₀ s₁ s₂ s₃ a b c bytes : List ℕ) → s₀ ≡ [] → s₁ ≡ s₀ ++ a → s₂ ≡ s₁ ++ b → s₃ ≡ s₂ ++ c → bytes ≡ s₃ → bytes ≡ a ++ (b ++ c)
-three_parts s₀ s₁ s₂ s₃ a b c bytes none p q r e = e ∙ three s₀ s₁ s₂ s₃ a b c p q r ∙ ap (λ t. t ++ (a ++ (b ++ c))) none
+pub table_made : (kept s : Said) (t : Table) → kept ≡ s → TellsTable kept.object kept.squares kept.left t → IsTable s.object s.squares s.left (map (measures_told s.object.sides) t.rows.items)
+table_made kept s t e h = table_kept s t (subst (λ (z : Said). TellsTable z.object z.squares z.left t) e h)

@@ -14,3 +14,14 @@ two_words [] v w some two e f = absurd (omega arith)
 two_words (x ∷ []) v w some two e f = absurd (omega arith)
 two_words (x ∷ y ∷ []) v w some two e f = λ i. (sym e i).items ∷ (sym f i).items ∷ []
 two_words (x ∷ y ∷ z ∷ words) v w some two e f = absurd (omega arith)
+
+-- ---- the words are the same list
+
+pub same_word : (t : List (List ℕ)) (a b : List ℕ) → t ≡ a ∷ [] → t ≡ b ∷ [] → a ≡ b
+same_word t a b e f = cc
+
+pub same_words : (t : List (List ℕ)) (a b c d : List ℕ) → t ≡ a ∷ b ∷ [] → t ≡ c ∷ d ∷ [] → (a ≡ c) × (b ≡ d)
+same_words t a b c d e f = (cc, cc)
+
+pub not_both : (t : List (List ℕ)) (a c d : List ℕ) → t ≡ a ∷ [] → t ≡ c ∷ d ∷ [] → ⊥
+not_both t a c d e f = cc
