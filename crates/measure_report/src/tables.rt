@@ -1,8 +1,16 @@
 //! What is made of a report: the table of the objects that its lines tell.
 //! What the rows are, and how they are spelled, is known to `measuring`; the lengths of borders, to `bordering`, and Feret diameters to `feret`.
-ghost use Rattle.std.specs.Prelude.{◌≡◌, [], ◌∷◌, List, IfOk};
+ghost use Rattle.std.specs.Prelude.{◌≡◌, [], ◌∷◌, List, length, IfOk};
+ghost use Rattle.shape_terms.specs.Points.{sides_of, box_count};
 ghost use Rattle.report_terms.specs.Lines.{Line};
 ghost use Rattle.report_lines.specs.Said.{said};
+ghost use Rattle.measure_terms.specs.Feret.{AreFerets};
+ghost use Rattle.border_terms.specs.Borders.{borders as borders_of};
+ghost use Rattle.border_terms.specs.Objects.{object_bounds as object_bounds_of};
+ghost use Rattle.measuring.specs.TellsTable.{TellsTable};
+ghost use Rattle.bordering.specs.Told.{flat, all_borders, all_bounds};
+ghost use Rattle.bordering.specs.Kept.{HasBorders};
+ghost use Rattle.feret.specs.Told.{ferets_told};
 ghost use Rattle.measure_report.specs.Outlined.{IsOutlined};
 ghost use Rattle.measure_report.specs.TableTexts.{IsTableText};
 
@@ -10,17 +18,73 @@ use crate::borders::BorderColumns;
 use crate::ferets::FeretColumns;
 use crate::further::FlatColumns;
 use crate::outlined::Outlined;
-use bordering::object_bounds;
+use bordering::{Border, Contours, object_bounds};
 use feret::ferets;
-use measuring::{NoColumns, measure, table_text};
+use measuring::{NoColumns, Table, measure, table_text};
 use report_lines::{Heading, Seen};
 use report_making::Making;
-use shape_space::{NoMemory, P2, P3};
+use shape_space::{NoMemory, P2, P3, Sides};
 use std::alloc::Global;
 
 /// Makes the table of the objects.
 #[derive(Clone, Copy, Debug, PartialEq, Eq)]
 pub struct Tables;
+
+// The table of the objects that lines tell.
+fn table_of(alloc: Global, seen: &Seen<P2>) -> Result<Table, NoMemory>
+    ensures { IfOk result (TellsTable seen.now.object seen.now.squares seen.now.left) }
+{
+    let table = measure(alloc, seen.object(), seen.squares(), seen.left())?;
+    Ok(table)
+}
+
+// The columns of the objects of a table: their borders and Feret diameters.
+fn further(
+    alloc: Global,
+    sides: Sides<P2>,
+    table: &Table,
+    borders: &[Border],
+) -> Result<FlatColumns, NoMemory>
+    requires { length table.now.labels ≡ box_count (sides_of (flat sides.lengths)) }
+    ensures bounds { IfOk result (λ more. all_bounds more.borders.bounds.items
+        ≡ object_bounds_of (sides_of (flat sides.lengths)) table.now.labels table.now.count
+        (all_borders borders.now)) }
+    ensures ferets { IfOk result (λ more. AreFerets (sides_of (flat sides.lengths))
+        table.now.labels table.now.count (ferets_told more.ferets.ferets.items)) }
+{
+    let bounds = object_bounds(alloc, sides, &table.labels, table.count, borders)?;
+    let ferets = ferets(alloc, sides, &table.labels, table.count)?;
+    Ok(FlatColumns {
+        borders: BorderColumns { bounds },
+        ferets: FeretColumns { ferets },
+    })
+}
+
+// The table of the objects that lines tell, with these borders and with Feret diameters.
+fn bordered_table(
+    alloc: Global,
+    seen: &Seen<P2>,
+    table: &Table,
+    borders: &[Border],
+) -> Result<Vec<u8>, NoMemory>
+    requires { TellsTable seen.now.object seen.now.squares seen.now.left table.now }
+    ensures { (lines : List Line) → seen.now ≡ said lines
+        → all_borders borders.now ≡ borders_of lines
+        → IfOk result (λ csv. IsTableText 2 lines csv.items) }
+{
+    let more = further(alloc, seen.sides(), table, borders)?;
+    table_text(alloc, seen.sides(), table.rows.as_slice(), &more)
+}
+
+// The table of the objects that lines tell, with the borders of contours and with Feret diameters.
+fn outlined_table(alloc: Global, seen: &Seen<P2>, contours: Contours) -> Result<Vec<u8>, NoMemory>
+    ensures { (lines : List Line) → seen.now ≡ said lines → HasBorders lines contours
+        → IfOk result (λ csv. IsTableText 2 lines csv.items) }
+{
+    let table = table_of(alloc, seen)?;
+    let borders = contours.into_borders()?;
+    bordered_table(alloc, seen, &table, borders.as_slice())
+}
 
 // The table of a flat picture's objects, with their borders and Feret diameters.
 fn flat_table(alloc: Global, kept: Outlined) -> Result<Vec<u8>, NoMemory>
@@ -28,26 +92,12 @@ fn flat_table(alloc: Global, kept: Outlined) -> Result<Vec<u8>, NoMemory>
         → IfOk result (λ csv. IsTableText 2 lines csv.items) }
 {
     let Outlined { seen, contours } = kept;
-    let table = measure(alloc, seen.object(), seen.squares(), seen.left())?;
-    let borders = contours.into_borders()?;
-    let bounds = object_bounds(
-        alloc,
-        seen.sides(),
-        &table.labels,
-        table.count,
-        borders.as_slice(),
-    )?;
-    let ferets = ferets(alloc, seen.sides(), &table.labels, table.count)?;
-    let more = FlatColumns {
-        borders: BorderColumns { bounds },
-        ferets: FeretColumns { ferets },
-    };
-    table_text(alloc, seen.sides(), table.rows.as_slice(), &more)
+    outlined_table(alloc, &seen, contours)
 }
 
 // The table of a volume's objects.
-fn solid_table(alloc: Global, seen: Seen<P3>) -> Result<Vec<u8>, NoMemory>
-    ensures { (lines : List Line) → seen ≡ said lines
+fn solid_table(alloc: Global, seen: &Seen<P3>) -> Result<Vec<u8>, NoMemory>
+    ensures { (lines : List Line) → seen.now ≡ said lines
         → IfOk result (λ csv. IsTableText 3 lines csv.items) }
 {
     seen.is_of_box();
@@ -77,6 +127,6 @@ impl Making for Tables {
     }
 
     fn make_solid(&self, alloc: Global, kept: Seen<P3>) -> Result<Vec<u8>, NoMemory> {
-        solid_table(alloc, kept)
+        solid_table(alloc, &kept)
     }
 }

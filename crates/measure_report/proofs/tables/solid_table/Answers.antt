@@ -21,5 +21,5 @@ returns c = λ lines e.
     let slice = c.as_slice.ensures.value in
     let same : map (measures_told (sides_of (p.x ∷ p.y ∷ p.z ∷ []))) c.as_slice.result.now ≡ ms = (λ i. map (measures_told (side i)) (slice i)) in
     IfOk-weaker c.table_text.result (λ t. t.items ≡ table_text 3 no_columns (map (measures_told (sides_of (p.x ∷ p.y ∷ p.z ∷ []))) c.as_slice.result.now)) (λ t. IsTableText 3 lines t.items)
-    (λ t h. solid_made lines object squares left table.labels table.count ms t.items (are_said lines c.args.seen object squares left e c.object.ensures c.squares.ensures.value c.left.ensures.value) (record { named = tells.labels; count_is = tells.count; rows_are = tells.rows }) (h ∙ ap (table_text 3 no_columns) same))
+    (λ t h. solid_made lines object squares left table.labels table.count ms t.items (are_said lines c.args.seen.now object squares left e c.object.ensures c.squares.ensures.value c.left.ensures.value) (record { named = tells.labels; count_is = tells.count; rows_are = tells.rows }) (h ∙ ap (table_text 3 no_columns) same))
     c.table_text.ensures
