@@ -1,7 +1,7 @@
 -- What rows say of the first slope, where a row stands behind them.
 -- Which rows are added belongs elsewhere.
-use Rattle.std.proofs.Common.{map, take, get_or, ◌≡◌, ℕ, ◌+◌, ◌<◌, ◌++◌, ◌∷◌, [], List, length, ap, sym, subst, ◌∙◌, arith}
-use Rattle.std.specs.Prelude.{ℤ}
+use Rattle.std.proofs.Common.{◌⊎◌, map, take, get_or, ◌≡◌, ℕ, ◌+◌, ◌<◌, ◌++◌, ◌∷◌, [], List, length, ap, sym, subst, ◌∙◌, arith}
+use Rattle.std.specs.Prelude.{ℤ, pos, ◌<ℤ◌}
 use Rattle.std.proofs.lemmas.List.{get_or_append_left, length-append, map-append, take_more}
 use Rattle.std.proofs.lemmas.List.Elements.{All-push}
 use Rattle.std.proofs.Math.Seq.{get_or-append_seam}
@@ -9,11 +9,13 @@ use native.Mathlib.Decide.{ℕ_discrete}
 use Rattle.shape_terms.specs.Points.{Point}
 use Rattle.shape_slope.specs.declared.pair.Pair.{Pair}
 use Rattle.shape_slope.specs.declared.row.Row.{Row}
+use Rattle.shape_slope.specs.declared.combination.Combination.{Combination}
+use Rattle.shape_slope.specs.Combinations.{IsCombination}
 use Rattle.shape_slope.specs.declared.range.Range.{Range}
 use Rattle.shape_slope.specs.declared.range.Narrowed.{Narrowed}
 use Rattle.shape_slope.specs.declared.range.Narrowed.TheVariants.{Room, Clash}
-use Rattle.shape_slope.specs.Rows.{row_at, IsGap, IsSmall, IsRow, IsSystem}
-use Rattle.shape_slope.specs.Ranges.{IsMet, HasNarrower, IsWhole, HasWhole}
+use Rattle.shape_slope.specs.Rows.{row_at, IsGap, IsSmall, IsRow, IsSystem, level}
+use Rattle.shape_slope.specs.Ranges.{IsMet, HasNarrower, IsWhole, HasWhole, LeaveRoom}
 use Rattle.shape_slope.specs.Pairs.{pair_row}
 use Rattle.shape_slope.specs.Systems.{bounding_rows, rows_for}
 use Rattle.shape_slope.specs.Knowing.{IsKnown}
@@ -46,6 +48,60 @@ system_more rows row s small gap = record {
 
     below : (j : ℕ) → j < length (rows ++ row ∷ []) → (j ≡ length rows → ⊥) → j < length rows
     below j l n = let e = length-append rows (row ∷ []) in omega (arith, e, l, n)
+
+-- the place of the last row
+pub last_place : (rows new : List Row) (row : Row) (j : ℕ) → new ≡ rows ++ row ∷ [] → j ≡ length rows → j < length new
+last_place rows new row j e l = let n = ap length e ∙ length-append rows (row ∷ []) in omega (arith, n, l)
+
+pub last_gap : (rows new : List Row) (row : Row) (j : ℕ) → new ≡ rows ++ row ∷ [] → j ≡ length rows → IsGap row.cause → IsGap (row_at new j).cause
+last_gap rows new row j e l g =
+    subst (λ (k : ℕ). IsGap (row_at new k).cause) (sym l) (subst (λ (r : List Row). IsGap (row_at r (length rows)).cause) (sym e) (subst (λ (r : Row). IsGap r.cause) (sym (last_row rows row)) g))
+
+-- the list as callers see it
+pub row_added : (rows new v : List Row) (row same : Row) → new ≡ rows ++ row ∷ [] → row ≡ same → rows ≡ v → new ≡ v ++ same ∷ []
+row_added rows new v row same e r s = e ∙ ap (λ (x : Row). rows ++ x ∷ []) r ∙ ap (λ (l : List Row). l ++ same ∷ []) s
+
+-- ---- what was left stays so
+
+module _ (rows more : List Row) where
+  combination_kept : (c : Combination) → IsCombination rows c → IsCombination (rows ++ more) c
+  combination_kept c h =
+      let a = row_kept rows more c.first h.first in
+      let b = row_kept rows more c.second h.second in
+      let e = length-append rows more in
+      record {
+        first = (let l = h.first in omega (arith, e, l));
+        second = (let l = h.second in omega (arith, e, l));
+        first_low = h.first_low;
+        first_high = h.first_high;
+        second_low = h.second_low;
+        second_high = h.second_high;
+        x = rw (a, b) h.x;
+        y = rw (a, b) h.y;
+        z = rw (a, b) h.z;
+        x_small = h.x_small;
+        z_small = h.z_small;
+        kind = subst (λ (r : Row). (c.first_weight ≡ pos 0) ⊎ IsGap r.cause) (sym b) h.kind;
+      }
+
+  met_kept : (j : ℕ) (p q : ℤ) → j < length rows → IsMet rows j p q → IsMet (rows ++ more) j p q
+  met_kept j p q l h = record {
+    flat = subst (λ (r : Row). r.y ≡ pos 0 → level p q r <ℤ pos 0) (sym (row_kept rows more j l)) h.flat;
+    room = λ i a b.
+        subst (λ (r : Row). LeaveRoom p q (row_at (rows ++ more) i) r) (sym (row_kept rows more j l))
+        (subst (λ (r : Row). LeaveRoom p q r (row_at rows j)) (sym (row_kept rows more i (omega (arith, b, l)))) (h.room i a b));
+  }
+
+  pub whole_kept : (n : Narrowed) → HasWhole rows (length rows) n → HasWhole (rows ++ more) (length rows) n
+  whole_kept (Room r) h = record {
+    range = record { lower = combination_kept r.lower h.range.lower; upper = combination_kept r.upper h.range.upper; falls = h.range.falls; rises = h.range.rises };
+    met = λ j l p q a b. met_kept j p q l (h.met j l p q a b);
+  }
+  whole_kept (Clash c) h = record {
+    combination = combination_kept c h.combination;
+    never = h.never;
+    pair = subst (λ (r : Row). IsGap r.cause) (sym (row_kept rows more c.second h.combination.second)) h.pair;
+  }
 
 -- ---- what is left once the last row is met
 
