@@ -50,26 +50,64 @@ q_high b b' q e dx hb hb' h he hd =
 rest-from : (a b x y u v : ℤ) → rest a b x y ≡ rest a b u v +ℤ (a *ℤ (x -ℤ u) -ℤ b *ℤ (y -ℤ v))
 rest-from a b x y u v = omega (arith, ints, rings)
 
+from_upper : (a b mu ux uy x y : ℤ) → rest a b ux uy ≡ mu → rest a b x y -ℤ mu ≡ a *ℤ (x -ℤ ux) -ℤ b *ℤ (y -ℤ uy)
+from_upper a b mu ux uy x y hu = omega (arith, ints, rings, hu)
+
+-- the new vector turns by one
+turn : (a b mu ux uy mx my : ℤ) → rest a b ux uy ≡ mu → rest a b mx my ≡ mu -ℤ pos 1 → b *ℤ (my -ℤ uy) ≡ a *ℤ (mx -ℤ ux) +ℤ pos 1
+turn a b mu ux uy mx my hu hm = omega (arith, ints, rings, hu, hm)
+
+-- the remainder in the new vector, as far as e and dx tell
+between : (b b' q e dx r r' : ℤ) → pos 0 <ℤ b → pos 0 <ℤ b' → b *ℤ q ≡ b' *ℤ e +ℤ dx → pos 0 ≤ℤ e → e <ℤ b → dx <ℤ b' → (dx <ℤ pos 0 → pos 1 ≤ℤ e) → neg_ℤ dx <ℤ b → r ≡ r' +ℤ q → (r' ≤ℤ r) × (r <ℤ (r' +ℤ b'))
+between b b' q e dx r r' hb hb' g low high hd early near is =
+    let v = q_low b b' q e dx hb g above in
+    let w = q_high b b' q e dx hb hb' g high hd in
+    (omega (arith, ints, is, v), omega (arith, ints, is, w))
+  where
+    less : (m n : ℤ) → m <ℤ n → m ≤ℤ n
+    less m n l = omega (arith, ints, l)
+
+    before : (m : ℤ) → (b' *ℤ pos 1) ≤ℤ m → neg_ℤ b <ℤ (m +ℤ dx)
+    before m l = omega (arith, ints, rings, l, near, hb')
+
+    behind : (m : ℤ) → pos 0 ≤ℤ m → neg_ℤ b <ℤ (m +ℤ dx)
+    behind m l = omega (arith, ints, l, near)
+
+    above : neg_ℤ b <ℤ (b' *ℤ e +ℤ dx)
+    above = by_lt_z dx (pos 0)
+        (λ (l : dx <ℤ pos 0). early_above (early l))
+        (λ (l : pos 0 ≤ℤ dx). behind (b' *ℤ e) (mul-nonneg b' e (less (pos 0) b' hb') low))
+      where
+        early_above : pos 1 ≤ℤ e → neg_ℤ b <ℤ (b' *ℤ e +ℤ dx)
+        early_above k = before (b' *ℤ e) (mul-le_ℤ b' (pos 1) e (less (pos 0) b' hb') k)
+
+apart_low : (m r : ℤ) → m ≤ℤ r → pos 0 ≤ℤ (r -ℤ m)
+apart_low m r l = omega (arith, ints, l)
+
+apart_high : (m r b : ℤ) → r <ℤ (m +ℤ b) → (r -ℤ m) <ℤ b
+apart_high m r b l = omega (arith, ints, l)
+
+apart_more : (m r : ℤ) → (m +ℤ pos 1) ≤ℤ r → pos 1 ≤ℤ (r -ℤ m)
+apart_more m r l = omega (arith, ints, l)
+
+over : (u x : ℤ) → u <ℤ x → pos 0 <ℤ (x -ℤ u)
+over u x l = omega (arith, ints, l)
+
+back : (u x : ℤ) → (x -ℤ u) <ℤ pos 0 → x <ℤ u
+back u x l = omega (arith, ints, l)
+
+shorter : (u x m : ℤ) → x <ℤ m → (x -ℤ u) <ℤ (m -ℤ u)
+shorter u x m l = omega (arith, ints, l)
+
+turned : (u x b : ℤ) → (u -ℤ x) <ℤ b → neg_ℤ (x -ℤ u) <ℤ b
+turned u x b l = omega (arith, ints, l)
+
 -- the point taken has the remainder mu - 1; U is the first upper leaning point
 holds_above : (a b mu ux uy mx my x y : ℤ) → pos 0 <ℤ b → rest a b ux uy ≡ mu → rest a b mx my ≡ mu -ℤ pos 1 → ux <ℤ mx → x <ℤ mx → mu ≤ℤ rest a b x y → rest a b x y <ℤ (mu +ℤ b) → (x <ℤ ux → (mu +ℤ pos 1) ≤ℤ rest a b x y) → (ux -ℤ x) <ℤ b → (rest (my -ℤ uy) (mx -ℤ ux) ux uy ≤ℤ rest (my -ℤ uy) (mx -ℤ ux) x y) × (rest (my -ℤ uy) (mx -ℤ ux) x y <ℤ (rest (my -ℤ uy) (mx -ℤ ux) ux uy +ℤ (mx -ℤ ux)))
 holds_above a b mu ux uy mx my x y hb hu hm um xm lo hi before near =
-    let a' = my -ℤ uy in
-    let b' = mx -ℤ ux in
-    let dx = x -ℤ ux in
-    let dy = y -ℤ uy in
-    let e = rest a b x y -ℤ mu in
-    let q = a' *ℤ dx -ℤ b' *ℤ dy in
-    let s : b *ℤ a' ≡ a *ℤ b' +ℤ pos 1 = omega (arith, ints, rings) in
-    let f : e ≡ a *ℤ dx -ℤ b *ℤ dy = omega (arith, ints, rings) in
-    let g : b *ℤ q ≡ b' *ℤ e +ℤ dx = key a b a' b' dx dy e s f in
-    let r : rest a' b' x y ≡ rest a' b' ux uy +ℤ q = rest-from a' b' x y ux uy in
-    let hb' : pos 0 <ℤ b' = omega (arith, ints) in
-    let above : neg_ℤ b <ℤ (b' *ℤ e +ℤ dx) = by_lt_z x ux
-    (λ (l : x <ℤ ux). let m = mul-le_ℤ b' (pos 1) e (omega (arith, ints)) (let n = before l in omega (arith, ints, n)) in omega (arith, ints, rings, m))
-    (λ (l : ux ≤ℤ x). let m = mul-nonneg b' e (omega (arith, ints)) (omega (arith, ints)) in omega (arith, ints, m)) in
-    let v = q_low b b' q e dx hb g above in
-    let w = q_high b b' q e dx hb hb' g (omega (arith, ints)) (omega (arith, ints)) in
-    (omega (arith, ints, r, v), omega (arith, ints, r, w))
+    between b (mx -ℤ ux) ((my -ℤ uy) *ℤ (x -ℤ ux) -ℤ (mx -ℤ ux) *ℤ (y -ℤ uy)) (rest a b x y -ℤ mu) (x -ℤ ux) (rest (my -ℤ uy) (mx -ℤ ux) x y) (rest (my -ℤ uy) (mx -ℤ ux) ux uy) hb (over ux mx um)
+    (key a b (my -ℤ uy) (mx -ℤ ux) (x -ℤ ux) (y -ℤ uy) (rest a b x y -ℤ mu) (turn a b mu ux uy mx my hu hm) (from_upper a b mu ux uy x y hu))
+    (apart_low mu (rest a b x y) lo) (apart_high mu (rest a b x y) b hi) (shorter ux x mx xm) (λ l. apart_more mu (rest a b x y) (before (back ux x l))) (turned ux x b near) (rest-from (my -ℤ uy) (mx -ℤ ux) x y ux uy)
 
 -- ---- leaning points
 
@@ -178,10 +216,6 @@ steep_low : (a b a' b' : ℤ) → pos 0 <ℤ b → pos 0 <ℤ b' → neg_ℤ b �
 steep_low a b a' b' hb hb' ha e =
     let m = mul-le_ℤ b' (neg_ℤ b) a (omega (arith, ints)) ha in
     cancel-le_ℤ b (neg_ℤ b') a' hb (omega (arith, ints, rings, m, e))
-
--- the new vector turns by one
-turn : (a b mu ux uy mx my : ℤ) → rest a b ux uy ≡ mu → rest a b mx my ≡ mu -ℤ pos 1 → b *ℤ (my -ℤ uy) ≡ a *ℤ (mx -ℤ ux) +ℤ pos 1
-turn a b mu ux uy mx my hu hm = omega (arith, ints, rings, hu, hm)
 
 -- the old last lower leaning point leans below the new line
 k_leans : (a b mu ux uy mx my kx ky : ℤ) → pos 0 <ℤ b → rest a b ux uy ≡ mu → rest a b mx my ≡ mu -ℤ pos 1 → rest a b kx ky ≡ mu +ℤ b -ℤ pos 1 → mx -ℤ kx ≡ b → rest (my -ℤ uy) (mx -ℤ ux) kx ky ≡ rest (my -ℤ uy) (mx -ℤ ux) ux uy +ℤ (mx -ℤ ux) -ℤ pos 1
