@@ -175,3 +175,16 @@ gap_room s s2 t v false e r k = tt
 gap_room s s2 t v true e r k =
     let more = (r.0 refl).more in
     rw (e, k) (omega (arith, more))
+
+-- ---- the contour that begins
+
+-- it has no fewer points than segments
+pub head_within : (mine contours : List Contour) (begun : ℕ) (s : Standing) (c : Crack) (n m : ℕ) (k : Contour) → mine ≡ contours → begun ≡ s.begun → slice_get mine begun ≡ Some k → IsContourHead contours s c n m → m ≤ length k.points
+head_within mine contours begun s c n m k e b g h =
+    let same : Some k ≡ Some (record { start = c; points = h.points }) = sym g ∙ (λ i. slice_get (e i) (b i)) ∙ h.next in
+    let is : k ≡ record { start = c; points = h.points } = cc in
+    omega (arith, h.segments.1, h.count, ap (λ (k : Contour). length k.points) is)
+
+-- it is the one that was begun last then
+pub head_open : (contours : List Contour) (begun : ℕ) (k : Contour) → slice_get contours begun ≡ Some k → slice_index_or contours (begun + 1 - 1) no_contour ≡ k
+head_open contours begun k e = let b : begun + 1 - 1 ≡ begun = omega arith in rw b (get_or_from_slice_get contours begun k no_contour e)

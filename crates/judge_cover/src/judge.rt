@@ -119,6 +119,18 @@ impl CoverJudge {
         self.begun == 0 || self.is_covered() && self.gaps == 2 * self.declared
     }
 
+    // Whether a `contour` line is the one to come next.
+    fn begins_next(&self, start: Crack, points: u32, segments: u32) -> bool
+        ensures { IsTrue result ↔ IsContourHead self.now.contours self.now.standing
+            (crack_of start) points segments }
+    {
+        if !self.is_full() || self.begun == self.contours.len() {
+            return false;
+        }
+        let next = self.contours.contour(self.begun);
+        next.start() == start && next.len() == points && 1 <= segments && segments <= points
+    }
+
     // Takes a `contour` line.
     fn begin(&mut self, start: Crack, points: u32, segments: u32) -> bool
         ensures answer { IsTrue result
@@ -127,13 +139,12 @@ impl CoverJudge {
         ensures contours { self.new.contours ≡ self.old.contours }
         ensures next { OnTrue result (self.new.standing ≡ with_contour self.old.standing segments) }
     {
-        if !self.is_full() || self.begun == self.contours.len() {
+        if !self.begins_next(start, points, segments) {
             return false;
         }
+        let _ = self.contours.len();
         let next = self.contours.contour(self.begun);
-        if next.start() != start || next.len() != points || segments < 1 || segments > points {
-            return false;
-        }
+        next.is_closed_path();
         load(&mut self.round, next);
         self.segments.clear();
         self.begun += 1;
