@@ -2,13 +2,19 @@
 //! A further case is lines of a file in `data`, and of `stdout` what is wanted of it; `docs/CASES.md` says what a line may be.
 #![tactic(auto)]
 
+mod boxes;
 mod case;
 mod changes;
 mod escapes;
 mod faults;
+mod finders;
 mod forging;
+mod lines;
+mod numbers;
 mod programs;
+mod runs;
 mod script;
+mod verdicts;
 
 use script::Script;
 use std::{env, fs, io};

@@ -1,6 +1,7 @@
 //! The programs that a case may run, each by its `run`, with the words of a command line.
 //! A further program is one more row of `ended`.
 use crate::case::wanting;
+use crate::finders::found;
 use shape_cli::shelf;
 use shape_desk::Desk;
 use shape_rules::{CurveEnds, FewEnds, NoEnds};
@@ -32,7 +33,7 @@ fn shape_ended<D: Desk>(alloc: Global, words: &[Vec<u8>], desk: &mut D) -> io::R
 }
 
 /// Runs a command line over a desk, and says how it ended. Behind the words `draw`, `measure` and `mask` stand those of the
-/// programs that make something of a report, all others are words of `shape`.
+/// programs that make something of a report, behind `find` a word and numbers, of which a call finds something; all others are words of `shape`.
 pub(crate) fn ended<D: Desk>(alloc: Global, line: &str, desk: &mut D) -> io::Result<String> {
     let (program, rest) = line.split_once(' ').unwrap_or((line, ""));
     match program {
@@ -45,6 +46,7 @@ pub(crate) fn ended<D: Desk>(alloc: Global, line: &str, desk: &mut D) -> io::Res
             &measure_report::run(alloc, &words_of(alloc, rest)?, desk),
         ),
         "mask" => told(alloc, &masking::run(alloc, &words_of(alloc, rest)?, desk)),
+        "find" => found(alloc, rest),
         _ => shape_ended(alloc, &words_of(alloc, line)?, desk),
     }
 }

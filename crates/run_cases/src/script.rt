@@ -59,7 +59,6 @@ impl Script {
             "a" => self.lay(Name::A, rest),
             "b" => self.lay(Name::B, rest),
             "more" => self.lay_more(rest),
-            "bytes" => self.lay_bytes(rest),
             "keep" => self.keep(),
             "set" => self.set(rest),
             "run" => self.run(rt, rest),
@@ -110,17 +109,6 @@ impl Script {
         for _ in 0..count {
             file.extend_from_slice(bytes.as_slice())?;
         }
-        Ok(())
-    }
-
-    // The file `a` has these bytes, each written as a number.
-    fn lay_bytes(&mut self, text: &str) -> io::Result<()> {
-        let mut bytes = Vec::new(self.alloc);
-        for word in text.split_whitespace() {
-            bytes.push(word.parse().unwrap_or(0))?;
-        }
-        self.case.a = bytes;
-        self.last = Name::A;
         Ok(())
     }
 
