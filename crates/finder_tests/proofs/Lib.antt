@@ -1,1 +1,1 @@
-pub mod GivenRuns
+pub mod ClosePoints

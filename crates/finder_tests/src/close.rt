@@ -1,4 +1,4 @@
-//! What the calls of a segment ask of a point, so that a test may make them.
+//! What the calls of a segment ask of a point, so that a case may make them.
 //! It is no test itself: a wrong body here is refused without one.
 ghost use Rattle.std.specs.Prelude.{IsTrue, ◌≤◌, ◌-ℤ◌, nat_abs};
 ghost use Rattle.shape_terms.specs.Steps.{AreClose};
@@ -22,7 +22,7 @@ fn is_beside(a: i32, b: i32) -> bool
 }
 
 /// Whether two points are close.
-#[tactic(auto, using(crate::proofs::GivenRuns::close_flat))]
+#[tactic(auto, using(crate::proofs::ClosePoints::close_flat))]
 pub fn is_close(p: P2, q: P2) -> bool
     ensures { IsTrue result → AreClose (flat_point p) (flat_point q) }
 {

@@ -3,8 +3,6 @@
 #![tactic(auto)]
 
 #[cfg(test)]
-mod adj;
-#[cfg(test)]
 mod bits;
 #[cfg(test)]
 mod boxes;
@@ -15,8 +13,6 @@ mod cover;
 mod crack;
 #[cfg(test)]
 mod grid;
-#[cfg(test)]
-mod line;
 #[cfg(test)]
 mod patches;
 #[cfg(test)]

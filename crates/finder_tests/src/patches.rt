@@ -3,53 +3,46 @@
 ghost use Rattle.std.specs.Prelude.{◌<◌};
 
 use crate::pictures::{at, of_marks, put_point};
-use shape_adj::Pairing;
 use shape_plane::{Parting, Patch, patches};
 use shape_refute::{Refutation, Sense, holds, refutes};
+use shape_space::P2;
 use std::alloc::Global;
 use std::test::Fail;
 
-// The points of a patch.
-fn points_of<P: Pairing>(alloc: Global, patch: &Patch<P>) -> Result<Vec<P>, Fail> {
+// Whether the weights for a point that a patch refused refute the patch with it.
+fn is_refuted(alloc: Global, patch: &Patch<P2>, p: P2, why: &Refutation) -> Result<bool, Fail> {
     let mut points = Vec::new(alloc);
     for i in 0..patch.len() {
         points.push(patch.point(i))?;
     }
-    Ok(points)
-}
-
-// What is told of a point that a patch refused: whether the weights refute the patch with it.
-fn refused<P: Pairing>(
-    alloc: Global,
-    patch: &Patch<P>,
-    p: P,
-    why: &Refutation,
-) -> Result<&'static str, Fail> {
-    let mut points = points_of(alloc, patch)?;
     points.push(p)?;
-    let is_refuted = refutes(&points, patch.naive().axis as usize, why);
-    Ok(if is_refuted {
-        " refused,"
-    } else {
-        " left out,"
-    })
+    Ok(refutes(&points, patch.naive().axis as usize, why))
 }
 
 // Puts the points of a patch, each held by its plane, and those that it refused behind a text.
-fn put_patch<P: Pairing>(text: &mut String, alloc: Global, patch: &Patch<P>) -> Result<(), Fail> {
+fn put_patch(text: &mut String, alloc: Global, patch: &Patch<P2>) -> Result<(), Fail> {
     for i in 0..patch.len() {
         let p = patch.point(i);
         put_point(text, p, if holds(&patch.naive(), p) { "," } else { "?" })?;
     }
     for i in 0..patch.refused() {
         let (p, why) = patch.refusal(i);
-        put_point(text, p, refused(alloc, patch, p, &why)?)?;
+        let is_refused = is_refuted(alloc, patch, p, &why)?;
+        put_point(
+            text,
+            p,
+            if is_refused {
+                " refused,"
+            } else {
+                " left out,"
+            },
+        )?;
     }
     Ok(text.push(';')?)
 }
 
 // All patches of a face, one after another, as a text. No more are taken than the face has points.
-fn text_of<P: Pairing>(alloc: Global, mut parting: Parting<P>) -> Result<String, Fail> {
+fn text_of(alloc: Global, mut parting: Parting<P2>) -> Result<String, Fail> {
     let mut text = String::new(alloc);
     for _ in 0..=parting.count() {
         match parting.next_patch(alloc)? {

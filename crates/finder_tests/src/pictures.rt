@@ -1,7 +1,7 @@
 //! Points, pictures and texts that several tests share.
 //! No test stands here.
 use shape_grid::Grid;
-use shape_space::{P2, Point, Sides};
+use shape_space::{P2, Sides};
 use std::alloc::{AllocError, Global};
 use std::test::Fail;
 
@@ -11,7 +11,7 @@ pub(crate) const fn at(x: i32, y: i32) -> P2 {
 }
 
 // The picture with object at the places of the `#`, in raster order.
-pub(crate) fn of_marks<P: Point>(alloc: Global, lengths: P, marks: &[u8]) -> Result<Grid<P>, Fail> {
+pub(crate) fn of_marks(alloc: Global, lengths: P2, marks: &[u8]) -> Result<Grid<P2>, Fail> {
     let Some(sides) = Sides::try_new(lengths) else {
         return Err(Fail::from(AllocError));
     };
@@ -32,9 +32,6 @@ pub(crate) fn square(alloc: Global) -> Result<Grid<P2>, Fail> {
 }
 
 // Puts the coordinates of a point behind a text, and a word behind them.
-pub(crate) fn put_point<P: Point>(text: &mut String, p: P, behind: &str) -> Result<(), Fail> {
-    for k in 0..P::DIM {
-        write!(text, " {}", p.coord(k))?;
-    }
-    Ok(text.push_str(behind)?)
+pub(crate) fn put_point(text: &mut String, p: P2, behind: &str) -> Result<(), Fail> {
+    Ok(write!(text, " {} {}{behind}", p.x, p.y)?)
 }

@@ -1,5 +1,5 @@
-//! Topological numbers and simple points, counted by hand.
-//! A further row is a mask, or a picture, and its numbers.
+//! Simple points of tables and of spreads beside the topological numbers, and the masks of a square. Single masks stand in `boxes.cases` of `run_cases`.
+//! A further picture is one more test.
 ghost use Rattle.std.specs.Prelude.{◌≡◌};
 
 use crate::pictures::{at, square};
@@ -9,39 +9,6 @@ use shape_topo::{MaskedGrid, SimpleMask, background_number, is_simple, mask_of, 
 use std::marker::Brand;
 use std::sync::ledger::{Blank, Ledger};
 use std::test::Fail;
-
-// A mask, and its numbers of components of the object and of the background: no near neighbour, all, one corner, two corners,
-// two sides in a row, two sides round a corner.
-const NUMBERS: [(u32, u8, u8); 6] = [
-    (0, 0, 1),
-    (255, 1, 0),
-    (1, 1, 1),
-    (129, 2, 2),
-    (24, 2, 2),
-    (10, 1, 1),
-];
-
-#[test]
-fn numbers_of_masks(rt: HostRuntime) {
-    for (mask, object, background) in &NUMBERS {
-        let mask = *mask % 256;
-        assert!(rt; object_number::<P2>(mask) == *object, "{mask}");
-        assert!(rt; background_number::<P2>(mask) == *background, "{mask}");
-    }
-}
-
-// Masks of space, by their numbers of components of the background. All near neighbours are object but +x, +x+y, +z, +y+z and
-// +x+y+z; in the second row also +x+z, which is beside +x and +z, so that the two components of the background are one.
-const TUNNELS: [(u32, u8); 2] = [(0xdedfff, 2), (0x9edfff, 1)];
-
-#[test]
-fn a_tunnel_in_space(rt: HostRuntime) {
-    for (mask, background) in &TUNNELS {
-        let mask = *mask % 0x4000000;
-        assert!(rt; object_number::<P3>(mask) == 1 && background_number::<P3>(mask) == *background);
-        assert!(rt; P3::simple_mask(mask) == (*background == 1));
-    }
-}
 
 #[test]
 fn the_table_and_the_counts(rt: HostRuntime) {
@@ -64,13 +31,6 @@ fn the_spreads_and_the_counts(rt: HostRuntime) {
         let mask = state >> 6;
         let both_are_one = object_number::<P3>(mask) == 1 && background_number::<P3>(mask) == 1;
         assert!(rt; P3::simple_mask(mask) == both_are_one);
-    }
-    // no near neighbour, all, one corner, two opposite sides, all but one side, all but two opposite sides
-    let masks = [0u32, 0x3ffffff, 1, 0x200010, 0x3ffffef, 0x3dfffef];
-    let simple = [false, false, true, false, true, false];
-    for i in 0..6usize {
-        let mask = masks[i] % 0x4000000;
-        assert!(rt; P3::simple_mask(mask) == simple[i]);
     }
 }
 
