@@ -1,10 +1,13 @@
 -- The line of the plane with given numbers in the frame.
 -- Plain variables alone stand here.
-use Rattle.std.proofs.Common.{◌≡◌, ℕ, zero, suc, ◌<◌, ◌≤◌, ◌⊎◌, inl, inr, List, [], ◌∷◌, ◌++◌, length, take, refl, ap, sym, subst, ◌∙◌, arith}
+use Rattle.std.proofs.Common.{◌-◌, get_or, FitsSigned, w64, ◌≡◌, ℕ, zero, suc, ◌<◌, ◌≤◌, ◌⊎◌, inl, inr, List, [], ◌∷◌, ◌++◌, length, take, refl, ap, sym, subst, ◌∙◌, arith}
 use Rattle.std.specs.Prelude.{ℤ, pos, negsuc, ◌*ℤ◌, unsigned_abs}
-use Rattle.std.proofs.lemmas.Int.{ints}
+use Rattle.std.proofs.lemmas.Int.{ints, fits_signed_from_abs}
+use Rattle.std.proofs.lemmas.List.{get_or-take}
 use Rattle.shape_terms.specs.Points.{coordinate}
+use Rattle.shape_terms.specs.Turns.{other_axis}
 use Rattle.shape_refute.specs.declared.naive.Naive.{Naive}
+use Rattle.shape_line.specs.Small.{IsPlaneLine}
 use Rattle.shape_line.specs.Frames.{IsSense, row}
 use Rattle.shape_line.specs.FrameTerms.{IsFrameLine}
 use Rattle.shape_line.proofs.Frames.{which}
@@ -50,3 +53,23 @@ frame_line (suc zero) s a b mu r line l sense sa sb sm er sr et ea em = record {
   mu = em;
 }
 frame_line (suc (suc t)) s a b mu r line l sense sa sb sm er sr et ea em = absurd (omega arith)
+
+-- ---- the coefficient of the other axis
+
+taken_other : (t : ℕ) (a : List ℤ) → t < 2 → coordinate (take 2 a) (other_axis t) ≡ get_or a (1 - t) (pos 0)
+taken_other t a l = get_or-take 2 a (1 - t) (pos 0) (omega arith)
+
+module _ (t : ℕ) (s : ℤ) (line : Naive) (l : t < 2) (h : IsPlaneLine t line) where
+  pub other_small : unsigned_abs (get_or line.a (1 - t) (pos 0)) ≤ 8192
+  other_small = by_axis t l
+    where
+      by_axis : (t : ℕ) → t < 2 → unsigned_abs (get_or line.a (1 - t) (pos 0)) ≤ 8192
+      by_axis zero b = h.y_small
+      by_axis (suc zero) b = h.x_small
+      by_axis (suc (suc n)) b = absurd (omega arith)
+
+  pub other_fits : FitsSigned w64 (get_or line.a (1 - t) (pos 0))
+  other_fits = let b = other_small in fits_signed_from_abs w64 (get_or line.a (1 - t) (pos 0)) (omega (arith, b))
+
+  pub other_side : (r : ℤ) → r ≡ s *ℤ get_or line.a (1 - t) (pos 0) → r ≡ s *ℤ coordinate (take 2 line.a) (other_axis t)
+  other_side r e = e ∙ ap (λ (z : ℤ). s *ℤ z) (sym (taken_other t line.a l))
