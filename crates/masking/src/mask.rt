@@ -1,6 +1,6 @@
 //! The masks, and what each is made of.
 //! A further mask is a variant and an arm of each `match`.
-ghost use Rattle.std.specs.Prelude.{◌≡◌, ◌≢◌, MatchOption};
+ghost use Rattle.std.specs.Prelude.{◌≡◌, ◌≢◌, IfOk, MatchOption};
 ghost use Rattle.masking.specs.Words.{mask_word};
 
 use crate::bits::bits;
@@ -39,6 +39,32 @@ pub(crate) fn mask_called(word: &[u8]) -> Option<Mask>
     None
 }
 
+impl Mask {
+    ghost use Rattle.masking.specs.Masks.{mask_bytes};
+
+    // The bytes of the mask, of what the report of a flat picture says.
+    fn flat_bytes(&self, alloc: Global, seen: &Seen<P2>) -> Result<Vec<u8>, NoMemory>
+        ensures { IfOk result (λ v. v.items ≡ mask_bytes self.now 2 seen.now) }
+    {
+        match self {
+            Mask::Skeleton => bits(alloc, seen.left()),
+            Mask::Object => bits(alloc, seen.object()),
+            Mask::Distances => greys(alloc, seen.object(), seen.squares()),
+        }
+    }
+
+    // The bytes of the mask, of what the report of a volume says.
+    fn solid_bytes(&self, alloc: Global, seen: &Seen<P3>) -> Result<Vec<u8>, NoMemory>
+        ensures { IfOk result (λ v. v.items ≡ mask_bytes self.now 3 seen.now) }
+    {
+        match self {
+            Mask::Skeleton => voxels(alloc, seen.left()),
+            Mask::Object => voxels(alloc, seen.object()),
+            Mask::Distances => depths(alloc, seen.squares()),
+        }
+    }
+}
+
 impl Making for Mask {
     ghost use Rattle.report_making.specs.Made.{exactly};
     ghost use Rattle.masking.specs.Masks.{mask_bytes};
@@ -54,11 +80,7 @@ impl Making for Mask {
     }
 
     fn make_flat(&self, alloc: Global, seen: Seen<P2>) -> Result<Vec<u8>, NoMemory> {
-        match self {
-            Mask::Skeleton => bits(alloc, seen.left()),
-            Mask::Object => bits(alloc, seen.object()),
-            Mask::Distances => greys(alloc, seen.object(), seen.squares()),
-        }
+        self.flat_bytes(alloc, &seen)
     }
 
     fn begin_solid(&self, alloc: Global, heading: &Heading<P3>) -> Result<Seen<P3>, NoMemory> {
@@ -66,10 +88,6 @@ impl Making for Mask {
     }
 
     fn make_solid(&self, alloc: Global, seen: Seen<P3>) -> Result<Vec<u8>, NoMemory> {
-        match self {
-            Mask::Skeleton => voxels(alloc, seen.left()),
-            Mask::Object => voxels(alloc, seen.object()),
-            Mask::Distances => depths(alloc, seen.squares()),
-        }
+        self.solid_bytes(alloc, &seen)
     }
 }
