@@ -9,6 +9,9 @@ use Rattle.report_terms.specs.Lines.{Line, spelling, IsLineOf, spelled}
 use Rattle.report_terms.specs.Progress.{StartsWithLine, StartsWithNoLine}
 use Rattle.report_terms.proofs.Spelled.{spelling_injective, are_spelled}
 use Rattle.text_terms.proofs.Checking.{same_front, no_line_without_lf, no_line_too_long}
+use Rattle.shape_report.specs.declared.line.Line as ShapeReport
+use Rattle.shape_report.specs.declared.line.Line.TheVariants.{Shape}
+use Rattle.shape_report.specs.LineOf.{line_of}
 use Rattle.report_lines.specs.Reports.{Space, flat, solid, IsHeading, IsOfVolume}
 use Rattle.report_lines.specs.Seen.{flat_line, solid_line}
 use Rattle.report_lines.specs.Headings.{Spells, IsAnyHeading, IsHeadingLine, HeadingOf, TakesHeading, LacksHeading, IsNoOpening}
@@ -23,6 +26,11 @@ use Rattle.report_lines.specs.declared.opening.Opening.TheVariants.{Flat, Solid,
 -- a line with such a spelling that is no heading
 pub no_heading_line : (s : Space) (bytes : List ℕ) (l : Line) → IsLineOf s.axes l → spelling l ≡ bytes → (IsHeading s.greatest l → ⊥) → Spells s.axes bytes (IsHeading s.greatest) → ⊥
 no_heading_line s bytes l f e h = λ (m, g, d, i). h (subst (IsHeading s.greatest) (spelling_injective s.axes m l g f (d ∙ sym e)) i)
+
+-- a line that is no `shape` line is no heading
+pub no_heading : {P : Type 0} (greatest : ℤ) (coords : P → List ℤ) (l : ShapeReport.Line P) → ((number : _) (sides : P) (rule : _) → l ≡ Shape number sides rule → ⊥) → IsHeading greatest (line_of coords l) → ⊥
+no_heading greatest coords (Shape number sides rule) none i = none number sides rule refl
+no_heading greatest coords _ none i = i
 
 -- a heading of a space of volumes is one
 pub any_heading : (greatest : ℤ) (l : Line) → IsHeading greatest l → IsAnyHeading l

@@ -1,15 +1,15 @@
 -- From the heading of a report to the lines behind it, for a sketch of them.
 -- Laws over texts and lines; a sketch is only what it is said to be.
-use Rattle.std.proofs.Common.{◌≡◌, ℕ, ◌≤◌, refl, sym, subst, List, [], ◌∷◌, ◌++◌, Option, None, Some}
+use Rattle.std.proofs.Common.{◌≡◌, ℕ, refl, sym, subst, List, [], ◌∷◌, Option, None, Some}
 use Rattle.shape_desk.specs.Line.{IfTold}
 use Rattle.text_terms.specs.Going.{IsTextOf}
 use Rattle.text_terms.proofs.Checking.{begins_none, begins_next}
 use Rattle.report_text.specs.Checks.{HasCome}
 use Rattle.report_terms.specs.Lines.{Line}
-use Rattle.report_lines.specs.Reports.{Space, line_rank, in_order}
+use Rattle.report_lines.specs.Reports.{Space, in_order}
 use Rattle.report_lines.specs.Standing.{HasRisenTo, StandsFor}
 use Rattle.report_lines.specs.Headings.{TakesHeading}
-use Rattle.report_lines.proofs.Order.{comes_first, risen_first, risen_more}
+use Rattle.report_lines.proofs.Order.{comes_first, risen_first}
 
 module _ {S : Type 0} (IsOf : List Line → S → Type 0) (s : Space) where
   -- the heading was taken, and a sketch begins with it
