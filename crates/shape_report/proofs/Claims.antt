@@ -1,6 +1,6 @@
 -- From the words of a line to its bytes, and back.
 -- Laws for all lines at once; what the words of a kind are, its form says.
-use Rattle.std.proofs.Common.{◌≡◌, ◌≢◌, ℕ, ℤ, Option, Some, None, true, List, ◌∷◌, refl, sym, ap, ◌∙◌}
+use Rattle.std.proofs.Common.{◌≡◌, ◌≢◌, ℕ, ℤ, Option, Some, None, true, List, [], ◌∷◌, refl, sym, ap, ◌∙◌}
 use Rattle.std.specs.Prelude.{MatchOption}
 use Rattle.std.specs.List.{join_with_byte}
 use Rattle.std.specs.Option.{option_and_then}
@@ -21,7 +21,7 @@ use Rattle.shape_refute.specs.declared.refusal.Refusal.{Refusal}
 use Rattle.shape_refute.specs.declared.refusal.Refusal.TheVariants.{Turned, Cut}
 use Rattle.shape_report.specs.declared.line.Line.{Line}
 use Rattle.shape_report.specs.LineOf.{line_of}
-use Rattle.shape_report.specs.Reading.{HasNoThird, ReadsKind, ReadsFields, ReadsLine}
+use Rattle.shape_report.specs.Reading.{HasNoThird, ReadsEnd, ReadsKind, ReadsFields, ReadsLine}
 use Rattle.shape_report.specs.Spelling.{split_text}
 
 -- the text of a line's words is its spelling
@@ -76,3 +76,9 @@ of_claim d coords bytes (Some line) h = (h.0, h.1)
 
 pub read_bytes : {P : Type 0} (d : ℕ) (coords : P → List ℤ) (bytes : List ℕ) (r : Option (Line P)) → ReadsLine d coords (split_words bytes) r → ReadsBytes (Terms.spelled d) (λ l. line_of coords l) bytes r
 read_bytes d coords bytes r h = of_claim d coords bytes r (from_words d coords bytes r h)
+
+-- whether no word is left
+pub ends : (words : List (List ℕ)) (r : Option (Unit {0})) → MatchOption r (words ≢ []) (λ _. words ≡ []) → ReadsEnd words r
+ends [] None h = absurd (h refl)
+ends (w ∷ ws) None h = λ s. refl
+ends words (Some u) h = h
