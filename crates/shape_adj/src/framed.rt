@@ -38,7 +38,8 @@ fn all_true(alloc: Global, len: u32) -> Result<Bits, NoMemory>
 fn end_of_row(i: u32, side: i32) -> u32
     requires few { i < 8388608 }
     requires some { pos 1 ≤ℤ side }
-    ensures { result ≡ i - i % nat_abs side + nat_abs side }
+    ensures value { result ≡ i - i % nat_abs side + nat_abs side }
+    ensures behind { i < result }
 {
     let n = side as u32;
     i - i % n + n

@@ -1,7 +1,8 @@
 //! The neighbours of points of space: 26 near ones and 6 beside.
 //! What a pairing owes, `pairing.rt` says; the numbering is that of the steps in `shape_terms`.
-ghost use Rattle.std.specs.Prelude.{◌≡◌, ◌<◌, ◌≤◌, [], ◌∷◌, refl, nat_abs};
-ghost use Rattle.shape_terms.specs.Adjacency.{near_step, side_step};
+ghost use Rattle.std.specs.Prelude.{◌≡◌, ◌<◌, ◌≤◌, [], ◌∷◌, pos, negsuc, refl, nat_abs};
+ghost use Rattle.shape_terms.specs.FramedBox.{IsWithin};
+ghost use Rattle.shape_terms.specs.Adjacency.{near_step, side_step, moved};
 ghost use Rattle.shape_terms.proofs.AdjacencySymmetric.{near_sym, side_sym};
 ghost use Rattle.shape_terms.proofs.NeighbourNumbers.{near_listed_once, side_listed_once, side_is_round};
 ghost use Rattle.number_terms.proofs.RoundSets.{solid_round};
@@ -69,6 +70,23 @@ fn solid_side_step(k: usize) -> P3
     }
 }
 
+// The point that a short step leads to from a point of a framed box.
+#[inline]
+fn solid_moved(p: P3, step: P3) -> P3
+    requires within { IsWithin (negsuc 1) (pos 4096) (p.x ∷ p.y ∷ p.z ∷ []) }
+    requires short_x { nat_abs step.x ≤ 1 }
+    requires short_y { nat_abs step.y ≤ 1 }
+    requires short_z { nat_abs step.z ≤ 1 }
+    ensures { result.x ∷ result.y ∷ result.z ∷ []
+        ≡ moved (p.x ∷ p.y ∷ p.z ∷ []) (step.x ∷ step.y ∷ step.z ∷ []) }
+{
+    P3 {
+        x: stepped(p.x, step.x),
+        y: stepped(p.y, step.y),
+        z: stepped(p.z, step.z),
+    }
+}
+
 impl Pairing for P3 {
     ghost NEAR_COUNT = { 26 };
 
@@ -108,19 +126,11 @@ impl Pairing for P3 {
 
     fn near(&self, k: usize) -> P3 {
         let step = solid_near_step(k);
-        P3 {
-            x: stepped(self.x, step.x),
-            y: stepped(self.y, step.y),
-            z: stepped(self.z, step.z),
-        }
+        solid_moved(*self, step)
     }
 
     fn side(&self, k: usize) -> P3 {
         let step = solid_side_step(k);
-        P3 {
-            x: stepped(self.x, step.x),
-            y: stepped(self.y, step.y),
-            z: stepped(self.z, step.z),
-        }
+        solid_moved(*self, step)
     }
 }
