@@ -9,7 +9,7 @@ use Rattle.std.specs.Ordering.{int_eq}
 use Rattle.std.proofs.lemmas.Bool.Decides.{nat_tests, Decides-int_eq, Decides-and}
 use Rattle.shape_space.specs.declared.solid.P3.{P3}
 use Rattle.judge_plane.specs.Terms.{point_of}
-use Rattle.std.proofs.lemmas.List.{length-append, length-drop, take_more, map-append, length-map, length-take-le}
+use Rattle.std.proofs.lemmas.List.{length-append, length-drop, drop-append-le, take_more, map-append, length-map, length-take-le}
 use Rattle.std.proofs.lemmas.List.Elements.{Contains-append_left, Contains-push_cases}
 use Rattle.shape_terms.specs.Points.{Point, box_count, raster_number, raster_point}
 use Rattle.shape_terms.specs.Adjacency.{moved}
@@ -24,7 +24,7 @@ use Rattle.patch_terms.specs.Patches.{sense_step, IsFirstLeft}
 use Rattle.report_terms.specs.FaceFacts.{face_axis, face_sense}
 use Rattle.report_terms.specs.FaceLines.{IsNextTouching, IsNextOn, PatchIsFull, IsPatchHead}
 use Rattle.judge_plane.specs.Exposure.{exposed_at, IsLeft, IsNearTo, AreTakenBelow, AreTouching, first_points}
-use Rattle.judge_plane.specs.PlaneState.{Counts, state_of, given_plane, AreInStep}
+use Rattle.judge_plane.specs.PlaneState.{Counts, state_of, given_plane, with_on, AreInStep}
 use Rattle.judge_plane.proofs.Exposing.{exposed_in}
 use Rattle.judge_plane.proofs.Touching.{next_yes, next_only, full_yes, full_only, of_before, before_of}
 
@@ -337,6 +337,14 @@ module _ (X : Picture) (c : Counts) (taken : List Point) (numbers : List ℕ) (k
 
   pub some_left : length (drop c.start taken) < c.declared → length taken < length (exposed_at X (c.begun - 1))
   some_left l = (let e = k.exposed (begun_of (omega arith)) in let s = k.start in let d = k.declared in omega (arith, length-drop c.start taken))
+
+  -- one more point of the patch; no point is refused so far
+  pub next_on : (plane : Naive) (p : Point) (now : List ℕ) → length (drop c.start taken) < c.declared → (state_of X c plane (taken ++ p ∷ []) now).standing ≡ with_on (state_of X c plane taken numbers).standing p
+  next_on plane p now l =
+      let none : c.refused ≡ 0 = k.early (let s = k.start in omega (arith, length-drop c.start taken)) in
+      let first : first_points X.sides c.refused now ≡ first_points X.sides c.refused numbers = ap (λ r. first_points X.sides r now) none ∙ sym (ap (λ r. first_points X.sides r numbers) none) in
+      let points : drop c.start (taken ++ p ∷ []) ≡ drop c.start taken ++ p ∷ [] = drop-append-le c.start taken (p ∷ []) k.start in
+      λ i. record { begun = c.begun; taken = taken ++ p ∷ []; patch = record { declared = c.declared; plane = given_plane c.declared plane; points = points i; refused = first i } }
 
 -- as many points as are counted
 pub length-first : (sides : List ℕ) (k : ℕ) (numbers : List ℕ) → k ≤ length numbers → length (first_points sides k numbers) ≡ k

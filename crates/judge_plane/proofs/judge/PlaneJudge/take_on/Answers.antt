@@ -1,4 +1,4 @@
-use Rattle.std.proofs.Common.{◌≡◌, ◌-◌, true, false, [], ◌∷◌, ◌++◌, length, drop, subst, ap, sym, ◌∙◌, arith}
+use Rattle.std.proofs.Common.{◌≡◌, ◌<◌, ◌≤◌, ◌-◌, [], ◌∷◌, ◌++◌, length, drop, subst, ap, sym, ◌∙◌, arith}
 use Rattle.std.proofs.lemmas.Bool.{false≢true}
 use Rattle.std.specs.Prelude.{IsTrue, vec_capacity}
 use Rattle.shape_terms.specs.Points.{sides_of, in_box, box_count}
@@ -7,11 +7,11 @@ use Rattle.report_terms.specs.FaceLines.{IsNextOn, open_exposed}
 use Rattle.judge_plane.specs.Terms.{point_of}
 use Rattle.judge_plane.specs.Listings.{Listing}
 use Rattle.judge_plane.specs.Exposure.{exposed_at, AreLeft, AreRound}
-use Rattle.judge_plane.specs.PlaneState.{PlaneState, Counts, IsKept}
+use Rattle.judge_plane.specs.PlaneState.{PlaneState, Counts, IsKept, state_of, with_on}
 use Rattle.judge_plane.proofs.Exposing.{exposed_in}
 use Rattle.judge_plane.proofs.LeftPoints.{left_less, round_touches}
 use Rattle.judge_plane.proofs.Marking.{marked_taken}
-use Rattle.judge_plane.proofs.Steps.{left_of_next, more_points, begun_of, step_on}
+use Rattle.judge_plane.proofs.Steps.{left_of_next, more_points, begun_of, some_left, next_on, step_on}
 use Rattle.judge_plane.proofs.judge.PlaneJudge.take_on.Goals as goal
 
 pub push-requires-clause-inside : goal.push-requires-clause-inside
@@ -122,3 +122,77 @@ invariant_of-self-else-len-self c =
       axis = k.axis;
       step = step_on j.grid n j.plane j.taken.points j.touching.items k.step p j.touching.items more left (λ e. absurd (c.if-len-self.false (c.len.ensures.value ∙ points ∙ e))) k.step.few;
     })
+
+pub overflow_add-self-inside : goal.overflow_add-self-inside
+overflow_add-self-inside c = omega (arith, c.self-2.invariant.step.declared)
+
+pub find_round-requires-clause-near_box : goal.find_round-requires-clause-near_box
+find_round-requires-clause-near_box c = let k = c.self-2.invariant in k.near_box ∙ sym (ap (λ (Y : Picture). Y.sides) c.clear.ensures ∙ k.left_box)
+
+pub find_round-requires-clause-taken_box : goal.find_round-requires-clause-taken_box
+find_round-requires-clause-taken_box c = let k = c.self-2.invariant in ap (λ (l : Listing). l.sides) c.push.ensures ∙ k.taken_box ∙ sym (ap (λ (Y : Picture). Y.sides) c.clear.ensures ∙ k.left_box)
+
+pub find_round-requires-clause-box_ : goal.find_round-requires-clause-box_
+find_round-requires-clause-box_ c = let k = c.self-2.invariant in k.marks_box ∙ sym (ap (λ (Y : Picture). Y.sides) c.clear.ensures ∙ k.left_box)
+
+pub find_round-requires-clause-none : goal.find_round-requires-clause-none
+find_round-requires-clause-none c = c.self-2.invariant.unmarked
+
+pub find_round-requires-clause-room : goal.find_round-requires-clause-room
+find_round-requires-clause-room c =
+    let k = c.self-2.invariant in
+    subst (λ s. box_count s ≤ vec_capacity c.self-2.inside.touching) (sym (ap (λ (Y : Picture). Y.sides) c.clear.ensures ∙ k.left_box)) k.fits
+
+pub returns-then-len-self-clause-picture : goal.returns-then-len-self-clause-picture
+returns-then-len-self-clause-picture c = ap (λ (s : PlaneState). s.picture) (c.self-2.view_is ∙ c.is_next.ensures.same)
+
+pub returns-else-len-self-clause-picture : goal.returns-else-len-self-clause-picture
+returns-else-len-self-clause-picture c = ap (λ (s : PlaneState). s.picture) (c.self-2.view_is ∙ c.is_next.ensures.same)
+
+pub returns-then-len-self-clause-left : goal.returns-then-len-self-clause-left
+returns-then-len-self-clause-left c =
+    let j = c.self-2.inside in
+    let n : Counts = record { begun = j.begun; exposed = j.exposed; start = j.start; declared = j.declared; cursor = j.cursor; refused = j.refused } in
+    let k = c.self-2.invariant in
+    let same = c.self-2.view_is ∙ c.is_next.ensures.same in
+    let more = more_points j.grid n j.taken.points j.touching.items k.step (λ e. (
+    let t = c.has_points.ensures.1 (subst (λ (s : PlaneState). length s.standing.patch.points ≡ s.standing.patch.declared) same e) in
+    false≢true (sym c.if-has_points.false ∙ t))) in
+    subst (λ (s : PlaneState). length s.standing.taken < length (open_exposed s.picture s.standing)) same (some_left j.grid n j.taken.points j.touching.items k.step more)
+
+pub returns-then-len-self-clause-next : goal.returns-then-len-self-clause-next
+returns-then-len-self-clause-next c =
+    let j = c.self-2.inside in
+    let n : Counts = record { begun = j.begun; exposed = j.exposed; start = j.start; declared = j.declared; cursor = j.cursor; refused = j.refused } in
+    let k = c.self-2.invariant in
+    let same = c.self-2.view_is ∙ c.is_next.ensures.same in
+    let more = more_points j.grid n j.taken.points j.touching.items k.step (λ e. (
+    let t = c.has_points.ensures.1 (subst (λ (s : PlaneState). length s.standing.patch.points ≡ s.standing.patch.declared) same e) in
+    false≢true (sym c.if-has_points.false ∙ t))) in
+    ap (λ (l : Listing). (state_of j.grid n j.plane l.points c.find_round.new.numbers.items).standing) c.push.ensures
+    ∙ next_on j.grid n j.taken.points j.touching.items k.step j.plane (point_of c.args.p) c.find_round.new.numbers.items more
+    ∙ ap (λ (s : PlaneState). with_on s.standing (point_of c.args.p)) same
+
+pub returns-else-len-self-clause-left : goal.returns-else-len-self-clause-left
+returns-else-len-self-clause-left c =
+    let j = c.self-2.inside in
+    let n : Counts = record { begun = j.begun; exposed = j.exposed; start = j.start; declared = j.declared; cursor = j.cursor; refused = j.refused } in
+    let k = c.self-2.invariant in
+    let same = c.self-2.view_is ∙ c.is_next.ensures.same in
+    let more = more_points j.grid n j.taken.points j.touching.items k.step (λ e. (
+    let t = c.has_points.ensures.1 (subst (λ (s : PlaneState). length s.standing.patch.points ≡ s.standing.patch.declared) same e) in
+    false≢true (sym c.if-has_points.false ∙ t))) in
+    subst (λ (s : PlaneState). length s.standing.taken < length (open_exposed s.picture s.standing)) same (some_left j.grid n j.taken.points j.touching.items k.step more)
+
+pub returns-else-len-self-clause-next : goal.returns-else-len-self-clause-next
+returns-else-len-self-clause-next c =
+    let j = c.self-2.inside in
+    let n : Counts = record { begun = j.begun; exposed = j.exposed; start = j.start; declared = j.declared; cursor = j.cursor; refused = j.refused } in
+    let k = c.self-2.invariant in
+    let same = c.self-2.view_is ∙ c.is_next.ensures.same in
+    let more = more_points j.grid n j.taken.points j.touching.items k.step (λ e. (
+    let t = c.has_points.ensures.1 (subst (λ (s : PlaneState). length s.standing.patch.points ≡ s.standing.patch.declared) same e) in
+    false≢true (sym c.if-has_points.false ∙ t))) in
+    ap (λ (l : Listing). (state_of j.grid n j.plane l.points j.touching.items).standing) c.push.ensures
+    ∙ next_on j.grid n j.taken.points j.touching.items k.step j.plane (point_of c.args.p) j.touching.items more
+    ∙ ap (λ (s : PlaneState). with_on s.standing (point_of c.args.p)) same

@@ -1,10 +1,10 @@
-use Rattle.std.proofs.Common.{◌≡◌, ◌≤◌, ◌+◌, ℕ, List, [], sym, subst, map, arith}
-use Rattle.std.specs.Prelude.{AllPairs, vec_capacity}
+use Rattle.std.proofs.Common.{◌≡◌, ◌≤◌, ◌+◌, ℕ, List, [], ap, sym, subst, map, arith}
+use Rattle.std.specs.Prelude.{vec_capacity}
 use Rattle.shape_terms.proofs.SameCycles.{in_none}
-use Rattle.shape_terms.specs.Points.{Point, box_count}
+use Rattle.shape_terms.specs.Points.{sides_of, box_count}
 use Rattle.shape_space.specs.declared.solid.P3.{P3}
 use Rattle.judge_plane.specs.Terms.{point_of}
-use Rattle.judge_plane.specs.Listings.{AreListed}
+use Rattle.judge_plane.specs.Listings.{listing_of, AreListed}
 use Rattle.judge_plane.proofs.listed.Listed.new.Goals as goal
 
 -- no point is listed
@@ -13,3 +13,6 @@ none_listed sides items room e l = subst (λ ps. AreListed sides (map point_of p
 
 pub invariant_of-result : goal.invariant_of-result
 invariant_of-result c = none_listed _ c.in_ok-points.points.items (vec_capacity c.in_ok-points.points) c.in_ok-points.ensures.items (omega (arith, c.in_ok-points.ensures.capacity, c.count.ensures.value))
+
+pub returns : goal.returns
+returns c = ap (λ ps. listing_of (sides_of (point_of c.args.sides.lengths)) (map point_of ps)) c.in_ok-points.ensures.items
