@@ -45,7 +45,8 @@ fn shares(words: &mut Words) -> Option<Shares>
 
 // The step along an axis of space that a sign and a letter name.
 fn step_along(sign: u8, letter: u8) -> Option<Step>
-    ensures { (left : _) → ReadsForm shift_of (step 3) ((117 ∷ 112 ∷ sign ∷ letter ∷ []) ∷ left) left result }
+    ensures { (left : _) → ReadsForm shift_of (step 3)
+        ((117 ∷ 112 ∷ sign ∷ letter ∷ []) ∷ left) left result }
 {
     if letter < b'x' || letter > b'z' {
         return None;
