@@ -26,28 +26,12 @@ const POINTS: [&[u8]; 9] = [
     b"0 0\n", b"1 0\n", b"2 0\n", b"0 1\n", b"1 1\n", b"2 1\n", b"0 2\n", b"1 2\n", b"2 2\n",
 ];
 
-/// The first lines of reports of 0 to 9 balls.
-const HEADS: [&[u8]; 10] = [
-    b"balls 1 pbm 3 3 0\n",
-    b"balls 1 pbm 3 3 1\n",
-    b"balls 1 pbm 3 3 2\n",
-    b"balls 1 pbm 3 3 3\n",
-    b"balls 1 pbm 3 3 4\n",
-    b"balls 1 pbm 3 3 5\n",
-    b"balls 1 pbm 3 3 6\n",
-    b"balls 1 pbm 3 3 7\n",
-    b"balls 1 pbm 3 3 8\n",
-    b"balls 1 pbm 3 3 9\n",
-];
-
 // The report that lists the balls of the points whose bits are set, where the centre's ball has this own point.
 fn listing(alloc: Global, bits: u32, own: &[u8]) -> Result<Vec<u8>, Fail> {
     let mut balls = Vec::new(alloc);
-    let mut number = 0_usize;
     let mut rest = bits;
-    for line in LINES {
+    for line in &LINES {
         if rest % 2 == 1 {
-            number = number.wrapping_add(1);
             balls.extend_from_slice(line)?;
             if !line.ends_with(b"\n") {
                 balls.extend_from_slice(own)?;
@@ -55,11 +39,9 @@ fn listing(alloc: Global, bits: u32, own: &[u8]) -> Result<Vec<u8>, Fail> {
         }
         rest /= 2;
     }
-    let mut text = Vec::new(alloc);
-    if let Some(head) = HEADS.get(number) {
-        text.extend_from_slice(head)?;
-    }
-    text.extend_from_slice(balls.as_slice())?;
+    let head = format!(in alloc; "balls 1 pbm 3 3 {}\n", bits.count_ones())?;
+    let mut text = head.into_bytes();
+    text.extend_from_slice(&balls)?;
     text.extend_from_slice(b"end\n")?;
     Ok(text)
 }

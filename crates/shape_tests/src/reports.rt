@@ -2,8 +2,8 @@
 ghost use Rattle.std.specs.Prelude.{◌==◌, [], ◌∷◌, if◌then◌else◌, slice_index};
 ghost use Rattle.thin_terms.specs.Thinning.{rule_by};
 
-use crate::runs::{desk, single, words};
-use shape_cli::{Outcome, run};
+use crate::runs::{desk, ran};
+use shape_cli::Outcome;
 use shape_rules::{EndRule, Facts};
 use std::test::Fail;
 
@@ -37,14 +37,12 @@ const BY_ALTERNATE: &[u8] =
 fn a_rule_of_the_caller(rt: HostRuntime) -> Result<(), Fail> {
     let alloc = rt.alloc();
     let picture = b"P1 3 3 111111111".as_slice();
-    let shelf = single(alloc, Box::new(alloc, Alternate { turn: 1 })?)?;
     let mut made = desk(alloc, picture, b"")?;
-    let words_of_analysis = words(alloc, "analyse pbm a curve")?;
-    assert!(rt; run(alloc, &words_of_analysis, &mut made, shelf) == Outcome::Done);
+    let rule = Box::new(alloc, Alternate { turn: 1 })?;
+    assert!(rt; ran(alloc, "analyse pbm a curve", &mut made, rule)? == Outcome::Done);
     assert!(rt; made.output().ends_with(BY_ALTERNATE));
-    let shelf = single(alloc, Box::new(alloc, Alternate { turn: 1 })?)?;
     let mut checked = desk(alloc, picture, made.output())?;
-    let words_of_check = words(alloc, "check pbm a b")?;
-    assert!(rt; run(alloc, &words_of_check, &mut checked, shelf) == Outcome::Yes);
+    let rule = Box::new(alloc, Alternate { turn: 1 })?;
+    assert!(rt; ran(alloc, "check pbm a b", &mut checked, rule)? == Outcome::Yes);
     Ok(())
 }

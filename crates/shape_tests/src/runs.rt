@@ -1,6 +1,6 @@
 //! What the tests of runs share: words, a desk in memory, the rules of the program, and a shelf with a rule of the caller.
 //! No test stands here.
-use shape_cli::shelf;
+use shape_cli::{Outcome, run, shelf};
 use shape_desk::MemoryDesk;
 use shape_rules::{CurveEnds, EndRule, Entry, FewEnds, Name, NoEnds, Shelf};
 use std::alloc::{AllocError, Global};
@@ -15,7 +15,7 @@ pub(crate) fn desk(alloc: Global, picture: &[u8], report: &[u8]) -> Result<Memor
 }
 
 // The words of a command line.
-pub(crate) fn words(alloc: Global, line: &str) -> Result<Vec<Vec<u8>>, Fail> {
+fn words(alloc: Global, line: &str) -> Result<Vec<Vec<u8>>, Fail> {
     let mut words = Vec::new(alloc);
     for word in line.split_whitespace() {
         words.push(word.as_bytes().to_vec(alloc)?)?;
@@ -35,11 +35,23 @@ pub(crate) fn rules(alloc: Global) -> Result<Shelf, Fail> {
 }
 
 // A shelf on which this rule stands alone, under the name `curve`.
-pub(crate) fn single(alloc: Global, rule: Box<dyn EndRule>) -> Result<Shelf, Fail> {
+fn single(alloc: Global, rule: Box<dyn EndRule>) -> Result<Shelf, Fail> {
     let Some(name) = Name::new(b"curve") else {
         return Err(Fail::from(AllocError));
     };
     let mut rules: Vec<Entry> = Vec::new(alloc);
     rules.push(Entry { name, rule })?;
     Ok(Shelf::new(rules))
+}
+
+// How a run of the words of this line ends over a desk, by a rule of the caller.
+pub(crate) fn ran(
+    alloc: Global,
+    line: &str,
+    desk: &mut MemoryDesk,
+    rule: Box<dyn EndRule>,
+) -> Result<Outcome, Fail> {
+    let shelf = single(alloc, rule)?;
+    let words = words(alloc, line)?;
+    Ok(run(alloc, &words, desk, shelf))
 }

@@ -1,6 +1,6 @@
 //! A trial asks its rule in the analysis and again in the check of its own report.
-use crate::runs::{desk, single, words};
-use shape_cli::{Outcome, run};
+use crate::runs::{desk, ran};
+use shape_cli::Outcome;
 use shape_rules::{EndRule, Facts};
 use std::cell::Cell;
 use std::rc::Rc;
@@ -39,9 +39,8 @@ fn a_trial_checks(rt: HostRuntime) -> Result<(), Fail> {
     let rule = Tallying {
         calls: calls.clone()?,
     };
-    let shelf = single(alloc, Box::new(alloc, rule)?)?;
     let mut desk = desk(alloc, b"", b"")?;
-    let outcome = run(alloc, &words(alloc, "trial pbm 0 4")?, &mut desk, shelf);
+    let outcome = ran(alloc, "trial pbm 0 4", &mut desk, Box::new(alloc, rule)?)?;
     assert!(rt; outcome == Outcome::Done && desk.output() == TALLIED);
     assert!(rt; calls.get() == 6);
     Ok(())
