@@ -1,8 +1,8 @@
 use Rattle.std.proofs.Common.{◌≡◌, ◌+◌, ◌-◌, ◌++◌, ◌||◌, not, min, length, take, Some, refl, ap, sym, ◌∙◌}
 use Rattle.std.proofs.lemmas.List.{with_items_is, length-take-le}
 use Rattle.shape_desk.specs.Memory.{next_is_bad, after_call}
-use Rattle.shape_desk.specs.MemoryView.{writes_of}
-use Rattle.shape_desk.proofs.Files.{full_is, puts_some, rose_next}
+use Rattle.shape_desk.specs.MemoryView.{state_of, writes_of}
+use Rattle.shape_desk.proofs.Files.{full_is, puts_some, rose_next, wrote}
 use Rattle.shape_desk.proofs.memory.MemoryDeskDesk.write.Goals as goal
 
 pub returns-then-count-clause-answer : goal.returns-then-count-clause-answer
@@ -11,13 +11,7 @@ returns-then-count-clause-answer c =
     record {
       put = refl;
       failed = rose_next d.writes.faults c.count.new.self.faults (ap (λ w. w.faults) (c.count.ensures.counted ∙ ap (λ b. after_call b (writes_of d)) c.if-count.true));
-      only = record {
-        same_files = refl;
-        same_left = λ p. refl;
-        same_begun = λ p. refl;
-        same_faults = refl;
-        later = c.count.ensures.later;
-      };
+      only = wrote (state_of d) _ c.count.new.self.faults c.count.ensures.later;
     }
 
 pub returns-then-count-clause-succeeds : goal.returns-then-count-clause-succeeds
@@ -42,13 +36,7 @@ returns-clause-answer c =
         ap Some (ap (take (d.used + p.result)) (with_items_is d.room p.new.room (p.ensures.length ∙ c.deref_mut.ensures.len)) ∙ p.ensures.put ∙ ap (λ l. take d.used l ++ take p.result c.args.bytes.now) room),
       );
       failed = tt;
-      only = record {
-        same_files = refl;
-        same_left = λ p. refl;
-        same_begun = λ p. refl;
-        same_faults = refl;
-        later = c.count.ensures.later;
-      };
+      only = wrote (state_of d) _ c.count.new.self.faults c.count.ensures.later;
     }
 
 pub returns-clause-succeeds : goal.returns-clause-succeeds
