@@ -1,10 +1,10 @@
 -- What the judge keeps of the cycle that was begun last: its path, and what makes the next arc.
 -- Laws over what the judge is seen as and the lists that it keeps.
-use Rattle.std.proofs.Common.{◌≡◌, ℕ, ◌+◌, ◌-◌, ◌<◌, List, length, ap, sym, ◌∙◌, subst, arith}
-use Rattle.std.specs.Prelude.{slice_index_or, slice_get, Some}
+use Rattle.std.proofs.Common.{◌≡◌, ℕ, ◌-◌, ◌<◌, List, length, ap, sym, ◌∙◌, subst, arith}
+use Rattle.std.specs.Prelude.{slice_get, Some}
 use Rattle.std.proofs.lemmas.Option.{get_or_from_slice_get}
 use Rattle.shape_terms.specs.Points.{Point}
-use Rattle.shape_terms.specs.Covers.{Stretch, arc, gap_run, next_first}
+use Rattle.shape_terms.specs.Covers.{Stretch, arc}
 use Rattle.edge_terms.specs.EdgeStraight.{Standard, IsStandardFor}
 use Rattle.edge_terms.specs.EdgeCycles.{EdgeCycle, no_cycle}
 use Rattle.edge_terms.specs.CycleLines.{Standing, open_path, IsNextArc}

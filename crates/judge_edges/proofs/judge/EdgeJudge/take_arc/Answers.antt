@@ -20,3 +20,6 @@ returns-clause-answer c =
       λ t. next_arc now.cycles now.standing c.open-path.result.now c.len-2.result i.declared arc.first arc.last (standard_of arc.line) (map stretch_of c.as_slice.result.now) c.open-path.ensures c.len-2.ensures.value declared listed more early places held,
       λ h. refl,
     )
+
+pub returns-clause-cycles : goal.returns-clause-cycles
+returns-clause-cycles c = ap (λ (t : EdgeState). t.cycles) c.self.view_is
