@@ -10,7 +10,7 @@ use Rattle.std.proofs.lemmas.List.Folds.{list_any-append}
 use Rattle.std.proofs.lemmas.List.{length-replicate}
 use Rattle.shape_terms.specs.Points.{Point, in_box, box_count, raster_number}
 use Rattle.shape_terms.specs.Pictures.{Picture, at, blank, with_value}
-use Rattle.thin_terms.proofs.OneValue.{with_value_picture, value_there, value_elsewhere}
+use Rattle.shape_terms.proofs.OneValue.{with_value_picture, value_there, value_elsewhere}
 use Rattle.report_terms.specs.Lines.{Line}
 use Rattle.text_terms.proofs.ListPushes.{filter_map-same, filter_map-push}
 use Rattle.std.proofs.lemmas.List.Elements.{filter-append, filter_map-append}

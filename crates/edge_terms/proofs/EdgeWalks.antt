@@ -5,11 +5,11 @@ use Rattle.std.proofs.lemmas.List.{get_or-map}
 use Rattle.shape_terms.specs.Points.{Point}
 use Rattle.shape_terms.specs.Covers.{Stretch}
 use Rattle.shape_terms.proofs.ArcRuns.{length-arc}
-use Rattle.walk_terms.specs.RunWalks.{IsWalk}
-use Rattle.walk_terms.proofs.RunArcs.{IsWalkKind}
-use Rattle.walk_terms.proofs.PlacedRuns.{IsPlaced, placed, few}
-use Rattle.walk_terms.proofs.WalkSteps.{length-stretches}
-use Rattle.walk_terms.proofs.WalkEnds.{some_found, runs_with_gaps, gap_bent, walk_finds_all}
+use Rattle.shape_terms.specs.RunWalks.{IsWalk}
+use Rattle.shape_terms.proofs.RunArcs.{IsWalkKind}
+use Rattle.shape_terms.proofs.PlacedRuns.{IsPlaced, placed, few}
+use Rattle.shape_terms.proofs.WalkSteps.{length-stretches}
+use Rattle.shape_terms.proofs.WalkEnds.{some_found, runs_with_gaps, gap_bent, walk_finds_all}
 use Rattle.edge_terms.specs.EdgeStraight.{IsEdgeStraight}
 use Rattle.edge_terms.specs.EdgeCovers.{Arc, stretches_of, arc_in, IsArc, IsEdgeCover}
 use Rattle.edge_terms.specs.EdgeWalks.{edge_walk}

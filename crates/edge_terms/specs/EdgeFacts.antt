@@ -6,7 +6,7 @@ use Rattle.shape_terms.specs.Pictures.{Picture}
 use Rattle.shape_terms.specs.Contours.{Crack}
 use Rattle.text_terms.specs.Spellings.{text_of}
 use Rattle.edge_terms.specs.EdgeStraight.{IsEdgeStraight}
-use Rattle.walk_terms.specs.RunCovers.{IsRunCover}
+use Rattle.shape_terms.specs.RunCovers.{IsRunCover}
 use Rattle.edge_terms.specs.EdgeCovers.{Arc, stretches_of, AreArcs}
 use Rattle.edge_terms.specs.EdgeCycles.{EdgeCycle, AreEdgeCycles}
 use Rattle.edge_terms.specs.Lines.{Line, spelled}

@@ -11,9 +11,9 @@ use Rattle.shape_terms.specs.Points.{box_count}
 use Rattle.shape_terms.specs.Pictures.{Picture}
 use Rattle.shape_terms.specs.Contours.{Crack, IsCrack, IsCycle, stays, left_pixels, contour_points}
 use Rattle.shape_terms.specs.Traces.{Contour, AreContours, contour_of}
-use Rattle.number_terms.specs.CrackNumbers.{crack_number}
+use Rattle.shape_terms.specs.CrackNumbers.{crack_number}
 use Rattle.report_terms.specs.ContourLines.{no_contour}
-use Rattle.number_terms.proofs.Numbered.{number_below, number_once}
+use Rattle.shape_terms.proofs.Numbered.{number_below, number_once}
 use Rattle.shape_terms.proofs.Pigeon.{pigeon}
 use Rattle.judge_cover.specs.CoverState.{points_in, room_of}
 

@@ -12,7 +12,7 @@ use Rattle.shape_terms.specs.Pictures.{Picture}
 use Rattle.shape_terms.specs.Contours.{Crack}
 use Rattle.shape_terms.specs.Naive.{Naive}
 use Rattle.shape_terms.specs.Covers.{Evidence}
-use Rattle.least_terms.specs.Least.{Pairs}
+use Rattle.shape_terms.specs.Least.{Pairs}
 use Rattle.std.proofs.lemmas.List.{length-append}
 use Rattle.shape_terms.specs.Traces.{Contour, AreContours}
 use Rattle.report_terms.specs.Lines.{Line}

@@ -5,7 +5,7 @@ ghost use Rattle.std.specs.Bool.{OnTrue};
 ghost use Rattle.shape_terms.specs.Points.{coordinate};
 ghost use Rattle.shape_terms.specs.Pictures.{Picture};
 ghost use Rattle.shape_terms.specs.Covers.{IsEvidence, arc, next_first, gap_run};
-ghost use Rattle.least_terms.specs.Least.{ShowsLeast};
+ghost use Rattle.shape_terms.specs.Least.{ShowsLeast};
 ghost use Rattle.report_terms.specs.Lines as Terms;
 ghost use Rattle.report_terms.specs.ContourLines.{open_contour, HasAllLines, IsFull, WantsNone, IsContourHead, IsNextPoint, IsNextSegment, IsNextLeast, IsNextGap};
 ghost use Rattle.report_terms.specs.Sections.{FlatClaim, AllContours};

@@ -7,10 +7,10 @@ use Rattle.std.proofs.lemmas.List.{length-replicate, get_or-replicate, get_or_pa
 use Rattle.shape_terms.specs.Points.{Point, box_count, raster_number, raster_point}
 use Rattle.shape_terms.specs.Pictures.{Picture, at}
 use Rattle.shape_terms.specs.FramedBox.{framed_sides, framed_point}
-use Rattle.number_terms.specs.Places.{framed_number}
+use Rattle.shape_terms.specs.Places.{framed_number}
 use Rattle.shape_terms.proofs.Boxes.{raster_below, raster_point_in, raster_point-raster_number}
-use Rattle.number_terms.proofs.FramedNumbers.{framed_number_below, framed_point-framed_number, framed_number-framed_point}
-use Rattle.number_terms.proofs.FramedEnds.{in_box_in_frame}
+use Rattle.shape_terms.proofs.FramedNumbers.{framed_number_below, framed_point-framed_number, framed_number-framed_point}
+use Rattle.shape_terms.proofs.FramedEnds.{in_box_in_frame}
 use Rattle.judge_field.specs.Scanned.{IsFirstSquare, HasTwo}
 use Rattle.judge_field.proofs.NextObjects.{AreBlank, IsNext}
 

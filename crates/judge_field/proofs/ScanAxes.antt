@@ -8,14 +8,14 @@ use Rattle.std.proofs.lemmas.Nat.{mod-mul-add, div-mul-add}
 use Rattle.shape_terms.specs.Points.{Point, box_count, in_box, squared_distance}
 use Rattle.shape_terms.specs.Pictures.{Picture, at}
 use Rattle.shape_terms.specs.FramedBox.{framed_sides, framed_point}
-use Rattle.number_terms.specs.Places.{framed_number}
+use Rattle.shape_terms.specs.Places.{framed_number}
 use Rattle.shape_terms.proofs.FramedBoxes.{length-framed_point}
-use Rattle.number_terms.proofs.FramedNumbers.{framed_number_below, framed_point-framed_number}
+use Rattle.shape_terms.proofs.FramedNumbers.{framed_number_below, framed_point-framed_number}
 use Rattle.shape_terms.proofs.NearestFound.{least_found, corner_background}
 use Rattle.shape_terms.specs.AxisLines.{place, gap, apart, IsBare}
 use Rattle.shape_terms.proofs.FramedLines.{distance_same}
 use Rattle.shape_terms.proofs.AxisPlaces.{place_of, place_line, place_high, place_below, same_digits}
-use Rattle.number_terms.proofs.FramedEnds.{level_all, in_box_in_frame}
+use Rattle.shape_terms.proofs.FramedEnds.{level_all, in_box_in_frame}
 use Rattle.judge_field.proofs.ScanSteps.{along_small}
 use Rattle.judge_field.specs.Scanned.{IsLeastSquare, IsLeastAlong, HasScanned, HasBare, AreSquaresOn, digit, line_start, IsScannedAt, IsFirstSquare}
 

@@ -13,7 +13,7 @@ use Rattle.shape_terms.proofs.Members.{Contains-filter}
 use Rattle.shape_terms.proofs.SameCycles.{head_in, later_in, in_cases, in_none}
 use Rattle.shape_terms.proofs.Boxes.{raster_below, raster_point-raster_number}
 use Rattle.shape_terms.proofs.BoxLists.{length-box_points, get_or-box_points}
-use Rattle.patch_terms.specs.Patches.{sense_step}
+use Rattle.shape_terms.specs.Patches.{sense_step}
 use Rattle.report_terms.specs.FaceFacts.{face_axis, face_sense}
 use Rattle.judge_plane.specs.Exposure.{exposed_at}
 

@@ -10,8 +10,8 @@ use Rattle.shape_terms.specs.Adjacency.{moved}
 use Rattle.shape_terms.specs.Pictures.{Picture, at, with_value, object_points}
 use Rattle.shape_terms.proofs.Boxes.{raster_below, raster_point_in, raster_number-raster_point, raster_point-raster_number}
 use Rattle.shape_terms.proofs.SameCycles.{in_none}
-use Rattle.thin_terms.proofs.OneValue.{value_there, value_gone, value_elsewhere}
-use Rattle.patch_terms.specs.Patches.{sense_step}
+use Rattle.shape_terms.proofs.OneValue.{value_there, value_gone, value_elsewhere}
+use Rattle.shape_terms.specs.Patches.{sense_step}
 use Rattle.report_terms.specs.FaceLines.{IsTouching}
 use Rattle.report_terms.specs.FaceFacts.{face_axis, face_sense}
 use Rattle.judge_plane.specs.Exposure.{exposed_at, AreLeft, AreExposedBelow, AreRound, AreTouching, IsNearTo}

@@ -10,8 +10,8 @@ use Rattle.shape_terms.specs.Points.{Point, in_box, box_count, raster_number, ra
 use Rattle.shape_terms.specs.Pictures.{Picture, at, with_value, blank}
 use Rattle.shape_terms.proofs.Boxes.{raster_below, raster_point-raster_number}
 use Rattle.shape_terms.proofs.SameCycles.{in_none}
-use Rattle.thin_terms.proofs.OneValue.{value_there, value_gone, value_elsewhere}
-use Rattle.patch_terms.proofs.Places.{place_of, of_place, place_drop}
+use Rattle.shape_terms.proofs.OneValue.{value_there, value_gone, value_elsewhere}
+use Rattle.shape_terms.proofs.Places.{place_of, of_place, place_drop}
 use Rattle.judge_plane.specs.Exposure.{AreMarked, IsNearTo, IsNearObject}
 
 -- a picture without object points marks none

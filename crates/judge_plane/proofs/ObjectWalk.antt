@@ -10,7 +10,7 @@ use Rattle.shape_terms.proofs.Members.{Contains-filter}
 use Rattle.shape_terms.proofs.SameCycles.{head_in, in_cases, in_none}
 use Rattle.shape_terms.proofs.Boxes.{raster_below, raster_number-raster_point, raster_point-raster_number}
 use Rattle.shape_terms.proofs.BoxLists.{length-box_points, get_or-box_points}
-use Rattle.patch_terms.proofs.PointLists.{is_there}
+use Rattle.shape_terms.proofs.PointLists.{is_there}
 use Rattle.judge_plane.specs.Exposure.{exposed_at, IsLeft, AreLeft, AreTakenBelow}
 use Rattle.judge_plane.proofs.Exposing.{kept, in_of_at}
 

@@ -11,7 +11,7 @@ use Rattle.std.proofs.lemmas.List.Sorted.{IsNonDecreasingBy-from_sort, Contains-
 use Rattle.std.proofs.Math.Seq.{drop-cons}
 use Rattle.shape_terms.specs.Points.{Point, box_count, raster_point}
 use Rattle.shape_terms.proofs.SameCycles.{head_in, in_cases}
-use Rattle.patch_terms.proofs.PointLists.{no_more}
+use Rattle.shape_terms.proofs.PointLists.{no_more}
 use Rattle.shape_terms.specs.Pictures.{Picture, at}
 use Rattle.judge_plane.specs.Exposure.{AreRound, IsNearTo}
 use Rattle.judge_plane.specs.Listings.{AreNumbered}

@@ -18,7 +18,7 @@ use Rattle.shape_adj.specs.NearMasks.{near_total, IsNearMask}
 use Rattle.judge_plane.specs.Exposure.{AreMarked, IsNearTo, IsNearObject}
 use Rattle.judge_plane.proofs.LeastBits.{least_in}
 use Rattle.shape_terms.proofs.SameCycles.{in_none}
-use Rattle.patch_terms.proofs.Places.{place_of, of_place, place_drop}
+use Rattle.shape_terms.proofs.Places.{place_of, of_place, place_drop}
 
 -- ---- one point
 

@@ -10,7 +10,7 @@ use Rattle.std.proofs.Math.Nat.{suc-mul}
 use Rattle.shape_terms.specs.Points.{Point, box_count}
 use Rattle.shape_terms.specs.Pictures.{Picture}
 use Rattle.shape_terms.specs.Refutations.{Refutation}
-use Rattle.patch_terms.specs.Patches.{Sense}
+use Rattle.shape_terms.specs.Patches.{Sense}
 use Rattle.report_terms.specs.Lines.{Line}
 use Rattle.report_terms.specs.FaceLines.{FaceStanding, face_standing, open_exposed, IsFaceHead, IsPatchHead, IsOnLine, IsOffLine, SurfaceClaim}
 use Rattle.report_terms.specs.Sections.{SolidClaim}

@@ -20,7 +20,7 @@ use Rattle.std.proofs.lemmas.List.Sums.{length-filter, count_by-le-length}
 use Rattle.shape_terms.specs.Naive.{Naive as Plane, IsProper}
 use Rattle.shape_refute.specs.declared.naive.Naive.{Naive}
 use Rattle.shape_refute.specs.Terms.{naive_of}
-use Rattle.patch_terms.specs.Patches.{sense_step, IsFirstLeft}
+use Rattle.shape_terms.specs.Patches.{sense_step, IsFirstLeft}
 use Rattle.report_terms.specs.FaceFacts.{face_axis, face_sense}
 use Rattle.report_terms.specs.FaceLines.{IsNextTouching, IsNextOn, PatchIsFull, IsPatchHead}
 use Rattle.judge_plane.specs.Exposure.{exposed_at, IsLeft, IsNearTo, AreTakenBelow, AreTouching, first_points}

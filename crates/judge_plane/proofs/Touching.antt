@@ -17,7 +17,7 @@ use Rattle.shape_terms.proofs.Members.{Contains-map}
 use Rattle.shape_terms.proofs.RasterOrder.{raster_rises}
 use Rattle.report_terms.specs.FaceLines.{IsTouching, IsNextTouching}
 use Rattle.judge_plane.specs.Exposure.{AreTouching, first_points}
-use Rattle.patch_terms.proofs.Places.{of_place, of_front, of_map, place_take}
+use Rattle.shape_terms.proofs.Places.{of_place, of_front, of_map, place_take}
 
 -- ---- raster order by numbers
 

@@ -4,7 +4,7 @@ use Rattle.std.specs.Prelude.{◌≡◌, ◌↔◌, ℕ, ◌+◌, ◌<◌, IsTru
 use Rattle.shape_terms.specs.Points.{Point, box_count, raster_number, raster_point}
 use Rattle.shape_terms.specs.Adjacency.{Near}
 use Rattle.shape_terms.specs.Pictures.{Picture, at}
-use Rattle.patch_terms.specs.Patches.{exposed_points}
+use Rattle.shape_terms.specs.Patches.{exposed_points}
 use Rattle.report_terms.specs.FaceFacts.{face_axis, face_sense}
 use Rattle.report_terms.specs.FaceLines.{IsTouching}
 

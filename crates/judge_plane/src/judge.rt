@@ -5,7 +5,7 @@ ghost use Rattle.std.specs.Bool.{OnTrue};
 ghost use Rattle.shape_terms.specs.Points.{box_count};
 ghost use Rattle.shape_terms.specs.Pictures.{Picture};
 ghost use Rattle.shape_terms.specs.Naive.{IsProper};
-ghost use Rattle.patch_terms.specs.Patches.{IsFirstLeft};
+ghost use Rattle.shape_terms.specs.Patches.{IsFirstLeft};
 ghost use Rattle.report_terms.specs.Lines as Terms;
 ghost use Rattle.report_terms.specs.FaceLines.{open_exposed, PatchIsFull, FacesAreFull, IsNextOn, IsNextTouching, IsFaceHead, IsPatchHead, IsOnLine, IsOffLine};
 ghost use Rattle.report_terms.specs.Sections.{SolidClaim, AllFaces};

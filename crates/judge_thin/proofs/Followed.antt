@@ -5,9 +5,9 @@ use mathlib.Core.Bool.{beq}
 use Rattle.std.specs.Ordering.{is_gt}
 use Rattle.shape_terms.specs.Points.{Point, raster_point}
 use Rattle.shape_terms.specs.Pictures.{Picture}
-use Rattle.thin_terms.specs.Thinning.{Rule, Event, Facts, Stage, ThinStep, ThinsTo, IsCandidate, near_count, opening_stage}
-use Rattle.thin_terms.specs.Following.{IsNextEvent, AreAllEvents}
-use Rattle.thin_terms.proofs.ThinningOnce.{one_stage, one_step}
+use Rattle.shape_terms.specs.Thinning.{Rule, Event, Facts, Stage, ThinStep, ThinsTo, IsCandidate, near_count, opening_stage}
+use Rattle.shape_terms.specs.Following.{IsNextEvent, AreAllEvents}
+use Rattle.shape_terms.proofs.ThinningOnce.{one_stage, one_step}
 use Rattle.shape_queue.specs.declared.key.Key.{Key}
 use Rattle.shape_queue.specs.Keys.{key_cmp}
 use Rattle.shape_queue.specs.Events.{event_by}

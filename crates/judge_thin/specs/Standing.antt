@@ -2,7 +2,7 @@
 -- How a thinning holds them is told by `thin_steps`.
 use Rattle.std.specs.Prelude.{ℕ, List}
 use Rattle.shape_terms.specs.Pictures.{Picture}
-use Rattle.thin_terms.specs.Thinning.{Rule, Event}
+use Rattle.shape_terms.specs.Thinning.{Rule, Event}
 use Rattle.thin_steps.specs.Standing as Steps
 use Rattle.judge_thin.specs.declared.judge.ThinJudge.{ThinJudge}
 

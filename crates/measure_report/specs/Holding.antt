@@ -1,7 +1,7 @@
 -- What the table of a report tells that holds of a picture.
 -- Geometry alone: components and their farthest points, least distances, contours and the stage in which the thinning ends.
 use Rattle.std.specs.Prelude.{◌≡◌, ℕ, List, length}
-use Rattle.thin_terms.specs.Thinning.{Rule, Stage, IsThinning}
+use Rattle.shape_terms.specs.Thinning.{Rule, Stage, IsThinning}
 use Rattle.report_terms.specs.Subjects.{Subject}
 use Rattle.report_terms.specs.Lines.{Line}
 use Rattle.report_terms.specs.ThinningLines.{events_of}

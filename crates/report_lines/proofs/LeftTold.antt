@@ -7,10 +7,10 @@ use Rattle.std.proofs.lemmas.Bool.{cases_Bool}
 use Rattle.std.proofs.lemmas.List.{length-set}
 use Rattle.shape_terms.specs.Points.{Point, in_box, box_count, raster_number}
 use Rattle.shape_terms.specs.Pictures.{Picture, at, with_value}
-use Rattle.number_terms.proofs.ObjectPlaces.{object_in_box}
-use Rattle.thin_terms.specs.Thinning.{Rule, Event, Stage, ThinStep, stage_after}
-use Rattle.thin_terms.proofs.OneValue.{value_there, value_elsewhere}
-use Rattle.thin_terms.proofs.PointTests.{same_point}
+use Rattle.shape_terms.proofs.ObjectPlaces.{object_in_box}
+use Rattle.shape_terms.specs.Thinning.{Rule, Event, Stage, ThinStep, stage_after}
+use Rattle.shape_terms.proofs.OneValue.{value_there, value_elsewhere}
+use Rattle.shape_terms.proofs.PointTests.{same_point}
 use Rattle.report_terms.specs.Lines.{Line}
 use Rattle.report_terms.specs.ThinningLines.{events_of}
 use Rattle.report_lines.specs.Said.{is_same_point, deleted_point, is_deleted}

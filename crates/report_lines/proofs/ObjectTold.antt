@@ -11,7 +11,7 @@ use Rattle.shape_terms.specs.Pictures.{Picture, at, Least}
 use Rattle.shape_terms.specs.Distances.{NearFact, IsField}
 use Rattle.shape_terms.proofs.Boxes.{raster_below, raster_point_in, raster_point-raster_number}
 use Rattle.shape_terms.proofs.BoxLists.{length-box_points, get_or-box_points}
-use Rattle.thin_terms.specs.Thinning.{HasDistance}
+use Rattle.shape_terms.specs.Thinning.{HasDistance}
 use Rattle.report_terms.specs.Lines.{Line}
 use Rattle.report_terms.specs.Shows.{near_fact}
 use Rattle.report_lines.specs.Said.{is_same_point, near_point, square_for, is_near, last_or, square_of, values_of}

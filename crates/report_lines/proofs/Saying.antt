@@ -10,7 +10,7 @@ use Rattle.shape_terms.specs.Pictures.{at, with_value}
 use Rattle.report_terms.specs.Lines.{Line}
 use Rattle.report_lines.specs.Said.{given_sides, is_same_point, near_point, square_for, deleted_point, is_near, is_deleted, is_left, last_or, square_of, picture_of, said_in, said}
 use Rattle.report_lines.specs.Kept.{now_near, with_near, now_deleted, with_deleted}
-use Rattle.thin_terms.proofs.PointTests.{same_point}
+use Rattle.shape_terms.proofs.PointTests.{same_point}
 use Rattle.report_lines.proofs.SamePoints.{same_yes, same_not, any_there, any_other}
 use Rattle.report_lines.proofs.BoxValues.{at_picture_of, values_same, values_with, picture_same, picture_with}
 

@@ -5,7 +5,7 @@ use Rattle.std.specs.Prelude.{IsTrue, not, ◌&&◌}
 use Rattle.std.proofs.lemmas.List.{append-nil}
 use Rattle.std.proofs.lemmas.List.Elements.{recursion_from_All}
 use Rattle.shape_terms.specs.Points.{in_box}
-use Rattle.thin_terms.specs.Thinning.{opening_stage}
+use Rattle.shape_terms.specs.Thinning.{opening_stage}
 use Rattle.report_terms.specs.Subjects.{Subject}
 use Rattle.report_terms.specs.Lines.{Line, IsLineOf, text_of}
 use Rattle.report_terms.specs.ThinningLines.{events_of}

@@ -3,7 +3,7 @@
 use Rattle.std.specs.Prelude.{◌≡◌, ℕ, IsTrue, false, List, map, length, pos, slice_get, Some}
 use Rattle.shape_terms.specs.Points.{AreSides, box_count, raster_point}
 use Rattle.shape_terms.specs.Pictures.{Picture, IsPicture, at}
-use Rattle.thin_terms.specs.Thinning.{Rule, Stage, HasDistance, IsThinning}
+use Rattle.shape_terms.specs.Thinning.{Rule, Stage, HasDistance, IsThinning}
 use Rattle.report_terms.specs.Subjects.{Subject}
 use Rattle.report_terms.specs.Lines.{Line}
 use Rattle.report_terms.specs.ThinningLines.{events_of}

@@ -2,7 +2,7 @@
 -- Laws of lists of lines; which contours a picture has does not matter here.
 use Rattle.std.proofs.Common.{◌≡◌, ℕ, ◌+◌, ◌-◌, ◌<◌, Bool, true, false, List, [], ◌∷◌, ◌++◌, length, refl, ap, sym, ◌∙◌, arith, inl, inr}
 use Rattle.std.specs.Prelude.{ℤ, not, filter_map, take_while, slice_index_or, Some, None}
-use Rattle.least_terms.specs.Least.{Pairs}
+use Rattle.shape_terms.specs.Least.{Pairs}
 use Rattle.std.proofs.lemmas.Bool.{cond-true, cond-false, cases_Bool, cases_lt}
 use Rattle.std.proofs.lemmas.List.{length-append, map-append, nil_from_length}
 use Rattle.std.proofs.lemmas.List.Sums.{take_while-cons}

@@ -6,7 +6,7 @@ use Rattle.std.proofs.lemmas.List.{length-append, length-map, take_all}
 use Rattle.shape_terms.specs.Points.{Point, coordinate}
 use Rattle.shape_terms.specs.Traces.{Contour}
 use Rattle.shape_terms.specs.Covers.{Evidence, arc}
-use Rattle.least_terms.specs.Least.{Pairs, ShowsLeast}
+use Rattle.shape_terms.specs.Least.{Pairs, ShowsLeast}
 use Rattle.report_terms.specs.Lines.{Line}
 use Rattle.report_terms.specs.ContourFacts.{Segment, stretches_of, GapFact, kind_of, in_pairs, ContourShows}
 use Rattle.report_terms.specs.ContourLines.{point_of, segment_of, gap_of, last_segment, declared_of}

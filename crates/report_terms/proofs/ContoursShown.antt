@@ -9,7 +9,7 @@ use Rattle.shape_terms.specs.Pictures.{Picture}
 use Rattle.shape_terms.specs.Points.{coordinate}
 use Rattle.shape_terms.specs.Traces.{Contour, AreContours}
 use Rattle.shape_terms.specs.Covers.{IsSegment, Evidence, IsEvidence, arc, gap_run}
-use Rattle.least_terms.specs.Least.{ShowsLeast}
+use Rattle.shape_terms.specs.Least.{ShowsLeast}
 use Rattle.report_terms.specs.ContourFacts.{Segment, ContourFact, stretches_of, GapFact, ContourShows, ContoursShow}
 use Rattle.report_terms.specs.Lines.{Line, IsLineOf}
 use Rattle.report_terms.specs.ContourLines.{last_segment, WantsNone, is_contour, contour_groups, open_group, point_of, segment_of, gap_of, declared_of, standing, no_contour, open_contour, IsFull, IsNextGap, OutlineClaim, ContourClaim, ContoursComplete}

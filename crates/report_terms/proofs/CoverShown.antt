@@ -15,7 +15,7 @@ use Rattle.report_terms.specs.ContourFacts.{Segment, stretches_of, GapKind, GapF
 use Rattle.shape_terms.proofs.ArcRuns.{length-arc}
 use Rattle.shape_terms.proofs.Senses.{sense_no_turn, straight_for}
 use Rattle.shape_terms.proofs.Members.{slice_get-taken}
-use Rattle.walk_terms.proofs.ContourCovers.{covers}
+use Rattle.shape_terms.proofs.ContourCovers.{covers}
 use Rattle.report_terms.proofs.CoverTaken.{CoverSoFar, IsListed, AreLeast}
 
 -- ---- straight segments

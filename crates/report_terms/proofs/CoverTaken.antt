@@ -6,8 +6,8 @@ use Rattle.std.proofs.lemmas.List.Elements.{All-nil, All-push}
 use Rattle.shape_terms.specs.Points.{Point, coordinate}
 use Rattle.shape_terms.specs.Naive.{Naive, IsNaiveFor}
 use Rattle.shape_terms.specs.Covers.{Stretch, IsSegment, Evidence, IsEvidence, arc, gap_run}
-use Rattle.least_terms.specs.Least.{Pairs, ShowsLeast}
-use Rattle.least_terms.proofs.LeastLines.{shows_least}
+use Rattle.shape_terms.specs.Least.{Pairs, ShowsLeast}
+use Rattle.shape_terms.proofs.LeastLines.{shows_least}
 use Rattle.report_terms.specs.ContourFacts.{Segment, stretches_of, GapKind, GapFact, kind_of, SegmentIsLeast, RefusalShows}
 use Rattle.shape_terms.proofs.Exclusion.{excludes}
 use Rattle.shape_terms.proofs.Evidences.{evidence_shows}

@@ -7,7 +7,7 @@ use Rattle.std.proofs.lemmas.List.{length-append, nil_from_length}
 use Rattle.std.proofs.Math.Seq.{get_or-append_seam}
 use Rattle.shape_terms.specs.Points.{Point}
 use Rattle.shape_terms.specs.Refutations.{Refutation}
-use Rattle.patch_terms.specs.Patches.{Sense}
+use Rattle.shape_terms.specs.Patches.{Sense}
 use Rattle.report_terms.specs.Lines.{Line}
 use Rattle.report_terms.specs.FaceLines.{is_face, is_patch, face_groups, patch_groups, last_group, open_face, on_point, off_point, count_of, plane_of, given_patch, face_standing_with, face_standing}
 use Rattle.text_terms.proofs.ListPushes.{filter_map-same, filter_map-push, with_last}

@@ -11,8 +11,8 @@ use Rattle.shape_terms.specs.Pictures.{Picture}
 use Rattle.shape_terms.specs.Naive.{Naive, IsProper, HoldsPoint, HoldsAll, IsNaiveFor}
 use Rattle.shape_terms.specs.Refutations.{Refutation, Refutes}
 use Rattle.shape_terms.proofs.Exclusion.{excludes}
-use Rattle.patch_terms.specs.Patches.{exposed_points, IsFirstLeft, Patch, Grows, points_of}
-use Rattle.patch_terms.proofs.FullPatches.{IsFullPatch, AreFullPatches, points_of-push, partition_of}
+use Rattle.shape_terms.specs.Patches.{exposed_points, IsFirstLeft, Patch, Grows, points_of}
+use Rattle.shape_terms.proofs.FullPatches.{IsFullPatch, AreFullPatches, points_of-push, partition_of}
 use Rattle.report_terms.specs.Lines.{Line}
 use Rattle.report_terms.specs.FaceFacts.{face_axis, face_sense, PatchFact, patches_of, PatchShows, FaceShows}
 use Rattle.report_terms.specs.FaceLines.{is_face, is_patch, patch_groups, last_group, on_point, off_point, count_of, GivenPatch, given_patch, face_standing_with, IsTouching, PatchIsFull, FaceIsFull, IsNextOn, IsPatchHead, IsOnLine, IsOffLine, SurfaceClaim}

@@ -7,7 +7,7 @@ use Rattle.std.proofs.lemmas.List.{length-append}
 use Rattle.std.proofs.lemmas.List.Elements.{All-map, All-from_get_or}
 use Rattle.std.proofs.lemmas.Option.{slice_get-get_or}
 use Rattle.shape_terms.specs.Pictures.{Picture}
-use Rattle.patch_terms.specs.Patches.{Sense}
+use Rattle.shape_terms.specs.Patches.{Sense}
 use Rattle.report_terms.specs.Lines.{Line}
 use Rattle.report_terms.specs.FaceFacts.{face_axis, face_sense, FaceFact, FaceShows, FacesShow}
 use Rattle.report_terms.specs.FaceLines.{is_face, face_groups, face_standing_with, face_standing, FaceIsFull, FacesAreFull, IsFaceHead, SurfaceClaim, FaceClaim, FacesComplete}

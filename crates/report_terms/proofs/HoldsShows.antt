@@ -10,7 +10,7 @@ use Rattle.shape_terms.specs.Points.{Point}
 use Rattle.shape_terms.specs.Pictures.{Picture, object_points, Least}
 use Rattle.shape_terms.specs.Parts.{Counts}
 use Rattle.shape_terms.specs.Distances.{NearFact, IsField}
-use Rattle.thin_terms.specs.Thinning.{Rule}
+use Rattle.shape_terms.specs.Thinning.{Rule}
 use Rattle.report_terms.specs.Subjects.{Subject}
 use Rattle.report_terms.specs.Lines.{Line, text_of, IsLineOf}
 use Rattle.report_terms.specs.ThinningLines.{PartsFact, event_of, events_of, kept_fact, kept_facts}

@@ -4,8 +4,8 @@ use Rattle.std.proofs.Common.{◌≡◌, inl, inr, ℕ, ◌<◌, List, [], ◌�
 use Rattle.std.proofs.lemmas.Bool.{cases_lt}
 use Rattle.std.proofs.lemmas.List.{get_or-map, get_or_default, length-map}
 use Rattle.std.specs.Prelude.{slice_index_or}
-use Rattle.thin_terms.specs.Thinning.{Rule}
-use Rattle.thin_terms.specs.Shelves.{Named, AreNames, names_of}
+use Rattle.shape_terms.specs.Thinning.{Rule}
+use Rattle.shape_terms.specs.Shelves.{Named, AreNames, names_of}
 use Rattle.report_terms.specs.Subjects.{IsOnShelf}
 use Rattle.report_terms.specs.Lines.{Line, Heading}
 use Rattle.report_terms.specs.Sections.{NamesRule}

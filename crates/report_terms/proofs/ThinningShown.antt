@@ -1,5 +1,5 @@
 -- Good lines of a thinning show it: each deleted point was simple, none is left to delete, and both numbers of components are kept.
--- Laws of the lines of this section; the thinning itself is the matter of `thin_terms`.
+-- Laws of the lines of this section; the thinning itself is the matter of `Thinning`.
 use Rattle.std.proofs.Common.{◌≡◌, ℕ, zero, suc, ◌<◌, Bool, true, false, cond, Some, List, [], ◌∷◌, ◌++◌, length, take, refl, ap, sym, ◌∙◌, subst, arith}
 use Rattle.std.specs.Prelude.{slice_get}
 use Rattle.std.specs.List.{FoldsTo}
@@ -8,9 +8,9 @@ use Rattle.shape_terms.specs.Pictures.{Picture}
 use Rattle.shape_terms.specs.Adjacency.{Near, Side}
 use Rattle.shape_terms.specs.Parts.{Object, FramedBackground, Counts}
 use Rattle.shape_terms.proofs.PartCount.{one_count}
-use Rattle.thin_terms.specs.Simple.{IsSimple}
-use Rattle.thin_terms.specs.Thinning.{Rule, Event, Stage, ThinStep, ThinsTo, opening_stage}
-use Rattle.thin_terms.proofs.ThinningKept.{thinning_keeps}
+use Rattle.shape_terms.specs.Simple.{IsSimple}
+use Rattle.shape_terms.specs.Thinning.{Rule, Event, Stage, ThinStep, ThinsTo, opening_stage}
+use Rattle.shape_terms.proofs.ThinningKept.{thinning_keeps}
 use Rattle.report_terms.specs.Subjects.{Subject}
 use Rattle.report_terms.specs.Lines.{Line}
 use Rattle.report_terms.specs.ThinningLines.{PartsFact, event_of, events_of, kept_fact, kept_facts, IsKeptLine, ThinningClaim, ThinningComplete}

@@ -4,7 +4,7 @@ use Rattle.std.proofs.Common.{◌≡◌, ◌-◌, ◌≤◌, ℕ, true, [], ◌�
 use Rattle.std.specs.Prelude.{nat_le}
 use Rattle.std.proofs.lemmas.Bool.{and_parts, and_from}
 use Rattle.std.proofs.lemmas.Bool.Decides.{nat_tests}
-use Rattle.patch_terms.specs.Patches.{Sense}
+use Rattle.shape_terms.specs.Patches.{Sense}
 use Rattle.report_terms.specs.Forms.{IsNumber, is_number, digit, last_number, number, sense_word, sense_value, sign}
 use Rattle.text_terms.specs.Forms.{IsWord, IsForm}
 use Rattle.text_terms.proofs.FormLaws.{one_form}

@@ -6,7 +6,7 @@ use Rattle.shape_terms.specs.Pictures.{Picture}
 use Rattle.shape_terms.specs.Naive.{Naive, IsNaiveFor}
 use Rattle.shape_terms.specs.Straight.{KeepsSense, IsStraightFor}
 use Rattle.shape_terms.specs.Traces.{Contour, AreContours}
-use Rattle.least_terms.specs.Least.{IsLeastLine}
+use Rattle.shape_terms.specs.Least.{IsLeastLine}
 use Rattle.shape_terms.specs.Covers.{Stretch, IsCover, Evidence, arc, gap_run}
 
 -- a segment: its stretch of the contour, and a naive line with its main axis

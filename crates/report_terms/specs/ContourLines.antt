@@ -7,7 +7,7 @@ use Rattle.shape_terms.specs.Naive.{Naive}
 use Rattle.shape_terms.specs.Contours.{Crack}
 use Rattle.shape_terms.specs.Traces.{Contour, AreContours}
 use Rattle.shape_terms.specs.Covers.{Stretch, IsSegment, Evidence, IsEvidence, arc, gap_run}
-use Rattle.least_terms.specs.Least.{Pairs, ShowsLeast}
+use Rattle.shape_terms.specs.Least.{Pairs, ShowsLeast}
 use Rattle.report_terms.specs.ContourFacts.{Segment, stretches_of, GapFact, kind_of}
 use Rattle.report_terms.specs.Lines.{Line}
 

@@ -5,7 +5,7 @@ use Rattle.std.specs.List.{range_with_len}
 use Rattle.shape_terms.specs.Points.{Point}
 use Rattle.shape_terms.specs.Pictures.{Picture}
 use Rattle.shape_terms.specs.Naive.{Naive, IsNaiveFor}
-use Rattle.patch_terms.specs.Patches.{Sense, Patch, IsPartition}
+use Rattle.shape_terms.specs.Patches.{Sense, Patch, IsPartition}
 
 -- the axis and the sense of the face with this number: the six are x -, x +, y -, y +, z -, z +
 abbrev pub face_axis : ℕ → ℕ

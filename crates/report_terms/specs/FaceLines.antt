@@ -7,7 +7,7 @@ use Rattle.shape_terms.specs.Adjacency.{Near}
 use Rattle.shape_terms.specs.Pictures.{Picture}
 use Rattle.shape_terms.specs.Naive.{Naive, IsProper, HoldsPoint}
 use Rattle.shape_terms.specs.Refutations.{Refutation, Refutes}
-use Rattle.patch_terms.specs.Patches.{Sense, exposed_points, IsFirstLeft}
+use Rattle.shape_terms.specs.Patches.{Sense, exposed_points, IsFirstLeft}
 use Rattle.report_terms.specs.Lines.{Line}
 use Rattle.report_terms.specs.ContourLines.{groups}
 use Rattle.report_terms.specs.FaceFacts.{face_axis, face_sense}

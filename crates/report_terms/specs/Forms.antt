@@ -1,7 +1,7 @@
 -- Forms of one word that the reports of pictures have beside those of all texts: numbers of reports and senses.
 -- The other forms stand in `text_terms`; which fields a kind of line has stands in `Kinds`.
 use Rattle.std.specs.Prelude.{◌==◌, ◌≤◌, ◌+◌, ◌-◌, ◌&&◌, ℕ, zero, suc, Bool, true, nat_le, if◌then◌else◌, List, [], ◌∷◌, get_or, codes}
-use Rattle.patch_terms.specs.Patches.{Sense}
+use Rattle.shape_terms.specs.Patches.{Sense}
 use Rattle.text_terms.specs.Forms.{Form, one_word}
 
 -- the greatest number that a report of pictures with d axes has

@@ -4,7 +4,7 @@ use Rattle.std.specs.Prelude.{ℕ, ℤ, List, [], ◌∷◌, codes}
 use Rattle.std.specs.Int.{w64}
 use Rattle.shape_terms.specs.Points.{Point}
 use Rattle.shape_terms.specs.Refutations.{Refutation}
-use Rattle.patch_terms.specs.Patches.{Sense}
+use Rattle.shape_terms.specs.Patches.{Sense}
 use Rattle.text_terms.specs.Forms.{Form, natural, signed, letter, name, nothing, behind, ◌⨾◌, of_axes}
 pub use Rattle.text_terms.specs.Fields.{count, weight, point, row}
 use Rattle.text_terms.specs.Weights.{why}

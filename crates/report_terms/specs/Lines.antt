@@ -5,8 +5,8 @@ use Rattle.std.specs.List.{join_with_byte}
 use Rattle.shape_terms.specs.Points.{Point}
 use Rattle.shape_terms.specs.Refutations.{Refutation}
 use Rattle.shape_terms.specs.Covers.{Evidence}
-use Rattle.patch_terms.specs.Patches.{Sense}
-use Rattle.least_terms.specs.Least.{Pairs}
+use Rattle.shape_terms.specs.Patches.{Sense}
+use Rattle.shape_terms.specs.Least.{Pairs}
 use Rattle.text_terms.specs.Spellings.{Spelled}
 use Rattle.report_terms.specs.Kinds.{Kind, Fields, Split, IsSplitOf, split_words}
 

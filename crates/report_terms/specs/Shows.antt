@@ -7,9 +7,9 @@ use Rattle.shape_terms.specs.Parts.{Counts}
 use Rattle.shape_terms.specs.Distances.{NearFact, IsField}
 use Rattle.shape_terms.specs.Contours.{Crack}
 use Rattle.shape_terms.specs.Traces.{Contour}
-use Rattle.patch_terms.specs.Patches.{Sense}
-use Rattle.thin_terms.specs.Simple.{IsSimple}
-use Rattle.thin_terms.specs.Thinning.{Rule, Event, Stage, ThinsTo, IsThinning}
+use Rattle.shape_terms.specs.Patches.{Sense}
+use Rattle.shape_terms.specs.Simple.{IsSimple}
+use Rattle.shape_terms.specs.Thinning.{Rule, Event, Stage, ThinsTo, IsThinning}
 use Rattle.report_terms.specs.ContourFacts.{ContourFact, in_pairs, ContoursShow}
 use Rattle.report_terms.specs.FaceFacts.{PatchFact, FaceFact, FacesShow}
 use Rattle.report_terms.specs.Lines.{Line, text_of, IsLineOf}

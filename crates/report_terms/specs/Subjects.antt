@@ -2,8 +2,8 @@
 -- No line stands here; which rule a report takes is told in `Sections`.
 use Rattle.std.specs.Prelude.{ℕ, List, Contains}
 use Rattle.shape_terms.specs.Pictures.{Picture}
-use Rattle.thin_terms.specs.Thinning.{Rule}
-use Rattle.thin_terms.specs.Shelves.{Named}
+use Rattle.shape_terms.specs.Thinning.{Rule}
+use Rattle.shape_terms.specs.Shelves.{Named}
 
 -- a picture, and the rules on a shelf
 pub record Subject : Type 0 where

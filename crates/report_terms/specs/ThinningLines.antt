@@ -3,8 +3,8 @@
 use Rattle.std.specs.Prelude.{◌≡◌, ℕ, List, [], length, filter_map, Option, Some, None}
 use Rattle.shape_terms.specs.Pictures.{Picture}
 use Rattle.shape_terms.specs.Parts.{Counts}
-use Rattle.thin_terms.specs.Thinning.{Rule, Event, Stage, ThinsTo, IsThinned}
-use Rattle.thin_terms.specs.Following.{IsNextEvent}
+use Rattle.shape_terms.specs.Thinning.{Rule, Event, Stage, ThinsTo, IsThinned}
+use Rattle.shape_terms.specs.Following.{IsNextEvent}
 use Rattle.report_terms.specs.Lines.{Line}
 
 -- ---- what the lines give

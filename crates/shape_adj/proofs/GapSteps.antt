@@ -10,8 +10,8 @@ use Rattle.shape_terms.specs.Adjacency.{moved, near_steps, near_step, near_point
 use Rattle.shape_terms.proofs.Boxes.{raster_below}
 use Rattle.shape_terms.proofs.FramedBoxes.{length-framed_point}
 use Rattle.shape_terms.proofs.ShiftedSteps.{length-near_step}
-use Rattle.number_terms.specs.Places.{raised, in_frame, framed_number}
-use Rattle.number_terms.proofs.ObjectPlaces.{length-raster_point}
+use Rattle.shape_terms.specs.Places.{raised, in_frame, framed_number}
+use Rattle.shape_terms.proofs.ObjectPlaces.{length-raster_point}
 use Rattle.shape_adj.specs.Offsets.{raster_offset}
 use Rattle.shape_adj.specs.Gaps.{IsGap, IsFramedGap}
 use Rattle.shape_adj.proofs.Offsets.{number_from}

@@ -8,7 +8,7 @@ use Rattle.std.proofs.lemmas.List.Elements.{Contains-push, Contains-push_cases}
 use native.Mathlib.Decide.{ℕ_discrete, dec_lt}
 use Rattle.shape_terms.specs.Parts.{NamesParts, InOrder}
 use Rattle.shape_adj.specs.Flood.{Flooding, Flooded, Put}
-use Rattle.number_terms.specs.Net.{IsNet}
+use Rattle.shape_terms.specs.Net.{IsNet}
 use Rattle.shape_bits.specs.Truths.{IsFirstTrue}
 use Rattle.shape_adj.specs.Labels.{Spreading, Kept}
 use Rattle.shape_adj.specs.Todo.{Marked, IsTodo}

@@ -8,7 +8,7 @@ use Rattle.std.proofs.lemmas.List.Elements.{Contains-push, Contains-append_left,
 use Rattle.std.proofs.lemmas.Bool.Decides.{nat_tests}
 use native.Mathlib.Decide.{ℕ_discrete, dec_lt}
 use Rattle.shape_adj.specs.Flood.{Flooding, Put}
-use Rattle.number_terms.specs.Net.{IsNet}
+use Rattle.shape_terms.specs.Net.{IsNet}
 use Rattle.shape_adj.specs.NearMasks.{In}
 use Rattle.shape_adj.specs.Labels.{Spreading, zeros, Kept}
 use Rattle.shape_adj.specs.Todo.{IsOpen, IsRowOf, IsTodo}

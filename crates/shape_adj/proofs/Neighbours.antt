@@ -8,8 +8,8 @@ use Rattle.shape_terms.specs.Points.{Point, AreSides, sides_of, in_box}
 use Rattle.shape_terms.specs.Adjacency.{near_steps, side_steps, near_point, side_point}
 use Rattle.shape_terms.proofs.Boxes.{in_box_coordinate}
 use Rattle.shape_terms.proofs.NeighbourNumbers.{near_number, side_of_number, side_is_round}
-use Rattle.number_terms.specs.Places.{in_frame}
-use Rattle.number_terms.proofs.FramedNumbers.{in_frame_by}
+use Rattle.shape_terms.specs.Places.{in_frame}
+use Rattle.shape_terms.proofs.FramedNumbers.{in_frame_by}
 
 -- a side neighbour is a near one
 pub side_inside : (sides : List ℕ) (p : Point) → length p ≡ length sides → ((k : ℕ) → k < length (near_steps (length sides)) → IsTrue (in_box sides (near_point p k)))

@@ -10,9 +10,9 @@ use Rattle.shape_terms.specs.Pictures.{Picture, at}
 use Rattle.shape_terms.specs.FramedBox.{framed_sides, framed_point}
 use Rattle.shape_terms.proofs.Boxes.{mod_of, div_of, raster_point_in, raster_point-raster_number}
 use Rattle.shape_terms.proofs.BoxLists.{at_raster_point}
-use Rattle.number_terms.specs.Places.{framed_number, BackgroundPlace}
-use Rattle.number_terms.proofs.FramedEnds.{in_box_in_frame}
-use Rattle.number_terms.proofs.FramedNumbers.{framed_number_below, framed_point-framed_number, framed_number-framed_point}
+use Rattle.shape_terms.specs.Places.{framed_number, BackgroundPlace}
+use Rattle.shape_terms.proofs.FramedEnds.{in_box_in_frame}
+use Rattle.shape_terms.proofs.FramedNumbers.{framed_number_below, framed_point-framed_number, framed_number-framed_point}
 use Rattle.shape_bits.specs.Truths.{IsFirstTrue}
 use Rattle.shape_adj.specs.Todo.{Marked}
 use Rattle.shape_adj.specs.Rows.{placed, IsRow}

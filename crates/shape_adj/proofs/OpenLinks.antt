@@ -11,9 +11,9 @@ use Rattle.shape_terms.specs.FramedBox.{framed_sides, framed_point}
 use Rattle.shape_terms.specs.Adjacency.{near_steps, side_steps, near_point, side_point}
 use Rattle.shape_terms.proofs.Boxes.{raster_point-raster_number}
 use Rattle.shape_terms.proofs.BoxLists.{at_raster_point}
-use Rattle.number_terms.specs.Places.{ObjectPlace, object_link, BackgroundPlace, background_link, in_frame, framed_number}
-use Rattle.number_terms.proofs.ObjectPlaces.{length-raster_point, object_in_box, place_there, place_named}
-use Rattle.number_terms.proofs.FramedNumbers.{framed_point-framed_number}
+use Rattle.shape_terms.specs.Places.{ObjectPlace, object_link, BackgroundPlace, background_link, in_frame, framed_number}
+use Rattle.shape_terms.proofs.ObjectPlaces.{length-raster_point, object_in_box, place_there, place_named}
+use Rattle.shape_terms.proofs.FramedNumbers.{framed_point-framed_number}
 use Rattle.shape_adj.specs.NearMasks.{IsNearMask, near_total}
 use Rattle.shape_adj.specs.Todo.{Marked, IsRowOf, IsOpen, IsFramedTrue, IsSideMask}
 

@@ -4,7 +4,7 @@ use Rattle.std.specs.Prelude.{◌≡◌, ℕ, ◌+◌, ◌%◌, ◌^◌, ◌<◌
 use Rattle.shape_terms.specs.Points.{Point, in_box, box_count, raster_number, raster_point}
 use Rattle.shape_terms.specs.FramedBox.{framed_sides, framed_point}
 use Rattle.shape_terms.specs.Adjacency.{side_point}
-use Rattle.number_terms.specs.Places.{in_frame, framed_number}
+use Rattle.shape_terms.specs.Places.{in_frame, framed_number}
 
 -- neighbour k of each point comes so many places behind it, where it is in the box
 abbrev pub IsGap : List ℕ → (Point → ℕ → Point) → ℕ → ℕ → Type 0

@@ -2,7 +2,7 @@
 -- Said of sides and numbers alone.
 use Rattle.std.specs.Prelude.{◌≡◌, ℕ, ◌+◌, ◌-◌, ◌<◌, ◌≤◌, List}
 use Rattle.shape_terms.specs.Points.{raster_point}
-use Rattle.number_terms.specs.Places.{framed_number}
+use Rattle.shape_terms.specs.Places.{framed_number}
 
 -- the number in the framed box of the point with a raster number
 abbrev pub placed : List ℕ → ℕ → ℕ

@@ -4,7 +4,7 @@ use Rattle.std.specs.Prelude.{◌≡◌, ℕ, ◌<◌, ◌↔◌, Bool, true, fa
 use Rattle.shape_terms.specs.Points.{Point}
 use Rattle.shape_terms.specs.FramedBox.{framed_point}
 use Rattle.shape_terms.specs.Adjacency.{side_steps, side_point}
-use Rattle.number_terms.specs.Places.{in_frame, framed_number}
+use Rattle.shape_terms.specs.Places.{in_frame, framed_number}
 use Rattle.shape_adj.specs.NearMasks.{In}
 
 -- the value at the place is true

@@ -3,7 +3,7 @@
 ghost use Rattle.std.specs.Prelude.{◌≡◌, ◌↔◌, ◌+◌, ◌-◌, ◌%◌, ◌^◌, ◌<◌, ◌≤◌, ◌≤ℤ◌, ℕ, pos, nat_abs, IfOk, length};
 ghost use Rattle.shape_terms.specs.Points.{sides_of, box_count};
 ghost use Rattle.shape_terms.specs.FramedBox.{framed_sides};
-ghost use Rattle.number_terms.specs.Places.{BackgroundPlace};
+ghost use Rattle.shape_terms.specs.Places.{BackgroundPlace};
 ghost use Rattle.shape_adj.specs.Todo.{Marked};
 ghost use Rattle.shape_adj.specs.Rows.{IsRow};
 

@@ -1,7 +1,7 @@
 //! A set whose points are told by numbers, with links between them.
 //! The flood needs no more of a picture than this; a further kind of set is one more `impl`.
 ghost use Rattle.std.specs.Prelude.{◌≡◌, ◌<◌, ◌↔◌, ℕ, Option, IfOk, length};
-ghost use Rattle.number_terms.specs.Net.{IsNet};
+ghost use Rattle.shape_terms.specs.Net.{IsNet};
 ghost use Rattle.shape_adj.specs.Todo.{Marked, IsRowOf, IsOpen};
 
 use shape_bits::Bits;

@@ -7,7 +7,7 @@ ghost use Rattle.shape_terms.specs.Adjacency.{Near, Side, Round, Lists, city_dis
 ghost use Rattle.shape_adj.specs.Offsets.{IsShort};
 ghost use Rattle.shape_terms.proofs.AdjacencySymmetric.{near_sym, side_sym};
 ghost use Rattle.shape_terms.proofs.NeighbourNumbers.{near_listed_once, side_listed_once, side_is_round};
-ghost use Rattle.number_terms.proofs.RoundSets.{flat_round};
+ghost use Rattle.shape_terms.proofs.RoundSets.{flat_round};
 
 use shape_space::{P2, Point};
 

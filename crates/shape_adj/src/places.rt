@@ -5,10 +5,10 @@ ghost use Rattle.shape_terms.specs.Points.{sides_of, box_count, raster_point};
 ghost use Rattle.shape_terms.specs.Pictures.{at};
 ghost use Rattle.shape_terms.specs.FramedBox.{framed_sides, IsWithin};
 ghost use Rattle.shape_terms.specs.Adjacency.{near_steps, side_steps};
-ghost use Rattle.number_terms.specs.Places.{ObjectPlace, NearPlaces, object_link, BackgroundPlace, SidePlaces, background_link};
+ghost use Rattle.shape_terms.specs.Places.{ObjectPlace, NearPlaces, object_link, BackgroundPlace, SidePlaces, background_link};
 ghost use Rattle.shape_adj.specs.NearMasks.{IsNearMask};
-ghost use Rattle.number_terms.proofs.ObjectPlaces.{object_net};
-ghost use Rattle.number_terms.proofs.BackgroundPlaces.{background_net};
+ghost use Rattle.shape_terms.proofs.ObjectPlaces.{object_net};
+ghost use Rattle.shape_terms.proofs.BackgroundPlaces.{background_net};
 
 use crate::framed::background_places;
 use crate::near::NearNumbers;

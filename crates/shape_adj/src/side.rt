@@ -4,7 +4,7 @@ ghost use Rattle.std.specs.Prelude.{◌≡◌, ◌<◌, ◌↔◌, ℕ, IsTrue, 
 ghost use Rattle.shape_terms.specs.Points.{sides_of, in_box, box_count};
 ghost use Rattle.shape_terms.specs.FramedBox.{framed_sides, framed_point, IsWithin};
 ghost use Rattle.shape_terms.specs.Adjacency.{side_point, near_point};
-ghost use Rattle.number_terms.specs.Places.{in_frame, framed_number};
+ghost use Rattle.shape_terms.specs.Places.{in_frame, framed_number};
 ghost use Rattle.shape_adj.specs.Gaps.{AreFramedGaps};
 ghost use Rattle.shape_adj.specs.Todo.{IsFramedTrue, IsSideMask};
 

@@ -5,7 +5,7 @@ ghost use Rattle.shape_terms.specs.FramedBox.{IsWithin};
 ghost use Rattle.shape_terms.specs.Adjacency.{near_step, side_step, moved};
 ghost use Rattle.shape_terms.proofs.AdjacencySymmetric.{near_sym, side_sym};
 ghost use Rattle.shape_terms.proofs.NeighbourNumbers.{near_listed_once, side_listed_once, side_is_round};
-ghost use Rattle.number_terms.proofs.RoundSets.{solid_round};
+ghost use Rattle.shape_terms.proofs.RoundSets.{solid_round};
 
 use crate::pairing::{Pairing, stepped};
 use shape_space::P3;

@@ -10,7 +10,7 @@ use Rattle.shape_terms.specs.Contours.{Crack, IsCrack, IsCycle}
 use Rattle.shape_terms.specs.Traces.{Contour, AreContours, contour_of}
 use Rattle.shape_terms.specs.Naive.{Naive}
 use Rattle.shape_terms.specs.Covers.{Stretch, Evidence, IsEvidence, IsSegment, arc, gap_run}
-use Rattle.least_terms.specs.Least.{Pairs, ShowsLeast}
+use Rattle.shape_terms.specs.Least.{Pairs, ShowsLeast}
 use Rattle.report_terms.specs.Forms.{last_number}
 use Rattle.report_terms.specs.ContourFacts.{Segment}
 use Rattle.report_terms.specs.Lines.{Line, IsLineOf}

@@ -13,9 +13,9 @@ use Rattle.shape_terms.specs.Naive.{IsProper, HoldsPoint}
 use Rattle.shape_terms.specs.Refutations.{Refutes}
 use Rattle.shape_terms.proofs.CrackOrder.{before_once, before_itself}
 use Rattle.shape_terms.proofs.SameCycles.{in_none}
-use Rattle.patch_terms.specs.Patches.{Sense, exposed_points, IsFirstLeft, Patch, IsPartition, FoundPatch, RefusedPoint, points_of}
-use Rattle.patch_terms.proofs.PointLists.{across, no_more}
-use Rattle.patch_terms.proofs.Places.{place_of, of_place, place_drop, place_take, of_front, place_map}
+use Rattle.shape_terms.specs.Patches.{Sense, exposed_points, IsFirstLeft, Patch, IsPartition, FoundPatch, RefusedPoint, points_of}
+use Rattle.shape_terms.proofs.PointLists.{across, no_more}
+use Rattle.shape_terms.proofs.Places.{place_of, of_place, place_drop, place_take, of_front, place_map}
 use Rattle.report_terms.specs.Lines.{Line, IsLineOf}
 use Rattle.report_terms.specs.FaceFacts.{face_axis, face_sense}
 use Rattle.report_terms.specs.FaceLines.{FaceStanding, face_standing, given_patch, open_exposed, IsTouching, FacesAreFull, IsNextTouching, IsNextOn, IsFaceHead, IsPatchHead, IsOnLine, IsOffLine, SurfaceClaim}

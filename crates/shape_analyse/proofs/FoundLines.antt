@@ -5,7 +5,7 @@ use Rattle.std.specs.Prelude.{◌*◌, ◌≤◌, All, FitsSigned, Some, nat_abs
 use Rattle.std.specs.Int.{w64}
 use Rattle.std.proofs.lemmas.List.{length-map, length-take-le}
 use Rattle.shape_terms.specs.Points.{Point, coordinate}
-use Rattle.least_terms.specs.Least.{Pairs, ShowsLeast}
+use Rattle.shape_terms.specs.Least.{Pairs, ShowsLeast}
 use Rattle.report_terms.specs.ContourFacts.{Segment}
 use Rattle.shape_terms.specs.Traces.{Contour}
 use Rattle.shape_terms.specs.Naive.{Naive}

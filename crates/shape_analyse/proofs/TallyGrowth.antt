@@ -7,11 +7,11 @@ use Rattle.std.proofs.lemmas.List.Sums.{sum_by_push}
 use Rattle.std.proofs.lemmas.List.FromFn.{map-range_with_len_more}
 use Rattle.std.proofs.lemmas.List.{map-id}
 use Rattle.std.proofs.lemmas.Slice.Zip.{all_zipped_more}
-use Rattle.patch_terms.proofs.ListPushes.{take_next}
+use Rattle.shape_terms.proofs.ListPushes.{take_next}
 use Rattle.shape_terms.specs.Points.{Point}
 use Rattle.shape_terms.specs.Pictures.{Picture, object_points}
-use Rattle.thin_terms.specs.Thinning.{Rule, Event, IsThinning}
-use Rattle.thin_terms.specs.Shelves.{Named, rules_of}
+use Rattle.shape_terms.specs.Thinning.{Rule, Event, IsThinning}
+use Rattle.shape_terms.specs.Shelves.{Named, rules_of}
 use Rattle.shape_rules.specs.Ruled.{rules_on}
 use Rattle.shape_terms.specs.Traces.{Contour}
 use Rattle.shape_terms.specs.Covers.{Stretch, IsCover}

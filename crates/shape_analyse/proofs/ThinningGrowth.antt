@@ -5,8 +5,8 @@ use Rattle.std.specs.Prelude.{slice_get, pos, negsuc}
 use Rattle.std.proofs.lemmas.List.{append-nil, take_all, length-append}
 use Rattle.shape_terms.specs.FramedBox.{IsWithin}
 use Rattle.shape_terms.specs.Parts.{Counts}
-use Rattle.thin_terms.specs.Thinning.{Event, Stage, ThinsTo, IsThinning, opening_stage}
-use Rattle.thin_terms.specs.Following.{IsNextEvent}
+use Rattle.shape_terms.specs.Thinning.{Event, Stage, ThinsTo, IsThinning, opening_stage}
+use Rattle.shape_terms.specs.Following.{IsNextEvent}
 use Rattle.report_terms.specs.Subjects.{Subject}
 use Rattle.report_terms.specs.Lines.{Line, Heading, line_text, text_of, IsLineOf}
 use Rattle.report_terms.specs.ThinningLines.{PartsFact, event_of, events_of, kept_fact, kept_facts, ThinningClaim}

@@ -3,7 +3,7 @@
 use Rattle.std.specs.Prelude.{◌≡◌, ◌+◌, ◌<◌, ◌^◌, ℕ, List, ◌++◌, length, map, take, IsTrue}
 use Rattle.shape_terms.specs.Points.{Point}
 use Rattle.shape_terms.specs.Pictures.{Picture, at}
-use Rattle.patch_terms.specs.Patches.{FoundPatch, RefusedPoint, points_of}
+use Rattle.shape_terms.specs.Patches.{FoundPatch, RefusedPoint, points_of}
 use Rattle.report_terms.specs.Lines.{Line}
 use Rattle.report_terms.specs.FaceFacts.{face_axis, face_sense}
 use Rattle.report_terms.specs.FaceLines.{FaceStanding, face_standing, PatchIsFull, FacesAreFull, open_exposed}

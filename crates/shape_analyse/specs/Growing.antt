@@ -5,8 +5,8 @@ use Rattle.shape_terms.specs.Points.{Point}
 use Rattle.shape_terms.specs.Pictures.{Picture, object_points}
 use Rattle.shape_terms.specs.Traces.{Contour, AreContours}
 use Rattle.shape_terms.specs.Covers.{Stretch}
-use Rattle.thin_terms.specs.Thinning.{Rule, Event}
-use Rattle.thin_terms.specs.Shelves.{Named}
+use Rattle.shape_terms.specs.Thinning.{Rule, Event}
+use Rattle.shape_terms.specs.Shelves.{Named}
 use Rattle.report_terms.specs.Subjects.{Subject, IsOnShelf}
 use Rattle.report_terms.specs.Forms.{last_number}
 use Rattle.report_terms.specs.Lines.{Line, Heading, spelling, text_of, IsLineOf}

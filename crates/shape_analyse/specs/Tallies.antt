@@ -6,8 +6,8 @@ use Rattle.shape_terms.specs.Pictures.{Picture, object_points}
 use Rattle.shape_terms.specs.Parts.{Counts}
 use Rattle.shape_terms.specs.Traces.{Contour, AreContours}
 use Rattle.shape_terms.specs.Covers.{Stretch, IsCover}
-use Rattle.patch_terms.specs.Patches.{exposed_points}
-use Rattle.thin_terms.specs.Thinning.{Rule, Event, Stage, IsThinning}
+use Rattle.shape_terms.specs.Patches.{exposed_points}
+use Rattle.shape_terms.specs.Thinning.{Rule, Event, Stage, IsThinning}
 use Rattle.report_terms.specs.FaceFacts.{face_axis, face_sense}
 use Rattle.shape_analyse.specs.declared.tally.Extent.{Extent}
 use Rattle.shape_analyse.specs.declared.tally.Extent.TheVariants as extent

@@ -4,8 +4,8 @@ ghost use Rattle.std.specs.Prelude.{◌≡◌, ◌≤◌, ℕ, List, IfOk, OnOk,
 ghost use Rattle.shape_terms.specs.Pictures.{object_points};
 ghost use Rattle.shape_terms.specs.Parts.{Counts};
 ghost use Rattle.shape_terms.specs.Distances.{IsField, IsFramed};
-ghost use Rattle.thin_terms.specs.Thinning.{Rule};
-ghost use Rattle.thin_terms.specs.Shelves.{Named};
+ghost use Rattle.shape_terms.specs.Thinning.{Rule};
+ghost use Rattle.shape_terms.specs.Shelves.{Named};
 ghost use Rattle.report_terms.specs.Forms.{IsNumber, last_number};
 ghost use Rattle.report_terms.specs.Subjects.{IsOnShelf};
 ghost use Rattle.shape_rules.specs.Names.{word_of};

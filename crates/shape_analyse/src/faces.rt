@@ -2,7 +2,7 @@
 //! What is found of a face comes from `shape_plane`.
 ghost use Rattle.std.specs.Prelude.{◌≡◌, ◌<◌, ◌+◌, ◌^◌, ◌++◌, ◌∷◌, [], ℕ, List, IfOk, OnOk, length};
 ghost use Rattle.shape_terms.specs.Pictures.{Picture};
-ghost use Rattle.patch_terms.specs.Patches.{FoundPatch};
+ghost use Rattle.shape_terms.specs.Patches.{FoundPatch};
 ghost use Rattle.report_terms.specs.FaceFacts.{face_axis, face_sense};
 ghost use Rattle.shape_refute.specs.Senses.{sense_of};
 ghost use Rattle.shape_analyse.specs.Growing.{Aim, IsTextOf};

@@ -1,8 +1,8 @@
 //! What stands between the nearest points and the thinning in a report: the contours of a flat picture, the faces of a volume.
 //! A further dimension is one more `impl` of `Outline`.
 ghost use Rattle.std.specs.Prelude.{◌≡◌, ℕ, List, IfOk, OnOk};
-ghost use Rattle.thin_terms.specs.Thinning.{Rule};
-ghost use Rattle.thin_terms.specs.Shelves.{Named};
+ghost use Rattle.shape_terms.specs.Thinning.{Rule};
+ghost use Rattle.shape_terms.specs.Shelves.{Named};
 ghost use Rattle.shape_analyse.specs.Growing.{aim_of, HasNears, HasSurveyed};
 ghost use Rattle.shape_analyse.specs.Tallies.{IsExtentOf};
 

@@ -4,7 +4,7 @@ ghost use Rattle.std.specs.Prelude.{◌≡◌, ◌++◌, ℕ, IfOk, OnOk, length
 ghost use Rattle.shape_terms.specs.Pictures.{object_points};
 ghost use Rattle.shape_terms.specs.Parts.{Counts};
 ghost use Rattle.shape_terms.specs.Distances.{IsField};
-ghost use Rattle.thin_terms.specs.Thinning.{Stage, IsThinning};
+ghost use Rattle.shape_terms.specs.Thinning.{Stage, IsThinning};
 ghost use Rattle.report_terms.specs.Lines.{line_text, IsLineOf};
 ghost use Rattle.shape_queue.specs.Distances.{AreDistances};
 ghost use Rattle.shape_thin.specs.Runs.{IsRunOf, event_of, event_point};

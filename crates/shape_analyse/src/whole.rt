@@ -1,7 +1,7 @@
 //! The report of a picture, section by section: one body for every dimension.
 //! `analyse_flat` and `analyse_solid` are what the crates above call.
 ghost use Rattle.std.specs.Prelude.{◌≡◌, ◌≢◌, ◌<◌, ℕ, IfOk, length, slice_get};
-ghost use Rattle.thin_terms.specs.Shelves.{names_of};
+ghost use Rattle.shape_terms.specs.Shelves.{names_of};
 ghost use Rattle.shape_rules.specs.Ruled.{rules_on};
 ghost use Rattle.shape_analyse.specs.Analyses.{IsAnalysisOf};
 

@@ -10,7 +10,7 @@ use Rattle.shape_terms.specs.Pictures.{Picture, at}
 use Rattle.shape_terms.specs.Steps.{Before}
 use Rattle.shape_terms.specs.Distances.{NearFact, IsField}
 use Rattle.shape_terms.proofs.Boxes.{in_box_length}
-use Rattle.number_terms.proofs.Numbered.{object_in_box}
+use Rattle.shape_terms.proofs.Numbered.{object_in_box}
 use Rattle.shape_window.specs.Marks.{is_marked}
 use Rattle.ball_terms.specs.Balls.{Ball, ball_by, InBall, BallClaim, AreBalls}
 use Rattle.text_terms.proofs.ListPushes.{get_push, get_last}

@@ -9,7 +9,7 @@ use Rattle.shape_terms.specs.Pictures.{Picture}
 use Rattle.shape_terms.specs.FramedBox.{IsWithin}
 use Rattle.shape_terms.specs.Distances.{NearFact, IsField, IsFramed}
 use Rattle.shape_terms.proofs.Boxes.{in_box_length}
-use Rattle.number_terms.proofs.Numbered.{object_in_box}
+use Rattle.shape_terms.proofs.Numbered.{object_in_box}
 use Rattle.text_terms.specs.Fields.{point, weight}
 use Rattle.text_terms.proofs.FramedFields.{within_short, distance_fits}
 use Rattle.ball_terms.specs.Balls.{Ball}

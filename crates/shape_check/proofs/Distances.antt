@@ -8,8 +8,8 @@ use Rattle.shape_terms.specs.Points.{Point, box_count, raster_number, raster_poi
 use Rattle.shape_terms.specs.Pictures.{Picture, at, objects_from}
 use Rattle.shape_terms.specs.Parts.{Object}
 use Rattle.shape_terms.proofs.Boxes.{raster_below, raster_point-raster_number}
-use Rattle.number_terms.proofs.ObjectPlaces.{object_in_box}
-use Rattle.thin_terms.specs.Thinning.{HasDistance}
+use Rattle.shape_terms.proofs.ObjectPlaces.{object_in_box}
+use Rattle.shape_terms.specs.Thinning.{HasDistance}
 use Rattle.shape_queue.specs.Distances.{AreDistances}
 use Rattle.judge_field.proofs.NextObjects.{AreBlank, IsNext, blank_to_end}
 

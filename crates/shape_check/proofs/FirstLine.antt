@@ -6,8 +6,8 @@ use Rattle.std.proofs.lemmas.List.{length-append}
 use Rattle.shape_desk.specs.Line.{IfTold, TakenAhead, ahead_of}
 use Rattle.shape_terms.specs.Points.{Point}
 use Rattle.shape_terms.specs.Pictures.{Picture}
-use Rattle.thin_terms.specs.Thinning.{Rule}
-use Rattle.thin_terms.specs.Shelves.{Named, AreNames, names_of, rules_of}
+use Rattle.shape_terms.specs.Thinning.{Rule}
+use Rattle.shape_terms.specs.Shelves.{Named, AreNames, names_of, rules_of}
 use Rattle.report_terms.specs.Subjects.{Subject, subject_of, IsOnShelf}
 use Rattle.report_terms.specs.Lines.{Line, Heading, spelled}
 use Rattle.report_terms.specs.Sections.{Section, rank, lines_of, number_of, GoodAfter, NamesRule, analysis}

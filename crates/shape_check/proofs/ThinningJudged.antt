@@ -9,9 +9,9 @@ use Rattle.std.proofs.lemmas.List.{append-nil}
 use Rattle.std.proofs.lemmas.List.Elements.{filter_map-append}
 use Rattle.shape_terms.specs.Pictures.{Picture, object_points}
 use Rattle.shape_terms.specs.Parts.{Counts}
-use Rattle.thin_terms.specs.Thinning.{Rule, Event, Stage, ThinsTo}
-use Rattle.thin_terms.specs.Following.{IsNextEvent, AreAllEvents}
-use Rattle.thin_terms.proofs.ThinningKept.{thinning_keeps}
+use Rattle.shape_terms.specs.Thinning.{Rule, Event, Stage, ThinsTo}
+use Rattle.shape_terms.specs.Following.{IsNextEvent, AreAllEvents}
+use Rattle.shape_terms.proofs.ThinningKept.{thinning_keeps}
 use Rattle.report_terms.specs.Subjects.{Subject}
 use Rattle.report_terms.specs.Lines.{Line}
 use Rattle.report_terms.specs.Sections.{Section, SectionClaim}

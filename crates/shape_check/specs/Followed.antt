@@ -4,7 +4,7 @@ use Rattle.std.specs.Prelude.{◌≡◌, ℕ, Bool, true, false, List, [], lengt
 use Rattle.shape_terms.specs.Points.{box_count}
 use Rattle.shape_terms.specs.Pictures.{Picture}
 use Rattle.shape_terms.specs.Parts.{Counts}
-use Rattle.thin_terms.specs.Thinning.{Rule, Event}
+use Rattle.shape_terms.specs.Thinning.{Rule, Event}
 use Rattle.report_terms.specs.Lines.{Line}
 use Rattle.report_terms.specs.ThinningLines.{events_of, kept_facts}
 use Rattle.shape_check.specs.Rows.{HasTaken}

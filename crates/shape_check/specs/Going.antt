@@ -1,7 +1,7 @@
 -- What is known of the good lines while a report is checked.
 -- How far a check has come in a text is told in `report_text`.
 use Rattle.std.specs.Prelude.{◌≡◌, ℕ, List, []}
-use Rattle.thin_terms.specs.Thinning.{Rule}
+use Rattle.shape_terms.specs.Thinning.{Rule}
 use Rattle.report_terms.specs.Subjects.{Subject}
 use Rattle.report_terms.specs.Lines.{Line}
 use Rattle.report_terms.specs.Sections.{Section, lines_of, HasCome}

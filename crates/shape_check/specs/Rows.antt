@@ -1,7 +1,7 @@
 -- Judges in a row, one for each section: which lines a row stands for.
 -- What a judge stands for is handed in; a further section is one more judge in the row.
 use Rattle.std.specs.Prelude.{◌≡◌, ◌≤◌, ℕ, suc, Bool, true, false, List, [], length}
-use Rattle.thin_terms.specs.Thinning.{Rule}
+use Rattle.shape_terms.specs.Thinning.{Rule}
 use Rattle.text_terms.specs.Reports.{EndsWith}
 use Rattle.report_terms.specs.Lines.{Line}
 use Rattle.report_terms.specs.Subjects.{Subject}

@@ -3,7 +3,7 @@
 ghost use Rattle.std.specs.Prelude.{◌≡◌, ◌↔◌, ◌<◌, ◌-◌, ◌^◌, ℕ, [], ◌∷◌, ◌++◌, List, IsTrue, IfOk};
 ghost use Rattle.std.specs.Bool.{OnTrue};
 ghost use Rattle.shape_terms.specs.Pictures.{Picture};
-ghost use Rattle.thin_terms.specs.Thinning.{Rule};
+ghost use Rattle.shape_terms.specs.Thinning.{Rule};
 ghost use Rattle.report_terms.specs.Lines as Terms;
 ghost use Rattle.report_terms.specs.Subjects.{Subject};
 ghost use Rattle.report_terms.specs.Sections.{Section, rank, lines_of, SectionClaim, SectionComplete, HasCome, GoodAfter};

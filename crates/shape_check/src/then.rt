@@ -2,7 +2,7 @@
 //! How sections follow each other is decided here alone.
 ghost use Rattle.std.specs.Prelude.{◌≡◌, ◌↔◌, ◌+◌, false, [], ◌∷◌, ◌++◌, ℕ, List, IsTrue, IfOk};
 ghost use Rattle.shape_terms.specs.Pictures.{Picture};
-ghost use Rattle.thin_terms.specs.Thinning.{Rule};
+ghost use Rattle.shape_terms.specs.Thinning.{Rule};
 ghost use Rattle.report_terms.specs.Lines as Terms;
 ghost use Rattle.shape_check.specs.Rows.{IsNext};
 

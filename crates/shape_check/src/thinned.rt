@@ -2,7 +2,7 @@
 //! How the events are followed stands in `judge_thin`.
 ghost use Rattle.std.specs.Prelude.{◌≡◌, ◌↔◌, ◌+◌, ◌<◌, true, false, IsTrue, IfOk, ℕ, List, [], ◌∷◌, ◌++◌};
 ghost use Rattle.shape_terms.specs.Pictures.{Picture};
-ghost use Rattle.thin_terms.specs.Thinning.{Rule, Event};
+ghost use Rattle.shape_terms.specs.Thinning.{Rule, Event};
 ghost use Rattle.report_terms.specs.Lines as Terms;
 ghost use Rattle.report_terms.specs.Sections.{Section};
 ghost use Rattle.report_terms.specs.ThinningLines.{IsKeptLine};

@@ -2,7 +2,7 @@
 //! A further section is one more word in a type and one more line in its `begin`; another dimension is another row.
 ghost use Rattle.std.specs.Prelude.{◌≡◌, ◌<◌, ◌^◌, ℕ, false, List, [], IfOk, refl};
 ghost use Rattle.shape_terms.specs.Parts.{Counts};
-ghost use Rattle.thin_terms.specs.Thinning.{Rule};
+ghost use Rattle.shape_terms.specs.Thinning.{Rule};
 ghost use Rattle.judge_field.specs.FieldState as Field;
 ghost use Rattle.judge_thin.specs.Standing as Thin;
 ghost use Rattle.shape_check.specs.Followed.{Thins};

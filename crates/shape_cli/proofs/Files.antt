@@ -3,8 +3,8 @@
 use Rattle.std.proofs.Common.{◌≡◌, inl, ◌≤◌, ℕ, List}
 use Rattle.std.specs.Prelude.{Option, None, Some, Result, Ok, Err}
 use Rattle.shape_terms.specs.Pictures.{Picture}
-use Rattle.thin_terms.specs.Thinning.{Rule}
-use Rattle.thin_terms.specs.Shelves.{Named}
+use Rattle.shape_terms.specs.Thinning.{Rule}
+use Rattle.shape_terms.specs.Shelves.{Named}
 use Rattle.text_terms.specs.Reports.{Holds}
 use Rattle.shape_desk.specs.Desk.{DeskState, IsAtFront}
 use Rattle.shape_desk.specs.declared.desk.Place.TheVariants.{Report}

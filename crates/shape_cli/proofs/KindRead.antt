@@ -3,8 +3,8 @@
 use Rattle.std.proofs.Common.{◌≡◌, List, ℕ, sym, subst}
 use Rattle.std.specs.Prelude.{Option, Result, Ok, Err, IfOk}
 use Rattle.shape_terms.specs.Pictures.{Picture}
-use Rattle.thin_terms.specs.Thinning.{Rule}
-use Rattle.thin_terms.specs.Shelves.{Named}
+use Rattle.shape_terms.specs.Thinning.{Rule}
+use Rattle.shape_terms.specs.Shelves.{Named}
 use Rattle.text_terms.specs.Reports.{Holds}
 use Rattle.shape_desk.specs.Desk.{DeskState}
 use Rattle.report_text.specs.Checks.{HasChecked, Answer}

@@ -2,8 +2,8 @@
 -- The further kinds are the rows of `Further`; nothing here names one.
 use Rattle.std.specs.Prelude.{◌≡◌, ◌++◌, ℕ, List, [], ◌∷◌, codes, ⊤, Contains, slice_get, Some}
 use Rattle.shape_terms.specs.Pictures.{Picture}
-use Rattle.thin_terms.specs.Thinning.{Rule}
-use Rattle.thin_terms.specs.Shelves.{Named}
+use Rattle.shape_terms.specs.Thinning.{Rule}
+use Rattle.shape_terms.specs.Shelves.{Named}
 use Rattle.text_terms.specs.Reports.{Report, Holds}
 use Rattle.report_terms.specs.Subjects.{subject_of}
 use Rattle.report_terms.specs.Lines.{Line}

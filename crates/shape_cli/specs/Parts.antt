@@ -2,8 +2,8 @@
 -- These words are the program's own; its callers need `Runs` alone.
 use Rattle.std.specs.Prelude.{◌⊎◌, ℕ, List, ⊤, Result, Ok, Err}
 use Rattle.shape_terms.specs.Pictures.{Picture}
-use Rattle.thin_terms.specs.Thinning.{Rule}
-use Rattle.thin_terms.specs.Shelves.{Named}
+use Rattle.shape_terms.specs.Thinning.{Rule}
+use Rattle.shape_terms.specs.Shelves.{Named}
 use Rattle.text_terms.specs.Reports.{FirstBad}
 use Rattle.text_terms.specs.Going.{TakesFew}
 use Rattle.shape_desk.specs.Desk.{DeskState, Rose, IsMissing}

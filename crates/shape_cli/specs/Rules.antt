@@ -1,8 +1,8 @@
 -- The rules of the program: which points each of them keeps as ends, and the name that it goes by.
 -- A further rule is one more definition and one more entry of the list.
 use Rattle.std.specs.Prelude.{ℕ, ◌==◌, false, List, [], ◌∷◌, codes}
-use Rattle.thin_terms.specs.Thinning.{Rule, rule_by}
-use Rattle.thin_terms.specs.Shelves.{Named}
+use Rattle.shape_terms.specs.Thinning.{Rule, rule_by}
+use Rattle.shape_terms.specs.Shelves.{Named}
 use Rattle.shape_rules.specs.Few.{few_marks, few_next}
 
 -- no point is kept as an end

@@ -3,8 +3,8 @@
 use Rattle.std.specs.Prelude.{◌≡◌, ◌++◌, ◌-◌, ℕ, List, codes, length, slice_get, Some}
 use Rattle.std.specs.Fmt.{decimal}
 use Rattle.shape_terms.specs.Pictures.{Picture}
-use Rattle.thin_terms.specs.Thinning.{Rule}
-use Rattle.thin_terms.specs.Shelves.{Named, rules_of}
+use Rattle.shape_terms.specs.Thinning.{Rule}
+use Rattle.shape_terms.specs.Shelves.{Named, rules_of}
 use Rattle.trial_picture.specs.Balls.{ball_picture}
 use Rattle.shape_analyse.specs.Tallies.{IsTallyOf}
 use Rattle.shape_analyse.specs.declared.tally.Tally.{Tally}

@@ -1,7 +1,7 @@
 //! The words of a command line.
 //! A command has one spelling: a first word, the words of a source, and a last word; or those of a trial.
 ghost use Rattle.std.specs.Prelude.{◌≡◌, ℕ, List, MatchOption, None, Some, Contains, ◌∷◌, [], slice_get};
-ghost use Rattle.thin_terms.specs.Shelves.{names_of};
+ghost use Rattle.shape_terms.specs.Shelves.{names_of};
 ghost use Rattle.shape_cli.specs.Sources.{source_words, kind_at, read_kind, read_source};
 ghost use Rattle.shape_cli.specs.Further.{read_further};
 ghost use Rattle.shape_cli.specs.Kinds.{ReportKind as AskedKind, Takes, read_report_kind};

@@ -2,8 +2,8 @@
 //! These are laws alone: the calls do nothing, what counts is their clauses.
 ghost use Rattle.std.specs.Prelude.{◌≡◌, ◌⊎◌, ℕ, List};
 ghost use Rattle.shape_terms.specs.Pictures.{Picture};
-ghost use Rattle.thin_terms.specs.Thinning.{Rule};
-ghost use Rattle.thin_terms.specs.Shelves.{Named, names_of};
+ghost use Rattle.shape_terms.specs.Thinning.{Rule};
+ghost use Rattle.shape_terms.specs.Shelves.{Named, names_of};
 ghost use Rattle.text_terms.specs.Reports.{Holds};
 ghost use Rattle.shape_desk.specs.Desk.{DeskState, Rose};
 ghost use Rattle.shape_picture.specs.declared.fault.PictureFault.{PictureFault};

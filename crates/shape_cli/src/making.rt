@@ -1,7 +1,7 @@
 //! The commands that make a report: the picture, then its report, then the output.
 //! The report is built whole before its first byte is written.
 ghost use Rattle.std.specs.Prelude.{◌≡◌, ◌<◌, IfOk, length};
-ghost use Rattle.thin_terms.specs.Shelves.{names_of};
+ghost use Rattle.shape_terms.specs.Shelves.{names_of};
 ghost use Rattle.shape_rules.specs.Ruled.{rules_on};
 ghost use Rattle.shape_analyse.specs.Analyses.{IsAnalysisOf};
 ghost use Rattle.shape_cli.specs.Sources.{kind_at, read_source};

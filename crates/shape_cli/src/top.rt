@@ -1,7 +1,7 @@
 //! The top call: what the words ask for is done by `making`, `verdict` or `trial`.
 //! What each outcome means for the desk stands in `specs/Runs.antt`.
 ghost use Rattle.std.specs.Prelude.{◌≡◌, ◌↔◌, ◌⊎◌};
-ghost use Rattle.thin_terms.specs.Shelves.{names_of};
+ghost use Rattle.shape_terms.specs.Shelves.{names_of};
 ghost use Rattle.shape_rules.specs.Ruled.{rules_on};
 ghost use Rattle.shape_desk.specs.Files.{texts, KeepsFiles};
 ghost use Rattle.shape_cli.specs.Commands.{IsNoForm, Asks};

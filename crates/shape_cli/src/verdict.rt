@@ -2,8 +2,8 @@
 //! The report is judged line by line; nothing of it is kept.
 ghost use Rattle.std.specs.Prelude.{◌≡◌, ◌≤◌, ℕ, List, length, take, true};
 ghost use Rattle.shape_terms.specs.Pictures.{Picture};
-ghost use Rattle.thin_terms.specs.Thinning.{Rule};
-ghost use Rattle.thin_terms.specs.Shelves.{Named};
+ghost use Rattle.shape_terms.specs.Thinning.{Rule};
+ghost use Rattle.shape_terms.specs.Shelves.{Named};
 ghost use Rattle.text_terms.specs.Reports.{Holds};
 ghost use Rattle.shape_rules.specs.Ruled.{rules_on};
 ghost use Rattle.shape_desk.specs.Desk.{OnlyReads, OnlyReadsAt, WritesText};

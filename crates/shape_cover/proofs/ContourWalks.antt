@@ -6,13 +6,13 @@ use Rattle.shape_terms.specs.Points.{Point}
 use Rattle.shape_terms.specs.Straight.{IsStraight}
 use Rattle.shape_terms.specs.Covers.{Stretch, IsSegment, arc}
 use Rattle.shape_terms.specs.GapCover.{AreGapped}
-use Rattle.walk_terms.specs.RunCovers.{AreRunsWithGaps}
-use Rattle.walk_terms.specs.RunWalks.{IsWalk}
-use Rattle.walk_terms.proofs.RunArcs.{IsWalkKind}
-use Rattle.walk_terms.proofs.PlacedRuns.{IsPlaced, placed, few}
-use Rattle.walk_terms.proofs.WalkSteps.{length-stretches}
-use Rattle.walk_terms.proofs.WalkEnds.{some_found, runs_with_gaps, gap_bent}
-use Rattle.walk_terms.proofs.ContourCovers.{covers, straightness}
+use Rattle.shape_terms.specs.RunCovers.{AreRunsWithGaps}
+use Rattle.shape_terms.specs.RunWalks.{IsWalk}
+use Rattle.shape_terms.proofs.RunArcs.{IsWalkKind}
+use Rattle.shape_terms.proofs.PlacedRuns.{IsPlaced, placed, few}
+use Rattle.shape_terms.proofs.WalkSteps.{length-stretches}
+use Rattle.shape_terms.proofs.WalkEnds.{some_found, runs_with_gaps, gap_bent}
+use Rattle.shape_terms.proofs.ContourCovers.{covers, straightness}
 use Rattle.shape_cover.specs.Found.{Found, stretches_of, found_at, IsCoverOf}
 use Rattle.shape_cover.specs.Walking.{contour_walk}
 use Rattle.shape_cover.proofs.ShortArcs.{short_arc}

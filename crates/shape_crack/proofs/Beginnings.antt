@@ -7,14 +7,14 @@ use Rattle.std.proofs.lemmas.List.Elements.{All-contains}
 use Rattle.shape_terms.specs.Points.{in_box, raster_number}
 use Rattle.shape_terms.specs.Pictures.{Picture}
 use Rattle.shape_terms.specs.Contours.{Crack, IsCrack, successor, Follow, IsCycle}
-use Rattle.number_terms.specs.CrackNumbers.{crack_number}
+use Rattle.shape_terms.specs.CrackNumbers.{crack_number}
 use Rattle.shape_terms.proofs.Boxes.{in_box_first}
 use Rattle.shape_terms.proofs.Turning.{Moves, MoveLaws, ahead_by, edge_ahead, behind_by, edge_behind}
 use Rattle.shape_terms.proofs.Edges.{ahead_crack, behind_ahead}
 use Rattle.shape_terms.proofs.Successor.{Place, point, crack_at, step, moves, IsSide, move_laws, held, crack_of, successor_is, successor_crack, successor_once, placed, edge_crack}
 use Rattle.shape_terms.proofs.SameCycles.{head_in, later_in, in_cases, in_none, cycle_on, of_list, list_of}
-use Rattle.number_terms.proofs.Found.{Found, All-each}
-use Rattle.number_terms.proofs.Numbered.{object_in_box}
+use Rattle.shape_terms.proofs.Found.{Found, All-each}
+use Rattle.shape_terms.proofs.Numbered.{object_in_box}
 use Rattle.shape_crack.proofs.Rows.{flat_number}
 
 -- ---- the crack before one, by the laws of steps with left and right exchanged

@@ -6,10 +6,10 @@ use Rattle.shape_terms.specs.Points.{box_count, raster_point}
 use Rattle.shape_terms.specs.Pictures.{Picture}
 use Rattle.shape_terms.specs.Contours.{Crack, IsCrack, IsCycle, first_of_cycle}
 use Rattle.shape_terms.specs.Traces.{Contour, contour_of, IsContourFrom, AreContours}
-use Rattle.number_terms.specs.CrackNumbers.{crack_number, numbered, MarksCycle}
+use Rattle.shape_terms.specs.CrackNumbers.{crack_number, numbered, MarksCycle}
 use Rattle.shape_terms.proofs.SameCycles.{cycle_same}
-use Rattle.number_terms.proofs.Found.{Found, found_none, found_skip, found_more, found_all}
-use Rattle.number_terms.proofs.Numbered.{numbered_back}
+use Rattle.shape_terms.proofs.Found.{Found, found_none, found_skip, found_more, found_all}
+use Rattle.shape_terms.proofs.Numbered.{numbered_back}
 use Rattle.shape_crack.specs.Marked.{IsCycleMarked, IsTaken}
 use Rattle.shape_crack.specs.Terms.{side_of}
 use Rattle.shape_crack.proofs.Rows.{crack_or_not}

@@ -6,7 +6,7 @@ use Rattle.std.specs.Int.{bit_at}
 use Rattle.std.proofs.lemmas.List.{get_or_default}
 use Rattle.std.proofs.lemmas.Nat.Bits.{bit_at_set_same, bit_at_set_other}
 use native.Mathlib.Decide.{ℕ_discrete}
-use Rattle.number_terms.specs.CrackNumbers.{IsMarkedBesides}
+use Rattle.shape_terms.specs.CrackNumbers.{IsMarkedBesides}
 use Rattle.shape_crack.specs.MarkBits.{is_marked}
 
 pub one_more_mark : (old : List ℕ) (n b : ℕ) → n / 4 < length old → b ≡ get_or old (n / 4) b → IsMarkedBesides n (is_marked old) (is_marked (set old (n / 4) (bit_or b (1 * 2 ^ (n % 4) % 256))))

@@ -8,7 +8,7 @@ use Rattle.shape_terms.specs.Points.{AreSides, in_box}
 use Rattle.shape_terms.specs.FramedBox.{IsWithin}
 use Rattle.shape_terms.specs.Pictures.{Picture, at}
 use Rattle.shape_terms.proofs.FramedBoxes.{box_point_within}
-use Rattle.number_terms.proofs.Numbered.{object_in_box}
+use Rattle.shape_terms.proofs.Numbered.{object_in_box}
 use Rattle.shape_grid.proofs.SideLists.{naturals_kept}
 use Rattle.shape_crack.specs.Terms.{point_of, LeavesRoom}
 

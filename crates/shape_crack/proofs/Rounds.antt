@@ -8,10 +8,10 @@ use Rattle.shape_terms.specs.Points.{Point, AreSides, box_count}
 use Rattle.shape_terms.specs.Pictures.{Picture}
 use Rattle.shape_terms.specs.Contours.{Crack, IsCrack, successor, stays, contour_points}
 use Rattle.shape_terms.specs.Traces.{IsClosedPath, IsContourFrom}
-use Rattle.number_terms.proofs.Walks.{walk, left_pixels-push}
-use Rattle.number_terms.proofs.Tracing.{Reached, Tracing, reached_first, reached_few, reached_cycle, first-walk, not_zero, traced_some, traced_none}
-use Rattle.number_terms.proofs.ClosedPaths.{closed_path}
-use Rattle.number_terms.proofs.Marking.{Marking, marking_end}
+use Rattle.shape_terms.proofs.Walks.{walk, left_pixels-push}
+use Rattle.shape_terms.proofs.Tracing.{Reached, Tracing, reached_first, reached_few, reached_cycle, first-walk, not_zero, traced_some, traced_none}
+use Rattle.shape_terms.proofs.ClosedPaths.{closed_path}
+use Rattle.shape_terms.proofs.Marking.{Marking, marking_end}
 use Rattle.shape_crack.specs.Terms.{point_of}
 use Rattle.shape_crack.specs.Marked.{IsCycleMarked}
 

@@ -10,7 +10,7 @@ use Rattle.shape_terms.specs.Adjacency.{moved}
 use Rattle.shape_terms.specs.Pictures.{Picture, at}
 use Rattle.shape_terms.specs.Contours.{Crack, normal, IsCrack}
 use Rattle.shape_terms.proofs.Boxes.{in_box_first, in_box_more, raster_point_in, raster_below, raster_number-raster_point, raster_point-raster_number}
-use Rattle.number_terms.proofs.Numbered.{object_in_box}
+use Rattle.shape_terms.proofs.Numbered.{object_in_box}
 
 -- what a test of two pixels says of a crack
 pub crack_test : (X : Picture) (c : Crack) (r : Bool) → c.side < 4 → r ≡ (at X c.pixel && not (at X (moved c.pixel (normal c.side)))) → IsTrue r ↔ IsCrack X c

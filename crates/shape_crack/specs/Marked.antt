@@ -4,7 +4,7 @@ use Rattle.std.specs.Prelude.{◌≡◌, ◌⊎◌, ℕ, Bool, true, false, List
 use Rattle.shape_terms.specs.Pictures.{Picture}
 use Rattle.shape_terms.specs.Contours.{Crack, IsCycle, first_of_cycle}
 use Rattle.shape_terms.specs.Traces.{Contour, IsContourFrom}
-use Rattle.number_terms.specs.CrackNumbers.{crack_number, MarksCycle}
+use Rattle.shape_terms.specs.CrackNumbers.{crack_number, MarksCycle}
 
 -- beside the old marks, exactly the cracks of the cycle that begins with the crack are marked
 pub record IsCycleMarked (X : Picture) (c : Crack) (old new : ℕ → Bool) : Type 0 where

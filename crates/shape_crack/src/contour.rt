@@ -4,7 +4,7 @@ ghost use Rattle.std.specs.Prelude.{◌≡◌, ◌==◌, ◌*◌, ◌<◌, ◌++
 ghost use Rattle.shape_terms.specs.Points.{box_count};
 ghost use Rattle.shape_terms.specs.Contours.{IsCrack, stays, successor as successor_of};
 ghost use Rattle.shape_terms.specs.Traces.{IsContourFrom, IsClosedPath};
-ghost use Rattle.number_terms.specs.CrackNumbers.{crack_number};
+ghost use Rattle.shape_terms.specs.CrackNumbers.{crack_number};
 ghost use Rattle.shape_crack.specs.Terms.{point_of, crack_of};
 ghost use Rattle.shape_crack.specs.MarkBits.{is_marked};
 ghost use Rattle.shape_crack.specs.Marked.{IsCycleMarked};

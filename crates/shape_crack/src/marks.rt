@@ -1,7 +1,7 @@
 //! Marks of the cracks of a picture, by their numbers: four for each pixel, in one byte.
 //! Another way of keeping them changes nothing outside this file and its definition.
 ghost use Rattle.std.specs.Prelude.{◌≡◌, ℕ, ◌*◌, ◌<◌, IfOk, false, vec_len};
-ghost use Rattle.number_terms.specs.CrackNumbers.{IsMarkedBesides};
+ghost use Rattle.shape_terms.specs.CrackNumbers.{IsMarkedBesides};
 ghost use Rattle.shape_crack.specs.MarkBits.{is_marked};
 
 use shape_space::NoMemory;

@@ -6,8 +6,8 @@ use Rattle.shape_terms.specs.Points.{Point}
 use Rattle.shape_terms.specs.Covers.{arc}
 use Rattle.edge_terms.specs.Corners.{IsCornerPath}
 use Rattle.edge_terms.specs.EdgeCovers.{IsHeld, IsEdgeCover}
-use Rattle.walk_terms.specs.RunWalks.{IsWalk}
-use Rattle.walk_terms.proofs.WalkSteps.{walk_goes_on}
+use Rattle.shape_terms.specs.RunWalks.{IsWalk}
+use Rattle.shape_terms.proofs.WalkSteps.{walk_goes_on}
 use Rattle.edge_terms.specs.EdgeWalks.{edge_walk}
 use Rattle.edge_terms.proofs.EdgeWalks.{walk_is_cover}
 use Rattle.shape_corner.specs.Lines.{standard_of}

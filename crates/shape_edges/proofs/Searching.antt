@@ -8,8 +8,8 @@ use Rattle.shape_terms.proofs.ArcRuns.{length-arc}
 use Rattle.edge_terms.specs.Corners.{IsCornerPath}
 use Rattle.edge_terms.specs.EdgeStraight.{IsEdgeStraight}
 use Rattle.edge_terms.specs.EdgeCovers.{IsHeld, IsGap}
-use Rattle.walk_terms.specs.RunWalks.{IsLongest}
-use Rattle.walk_terms.proofs.RunArcs.{run_arcs}
+use Rattle.shape_terms.specs.RunWalks.{IsLongest}
+use Rattle.shape_terms.proofs.RunArcs.{run_arcs}
 use Rattle.edge_terms.proofs.EdgeCoverOf.{edge_straightness}
 use Rattle.edge_terms.proofs.EdgeExcludes.{evidence_excludes}
 use Rattle.edge_terms.proofs.ShortEdges.{short_edge}

@@ -3,7 +3,7 @@
 use Rattle.std.specs.Prelude.{◌≡◌, ℕ, ◌+◌, ◌-◌, ◌<◌, ◌≤◌, List, [], ◌∷◌, ◌++◌, length}
 use Rattle.shape_terms.specs.Points.{Point}
 use Rattle.shape_terms.specs.Covers.{arc}
-use Rattle.walk_terms.specs.RunWalks.{IsFollowedBy}
+use Rattle.shape_terms.specs.RunWalks.{IsFollowedBy}
 use Rattle.edge_terms.specs.EdgeStraight.{IsEdgeStraight}
 use Rattle.edge_terms.specs.EdgeCovers.{IsHeld, IsGap}
 use Rattle.edge_terms.specs.EdgeWalks.{edge_walk}

@@ -2,7 +2,7 @@
 //! That the runs are all follows from the evidence for the gaps between them.
 ghost use Rattle.std.specs.Prelude.{◌<◌, ◌^◌, IfOk, length, map};
 ghost use Rattle.shape_terms.specs.Contours.{IsCrack};
-ghost use Rattle.walk_terms.specs.RunWalks.{IsStart};
+ghost use Rattle.shape_terms.specs.RunWalks.{IsStart};
 ghost use Rattle.edge_terms.specs.Corners.{HasSmallSides};
 ghost use Rattle.edge_terms.specs.EdgeCovers.{IsEdgeCover, IsEdgeCoverFrom};
 ghost use Rattle.edge_terms.specs.EdgeStraight.{IsEdgeStraight};

@@ -16,7 +16,7 @@ use Rattle.shape_terms.specs.Turns.{other_axis}
 use Rattle.shape_terms.specs.Straight.{KeepsSense}
 use Rattle.shape_terms.proofs.Products.{rings}
 use Rattle.shape_terms.proofs.Order.{mul-le_ℤ}
-use Rattle.least_terms.proofs.LeastLines.{value_on}
+use Rattle.shape_terms.proofs.LeastLines.{value_on}
 use Rattle.shape_line.proofs.OneWay.{two_coordinates}
 use Rattle.shape_line.specs.Segments.{Seg, rest, IsTaken, IsLonger}
 use Rattle.shape_line.specs.Frames.{IsSense, along, height, IsRunOf, place_from, StandsAt}

@@ -18,9 +18,9 @@ use Rattle.shape_line.proofs.Outcomes.{run_of_segment, segment_straight, naive_h
 use Rattle.shape_refute.specs.Terms.{flat_point, naive_of}
 use Rattle.shape_line.specs.declared.segment.Segment.{Segment}
 use Rattle.shape_line.specs.SegmentTerms.{seg_of, points_of}
-use Rattle.least_terms.specs.Least.{Pairs, Meets, ShowsLeast, IsLeastLine}
-use Rattle.least_terms.proofs.Farey.{least}
-use Rattle.least_terms.proofs.LeastLines.{value_on, shows_least}
+use Rattle.shape_terms.specs.Least.{Pairs, Meets, ShowsLeast, IsLeastLine}
+use Rattle.shape_terms.proofs.Farey.{least}
+use Rattle.shape_terms.proofs.LeastLines.{value_on, shows_least}
 
 -- what a pair of points asks, in the frame
 asks : (c b x y z w v p q : ℤ) → v ≡ q -ℤ p → p ≡ rest c b x y → q ≡ rest c b z w → v <ℤ b → (c *ℤ (z -ℤ x)) <ℤ (b *ℤ ((w -ℤ y) +ℤ pos 1))

@@ -8,7 +8,7 @@ use Rattle.shape_terms.specs.Traces.{IsClosedPath}
 use Rattle.shape_terms.proofs.ArcRuns.{IsPart, arc_part, length-arc, part_naive, part_turn}
 use Rattle.shape_refute.specs.Terms.{naive_of}
 use Rattle.shape_refute.specs.Evidences.{evidence_of}
-use Rattle.least_terms.specs.Least.{IsLeastLine}
+use Rattle.shape_terms.specs.Least.{IsLeastLine}
 use Rattle.shape_line.specs.Small.{IsPlaneLine}
 use Rattle.shape_line.specs.Clashes.{IsClash}
 use Rattle.shape_line.specs.Evidence.{IsShown}

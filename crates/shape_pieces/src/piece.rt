@@ -3,7 +3,7 @@
 ghost use Rattle.std.specs.Prelude.{◌≡◌, ◌≤◌, ◌<◌, ◌-◌, ◌+◌, ◌⊎◌, length};
 ghost use Rattle.shape_terms.specs.Naive.{IsNaiveFor};
 ghost use Rattle.shape_refute.specs.Terms.{naive_of};
-ghost use Rattle.least_terms.specs.Least.{IsLeastLine};
+ghost use Rattle.shape_terms.specs.Least.{IsLeastLine};
 ghost use Rattle.shape_line.specs.Small.{IsPlaneLine};
 ghost use Rattle.shape_line.specs.SegmentTerms.{points_of};
 ghost use Rattle.shape_pieces.specs.Steps.{piece_of, IsPieceFrom};

@@ -12,8 +12,8 @@ use Rattle.shape_terms.specs.Pictures.{Picture, IsPicture, at, with_value, objec
 use Rattle.shape_terms.proofs.Boxes.{raster_below, raster_point_in, raster_number-raster_point, raster_point-raster_number}
 use Rattle.shape_terms.proofs.BoxLists.{length-box_points, get_or-box_points}
 use Rattle.shape_terms.proofs.Members.{Contains-filter, Contains-later}
-use Rattle.patch_terms.specs.Patches.{Sense, sense_step, exposed_points}
-use Rattle.patch_terms.proofs.PointLists.{no_more}
+use Rattle.shape_terms.specs.Patches.{Sense, sense_step, exposed_points}
+use Rattle.shape_terms.proofs.PointLists.{no_more}
 use Rattle.shape_plane.specs.Faces.{exposed_at, gap_of, AreSteps, HasExposed, IsExposing, IsFace}
 use Rattle.shape_plane.proofs.Layers.{next_in_block, last_in_block, first_in_block}
 use Rattle.shape_plane.proofs.Spreading.{at_same, at_other, in_sides}

@@ -8,9 +8,9 @@ use Rattle.shape_terms.specs.Adjacency.{Near}
 use Rattle.shape_terms.specs.Pictures.{Picture, at, object_points}
 use Rattle.shape_terms.specs.Refutations.{Refutation, Refutes}
 use Rattle.shape_terms.proofs.SameCycles.{in_cases}
-use Rattle.number_terms.proofs.Found.{pairs-cons, All-each}
-use Rattle.patch_terms.specs.Patches.{Patch, FoundPatch, RefusedPoint, Sense, exposed_points, points_of, IsPatch, AreRefused, ArePatches}
-use Rattle.patch_terms.proofs.PointLists.{no_more}
+use Rattle.shape_terms.proofs.Found.{pairs-cons, All-each}
+use Rattle.shape_terms.specs.Patches.{Patch, FoundPatch, RefusedPoint, Sense, exposed_points, points_of, IsPatch, AreRefused, ArePatches}
+use Rattle.shape_terms.proofs.PointLists.{no_more}
 use Rattle.shape_plane.specs.Faces.{IsFace}
 use Rattle.shape_plane.specs.Parting.{IsEmpty, IsParted, IsParting, IsNextPatch, IsLaterPoint, AreRefusedOf, patches_of}
 use Rattle.shape_plane.proofs.Exposing.{face_points, object_there, object_only, objects_distinct}

@@ -9,9 +9,9 @@ use Rattle.shape_terms.specs.Steps.{Before}
 use Rattle.shape_terms.specs.Pictures.{Picture, IsPicture, at}
 use Rattle.shape_terms.specs.Naive.{IsNaiveFor}
 use Rattle.shape_terms.proofs.Boxes.{in_box_length}
-use Rattle.number_terms.proofs.Found.{pairs-append}
-use Rattle.patch_terms.specs.Patches.{Patch, Grows, points_of}
-use Rattle.patch_terms.proofs.ListPushes.{get_push}
+use Rattle.shape_terms.proofs.Found.{pairs-append}
+use Rattle.shape_terms.specs.Patches.{Patch, Grows, points_of}
+use Rattle.shape_terms.proofs.ListPushes.{get_push}
 use Rattle.shape_plane.specs.Growth.{Grown}
 use Rattle.shape_plane.specs.Parting.{IsPart, IsParting, IsNewPart}
 use Rattle.shape_plane.specs.Trials.{Spread, Refusal, IsSpreading}

@@ -14,7 +14,7 @@ use Rattle.shape_terms.specs.Steps.{Before}
 use Rattle.shape_terms.proofs.RasterOrder.{raster_rises}
 use Rattle.shape_terms.proofs.Boxes.{raster_point_in, raster_number-raster_point, raster_point-raster_number, raster_below}
 use Rattle.shape_terms.proofs.BoxLists.{at_raster_point, objects_next, objects_skip, length-box_points}
-use Rattle.patch_terms.specs.Patches.{FoundPatch}
+use Rattle.shape_terms.specs.Patches.{FoundPatch}
 use Rattle.shape_plane.specs.Parting.{IsEmpty, IsPast, IsNextPatch, IsReady}
 use Rattle.shape_plane.proofs.Spreading.{in_sides}
 

@@ -12,12 +12,12 @@ use Rattle.shape_terms.specs.Adjacency.{Near, near_steps}
 use Rattle.shape_terms.specs.Steps.{Before}
 use Rattle.shape_terms.specs.Pictures.{Picture, at}
 use Rattle.shape_terms.specs.Refutations.{Refutation, Refutes, Share}
-use Rattle.number_terms.proofs.Found.{pairs-cons, All-each}
+use Rattle.shape_terms.proofs.Found.{pairs-cons, All-each}
 use Rattle.shape_terms.proofs.Members.{Contains-map}
 use Rattle.shape_terms.proofs.NeighbourNumbers.{near_number}
 use Rattle.shape_terms.proofs.AdjacencySymmetric.{near_sym}
-use Rattle.patch_terms.specs.Patches.{Patch, RefusedPoint, FoundPatch, points_of}
-use Rattle.patch_terms.proofs.ListPushes.{get_push}
+use Rattle.shape_terms.specs.Patches.{Patch, RefusedPoint, FoundPatch, points_of}
+use Rattle.shape_terms.proofs.ListPushes.{get_push}
 use Rattle.shape_slope.specs.Pairs.{AreSmallWeights}
 use Rattle.shape_plane.specs.ToldAnew.{told_share, told_anew}
 use Rattle.shape_plane.specs.Found.{told_point, refused_point, found_patch}

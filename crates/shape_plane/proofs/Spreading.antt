@@ -6,9 +6,9 @@ use native.Mathlib.Decide.{ℕ_discrete}
 use Rattle.shape_terms.specs.Points.{Point, in_box, raster_number, raster_point}
 use Rattle.shape_terms.specs.Pictures.{Picture, IsPicture, at, with_value}
 use Rattle.shape_terms.proofs.Boxes.{raster_below, raster_point-raster_number}
-use Rattle.patch_terms.proofs.ListPushes.{get_push}
+use Rattle.shape_terms.proofs.ListPushes.{get_push}
 use Rattle.shape_terms.specs.Adjacency.{Near}
-use Rattle.patch_terms.specs.Patches.{Grows}
+use Rattle.shape_terms.specs.Patches.{Grows}
 use Rattle.shape_plane.specs.Verdicts.{IsRefuted}
 use Rattle.shape_plane.specs.Trials.{Spread, Refusal, refusal_at, IsTaken, IsDeclined, IsTried, IsSpreading, IsRefusal, IsSettled, IsLater}
 use Rattle.std.proofs.lemmas.Bool.{and_parts}

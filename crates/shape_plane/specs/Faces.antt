@@ -4,7 +4,7 @@ use Rattle.std.specs.Prelude.{◌≡◌, ℕ, zero, suc, ◌+◌, ◌*◌, ◌<�
 use Rattle.shape_terms.specs.Points.{Point, raster_number, raster_point}
 use Rattle.shape_terms.specs.Adjacency.{moved}
 use Rattle.shape_terms.specs.Pictures.{Picture, IsPicture, at}
-use Rattle.patch_terms.specs.Patches.{Sense, sense_step}
+use Rattle.shape_terms.specs.Patches.{Sense, sense_step}
 
 -- how many numbers apart two points one step apart on the axis k are in raster order: as many points differ on the axes before it alone
 abbrev pub gap_of : List ℕ → ℕ → ℕ

@@ -3,7 +3,7 @@
 use Rattle.std.specs.Prelude.{ℕ, ◌<◌, ◌^◌, List, map, length, All}
 use Rattle.shape_terms.specs.Points.{Point}
 use Rattle.shape_terms.specs.Refutations.{Refutation}
-use Rattle.patch_terms.specs.Patches.{RefusedPoint, FoundPatch}
+use Rattle.shape_terms.specs.Patches.{RefusedPoint, FoundPatch}
 use Rattle.shape_refute.specs.declared.naive.Naive.{Naive}
 use Rattle.shape_refute.specs.Terms.{naive_of}
 use Rattle.shape_slope.specs.Pairs.{AreSmallWeights}

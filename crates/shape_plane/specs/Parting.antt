@@ -7,7 +7,7 @@ use Rattle.shape_terms.specs.Steps.{Before}
 use Rattle.shape_terms.specs.Pictures.{Picture, at}
 use Rattle.shape_terms.specs.Naive.{IsNaiveFor}
 use Rattle.shape_terms.specs.Refutations.{Refutes}
-use Rattle.patch_terms.specs.Patches.{Patch, RefusedPoint, FoundPatch, Grows, points_of}
+use Rattle.shape_terms.specs.Patches.{Patch, RefusedPoint, FoundPatch, Grows, points_of}
 
 -- a patch among the points of a face, after the patches before it
 pub record IsPart (t : ℕ) (face : Point → Type 0) (before : List Patch) (x : Patch) : Type 0 where

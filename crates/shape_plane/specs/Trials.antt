@@ -5,7 +5,7 @@ use Rattle.shape_terms.specs.Points.{Point, raster_number}
 use Rattle.shape_terms.specs.Adjacency.{Near}
 use Rattle.shape_terms.specs.Pictures.{Picture, at, with_value}
 use Rattle.shape_terms.specs.Refutations.{Refutation}
-use Rattle.patch_terms.specs.Patches.{Grows}
+use Rattle.shape_terms.specs.Patches.{Grows}
 use Rattle.shape_refute.specs.Weights.{refutation_of}
 use Rattle.shape_plane.specs.declared.refusals.Refused.{Refused}
 use Rattle.shape_plane.specs.Verdicts.{IsRefuted}

@@ -9,10 +9,10 @@ use Rattle.shape_terms.specs.Points.{Point, box_count, box_points, raster_number
 use Rattle.shape_terms.specs.Pictures.{Picture, at, object_points, Least}
 use Rattle.shape_terms.specs.Parts.{Object}
 use Rattle.shape_terms.specs.Distances.{NearFact, IsField}
-use Rattle.thin_terms.specs.Thinning.{HasDistance}
+use Rattle.shape_terms.specs.Thinning.{HasDistance}
 use Rattle.shape_terms.proofs.Boxes.{raster_below, raster_point-raster_number}
 use Rattle.shape_terms.proofs.BoxLists.{objects_are, length-box_points, get_or-box_points}
-use Rattle.number_terms.proofs.ObjectPlaces.{object_in_box}
+use Rattle.shape_terms.proofs.ObjectPlaces.{object_in_box}
 use Rattle.shape_terms.proofs.Members.{Contains-filter}
 use Rattle.shape_queue.specs.Distances.{AreDistances}
 

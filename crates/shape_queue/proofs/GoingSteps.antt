@@ -7,8 +7,8 @@ use Rattle.shape_terms.specs.Points.{Point, box_count, raster_point}
 use Rattle.shape_terms.specs.Pictures.{Picture, IsPicture, object_points}
 use Rattle.shape_terms.specs.Adjacency.{Near}
 use Rattle.shape_terms.specs.Parts.{Object}
-use Rattle.thin_terms.specs.Thinning.{Rule, Event, ThinStep, ThinsTo, IsThinned, IsNext, opening_stage, stage_after, near_count, without}
-use Rattle.thin_terms.proofs.OneValue.{one_object_less}
+use Rattle.shape_terms.specs.Thinning.{Rule, Event, ThinStep, ThinsTo, IsThinned, IsNext, opening_stage, stage_after, near_count, without}
+use Rattle.shape_terms.proofs.OneValue.{one_object_less}
 use Rattle.shape_queue.specs.declared.key.Key.{Key}
 use Rattle.shape_queue.specs.Keys.{key_cmp}
 use Rattle.shape_queue.specs.Waiting.{Waits, IsQueue, IsQueueBut, Put}

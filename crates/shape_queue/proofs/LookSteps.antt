@@ -6,10 +6,10 @@ use Rattle.shape_terms.specs.Points.{Point, in_box, box_count, raster_number, ra
 use Rattle.shape_terms.specs.Pictures.{Picture, at, objects_from}
 use Rattle.shape_terms.specs.Adjacency.{Near, near_point, near_steps}
 use Rattle.shape_terms.specs.Parts.{Object}
-use Rattle.thin_terms.specs.Simple.{IsSimple}
+use Rattle.shape_terms.specs.Simple.{IsSimple}
 use Rattle.shape_terms.proofs.Boxes.{raster_below, raster_number-raster_point, raster_point-raster_number}
 use Rattle.shape_terms.proofs.BoxLists.{at_raster_point, objects_next, objects_skip}
-use Rattle.number_terms.proofs.ObjectPlaces.{object_in_box}
+use Rattle.shape_terms.proofs.ObjectPlaces.{object_in_box}
 use Rattle.shape_terms.proofs.NeighbourNumbers.{near_number}
 use Rattle.shape_queue.specs.declared.key.Key.{Key}
 use Rattle.shape_queue.specs.Waiting.{key_at, Waits, Put}

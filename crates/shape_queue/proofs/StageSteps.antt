@@ -12,15 +12,15 @@ use Rattle.shape_terms.specs.Steps.{Before}
 use Rattle.shape_terms.specs.Pictures.{Picture, at}
 use Rattle.shape_terms.specs.Adjacency.{Near}
 use Rattle.shape_terms.specs.Parts.{Object}
-use Rattle.thin_terms.specs.Simple.{IsSimple}
-use Rattle.thin_terms.specs.Thinning.{Stage, IsCandidate, IsNext, IsThinned, HasDistance, near_count, without}
+use Rattle.shape_terms.specs.Simple.{IsSimple}
+use Rattle.shape_terms.specs.Thinning.{Stage, IsCandidate, IsNext, IsThinned, HasDistance, near_count, without}
 use Rattle.shape_terms.proofs.Boxes.{raster_below, raster_point_in, raster_number-raster_point, raster_point-raster_number}
 use Rattle.shape_terms.proofs.RasterOrder.{raster_rises}
-use Rattle.number_terms.proofs.ObjectPlaces.{object_in_box}
+use Rattle.shape_terms.proofs.ObjectPlaces.{object_in_box}
 use Rattle.shape_terms.proofs.AdjacencySymmetric.{near_sym}
-use Rattle.thin_terms.proofs.OneValue.{value_there, value_elsewhere}
-use Rattle.thin_terms.proofs.SimpleNear.{simple_alike}
-use Rattle.thin_terms.proofs.ThinningOnce.{one_distance}
+use Rattle.shape_terms.proofs.OneValue.{value_there, value_elsewhere}
+use Rattle.shape_terms.proofs.SimpleNear.{simple_alike}
+use Rattle.shape_terms.proofs.ThinningOnce.{one_distance}
 use Rattle.shape_queue.specs.declared.key.Key.{Key}
 use Rattle.shape_queue.specs.Keys.{key_cmp}
 use Rattle.shape_queue.specs.Waiting.{key_at, MayBeTaken, Waits, Put}

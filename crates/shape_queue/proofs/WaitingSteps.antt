@@ -7,7 +7,7 @@ use native.Mathlib.Decide.{ℕ_discrete}
 use Rattle.shape_terms.specs.Points.{Point, box_count, raster_point}
 use Rattle.shape_terms.specs.Pictures.{Picture}
 use Rattle.shape_terms.specs.Parts.{Object}
-use Rattle.thin_terms.proofs.PointTests.{same_point}
+use Rattle.shape_terms.proofs.PointTests.{same_point}
 use Rattle.shape_queue.specs.declared.key.Key.{Key}
 use Rattle.shape_queue.specs.Keys.{key_cmp}
 use Rattle.shape_queue.specs.Waiting.{key_at, MayBeTaken, Waits, Put}

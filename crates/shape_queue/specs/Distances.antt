@@ -4,7 +4,7 @@ use Rattle.std.specs.Prelude.{◌≡◌, ℕ, List, length, slice_index}
 use Rattle.shape_terms.specs.Points.{Point, box_count, raster_number}
 use Rattle.shape_terms.specs.Pictures.{Picture}
 use Rattle.shape_terms.specs.Parts.{Object}
-use Rattle.thin_terms.specs.Thinning.{HasDistance}
+use Rattle.shape_terms.specs.Thinning.{HasDistance}
 
 -- there is one number for each point of the box, and that of an object point is its squared distance to the background
 pub record AreDistances (X : Picture) (distances : List ℕ) : Type 0 where

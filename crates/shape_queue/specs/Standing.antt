@@ -5,7 +5,7 @@ use Rattle.shape_terms.specs.Points.{Point, box_count, raster_number, raster_poi
 use Rattle.shape_terms.specs.Pictures.{Picture}
 use Rattle.shape_terms.specs.Adjacency.{near_point}
 use Rattle.shape_terms.specs.Parts.{Object}
-use Rattle.thin_terms.specs.Thinning.{Stage, HasDistance}
+use Rattle.shape_terms.specs.Thinning.{Stage, HasDistance}
 
 -- the free points and their distances to the background of the opening picture X, by raster number, are those of the stage
 pub record Stands (X : Picture) (s : Stage) (free : Picture) (distances : List ℕ) : Type 0 where

@@ -5,7 +5,7 @@ use Rattle.shape_terms.specs.Points.{Point, box_count, raster_number, raster_poi
 use Rattle.shape_terms.specs.Pictures.{Picture}
 use Rattle.shape_terms.specs.Adjacency.{Near}
 use Rattle.shape_terms.specs.Parts.{Object}
-use Rattle.thin_terms.specs.Simple.{IsSimple}
+use Rattle.shape_terms.specs.Simple.{IsSimple}
 use Rattle.std.specs.BTreeMap.{is_at}
 use Rattle.shape_queue.specs.Keys.{key_cmp}
 use Rattle.shape_queue.specs.declared.key.Key.{Key}

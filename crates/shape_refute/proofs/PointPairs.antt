@@ -1,5 +1,5 @@
 -- The least lines of the program's points: what is said of lists of points of the plane is said of the points that they are seen as.
--- The laws of least lines stand in `least_terms`; here they are only carried over.
+-- The laws of least lines stand in `shape_terms`; here they are only carried over.
 use Rattle.std.proofs.Common.{◌≡◌, ℕ, ◌<◌, ◌≤◌, List, [], length, map, ap, sym, subst, arith}
 use Rattle.std.specs.Prelude.{ℤ, pos, ◌≤ℤ◌, unsigned_abs}
 use Rattle.std.proofs.lemmas.List.{get_or-map, length-map}
@@ -8,9 +8,9 @@ use Rattle.shape_refute.specs.Terms.{flat_point}
 use Rattle.shape_terms.specs.Points.{Point}
 use Rattle.shape_terms.specs.Naive.{Naive, IsNaiveFor}
 use Rattle.shape_terms.specs.Refutations.{point_at}
-use Rattle.least_terms.specs.Least.{Pairs, side_of, room_of, ShowsLeast}
-use Rattle.least_terms.specs.Slopes.{IsSlope}
-use Rattle.least_terms.proofs.LeastLines.{short, lowest_shows, shows_lowest}
+use Rattle.shape_terms.specs.Least.{Pairs, side_of, room_of, ShowsLeast}
+use Rattle.shape_terms.specs.Slopes.{IsSlope}
+use Rattle.shape_terms.proofs.LeastLines.{short, lowest_shows, shows_lowest}
 
 same_slope : (a1 q1 a2 q2 x1 y1 x2 y2 c b : ℤ) → a1 ≡ x1 → q1 ≡ y1 → a2 ≡ x2 → q2 ≡ y2 → IsSlope a1 q1 a2 q2 c b → IsSlope x1 y1 x2 y2 c b
 same_slope a1 q1 a2 q2 x1 y1 x2 y2 c b f1 f2 f3 f4 s = subst (λ (z : ℤ). IsSlope z y1 x2 y2 c b) f1 (subst (λ (z : ℤ). IsSlope a1 z x2 y2 c b) f2 (subst (λ (z : ℤ). IsSlope a1 q1 z y2 c b) f3 (subst (λ (z : ℤ). IsSlope a1 q1 a2 z c b) f4 s)))

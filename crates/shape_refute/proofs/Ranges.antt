@@ -7,7 +7,7 @@ use lib.Signed.{◌<ℤ◌, ◌≤ℤ◌}
 use Rattle.std.proofs.lemmas.Int.{ints, by_lt_z}
 use Rattle.shape_terms.proofs.Products.{rings}
 use Rattle.shape_terms.proofs.Order.{mul-le_ℤ, cancel-lt_ℤ}
-use Rattle.least_terms.specs.Slopes.{IsFloor, IsIn, IsSlope}
+use Rattle.shape_terms.specs.Slopes.{IsFloor, IsIn, IsSlope}
 
 pub floor_is : (n s q : ℤ) → pos 1 ≤ℤ s → IsFloor n s q → (a : ℤ) → (a *ℤ s) ≤ℤ n ↔ a ≤ℤ q
 floor_is n s q some h a = (to, from)

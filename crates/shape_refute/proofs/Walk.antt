@@ -3,7 +3,7 @@
 use Rattle.std.proofs.Common.{◌≡◌, subst, arith, ◌<◌}
 use Rattle.std.specs.Prelude.{ℤ, pos, ◌+ℤ◌, ◌-ℤ◌, ◌≤ℤ◌, ◌<ℤ◌, nat_abs}
 use Rattle.std.proofs.lemmas.Int.{ints, by_lt_z}
-use Rattle.least_terms.specs.Slopes.{IsSlope}
+use Rattle.shape_terms.specs.Slopes.{IsSlope}
 
 -- no slope has a denominator less than b
 abbrev pub NoneBelow : ℤ → ℤ → ℤ → ℤ → ℤ → Type 0

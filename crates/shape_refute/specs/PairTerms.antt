@@ -7,8 +7,8 @@ use Rattle.shape_terms.specs.Refutations.{point_at}
 use Rattle.shape_refute.specs.Terms.{flat_point}
 use Rattle.shape_refute.specs.declared.bound.Bound.{Bound}
 use Rattle.shape_refute.specs.declared.bounds.Bounds.{Bounds}
-use Rattle.least_terms.specs.Least.{Pairs}
-use Rattle.least_terms.specs.Slopes.{IsSlope}
+use Rattle.shape_terms.specs.Least.{Pairs}
+use Rattle.shape_terms.specs.Slopes.{IsSlope}
 
 abbrev pub pairs_of : Bounds → Pairs
 pairs_of b = record { low1 = b.low1; high1 = b.high1; low2 = b.low2; high2 = b.high2 }

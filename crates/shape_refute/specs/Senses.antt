@@ -1,5 +1,5 @@
 -- The sense of a face, as the term of digital geometry.
-use Rattle.patch_terms.specs.Patches.{Sense as Term}
+use Rattle.shape_terms.specs.Patches.{Sense as Term}
 use Rattle.shape_refute.specs.declared.sense.Sense.{Sense}
 use Rattle.shape_refute.specs.declared.sense.Sense.TheVariants.{Minus, Plus}
 

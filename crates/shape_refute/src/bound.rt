@@ -5,7 +5,7 @@ ghost use Rattle.shape_terms.specs.Points.{coordinate};
 ghost use Rattle.shape_terms.specs.Turns.{other_axis};
 ghost use Rattle.shape_terms.specs.Refutations.{point_at};
 ghost use Rattle.shape_refute.specs.Terms.{flat_point};
-ghost use Rattle.least_terms.specs.Least.{side_of, room_of};
+ghost use Rattle.shape_terms.specs.Least.{side_of, room_of};
 ghost use Rattle.shape_refute.specs.PairTerms.{IsSmall, place_of};
 
 use shape_space::{P2, Point};

@@ -4,7 +4,7 @@ ghost use Rattle.std.specs.Prelude.{◌≡◌, ◌<◌, ◌↔◌, IsTrue, map, 
 ghost use Rattle.shape_terms.specs.Points.{coordinate};
 ghost use Rattle.shape_terms.specs.Naive.{IsNaiveFor};
 ghost use Rattle.shape_refute.specs.Terms.{flat_point, naive_of};
-ghost use Rattle.least_terms.specs.Least.{ShowsLeast};
+ghost use Rattle.shape_terms.specs.Least.{ShowsLeast};
 ghost use Rattle.shape_refute.specs.PairTerms.{IsSmall, pairs_of};
 
 use crate::bound::asked;

@@ -1,7 +1,7 @@
 //! Ranges of whole numbers, and what a condition on a multiple leaves of them.
 //! Bounds are stated by numerals, since proofs of overflow rest on them.
 ghost use Rattle.std.specs.Prelude.{◌≤◌, ◌↔◌, ◌≡◌, ◌/◌, ℤ, pos, negsuc, neg_ℤ, ◌-ℤ◌, ◌*ℤ◌, ◌≤ℤ◌, ◌<ℤ◌, unsigned_abs, IsTrue};
-ghost use Rattle.least_terms.specs.Slopes.{IsIn, IsFloor};
+ghost use Rattle.shape_terms.specs.Slopes.{IsIn, IsFloor};
 
 /// The whole numbers from one to another; none where the second is less.
 #[derive(Clone, Copy)]

@@ -3,7 +3,7 @@
 use Rattle.std.proofs.Common.{◌≡◌, ◌<◌, ℕ, zero, suc, List, [], ◌∷◌, length, map, get_or, Some, refl, sym, ◌∙◌, ap, arith}
 use Rattle.std.specs.Prelude.{Contains, slice_get, slice_set}
 use Rattle.shape_rules.specs.Names.{word_of}
-use Rattle.thin_terms.specs.Shelves.{Named, names_of, rules_of}
+use Rattle.shape_terms.specs.Shelves.{Named, names_of, rules_of}
 use Rattle.shape_rules.specs.Lending.{with_rule}
 use Rattle.shape_rules.specs.Entries.{named}
 use Rattle.shape_rules.specs.declared.shelf.Entry.{Entry}

@@ -2,8 +2,8 @@
 -- Laws of shelves of any rules.
 use Rattle.std.proofs.Common.{◌≡◌, ◌≢◌, ℕ, zero, suc, List, [], ◌∷◌, Some, refl, ap, arith}
 use Rattle.std.specs.Prelude.{Contains, slice_get}
-use Rattle.thin_terms.specs.Thinning.{Rule}
-use Rattle.thin_terms.specs.Shelves.{Named, names_of, rules_of}
+use Rattle.shape_terms.specs.Thinning.{Rule}
+use Rattle.shape_terms.specs.Shelves.{Named, names_of, rules_of}
 use Rattle.shape_rules.specs.Lending.{with_rule}
 use Rattle.shape_rules.specs.Ruled.{rules_on}
 use Rattle.shape_rules.proofs.Entries.{kept_by}

@@ -1,6 +1,6 @@
 -- The program's facts as those of the definitions.
 -- A further fact is one more field of both.
-use Rattle.thin_terms.specs.Thinning.{Facts as Told}
+use Rattle.shape_terms.specs.Thinning.{Facts as Told}
 use Rattle.shape_rules.specs.declared.rule.Facts.{Facts}
 
 abbrev pub facts_of : Facts → Told

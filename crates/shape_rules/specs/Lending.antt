@@ -2,7 +2,7 @@
 -- Names and all other entries are out of reach.
 use Rattle.std.specs.Prelude.{ℕ, zero, suc, List, [], ◌∷◌}
 use Rattle.std.specs.Borrow.{Lends, MutBor, Fml, RattleType}
-use Rattle.thin_terms.specs.Shelves.{Named}
+use Rattle.shape_terms.specs.Shelves.{Named}
 use Rattle.shape_rules.specs.contracts.shelf.Shelf.{the_row}
 
 -- the shelf with the rule w in entry i; names and all other entries are the same

@@ -1,7 +1,7 @@
 //! End rules: which points a thinning keeps as ends. A rule is an object that the caller brings.
 //! What a rule means stands in one ghost member; a thinning knows no more of it.
 ghost use Rattle.std.specs.Prelude.{◌≡◌, ℕ, List};
-ghost use Rattle.thin_terms.specs.Thinning.{Rule};
+ghost use Rattle.shape_terms.specs.Thinning.{Rule};
 ghost use Rattle.shape_rules.specs.FactsOf.{facts_of};
 
 /// What a rule is told of a point.

@@ -3,7 +3,7 @@
 ghost use Rattle.std.specs.Prelude.{◌≡◌, ◌<◌, length, map, slice_get, MatchOption, Some, Contains};
 ghost use Rattle.std.specs.Borrow.{sem};
 ghost use Rattle.shape_rules.specs.Names.{word_of};
-ghost use Rattle.thin_terms.specs.Shelves.{AreNames, names_of, rules_of};
+ghost use Rattle.shape_terms.specs.Shelves.{AreNames, names_of, rules_of};
 ghost use Rattle.shape_rules.specs.Lending.{LendsRule};
 
 use crate::name::Name;
@@ -29,7 +29,7 @@ pub struct Shelf<R = Box<dyn EndRule>> {
 
 impl<R> Model for Shelf<R> {
     ghost use Rattle.std.specs.Prelude.{List, map};
-    ghost use Rattle.thin_terms.specs.Shelves.{AreNames, Named, names_of};
+    ghost use Rattle.shape_terms.specs.Shelves.{AreNames, Named, names_of};
 
     ghost Value = { List (Named R) };
 

@@ -3,7 +3,7 @@
 ghost use Rattle.std.specs.Prelude.{◌≡◌, ◌+◌, ◌%◌, ◌<◌, ◌≤◌, ◌^◌, ◌+ℤ◌, ◌-ℤ◌, ◌≤ℤ◌, IsTrue, negsuc, pos, nat_abs};
 ghost use Rattle.shape_terms.specs.Points.{coordinate, sides_of, box_count, squared_distance};
 ghost use Rattle.shape_terms.specs.FramedBox.{framed_sides, framed_point, IsWithin};
-ghost use Rattle.number_terms.specs.Places.{in_frame, framed_number};
+ghost use Rattle.shape_terms.specs.Places.{in_frame, framed_number};
 
 use crate::point::Point;
 use crate::sides::Sides;

@@ -16,3 +16,17 @@ pub mod Covers
 pub mod GapCover
 pub mod Rows
 pub mod AxisLines
+pub mod Links
+pub mod Net
+pub mod Places
+pub mod CrackNumbers
+pub mod Simple
+pub mod Thinning
+pub mod Shelves
+pub mod Following
+pub mod Patches
+pub mod Least
+pub mod Slopes
+pub mod RunCovers
+pub mod RunWalks
+pub mod BackArcs

@@ -1,6 +1,6 @@
 //! A run by a rule of the caller, whose marks are heeded by the analysis and by the check.
 ghost use Rattle.std.specs.Prelude.{◌==◌, [], ◌∷◌, if◌then◌else◌, slice_index};
-ghost use Rattle.thin_terms.specs.Thinning.{rule_by};
+ghost use Rattle.shape_terms.specs.Thinning.{rule_by};
 
 use crate::runs::{desk, ran};
 use shape_cli::Outcome;

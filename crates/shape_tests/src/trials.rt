@@ -14,7 +14,7 @@ struct Tallying {
 
 impl EndRule for Tallying {
     ghost use Rattle.std.specs.Prelude.{false, []};
-    ghost use Rattle.thin_terms.specs.Thinning.{rule_by};
+    ghost use Rattle.shape_terms.specs.Thinning.{rule_by};
 
     ghost state = { λ r. [] };
 

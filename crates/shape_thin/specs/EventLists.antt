@@ -2,7 +2,7 @@
 -- A smaller form of the list changes this file and `thinning.rt` alone.
 use Rattle.std.specs.Prelude.{ℕ, ◌<◌, ◌^◌, List, map, length, All}
 use Rattle.shape_terms.specs.Points.{box_count, raster_point}
-use Rattle.thin_terms.specs.Thinning.{Event}
+use Rattle.shape_terms.specs.Thinning.{Event}
 use Rattle.shape_queue.specs.Events.{event_by}
 use Rattle.shape_thin.specs.declared.thinning.Done.{Done}
 

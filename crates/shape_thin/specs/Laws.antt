@@ -4,8 +4,8 @@ use Rattle.std.specs.Prelude.{◌≡◌, ℕ, List, length}
 use Rattle.shape_terms.specs.Points.{Point}
 use Rattle.shape_terms.specs.Pictures.{Picture, object_points}
 use Rattle.shape_terms.specs.Parts.{Object, Counts}
-use Rattle.thin_terms.specs.Simple.{IsSimple}
-use Rattle.thin_terms.specs.Thinning.{Rule, Event, Stage, IsThinning, without}
+use Rattle.shape_terms.specs.Simple.{IsSimple}
+use Rattle.shape_terms.specs.Thinning.{Rule, Event, Stage, IsThinning, without}
 
 -- Y has as many components of the object, and of the background in the framed box, as X
 abbrev pub KeepsParts : Picture → Picture → Type 0

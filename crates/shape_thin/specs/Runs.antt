@@ -3,7 +3,7 @@
 use Rattle.std.specs.Prelude.{ℕ, List}
 use Rattle.shape_terms.specs.Points.{Point}
 use Rattle.shape_terms.specs.Pictures.{Picture}
-use Rattle.thin_terms.specs.Thinning as Terms
+use Rattle.shape_terms.specs.Thinning as Terms
 use Rattle.shape_thin.specs.declared.event.Event.{Event}
 use Rattle.shape_thin.specs.declared.event.Event.TheVariants.{Del, Tip}
 

@@ -6,9 +6,9 @@ use Rattle.std.specs.Int.Bits.{bit_and}
 use Rattle.std.proofs.lemmas.Nat.Bits.{bit_at_and, bit_at_not, bit_at-lt}
 use native.Mathlib.Decide.{ℕ_discrete}
 use Rattle.shape_terms.specs.Parts.{Connected}
-use Rattle.thin_terms.specs.Simple.{Holding}
+use Rattle.shape_terms.specs.Simple.{Holding}
 use Rattle.shape_terms.proofs.Paths.{starts_in}
-use Rattle.thin_terms.proofs.Deletion.{same_parts}
+use Rattle.shape_terms.proofs.Deletion.{same_parts}
 use Rattle.shape_adj.specs.Flood.{Flooded}
 use Rattle.shape_topo.proofs.WholePart.{flooded_part}
 use Rattle.shape_adj.specs.NearMasks.{In}

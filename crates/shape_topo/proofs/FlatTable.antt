@@ -7,7 +7,7 @@ use Rattle.std.proofs.lemmas.Bool.Decides.{nat_tests}
 use Rattle.std.proofs.lemmas.Nat.{and_le_l}
 use Rattle.shape_terms.specs.Adjacency.{Round, origin, near_step}
 use Rattle.shape_terms.proofs.PartCount.{one_count}
-use Rattle.number_terms.proofs.RoundSets.{flat_round}
+use Rattle.shape_terms.proofs.RoundSets.{flat_round}
 use Rattle.shape_adj.specs.NearMasks.{In, near_total}
 use Rattle.shape_topo.specs.Bits.{AreSymmetric, CountsParts}
 use Rattle.shape_topo.specs.Masks.{NearSteps, SideSteps, HasMaskObjectNumber, HasMaskBackgroundNumber, IsSimpleMask}

@@ -10,9 +10,9 @@ use native.Mathlib.Decide.{ℕ_discrete}
 use Rattle.shape_terms.specs.Points.{Point}
 use Rattle.shape_terms.specs.Pictures.{Picture, at}
 use Rattle.shape_terms.specs.Adjacency.{moved, near_steps, near_point, near_points}
-use Rattle.thin_terms.specs.Thinning.{near_count}
+use Rattle.shape_terms.specs.Thinning.{near_count}
 use Rattle.shape_adj.specs.NearMasks.{near_total, IsNearMask}
-use Rattle.number_terms.proofs.LinkTests.{row_is}
+use Rattle.shape_terms.proofs.LinkTests.{row_is}
 use Rattle.shape_adj.proofs.MaskBits.{marks_small}
 
 -- two numbers that have the bit k set in the same cases have one digit there

@@ -10,20 +10,20 @@ use Rattle.shape_terms.specs.Points.{Point}
 use Rattle.shape_terms.specs.Pictures.{Picture, at}
 use Rattle.shape_terms.specs.Adjacency.{Near, Side, Round, origin, near_steps, near_step, near_point}
 use Rattle.shape_terms.specs.Parts.{Connected}
-use Rattle.thin_terms.specs.Simple.{Holding, ObjectRound, BackgroundRound, BackgroundAtSides, IsSimple}
-use Rattle.thin_terms.proofs.Deletion.{same_parts}
+use Rattle.shape_terms.specs.Simple.{Holding, ObjectRound, BackgroundRound, BackgroundAtSides, IsSimple}
+use Rattle.shape_terms.proofs.Deletion.{same_parts}
 use Rattle.shape_terms.proofs.Paths.{ends_in}
 use Rattle.shape_terms.proofs.PartCount.{one_count}
-use Rattle.thin_terms.proofs.PointTests.{same_point}
+use Rattle.shape_terms.proofs.PointTests.{same_point}
 use Rattle.shape_terms.proofs.AdjacencySymmetric.{near_sym, side_sym}
 use Rattle.shape_terms.proofs.NeighbourNumbers.{near_number, near_of_number, near_once, side_is_round}
 use Rattle.shape_adj.specs.NearMasks.{In, near_total, IsNearMask}
 use Rattle.shape_topo.specs.Bits.{Linked, AreSymmetric, CountsParts}
 use Rattle.shape_topo.specs.Masks.{NearSteps, SideSteps, MaskObject, MaskBackground, IsSideStep, HasMaskObjectNumber, HasMaskBackgroundNumber, IsSimpleMask}
-use Rattle.number_terms.specs.Links.{near_test, side_test, near_links, side_links, side_set}
+use Rattle.shape_terms.specs.Links.{near_test, side_test, near_links, side_links, side_set}
 use Rattle.shape_topo.proofs.Growing.{place_below}
 use Rattle.shape_adj.proofs.MaskBits.{both_sets, few_neighbours, marks_small, unset}
-use Rattle.number_terms.proofs.LinkTests.{near_tested, side_tested, row_is, link_is}
+use Rattle.shape_terms.proofs.LinkTests.{near_tested, side_tested, row_is, link_is}
 use Rattle.shape_terms.proofs.ShiftedSteps.{length-near_step, length-origin, near-moved, side-moved, round-moved, moved-origin, length-moved}
 use Rattle.shape_topo.proofs.Matching.{Matches, turned_round, parts_across, holding_matches, find, find_at}
 

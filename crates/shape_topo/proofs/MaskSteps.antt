@@ -13,9 +13,9 @@ use Rattle.shape_terms.specs.Adjacency.{near_point}
 use Rattle.shape_terms.specs.Parts.{Object}
 use Rattle.shape_terms.proofs.Boxes.{raster_number-raster_point, raster_point-raster_number}
 use Rattle.shape_terms.proofs.BoxLists.{at_raster_point}
-use Rattle.number_terms.proofs.ObjectPlaces.{length-raster_point}
-use Rattle.thin_terms.specs.Thinning.{without}
-use Rattle.thin_terms.proofs.OneValue.{value_there, value_elsewhere}
+use Rattle.shape_terms.proofs.ObjectPlaces.{length-raster_point}
+use Rattle.shape_terms.specs.Thinning.{without}
+use Rattle.shape_terms.proofs.OneValue.{value_there, value_elsewhere}
 use Rattle.shape_adj.specs.NearMasks.{In, near_total, IsNearMask}
 use Rattle.shape_topo.specs.MaskLists.{AreMasks}
 use Rattle.shape_adj.proofs.MaskBits.{both_sets}

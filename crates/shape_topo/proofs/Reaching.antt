@@ -9,7 +9,7 @@ use Rattle.std.proofs.lemmas.Nat.{and_le_l, and_le_r, or_lt}
 use native.Mathlib.Decide.{ℕ_discrete}
 use Rattle.shape_terms.specs.Parts.{Connected}
 use Rattle.shape_terms.proofs.Paths.{joined_to, in_greater, ends_in}
-use Rattle.thin_terms.proofs.Deletion.{all_connected}
+use Rattle.shape_terms.proofs.Deletion.{all_connected}
 use Rattle.shape_adj.specs.NearMasks.{In}
 use Rattle.shape_topo.specs.Bits.{Linked, AreSymmetric, CountsParts}
 use Rattle.shape_topo.proofs.Growing.{place_below, one_same, one_only}

@@ -9,8 +9,8 @@ use Rattle.shape_terms.specs.Points.{Point, in_box, box_count, raster_number}
 use Rattle.shape_terms.specs.Pictures.{Picture}
 use Rattle.shape_terms.specs.Adjacency.{near_point}
 use Rattle.shape_terms.specs.Parts.{Object}
-use Rattle.number_terms.proofs.ObjectPlaces.{object_in_box}
-use Rattle.thin_terms.specs.Thinning.{without}
+use Rattle.shape_terms.proofs.ObjectPlaces.{object_in_box}
+use Rattle.shape_terms.specs.Thinning.{without}
 use Rattle.shape_adj.specs.NearMasks.{near_total, IsNearMask}
 use Rattle.shape_topo.specs.MaskLists.{AreMasks}
 use Rattle.shape_topo.proofs.MaskSteps.{AreTaken, taken_start, taken_more, taken_pass, taken_end}

@@ -4,7 +4,7 @@ use Rattle.std.specs.Prelude.{◌≡◌, ℕ, ◌<◌}
 use Rattle.std.specs.Int.{bit_at}
 use Rattle.shape_terms.specs.Adjacency.{Near, Side, Round, origin, near_step}
 use Rattle.shape_terms.specs.Parts.{HasParts}
-use Rattle.thin_terms.specs.Simple.{Holding}
+use Rattle.shape_terms.specs.Simple.{Holding}
 use Rattle.shape_adj.specs.NearMasks.{In, near_total}
 
 -- the steps with two numbers lead to adjacent points

@@ -4,8 +4,8 @@ ghost use Rattle.std.specs.Prelude.{◌≡◌, ◌+◌, ◌<◌, ◌^◌, ◌↔
 ghost use Rattle.shape_terms.specs.Points.{sides_of, in_box, box_count, raster_number, raster_point};
 ghost use Rattle.shape_terms.specs.Pictures.{IsPicture, at};
 ghost use Rattle.shape_terms.specs.Adjacency.{near_point};
-ghost use Rattle.thin_terms.specs.Simple.{IsSimple};
-ghost use Rattle.thin_terms.specs.Thinning.{without, near_count};
+ghost use Rattle.shape_terms.specs.Simple.{IsSimple};
+ghost use Rattle.shape_terms.specs.Thinning.{without, near_count};
 ghost use Rattle.shape_adj.specs.NearMasks.{IsNearMask};
 ghost use Rattle.shape_topo.specs.MaskLists.{AreMasks, masks_in};
 

@@ -8,9 +8,9 @@ use Rattle.std.specs.Prelude.{IsTrue}
 use Rattle.shape_terms.specs.Points.{Point, in_box, box_count, raster_point}
 use Rattle.shape_terms.specs.Pictures.{Picture, at, object_points}
 use Rattle.shape_terms.specs.Parts.{Object}
-use Rattle.number_terms.proofs.ObjectPlaces.{object_in_box}
-use Rattle.thin_terms.specs.Thinning.{Rule, Event, without}
-use Rattle.thin_terms.proofs.OneValue.{value_there, value_elsewhere}
+use Rattle.shape_terms.proofs.ObjectPlaces.{object_in_box}
+use Rattle.shape_terms.specs.Thinning.{Rule, Event, without}
+use Rattle.shape_terms.proofs.OneValue.{value_there, value_elsewhere}
 use Rattle.shape_topo.proofs.MaskSteps.{cleared_is}
 use Rattle.shape_queue.specs.declared.key.Key.{Key}
 use Rattle.shape_queue.specs.Waiting.{key_at, Waits, IsQueue, IsQueueBut, Put}

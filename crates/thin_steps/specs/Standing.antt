@@ -4,7 +4,7 @@ use Rattle.std.specs.Prelude.{◌≡◌, ℕ, ◌<◌, Bool, true, false, List, 
 use Rattle.shape_terms.specs.Points.{Point, box_count, raster_point}
 use Rattle.shape_terms.specs.Pictures.{Picture, object_points}
 use Rattle.shape_terms.specs.FramedBox.{IsWithin}
-use Rattle.thin_terms.specs.Thinning.{Rule, Event, near_count}
+use Rattle.shape_terms.specs.Thinning.{Rule, Event, near_count}
 use Rattle.shape_queue.specs.declared.key.Key.{Key}
 use Rattle.shape_queue.specs.Keys.{has, IsLeastKey}
 use Rattle.shape_queue.specs.Events.{event_by}

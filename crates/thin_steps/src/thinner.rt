@@ -3,7 +3,7 @@
 ghost use Rattle.std.specs.Prelude.{◌≡◌, ◌+◌, ◌≤◌, ◌^◌, true, false, [], length, MatchOption, IfOk};
 ghost use Rattle.shape_terms.specs.Points.{box_count};
 ghost use Rattle.shape_terms.specs.Pictures.{IsPicture, object_points};
-ghost use Rattle.thin_terms.specs.Thinning.{Rule};
+ghost use Rattle.shape_terms.specs.Thinning.{Rule};
 ghost use Rattle.shape_queue.specs.Keys.{has};
 ghost use Rattle.shape_queue.specs.Distances.{AreDistances};
 ghost use Rattle.thin_steps.specs.Fitting.{AreFitting};

@@ -9,7 +9,7 @@ use Rattle.std.proofs.lemmas.List.FromFn.{length-map-range_with_len, get_or-map-
 use Rattle.shape_terms.specs.Points.{Point, coordinate, box_count, raster_point}
 use Rattle.shape_terms.specs.Pictures.{Picture, with_value}
 use Rattle.shape_terms.proofs.Boxes.{raster_number-raster_point}
-use Rattle.number_terms.proofs.ObjectPlaces.{length-raster_point}
+use Rattle.shape_terms.proofs.ObjectPlaces.{length-raster_point}
 use Rattle.trial_picture.specs.Balls.{covers}
 use Rattle.trial_picture.proofs.BoxRows.{row_point, not_reached, along_row}
 use Rattle.trial_picture.specs.Painting.{is_painted, painted}

@@ -4,7 +4,7 @@ use Rattle.std.specs.Prelude.{ℕ, zero, suc, ◌+◌, nat_lt, if◌then◌else�
 use Rattle.std.specs.Option.{option_map, option_map_or, option_and_then, option_to_list}
 use Rattle.shape_terms.specs.Points.{Point, box_points}
 use Rattle.shape_terms.specs.Pictures.{at}
-use Rattle.patch_terms.specs.Patches.{Sense}
+use Rattle.shape_terms.specs.Patches.{Sense}
 use Rattle.report_terms.specs.Lines.{Line}
 use Rattle.report_lines.specs.Said.{Said, said_in}
 use Rattle.unfolding.specs.declared.layout.Triple.{Triple}

@@ -2,8 +2,8 @@ use Rattle.std.proofs.Common.{◌≡◌, ◌<◌, ◌+◌, ◌^◌, ◌∙◌, a
 use Rattle.std.proofs.Math.ListN.{set}
 use Rattle.shape_terms.specs.Points.{sides_of, box_count, raster_point}
 use Rattle.shape_terms.specs.FramedBox.{framed_sides}
-use Rattle.number_terms.specs.Places.{framed_number}
-use Rattle.number_terms.proofs.FramedEnds.{in_box_in_frame}
+use Rattle.shape_terms.specs.Places.{framed_number}
+use Rattle.shape_terms.proofs.FramedEnds.{in_box_in_frame}
 use Rattle.judge_field.proofs.ScanAxes.{first_squares}
 use Rattle.judge_field.proofs.NextObjects.{next_object, blank_to_end}
 use Rattle.judge_field.proofs.FirstSquares.{HasFound, found_below, begun, one_more, all}

@@ -2,7 +2,7 @@ use Rattle.std.proofs.Common.{◌≡◌, ap, ◌∙◌, subst}
 use Rattle.std.specs.Prelude.{IsTrue}
 use Rattle.shape_terms.specs.Points.{in_box, raster_point}
 use Rattle.shape_terms.specs.Adjacency.{moved}
-use Rattle.patch_terms.specs.Patches.{sense_step}
+use Rattle.shape_terms.specs.Patches.{sense_step}
 use Rattle.report_terms.specs.FaceFacts.{face_axis, face_sense}
 use Rattle.judge_plane.specs.Terms.{point_of}
 use Rattle.judge_plane.proofs.Exposing.{side_face, exposed_tests, exposed_only, near_within}

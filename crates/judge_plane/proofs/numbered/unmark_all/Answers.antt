@@ -5,7 +5,7 @@ use Rattle.std.proofs.lemmas.Option.{slice_get-get_or}
 use Rattle.shape_terms.specs.Points.{box_count, raster_point}
 use Rattle.shape_terms.specs.Pictures.{Picture}
 use Rattle.shape_terms.proofs.Boxes.{raster_point_in}
-use Rattle.patch_terms.proofs.Places.{place_map}
+use Rattle.shape_terms.proofs.Places.{place_map}
 use Rattle.judge_plane.proofs.LeftPoints.{numbered}
 use Rattle.judge_plane.proofs.Marking.{AreMarkedFrom, marked_next, marked_end}
 use Rattle.judge_plane.proofs.Numbering.{marked_numbers}

@@ -1,7 +1,7 @@
 use Rattle.std.proofs.Common.{◌≤◌, ◌∙◌, ap, length, arith, FitsSigned, w32}
 use Rattle.std.proofs.lemmas.Int.{to_z-of_z}
 use Rattle.shape_terms.specs.Points.{sides_of}
-use Rattle.number_terms.specs.Places.{framed_number}
+use Rattle.shape_terms.specs.Places.{framed_number}
 use Rattle.shape_adj.proofs.ObjectRows.{row_from}
 use Rattle.shape_adj.proofs.framed.row_of.Goals as goal
 

@@ -1,4 +1,4 @@
-use Rattle.number_terms.proofs.ObjectPlaces.{labels_object}
+use Rattle.shape_terms.proofs.ObjectPlaces.{labels_object}
 use Rattle.shape_adj.proofs.picture.labels.Goals as goal
 
 pub returns : goal.returns

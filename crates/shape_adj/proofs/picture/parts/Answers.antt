@@ -1,8 +1,8 @@
 use Rattle.std.proofs.Common.{refl}
 use Rattle.shape_terms.specs.Points.{raster_number}
-use Rattle.number_terms.specs.Places.{framed_number}
-use Rattle.number_terms.proofs.ObjectPlaces.{object_parts}
-use Rattle.number_terms.proofs.BackgroundPlaces.{background_parts}
+use Rattle.shape_terms.specs.Places.{framed_number}
+use Rattle.shape_terms.proofs.ObjectPlaces.{object_parts}
+use Rattle.shape_terms.proofs.BackgroundPlaces.{background_parts}
 use Rattle.shape_adj.proofs.picture.parts.Goals as goal
 
 pub returns : goal.returns

@@ -5,9 +5,9 @@ use Rattle.std.proofs.lemmas.List.{length-map}
 use Rattle.shape_terms.specs.Points.{Point, sides_of}
 use Rattle.shape_terms.specs.Adjacency.{near_steps, side_steps, side_point}
 use Rattle.shape_terms.proofs.FramedBoxes.{few_framed, box_point_within}
-use Rattle.number_terms.specs.Places.{in_frame, framed_number}
-use Rattle.number_terms.proofs.FramedEnds.{in_box_in_frame}
-use Rattle.number_terms.proofs.FramedNumbers.{framed_number_below, framed_point-framed_number}
+use Rattle.shape_terms.specs.Places.{in_frame, framed_number}
+use Rattle.shape_terms.proofs.FramedEnds.{in_box_in_frame}
+use Rattle.shape_terms.proofs.FramedNumbers.{framed_number_below, framed_point-framed_number}
 use Rattle.shape_adj.specs.Gaps.{IsFramedGap}
 use Rattle.shape_adj.proofs.GapSteps.{framed_gap, gaps_more}
 use Rattle.shape_adj.proofs.Neighbours.{side_inside}

@@ -1,6 +1,6 @@
 use Rattle.std.proofs.Common.{ℕ, List}
-use Rattle.thin_terms.specs.Thinning.{Rule}
-use Rattle.thin_terms.specs.Shelves.{Named}
+use Rattle.shape_terms.specs.Thinning.{Rule}
+use Rattle.shape_terms.specs.Shelves.{Named}
 use Rattle.shape_analyse.specs.Growing.{aim_of, IsGrowing, IsTextOf}
 use Rattle.shape_analyse.proofs.begin.add_nears.Given as goal
 

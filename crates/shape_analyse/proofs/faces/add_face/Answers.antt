@@ -1,6 +1,6 @@
 use Rattle.std.proofs.Common.{◌≡◌, [], ◌++◌, length, rules, subst, sym, ◌∙◌}
 use Rattle.shape_terms.specs.Pictures.{Picture}
-use Rattle.patch_terms.specs.Patches.{exposed_points}
+use Rattle.shape_terms.specs.Patches.{exposed_points}
 use Rattle.report_terms.specs.FaceFacts.{face_axis, face_sense}
 use Rattle.report_terms.specs.Lines.{Line, line_text, IsLineOf}
 use Rattle.shape_refute.specs.Senses.{sense_of}

@@ -1,6 +1,6 @@
 use Rattle.std.proofs.Common.{◌≡◌, [], ℕ, List, length}
 use Rattle.shape_terms.specs.Pictures.{object_points}
-use Rattle.patch_terms.specs.Patches.{FoundPatch}
+use Rattle.shape_terms.specs.Patches.{FoundPatch}
 use Rattle.report_terms.specs.FaceFacts.{face_axis}
 use Rattle.shape_analyse.specs.Growing.{Aim, IsTextOf}
 use Rattle.shape_analyse.specs.Facing.{HasPatches, AreFound}

@@ -1,6 +1,6 @@
 use Rattle.std.proofs.Common.{[], ◌∷◌, ◌++◌, ℕ, List}
 use Rattle.shape_terms.specs.Pictures.{Picture}
-use Rattle.patch_terms.specs.Patches.{FoundPatch}
+use Rattle.shape_terms.specs.Patches.{FoundPatch}
 use Rattle.shape_analyse.specs.Growing.{Aim, IsTextOf}
 use Rattle.shape_analyse.specs.Facing.{IsFacing, AreFound, points_found, at_patch}
 use Rattle.shape_analyse.proofs.faces.add_points.Given as goal

@@ -1,6 +1,6 @@
 use Rattle.std.proofs.Common.{◌≡◌, ◌≤◌, ◌^◌, ◌++◌, [], ◌∷◌, length, rules, refl, subst, arith}
 use Rattle.std.proofs.lemmas.List.{length-append}
-use Rattle.patch_terms.specs.Patches.{RefusedPoint}
+use Rattle.shape_terms.specs.Patches.{RefusedPoint}
 use Rattle.report_terms.specs.Lines.{Line, IsLineOf}
 use Rattle.shape_refute.specs.Weights.{refutation_of}
 use Rattle.shape_analyse.specs.Growing.{IsTextOf}

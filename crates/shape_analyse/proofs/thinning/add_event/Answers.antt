@@ -1,7 +1,7 @@
 use Rattle.std.proofs.Common.{◌≡◌, ◌++◌, subst, sym}
 use Rattle.std.specs.Prelude.{OnOk, pos, negsuc}
 use Rattle.shape_terms.specs.FramedBox.{IsWithin}
-use Rattle.thin_terms.specs.Thinning.{Event as Term}
+use Rattle.shape_terms.specs.Thinning.{Event as Term}
 use Rattle.report_terms.specs.Lines.{line_text, IsLineOf}
 use Rattle.shape_thin.specs.Runs.{event_of, event_point}
 use Rattle.shape_analyse.specs.Growing.{event_line}

@@ -1,4 +1,4 @@
-use Rattle.thin_terms.specs.Thinning.{Stage, IsThinning}
+use Rattle.shape_terms.specs.Thinning.{Stage, IsThinning}
 use Rattle.shape_analyse.specs.Growing.{Aim, IsTextOf, HasEvents}
 use Rattle.shape_analyse.proofs.thinning.add_events.Given as goal
 

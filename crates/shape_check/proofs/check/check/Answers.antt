@@ -2,7 +2,7 @@ use Rattle.std.proofs.Common.{ap, sym, ◌∙◌, subst, arith, map, pos}
 use Rattle.std.proofs.lemmas.Result.{err_from_is_err_and}
 use Rattle.shape_desk.specs.declared.desk.Place.TheVariants.{Report}
 use Rattle.shape_desk.specs.Line.{IfTold, ahead_of}
-use Rattle.thin_terms.specs.Shelves.{names_of}
+use Rattle.shape_terms.specs.Shelves.{names_of}
 use Rattle.shape_grid.proofs.SideLists.{sides_back}
 use Rattle.shape_rules.proofs.Ruled.{rules_same}
 use Rattle.shape_check.specs.Heading.{TakesHeading, LacksHeading}

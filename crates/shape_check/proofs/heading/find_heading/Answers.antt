@@ -1,4 +1,4 @@
-use Rattle.thin_terms.specs.Shelves.{names_of}
+use Rattle.shape_terms.specs.Shelves.{names_of}
 use Rattle.shape_desk.specs.declared.desk.Place.TheVariants.{Report}
 use Rattle.shape_desk.specs.Line.{ahead_of}
 use Rattle.shape_report.specs.LineOf.{line_of}

@@ -1,7 +1,7 @@
 use Rattle.std.proofs.Common.{◌≡◌, ◌+◌, ◌<◌, ◌≤◌, ◌∙◌, ℕ, List, ap, sym, subst, arith, ◌∷◌, []}
 use Rattle.shape_terms.specs.Points.{box_count, raster_point}
 use Rattle.shape_terms.specs.Pictures.{Picture, objects_from}
-use Rattle.thin_terms.specs.Thinning.{HasDistance}
+use Rattle.shape_terms.specs.Thinning.{HasDistance}
 use Rattle.judge_field.proofs.NextObjects.{IsNext, next_object}
 use Rattle.shape_check.proofs.Distances.{none_yet, distances_more, distances_all}
 use Rattle.shape_check.proofs.thinned.distances_of.Goals as goal

@@ -1,6 +1,6 @@
 use Rattle.std.proofs.Common.{◌≡◌, ◌<◌, ℕ, Some}
 use Rattle.std.specs.Prelude.{slice_get}
-use Rattle.thin_terms.specs.Shelves.{names_of}
+use Rattle.shape_terms.specs.Shelves.{names_of}
 use Rattle.shape_cli.proofs.command.find_rule.Given as goal
 
 abbrev pub invariant-loop-i : goal.invariant-loop-i

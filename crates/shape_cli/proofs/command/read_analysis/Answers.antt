@@ -1,6 +1,6 @@
 use Rattle.std.proofs.Common.{subst}
 use Rattle.std.specs.Prelude.{Contains}
-use Rattle.thin_terms.specs.Shelves.{names_of}
+use Rattle.shape_terms.specs.Shelves.{names_of}
 use Rattle.shape_desk.specs.Files.{texts}
 use Rattle.shape_cli.proofs.WordLists.{made_to_last}
 use Rattle.shape_cli.proofs.Reading.{analysis_by_none}

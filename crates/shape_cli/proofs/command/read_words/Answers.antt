@@ -1,5 +1,5 @@
 use Rattle.std.proofs.Common.{◌∙◌, ap, sym}
-use Rattle.thin_terms.specs.Shelves.{names_of}
+use Rattle.shape_terms.specs.Shelves.{names_of}
 use Rattle.shape_cli.specs.Kinds.{read_report_kind}
 use Rattle.shape_desk.specs.Files.{texts}
 use Rattle.shape_cli.specs.Commands.{First, first_word, read_first}

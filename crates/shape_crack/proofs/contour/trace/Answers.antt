@@ -1,5 +1,5 @@
 use Rattle.std.proofs.Common.{arith, ◌∙◌, refl, ap, map}
-use Rattle.number_terms.proofs.Tracing.{reached_crack, traced_more}
+use Rattle.shape_terms.proofs.Tracing.{reached_crack, traced_more}
 use Rattle.shape_crack.specs.declared.contour.TheConstants.{GREATEST_SIDE}
 use Rattle.shape_crack.specs.Terms.{point_of, crack_of}
 use Rattle.shape_crack.proofs.CrackValues.{cracks_equal, cracks_differ}

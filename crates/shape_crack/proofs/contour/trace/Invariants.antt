@@ -1,5 +1,5 @@
 use Rattle.std.proofs.Common.{◌-◌, map}
-use Rattle.number_terms.proofs.Tracing.{Tracing}
+use Rattle.shape_terms.proofs.Tracing.{Tracing}
 use Rattle.shape_crack.specs.Terms.{point_of, crack_of}
 use Rattle.shape_crack.proofs.contour.trace.Given as goal
 

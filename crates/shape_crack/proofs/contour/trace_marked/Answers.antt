@@ -1,7 +1,7 @@
 use Rattle.std.proofs.Common.{arith, ◌∙◌, refl, ap, subst, map, ℕ}
-use Rattle.number_terms.specs.CrackNumbers.{IsMarkedBesides}
-use Rattle.number_terms.proofs.Tracing.{reached_crack, traced_more}
-use Rattle.number_terms.proofs.Marking.{marking_first, marking_more}
+use Rattle.shape_terms.specs.CrackNumbers.{IsMarkedBesides}
+use Rattle.shape_terms.proofs.Tracing.{reached_crack, traced_more}
+use Rattle.shape_terms.proofs.Marking.{marking_first, marking_more}
 use Rattle.shape_crack.specs.declared.contour.TheConstants.{GREATEST_SIDE}
 use Rattle.shape_crack.specs.Terms.{point_of, crack_of}
 use Rattle.shape_crack.specs.MarkBits.{is_marked}

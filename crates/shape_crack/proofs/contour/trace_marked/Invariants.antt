@@ -1,6 +1,6 @@
 use Rattle.std.proofs.Common.{◌≡◌, ◌-◌, map, vec_len}
-use Rattle.number_terms.proofs.Tracing.{Tracing}
-use Rattle.number_terms.proofs.Marking.{Marking}
+use Rattle.shape_terms.proofs.Tracing.{Tracing}
+use Rattle.shape_terms.proofs.Marking.{Marking}
 use Rattle.shape_crack.specs.Terms.{point_of, crack_of}
 use Rattle.shape_crack.specs.MarkBits.{is_marked}
 use Rattle.shape_crack.proofs.contour.trace_marked.Given as goal

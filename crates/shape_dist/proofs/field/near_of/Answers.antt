@@ -1,10 +1,10 @@
 use Rattle.std.proofs.Common.{◌≡◌, ◌<◌, ◌∙◌, inl, inr, length, ap, subst, arith, rules, None, Some}
 use Rattle.shape_terms.specs.Points.{box_count}
 use Rattle.shape_terms.specs.FramedBox.{framed_sides, framed_point}
-use Rattle.number_terms.specs.Places.{framed_number}
+use Rattle.shape_terms.specs.Places.{framed_number}
 use Rattle.shape_terms.proofs.FramedBoxes.{box_point_within}
-use Rattle.number_terms.proofs.FramedNumbers.{framed_number_below}
-use Rattle.number_terms.proofs.FramedEnds.{in_box_in_frame}
+use Rattle.shape_terms.proofs.FramedNumbers.{framed_number_below}
+use Rattle.shape_terms.proofs.FramedEnds.{in_box_in_frame}
 use Rattle.shape_dist.specs.Spreads.{found, HasNearestOn}
 use Rattle.shape_dist.proofs.AxisEnds.{nearest_of_all, some_nearest, cell_of}
 use Rattle.shape_dist.proofs.field.near_of.Goals as goal

@@ -1,7 +1,7 @@
 use Rattle.std.proofs.Common.{refl, sym, subst, ◌∙◌}
 use Rattle.shape_terms.specs.Covers.{arc}
 use Rattle.edge_terms.specs.Corners.{IsCorner}
-use Rattle.walk_terms.proofs.BackArcs.{arc_first}
+use Rattle.shape_terms.proofs.BackArcs.{arc_first}
 use Rattle.edge_terms.proofs.CornerPlaces.{is_corner}
 use Rattle.shape_edges.proofs.Searching.{reaches}
 use Rattle.shape_edges.proofs.reach.longest_from.Goals as goal

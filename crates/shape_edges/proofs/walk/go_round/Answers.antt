@@ -1,6 +1,6 @@
 use Rattle.std.proofs.Common.{arith, ◌≡◌, ◌+◌, length, subst, []}
-use Rattle.walk_terms.specs.RunWalks.{IsWalk}
-use Rattle.walk_terms.proofs.WalkSteps.{walk_begins}
+use Rattle.shape_terms.specs.RunWalks.{IsWalk}
+use Rattle.shape_terms.proofs.WalkSteps.{walk_begins}
 use Rattle.edge_terms.specs.EdgeWalks.{edge_walk}
 use Rattle.shape_corner.specs.Arcs.{stretch_of}
 use Rattle.shape_edges.proofs.Searching.{reach_longest}

@@ -2,7 +2,7 @@ use Rattle.std.proofs.Common.{rules, arith, refl, sym, ◌∙◌, FitsSigned, to
 use Rattle.std.specs.Prelude.{ℤ}
 use Rattle.std.specs.Int.{w64}
 use Rattle.std.proofs.lemmas.Int.{ints, to_z-of_z}
-use Rattle.least_terms.specs.Slopes.{IsSlope}
+use Rattle.shape_terms.specs.Slopes.{IsSlope}
 use Rattle.shape_refute.proofs.Walk.{none_next, next_small, nearer}
 use Rattle.shape_refute.proofs.slopes.is_lowest.Goals as goal
 

@@ -1,5 +1,5 @@
 use Rattle.std.specs.Prelude.{ℤ, pos, ◌-ℤ◌, ◌≤ℤ◌, nat_abs}
-use Rattle.least_terms.specs.Slopes.{IsSlope}
+use Rattle.shape_terms.specs.Slopes.{IsSlope}
 use Rattle.shape_refute.proofs.slopes.is_lowest.Given as goal
 
 abbrev pub invariant-loop-b : goal.invariant-loop-b

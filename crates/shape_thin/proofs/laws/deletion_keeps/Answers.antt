@@ -1,5 +1,5 @@
 use Rattle.std.proofs.Common.{refl}
-use Rattle.thin_terms.proofs.SimpleDeletion.{counts_kept}
+use Rattle.shape_terms.proofs.SimpleDeletion.{counts_kept}
 use Rattle.shape_thin.proofs.laws.deletion_keeps.Goals as goal
 
 pub returns : goal.returns

@@ -3,9 +3,9 @@ use Rattle.std.proofs.lemmas.List.{length_push, length-map}
 use Rattle.std.proofs.lemmas.List.Elements.{All-nil, All-push}
 use Rattle.shape_terms.specs.Points.{box_count, raster_point}
 use Rattle.shape_terms.specs.Pictures.{Picture}
-use Rattle.thin_terms.specs.Thinning.{Rule}
+use Rattle.shape_terms.specs.Thinning.{Rule}
 use Rattle.shape_terms.proofs.BoxLists.{few_objects}
-use Rattle.thin_terms.proofs.ThinningKept.{thinning_keeps}
+use Rattle.shape_terms.proofs.ThinningKept.{thinning_keeps}
 use Rattle.shape_queue.specs.Keys.{has}
 use Rattle.shape_queue.proofs.GoingSteps.{going_end, few_more}
 use Rattle.shape_rules.specs.FactsOf.{facts_of}

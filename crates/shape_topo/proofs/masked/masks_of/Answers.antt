@@ -1,6 +1,6 @@
 use Rattle.std.proofs.Common.{◌≡◌, arith, ap, sym, ◌∙◌, length}
 use Rattle.shape_terms.specs.Points.{box_count, raster_point}
-use Rattle.number_terms.proofs.ObjectPlaces.{length-raster_point}
+use Rattle.shape_terms.proofs.ObjectPlaces.{length-raster_point}
 use Rattle.shape_adj.specs.NearMasks.{near_total}
 use Rattle.shape_topo.proofs.MaskCount.{mask_small}
 use Rattle.shape_topo.proofs.MaskSteps.{so_far_start, so_far_put, so_far_skip, so_far_end}

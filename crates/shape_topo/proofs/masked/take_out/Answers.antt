@@ -3,7 +3,7 @@ use Rattle.std.specs.Int.Count.{count_trailing_zeros}
 use Rattle.shape_terms.specs.Points.{in_box, raster_number, raster_point}
 use Rattle.shape_terms.specs.Adjacency.{near_point}
 use Rattle.shape_terms.proofs.Boxes.{raster_below, raster_point_in}
-use Rattle.number_terms.proofs.ObjectPlaces.{length-raster_point}
+use Rattle.shape_terms.proofs.ObjectPlaces.{length-raster_point}
 use Rattle.shape_adj.specs.NearMasks.{near_total}
 use Rattle.std.specs.Int.{bit_not}
 use Rattle.std.proofs.lemmas.Nat.{and_le_l}

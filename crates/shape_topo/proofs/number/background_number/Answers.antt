@@ -1,8 +1,8 @@
 use Rattle.std.proofs.Common.{arith, ◌≡◌, ap, ◌∙◌, length}
 use Rattle.shape_terms.specs.Adjacency.{near_steps}
 use Rattle.shape_adj.specs.NearMasks.{near_total}
-use Rattle.number_terms.specs.Links.{side_test}
-use Rattle.number_terms.proofs.LinkTests.{length-links}
+use Rattle.shape_terms.specs.Links.{side_test}
+use Rattle.shape_terms.proofs.LinkTests.{length-links}
 use Rattle.shape_topo.proofs.MaskNumbers.{side_symmetric, background_counted, dark_seeds, dark_small, dark_by}
 use Rattle.shape_topo.proofs.number.background_number.Goals as goal
 

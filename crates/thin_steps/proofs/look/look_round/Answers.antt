@@ -5,7 +5,7 @@ use Rattle.shape_terms.specs.Pictures.{at}
 use Rattle.shape_terms.specs.Adjacency.{near_steps, near_point}
 use Rattle.shape_terms.specs.Parts.{Object}
 use Rattle.shape_terms.proofs.Boxes.{raster_below, raster_point-raster_number}
-use Rattle.number_terms.proofs.ObjectPlaces.{length-raster_point}
+use Rattle.shape_terms.proofs.ObjectPlaces.{length-raster_point}
 use Rattle.shape_topo.proofs.PlaceWalk.{rest_less}
 use Rattle.shape_queue.specs.Keys.{has}
 use Rattle.shape_queue.specs.Waiting.{Waits, IsQueueBut}

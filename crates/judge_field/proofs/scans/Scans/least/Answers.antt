@@ -3,10 +3,10 @@ use Rattle.std.proofs.lemmas.Bool.{and_parts}
 use Rattle.std.proofs.lemmas.List.{get_or_read_under}
 use Rattle.std.specs.Prelude.{IsTrue}
 use Rattle.shape_terms.specs.Pictures.{at}
-use Rattle.number_terms.specs.Places.{framed_number}
-use Rattle.number_terms.proofs.FramedNumbers.{framed_number_below}
+use Rattle.shape_terms.specs.Places.{framed_number}
+use Rattle.shape_terms.proofs.FramedNumbers.{framed_number_below}
 use Rattle.shape_terms.specs.AxisLines.{apart}
-use Rattle.number_terms.proofs.FramedEnds.{in_box_in_frame}
+use Rattle.shape_terms.proofs.FramedEnds.{in_box_in_frame}
 use Rattle.shape_terms.proofs.AxisCounts.{apart_small}
 use Rattle.judge_field.specs.Scanned.{IsLeastSquare}
 use Rattle.judge_field.proofs.ScanAxes.{least_of_all}

@@ -1,6 +1,6 @@
 use Rattle.std.proofs.Common.{length, sym, ◌∙◌, ap}
 use Rattle.shape_terms.specs.Pictures.{Picture, object_points}
-use Rattle.thin_terms.specs.Thinning.{Stage}
+use Rattle.shape_terms.specs.Thinning.{Stage}
 use Rattle.shape_queue.specs.Keys.{has}
 use Rattle.judge_thin.proofs.Followed.{same_stage}
 use Rattle.judge_thin.proofs.judge.ThinJudge.left.Goals as goal

@@ -1,5 +1,5 @@
 use Rattle.std.proofs.Common.{◌↔◌, ℕ, Bool, List, sym, subst}
-use Rattle.number_terms.specs.Places.{ObjectPlace}
+use Rattle.shape_terms.specs.Places.{ObjectPlace}
 use Rattle.shape_adj.specs.Todo.{Marked}
 use Rattle.shape_adj.proofs.OpenLinks.{copied, object_values}
 use Rattle.shape_adj.proofs.places.ObjectNet.todo.Goals as goal

@@ -3,8 +3,8 @@ use Rattle.std.specs.Prelude.{IsTrue}
 use Rattle.shape_terms.specs.Points.{Point, sides_of}
 use Rattle.shape_terms.specs.FramedBox.{framed_point}
 use Rattle.shape_terms.specs.Adjacency.{side_point}
-use Rattle.number_terms.specs.Places.{in_frame, framed_number}
-use Rattle.number_terms.proofs.FramedNumbers.{framed_number_below}
+use Rattle.shape_terms.specs.Places.{in_frame, framed_number}
+use Rattle.shape_terms.proofs.FramedNumbers.{framed_number_below}
 use Rattle.shape_adj.proofs.side.SideNumbers.leads_to.Goals as goal
 
 pub framed_number-requires-clause-inside : goal.framed_number-requires-clause-inside

@@ -2,7 +2,7 @@ use Rattle.std.proofs.Common.{refl, sym, ◌∙◌, subst, [], ◌∷◌, ◌++�
 use Rattle.std.specs.Bool.{OnTrue}
 use Rattle.std.proofs.lemmas.Bool.{OnTrue_from}
 use Rattle.std.proofs.lemmas.Result.{IfOk-weaker}
-use Rattle.thin_terms.specs.Thinning.{Event}
+use Rattle.shape_terms.specs.Thinning.{Event}
 use Rattle.report_terms.specs.Lines.{Line}
 use Rattle.report_terms.specs.ThinningLines.{events_of}
 use Rattle.judge_thin.specs.Standing.{StandsFor}

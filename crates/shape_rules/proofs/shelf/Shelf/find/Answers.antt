@@ -4,7 +4,7 @@ use Rattle.std.proofs.lemmas.List.{get_or_default}
 use Rattle.std.proofs.lemmas.Slice.Eq.{slice_eq-Decides}
 use native.Mathlib.Decide.{ℕ_discrete}
 use Rattle.shape_rules.specs.Names.{word_of}
-use Rattle.thin_terms.specs.Shelves.{names_of}
+use Rattle.shape_terms.specs.Shelves.{names_of}
 use Rattle.shape_rules.specs.Entries.{named}
 use Rattle.shape_rules.proofs.Entries.{found_at, nowhere}
 use Rattle.shape_rules.proofs.shelf.Shelf.find.Goals as goal

@@ -1,6 +1,6 @@
 use Rattle.std.proofs.Common.{◌<◌, length, slice_get, ap, sym, ◌∙◌, arith}
 use Rattle.std.proofs.lemmas.List.{length-map}
-use Rattle.thin_terms.specs.Shelves.{names_of}
+use Rattle.shape_terms.specs.Shelves.{names_of}
 use Rattle.shape_rules.specs.Entries.{named}
 use Rattle.shape_rules.proofs.Entries.{found_at}
 use Rattle.shape_rules.proofs.shelf.Shelf.name.Goals as goal

@@ -1,6 +1,6 @@
 use Rattle.std.proofs.Common.{◌<◌, length, slice_get, refl, ap, sym, subst, ◌∙◌, arith}
 use Rattle.std.proofs.lemmas.List.{length-map}
-use Rattle.thin_terms.specs.Shelves.{AreNames, names_of, rules_of}
+use Rattle.shape_terms.specs.Shelves.{AreNames, names_of, rules_of}
 use Rattle.shape_rules.specs.Lending.{with_rule}
 use Rattle.shape_rules.specs.Entries.{named}
 use Rattle.shape_rules.proofs.Entries.{found_at, rule_set, names_kept}

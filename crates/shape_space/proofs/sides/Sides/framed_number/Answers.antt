@@ -3,7 +3,7 @@ use Rattle.std.proofs.lemmas.Int.{ints, to_z-of_z}
 use Rattle.shape_terms.specs.Points.{coordinate, sides_of, box_count}
 use Rattle.shape_terms.specs.FramedBox.{framed_sides}
 use Rattle.shape_terms.proofs.FramedBoxes.{few_framed}
-use Rattle.number_terms.proofs.FramedNumbers.{in_frame_coordinate, framed_number_step, framed_number_part}
+use Rattle.shape_terms.proofs.FramedNumbers.{in_frame_coordinate, framed_number_step, framed_number_part}
 use Rattle.shape_space.proofs.sides.Sides.framed_number.Goals as goal
 
 few : (g : _) (c : goal.After-framed_side g) → box_count (framed_sides (sides_of (g.P.Point.coords c.args.self.now.lengths))) ≤ 2 ^ 23

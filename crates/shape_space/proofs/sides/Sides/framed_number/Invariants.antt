@@ -1,6 +1,6 @@
 use Rattle.std.proofs.Common.{◌≡◌, drop}
 use Rattle.shape_terms.specs.Points.{sides_of}
-use Rattle.number_terms.specs.Places.{framed_number}
+use Rattle.shape_terms.specs.Places.{framed_number}
 use Rattle.shape_space.proofs.sides.Sides.framed_number.Given as goal
 
 abbrev pub invariant-loop-k : goal.invariant-loop-k

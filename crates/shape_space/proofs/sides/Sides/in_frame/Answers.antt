@@ -1,6 +1,6 @@
 use Rattle.std.proofs.Common.{inl, inr, arith, sym, ◌∙◌}
 use Rattle.std.proofs.lemmas.Int.{ints}
-use Rattle.number_terms.proofs.FramedNumbers.{in_frame_by, out_of_frame}
+use Rattle.shape_terms.proofs.FramedNumbers.{in_frame_by, out_of_frame}
 use Rattle.shape_space.proofs.sides.Sides.in_frame.Goals as goal
 use Rattle.shape_space.proofs.sides.Sides.in_frame.Goals.{then-x-ltminus1-via-then-x-ltminus1, then-x-ltminus1-via-else-x-ltminus1+then-x-side}
 

@@ -1,7 +1,7 @@
 use Rattle.std.proofs.Common.{◌≡◌, ◌<◌, arith, ap, sym, ◌∙◌, subst}
 use Rattle.shape_terms.specs.Points.{box_count, raster_point}
 use Rattle.shape_terms.specs.Pictures.{Picture}
-use Rattle.thin_terms.specs.Thinning.{without}
+use Rattle.shape_terms.specs.Thinning.{without}
 use Rattle.shape_topo.proofs.MaskSteps.{cleared_is, cleared_before}
 use Rattle.shape_topo.proofs.masked.MaskedGrid.clear.Goals as goal
 

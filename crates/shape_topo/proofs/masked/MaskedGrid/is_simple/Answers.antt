@@ -1,7 +1,7 @@
 use Rattle.std.proofs.Common.{◌≡◌, length, ap, sym, ◌∙◌}
 use Rattle.shape_terms.specs.Points.{raster_point}
 use Rattle.shape_terms.specs.Pictures.{Picture}
-use Rattle.number_terms.proofs.ObjectPlaces.{length-raster_point}
+use Rattle.shape_terms.proofs.ObjectPlaces.{length-raster_point}
 use Rattle.shape_topo.proofs.MaskNumbers.{simple_is}
 use Rattle.shape_topo.proofs.masked.MaskedGrid.is_simple.Goals as goal
 

@@ -2,7 +2,7 @@ use Rattle.std.proofs.Common.{false, [], sym, ◌∙◌, ap, subst, ◌≤◌}
 use Rattle.std.specs.Prelude.{◌^◌}
 use Rattle.shape_terms.specs.Points.{box_count}
 use Rattle.shape_terms.specs.Pictures.{Picture, IsPicture}
-use Rattle.thin_terms.specs.Thinning.{rule_by}
+use Rattle.shape_terms.specs.Thinning.{rule_by}
 use Rattle.shape_queue.specs.Keys.{has}
 use Rattle.shape_queue.proofs.GoingSteps.{going_start}
 use Rattle.thin_steps.proofs.ThinnerSteps.{going_fits, fits_at, going_at}

@@ -4,7 +4,7 @@ use Rattle.shape_terms.specs.Points.{in_box, box_count, raster_point}
 use Rattle.shape_terms.specs.Pictures.{Picture}
 use Rattle.shape_terms.specs.Adjacency.{near_steps, near_point}
 use Rattle.shape_terms.specs.Parts.{Object}
-use Rattle.number_terms.proofs.ObjectPlaces.{object_in_box}
+use Rattle.shape_terms.proofs.ObjectPlaces.{object_in_box}
 use Rattle.shape_queue.specs.Keys.{has}
 use Rattle.shape_queue.proofs.GoingSteps.{going_deleted}
 use Rattle.thin_steps.specs.Standing.{key_of}

@@ -1,7 +1,7 @@
 use Rattle.std.proofs.Common.{refl, sym, ◌∙◌, ap}
 use Rattle.shape_terms.specs.Points.{raster_point}
 use Rattle.shape_terms.proofs.FramedBoxes.{box_point_within}
-use Rattle.thin_terms.specs.Thinning.{near_count}
+use Rattle.shape_terms.specs.Thinning.{near_count}
 use Rattle.thin_steps.proofs.ThinnerSteps.{fits_place, fits_left}
 use Rattle.thin_steps.proofs.thinner.Thinner.next.Goals as goal
 

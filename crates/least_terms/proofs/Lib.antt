@@ -1,3 +1,0 @@
-pub mod Farey
-pub mod ShortSlopes
-pub mod LeastLines

@@ -1,4 +1,0 @@
-pub mod Links
-pub mod Net
-pub mod Places
-pub mod CrackNumbers

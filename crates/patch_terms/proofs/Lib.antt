@@ -1,4 +1,0 @@
-pub mod PointLists
-pub mod FullPatches
-pub mod ListPushes
-pub mod Places

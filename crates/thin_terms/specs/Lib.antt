@@ -1,4 +1,0 @@
-pub mod Simple
-pub mod Thinning
-pub mod Shelves
-pub mod Following

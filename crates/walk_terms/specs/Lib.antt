@@ -1,3 +1,0 @@
-pub mod RunCovers
-pub mod RunWalks
-pub mod BackArcs
