@@ -1,3 +1,5 @@
 pub mod PartSteps
 pub mod LineNumbers
 pub mod Fences
+pub mod Blocks
+pub mod LinesDone

@@ -3,7 +3,9 @@
 #![tactic(auto)]
 
 mod axis;
+mod block;
 mod lowest;
 
-pub use axis::{line_count, line_start};
+pub use axis::{line_count, line_start, lines_beside};
+pub use block::{put_lines, take_lines};
 pub use lowest::envelope;

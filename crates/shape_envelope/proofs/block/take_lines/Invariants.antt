@@ -1,0 +1,7 @@
+use Rattle.std.proofs.Common.{◌≡◌, ℕ, ◌+◌, ◌*◌, ◌<◌, get_or}
+use Rattle.shape_envelope.proofs.block.take_lines.Given as goal
+
+abbrev pub invariant-loop-y : goal.invariant-loop-y
+invariant-loop-y g l = record {
+  taken : (d : g.row.T.Denot) (j z : ℕ) → j < l.lines → z < l.y → get_or l.block (j * l.side + z) d ≡ get_or l.cells (l.start + z * l.step + j) d;
+}
