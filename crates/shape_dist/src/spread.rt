@@ -6,7 +6,7 @@ ghost use Rattle.shape_dist.specs.Spreads.{found, square_in, AreSmall, IsSpreadA
 
 use crate::found::{Found, is_bare};
 use crate::part::spread_part;
-use shape_envelope::{line_count, line_start};
+use shape_envelope::{block_room, line_count, line_start, lines_beside, put_lines, take_lines};
 use shape_space::{NoMemory, Steps};
 use std::alloc::Global;
 use std::sync::ledger::Ledger;
@@ -78,6 +78,64 @@ fn spread_line<L: Ledger>(
     Ok(())
 }
 
+// Lets the cells of each line of a block spread along it.
+fn spread_lines<L: Ledger>(
+    alloc: Global,
+    block: &mut [Option<Found>],
+    side: u32,
+    lines: u32,
+    steps: &mut Steps<L>,
+) -> Result<(), NoMemory>
+    requires some { 1 ≤ side }
+    requires near { side ≤ 4096 }
+    requires beside { lines ≤ 8 }
+    requires room { lines * side ≤ length block.old }
+    requires few { length block.old < 2 ^ 31 }
+    requires small { (i y : ℕ) (f : Found) → i < lines → y < side
+        → found block.old (i * side + y) ≡ Some f → f.s ≤ 2 ^ 30 }
+    ensures { IfOk result (λ _. (i x : ℕ) → i < lines → x < side
+        → IsSpreadAt (λ y. found block.old (i * side + y)) side x
+        (found block.new (i * side + x))) }
+{
+    for i in 0..lines {
+        spread_line(alloc, block, (i * side) as usize, 1, side, steps)?;
+    }
+    Ok(())
+}
+
+// Lets the cells of lines that stand side by side spread along them: they are copied into a block, spread there, and copied back.
+fn spread_block<L: Ledger>(
+    alloc: Global,
+    cells: &mut [Option<Found>],
+    block: &mut [Option<Found>],
+    base: usize,
+    step: usize,
+    side: u32,
+    lines: u32,
+    steps: &mut Steps<L>,
+) -> Result<(), NoMemory>
+    requires some { 1 ≤ side }
+    requires near { side ≤ 4096 }
+    requires few_lines { lines ≤ 8 }
+    requires beside { lines ≤ step }
+    requires inside { (y : ℕ) → y < side → base + y * step + lines ≤ length cells.old }
+    requires few { length cells.old < 2 ^ 31 }
+    requires room { length block.old ≡ 8 * side }
+    requires small { (j y : ℕ) (f : Found) → j < lines → y < side
+        → found cells.old (base + y * step + j) ≡ Some f → f.s ≤ 2 ^ 30 }
+    ensures on_lines { IfOk result (λ _. (j x : ℕ) → j < lines → x < side
+        → IsSpreadAt (λ y. found cells.old (base + y * step + j)) side x
+        (found cells.new (base + x * step + j))) }
+    ensures others { IfOk result (λ _. (i : ℕ)
+        → ((j x : ℕ) → j < lines → x < side → i ≡ base + x * step + j → ⊥)
+        → found cells.new i ≡ found cells.old i) }
+{
+    take_lines(block, cells, base, step, side, lines);
+    spread_lines(alloc, block, side, lines, steps)?;
+    put_lines(cells, block, base, step, side, lines);
+    Ok(())
+}
+
 /// Lets the cells spread along one axis, where `before` numbers the points on the axes before it, and `behind` those on the axes behind it.
 pub fn spread<L: Ledger>(
     alloc: Global,
@@ -95,9 +153,14 @@ pub fn spread<L: Ledger>(
     requires small { AreSmall cells.old }
     ensures { IfOk result (λ _. HasSpread before side behind cells.old cells.new) }
 {
-    for t in 0..line_count(before, side, behind) {
+    let mut block = vec![in alloc; None; block_room(side)]?;
+    let step = before as usize;
+    let mut t = 0;
+    while t < line_count(before, side, behind) {
         let base = line_start(t, before, side, behind) as usize;
-        spread_line(alloc, cells, base, before as usize, side, steps)?;
+        let lines = lines_beside(t, before);
+        spread_block(alloc, cells, &mut block, base, step, side, lines, steps)?;
+        t += lines;
     }
     Ok(())
 }

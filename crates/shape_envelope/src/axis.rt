@@ -2,9 +2,6 @@
 //! The points of the box have raster numbers, and `before` and `behind` number those on the axes before and behind this one.
 ghost use Rattle.std.specs.Prelude.{◌≡◌, ◌+◌, ◌*◌, ◌/◌, ◌%◌, ◌<◌, ◌≤◌, ◌^◌};
 
-// So many lines make a block, so that a row of their cells is two or three lines of the cache.
-const BESIDE: u32 = 8;
-
 /// The number of lines.
 pub fn line_count(before: u32, side: u32, behind: u32) -> u32
     requires some { 1 ≤ side }
@@ -22,14 +19,4 @@ pub fn line_start(t: u32, before: u32, side: u32, behind: u32) -> u32
     ensures { result ≡ t % before + before * (side * (t / before)) }
 {
     t % before + before * (side * (t / before))
-}
-
-/// How many lines from line `t` on are taken together: they stand side by side, and are few enough for a block of them to stay near in memory.
-pub fn lines_beside(t: u32, before: u32) -> u32
-    requires apart { 0 < before }
-    ensures some { 1 ≤ result }
-    ensures few { result ≤ 8 }
-    ensures beside { t % before + result ≤ before }
-{
-    BESIDE.min(before - t % before)
 }

@@ -1,6 +1,27 @@
 //! Lines that stand side by side, copied one after the other, and back: a line whose places are far apart in memory is read and written
 //! along with its neighbours. What is done along a line belongs elsewhere.
-ghost use Rattle.std.specs.Prelude.{◌≡◌, ◌+◌, ◌*◌, ◌<◌, ◌≤◌, ◌^◌, ℕ, length, slice_index_or};
+ghost use Rattle.std.specs.Prelude.{◌≡◌, ◌+◌, ◌*◌, ◌%◌, ◌<◌, ◌≤◌, ◌^◌, ℕ, length, slice_index_or};
+
+// So many lines make a block: few enough for all of them to stay near in memory.
+const BESIDE: u32 = 8;
+
+/// How many lines from line `t` on are taken together: they stand side by side.
+pub fn lines_beside(t: u32, before: u32) -> u32
+    requires apart { 0 < before }
+    ensures some { 1 ≤ result }
+    ensures few { result ≤ 8 }
+    ensures beside { t % before + result ≤ before }
+{
+    BESIDE.min(before - t % before)
+}
+
+/// The room that a block of such lines wants.
+pub fn block_room(side: u32) -> usize
+    requires { side ≤ 4096 }
+    ensures { result ≡ 8 * side }
+{
+    (BESIDE * side) as usize
+}
 
 // Copies the places of the lines that stand beside one another from `at` on, which are their places number y.
 fn take_places<T: Copy>(block: &mut [T], cells: &[T], at: usize, y: u32, side: u32, lines: u32)

@@ -6,6 +6,6 @@ mod axis;
 mod block;
 mod lowest;
 
-pub use axis::{line_count, line_start, lines_beside};
-pub use block::{put_lines, take_lines};
+pub use axis::{line_count, line_start};
+pub use block::{block_room, lines_beside, put_lines, take_lines};
 pub use lowest::envelope;
