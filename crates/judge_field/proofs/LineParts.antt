@@ -1,11 +1,10 @@
 -- One part more of a line: a place with 0 keeps it, and hides those behind it.
 -- Laws over lines, squares and numbers alone.
-use Rattle.std.proofs.Common.{◌≡◌, ◌⊎◌, inl, inr, ℕ, ◌+◌, ◌-◌, ◌*◌, ◌<◌, ◌≤◌, List, length, set, get_or, get_or-set_same, get_or-set_other, refl, sym, ap, ◌∙◌, subst, arith}
+use Rattle.std.proofs.Common.{◌≡◌, ◌⊎◌, inl, inr, ℕ, ◌+◌, ◌-◌, ◌<◌, ◌≤◌, List, length, set, get_or, get_or-set_same, get_or-set_other, add_assoc, refl, sym, ap, ◌∙◌, subst, arith}
 use Rattle.std.proofs.lemmas.Bool.{cases_lt}
-use Rattle.shape_terms.specs.AxisLines.{gap}
-use Rattle.shape_envelope.proofs.LineNumbers.{on_places, other_place}
 use Rattle.shape_envelope.proofs.Fences.{IsPart, part_least, gap_none, gap_shift}
 use Rattle.judge_field.specs.Scanned.{IsLeastAlong, HasScannedBefore}
+use Rattle.judge_field.proofs.ScanSteps.{along_same}
 
 -- the square that a place of the line holds
 abbrev pub holds : (ℕ → ℕ) → ℕ → ℕ → Type 0
@@ -76,37 +75,26 @@ module _ (line now new : ℕ → ℕ) (w x a b : ℕ) (s : HasScannedBefore line
 -- ---- the squares of a line
 
 -- a place with 0 is written
-pub bare_written : (squares next : List ℕ) (start step w x : ℕ) → 0 < step → start + x * step < length next → HasScannedBefore (λ y. get_or squares (start + y * step) 0) (λ y. get_or next (start + y * step) 0) w x → x < w → get_or squares (start + x * step) 0 ≡ 0
-    → HasScannedBefore (λ y. get_or squares (start + y * step) 0) (λ y. get_or (set next (start + x * step) 0) (start + y * step) 0) w (x + 1)
-bare_written squares next start step w x apart inside s l bare =
-    place_more (λ y. get_or squares (start + y * step) 0) (λ y. get_or next (start + y * step) 0) (λ y. get_or (set next (start + x * step) 0) (start + y * step) 0) w x s l bare
-    (get_or-set_same next (start + x * step) 0 0 inside)
-    (λ z k. get_or-set_other next (start + x * step) (start + z * step) 0 0 (λ e. other_place start step z x apart k e))
+pub bare_written : (squares next : List ℕ) (start w x : ℕ) → start + x < length next → HasScannedBefore (λ y. get_or squares (start + y) 0) (λ y. get_or next (start + y) 0) w x → x < w → get_or squares (start + x) 0 ≡ 0
+    → HasScannedBefore (λ y. get_or squares (start + y) 0) (λ y. get_or (set next (start + x) 0) (start + y) 0) w (x + 1)
+bare_written squares next start w x inside s l bare =
+    place_more (λ y. get_or squares (start + y) 0) (λ y. get_or next (start + y) 0) (λ y. get_or (set next (start + x) 0) (start + y) 0) w x s l bare
+    (get_or-set_same next (start + x) 0 0 inside)
+    (λ z k. get_or-set_other next (start + x) (start + z) 0 0 (omega arith))
 
-pub squares_more : (squares next new : List ℕ) (start step w x a b : ℕ) → 0 < step → HasScannedBefore (λ y. get_or squares (start + y * step) 0) (λ y. get_or next (start + y * step) 0) w x → a ≡ x - 1 → x < b → b ≤ w
-    → ((z : ℕ) → z + 1 ≡ b → b < w → get_or squares (start + z * step) 0 ≡ 0)
-    → ((z : ℕ) → z < b - a → IsLeastAlong (λ y. get_or squares ((start + a * step) + y * step) 0) (b - a) z (get_or new ((start + a * step) + z * step) 0))
-    → ((i : ℕ) → ((z : ℕ) → z < b - a → i ≡ (start + a * step) + z * step → ⊥) → get_or new i 0 ≡ get_or next i 0)
-    → HasScannedBefore (λ y. get_or squares (start + y * step) 0) (λ y. get_or new (start + y * step) 0) w b
-squares_more squares next new start step w x a b apart s first some within last part others =
-    part_more (λ y. get_or squares (start + y * step) 0) (λ y. get_or next (start + y * step) 0) (λ y. get_or new (start + y * step) 0) w x a b s first some within last
-    (λ z l.
-    let t = part z l in
-    record {
-      y = t.y;
-      inside = t.inside;
-      reached = ap (λ i. get_or new i 0) (sym (on_places start step a z)) ∙ t.reached ∙ ap (λ i. get_or squares i 0 + gap z t.y * gap z t.y) (on_places start step a t.y);
-      least = λ y k. omega (arith, t.least y k, ap (λ i. get_or new i 0) (on_places start step a z), ap (λ i. get_or squares i 0) (on_places start step a y));
-    })
-    (λ z l out. others (start + z * step) (λ y k e.
-    let f = e ∙ on_places start step a y in
-    elim out [
-      | inl low ↦ other_place start step z (a + y) apart (omega arith) f
-      | inr high ↦ other_place start step (a + y) z apart (omega arith) (sym f)
-    ]))
+pub squares_more : (squares next new : List ℕ) (start w x a b : ℕ) → HasScannedBefore (λ y. get_or squares (start + y) 0) (λ y. get_or next (start + y) 0) w x → a ≡ x - 1 → x < b → b ≤ w
+    → ((z : ℕ) → z + 1 ≡ b → b < w → get_or squares (start + z) 0 ≡ 0)
+    → ((z : ℕ) → z < b - a → IsLeastAlong (λ y. get_or squares ((start + a) + y) 0) (b - a) z (get_or new ((start + a) + z) 0))
+    → ((i : ℕ) → ((z : ℕ) → z < b - a → i ≡ (start + a) + z → ⊥) → get_or new i 0 ≡ get_or next i 0)
+    → HasScannedBefore (λ y. get_or squares (start + y) 0) (λ y. get_or new (start + y) 0) w b
+squares_more squares next new start w x a b s first some within last part others =
+    part_more (λ y. get_or squares (start + y) 0) (λ y. get_or next (start + y) 0) (λ y. get_or new (start + y) 0) w x a b s first some within last
+    (λ z l. subst (λ i. IsLeastAlong (λ y. get_or squares (start + (a + y)) 0) (b - a) z (get_or new i 0)) (add_assoc start a z)
+    (along_same (λ y. get_or squares ((start + a) + y) 0) (λ y. get_or squares (start + (a + y)) 0) (b - a) z (get_or new ((start + a) + z) 0) (λ y k. ap (λ i. get_or squares i 0) (add_assoc start a y)) (part z l)))
+    (λ z l out. others (start + z) (λ y k e. elim out [ inl low ↦ omega arith | inr high ↦ omega arith ]))
 
 -- what is not on the line is as it was
-pub others_more : (old next new : List ℕ) (start step w a b : ℕ) → b ≤ w → ((i : ℕ) → ((z : ℕ) → z < b - a → i ≡ (start + a * step) + z * step → ⊥) → get_or new i 0 ≡ get_or next i 0)
-    → ((i : ℕ) → ((z : ℕ) → z < w → i ≡ start + z * step → ⊥) → get_or next i 0 ≡ get_or old i 0) → (i : ℕ) → ((z : ℕ) → z < w → i ≡ start + z * step → ⊥) → get_or new i 0 ≡ get_or old i 0
-others_more old next new start step w a b within part line i apart =
-    part i (λ z l e. apart (a + z) (omega arith) (e ∙ on_places start step a z)) ∙ line i apart
+pub others_more : (old next new : List ℕ) (start w a b : ℕ) → b ≤ w → ((i : ℕ) → ((z : ℕ) → z < b - a → i ≡ (start + a) + z → ⊥) → get_or new i 0 ≡ get_or next i 0)
+    → ((i : ℕ) → ((z : ℕ) → z < w → i ≡ start + z → ⊥) → get_or next i 0 ≡ get_or old i 0) → (i : ℕ) → ((z : ℕ) → z < w → i ≡ start + z → ⊥) → get_or new i 0 ≡ get_or old i 0
+others_more old next new start w a b within part line i apart =
+    part i (λ z l e. apart (a + z) (omega arith) (e ∙ add_assoc start a z)) ∙ line i apart

@@ -16,7 +16,7 @@ use Rattle.shape_terms.specs.AxisLines.{place, gap, apart, IsBare}
 use Rattle.shape_terms.proofs.FramedLines.{distance_same}
 use Rattle.shape_terms.proofs.AxisPlaces.{place_of, place_line, place_high, place_below, same_digits}
 use Rattle.shape_terms.proofs.FramedEnds.{level_all, in_box_in_frame}
-use Rattle.judge_field.proofs.ScanSteps.{along_small}
+use Rattle.judge_field.proofs.ScanSteps.{along_small, along_same}
 use Rattle.judge_field.specs.Scanned.{IsLeastSquare, IsLeastAlong, HasScanned, HasBare, AreSquaresOn, digit, line_start, IsScannedAt, IsFirstSquare}
 
 -- ---- a number's place on its line
@@ -36,14 +36,6 @@ line_is c w low x high y l h =
   where
     moved : (c w low x high y : ℕ) → place c w low x high - x * c + y * c ≡ place c w low y high
     moved c w low x high y = omega arith
-
-along_same : (a b : ℕ → ℕ) (w x s : ℕ) → ((y : ℕ) → y < w → a y ≡ b y) → IsLeastAlong a w x s → IsLeastAlong b w x s
-along_same a b w x s same t = record {
-  y = t.y;
-  inside = t.inside;
-  reached = t.reached ∙ ap (λ n. n + gap x t.y * gap x t.y) (same t.y t.inside);
-  least = λ z l. subst (λ n. s ≤ n + gap x z * gap x z) (same z l) (t.least z l);
-}
 
 pub scanned : (c w rows n : ℕ) (old new : List ℕ) → n ≡ c * (w * rows) → ((i : ℕ) → i < n → IsScannedAt c w old i (get_or new i 0)) → HasScanned c w rows old new
 scanned c w rows n old new e all low x high l h k =

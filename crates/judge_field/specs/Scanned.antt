@@ -37,10 +37,6 @@ IsScannedAt c w old i s = IsLeastAlong (λ y. slice_index old (line_start c w i 
 abbrev pub HasScanned : ℕ → ℕ → ℕ → List ℕ → List ℕ → Type 0
 HasScanned c w rows old new = (low x high : ℕ) → low < c → x < w → high < rows → IsLeastAlong (λ y. slice_index old (place c w low y high)) w x (slice_index new (place c w low x high))
 
--- the lines before number t were
-abbrev pub HasScannedTo : ℕ → ℕ → ℕ → ℕ → List ℕ → List ℕ → Type 0
-HasScannedTo c w rows t old new = (low x high : ℕ) → low < c → x < w → high < rows → low + c * high < t → IsLeastAlong (λ y. slice_index old (place c w low y high)) w x (slice_index new (place c w low x high))
-
 -- a background point at a squared distance from i, with the same digits behind the first ones, which count to c
 pub record HasBare (X : Picture) (c i s : ℕ) : Type 0 where
   pub q : ℕ

@@ -11,33 +11,27 @@ use std::sync::ledger::Ledger;
 
 // The square at a place of a line.
 #[inline(always)]
-pub(crate) fn square_at(squares: &[u32], start: usize, step: usize, y: u32) -> u32
-    requires inside { start + y * step < length squares.now }
+pub(crate) fn square_at(squares: &[u32], start: usize, y: u32) -> u32
+    requires inside { start + y < length squares.now }
     requires few { length squares.now < 2 ^ 32 }
-    ensures { result ≡ slice_index squares.now (start + y * step) }
+    ensures { result ≡ slice_index squares.now (start + y) }
 {
-    squares[start + y as usize * step]
+    squares[start + y as usize]
 }
 
 // The squares of a line as a row.
-fn row_of(
-    alloc: Global,
-    squares: &[u32],
-    start: usize,
-    step: usize,
-    side: u32,
-) -> Result<Row, NoMemory>
+fn row_of(alloc: Global, squares: &[u32], start: usize, side: u32) -> Result<Row, NoMemory>
     requires some { 1 ≤ side }
     requires near { side ≤ 4096 }
-    requires inside { (y : ℕ) → y < side → start + y * step < length squares.now }
+    requires inside { (y : ℕ) → y < side → start + y < length squares.now }
     requires few { length squares.now < 2 ^ 32 }
     ensures long { IfOk result (λ r. length r ≡ side) }
     ensures same { IfOk result (λ r. (y : ℕ) → y < side
-        → cell r y ≡ Some (slice_index squares.now (start + y * step))) }
+        → cell r y ≡ Some (slice_index squares.now (start + y))) }
 {
     let mut row = Row::new(alloc, side)?;
     for y in 0..side {
-        row.set(y, Some(square_at(squares, start, step, y) as u64));
+        row.set(y, Some(square_at(squares, start, y) as u64));
     }
     Ok(row)
 }
@@ -54,24 +48,24 @@ fn given(square: u32, x: u32, y: u32) -> u32
 }
 
 // Gives each place of a line what its lowest place gives it.
-fn store(next: &mut [u32], squares: &[u32], start: usize, step: usize, lowest: &[u32])
-    requires apart { 0 < step }
+fn store(next: &mut [u32], squares: &[u32], start: usize, lowest: &[u32])
     requires near { length lowest.now ≤ 4096 }
-    requires inside { (y : ℕ) → y < length lowest.now → start + y * step < length squares.now }
+    requires inside { (y : ℕ) → y < length lowest.now → start + y < length squares.now }
     requires few { length squares.now < 2 ^ 32 }
     requires long { length next.old ≡ length squares.now }
     requires there { (x : ℕ) → x < length lowest.now
         → slice_index lowest.now x < length lowest.now }
-    requires small { (i : ℕ) → slice_index squares.now i ≤ 2 ^ 26 }
-    ensures on_line { (x : ℕ) → x < length lowest.now → slice_index next.new (start + x * step)
-        ≡ slice_index squares.now (start + slice_index lowest.now x * step)
+    requires small { (y : ℕ) → y < length lowest.now
+        → slice_index squares.now (start + y) ≤ 2 ^ 26 }
+    ensures on_line { (x : ℕ) → x < length lowest.now → slice_index next.new (start + x)
+        ≡ slice_index squares.now (start + slice_index lowest.now x)
         + gap x (slice_index lowest.now x) * gap x (slice_index lowest.now x) }
-    ensures others { (i : ℕ) → ((x : ℕ) → x < length lowest.now → i ≡ start + x * step → ⊥)
+    ensures others { (i : ℕ) → ((x : ℕ) → x < length lowest.now → i ≡ start + x → ⊥)
         → slice_index next.new i ≡ slice_index next.old i }
 {
     for x in 0..lowest.len() {
         let y = lowest[x];
-        next[start + x * step] = given(square_at(squares, start, step, y), x as u32, y);
+        next[start + x] = given(square_at(squares, start, y), x as u32, y);
     }
 }
 
@@ -81,28 +75,26 @@ pub fn scan_part<L: Ledger>(
     next: &mut [u32],
     squares: &[u32],
     start: usize,
-    step: usize,
     side: u32,
     steps: &mut Steps<L>,
 ) -> Result<(), NoMemory>
-    requires apart { 0 < step }
     requires some { 1 ≤ side }
     requires near { side ≤ 4096 }
-    requires inside { (y : ℕ) → y < side → start + y * step < length squares.now }
+    requires inside { (y : ℕ) → y < side → start + y < length squares.now }
     requires few { length squares.now < 2 ^ 32 }
     requires long { length next.old ≡ length squares.now }
-    requires small { (i : ℕ) → slice_index squares.now i ≤ 2 ^ 26 }
+    requires small { (y : ℕ) → y < side → slice_index squares.now (start + y) ≤ 2 ^ 26 }
     ensures on_line { IfOk result (λ _. (x : ℕ) → x < side
-        → IsLeastAlong (λ y. slice_index squares.now (start + y * step)) side x
-        (slice_index next.new (start + x * step))) }
-    ensures others { IfOk result (λ _. (i : ℕ) → ((x : ℕ) → x < side → i ≡ start + x * step → ⊥)
+        → IsLeastAlong (λ y. slice_index squares.now (start + y)) side x
+        (slice_index next.new (start + x))) }
+    ensures others { IfOk result (λ _. (i : ℕ) → ((x : ℕ) → x < side → i ≡ start + x → ⊥)
         → slice_index next.new i ≡ slice_index next.old i) }
 {
-    let row = row_of(alloc, squares, start, step, side)?;
+    let row = row_of(alloc, squares, start, side)?;
     let mut lowest = vec![in alloc; 0u32; side as usize]?;
     if !envelope(alloc, &row, &mut lowest, steps)? {
         unreachable!();
     }
-    store(next, squares, start, step, &lowest);
+    store(next, squares, start, &lowest);
     Ok(())
 }

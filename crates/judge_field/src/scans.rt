@@ -60,50 +60,49 @@ fn first_squares<P: Point>(alloc: Global, grid: &Grid<P>) -> Result<Vec<u32>, No
 // The squares on one axis more.
 fn scan_axis<L: Ledger>(
     alloc: Global,
-    squares: &[u32],
+    mut squares: Vec<u32>,
     before: u32,
     side: u32,
     steps: &mut Steps<L>,
 ) -> Result<Vec<u32>, NoMemory>
-    requires whole { (rows : ℕ) × (length squares.now ≡ before * (side * rows)) }
+    requires whole { (rows : ℕ) × (length squares.items ≡ before * (side * rows)) }
     requires apart { 0 < before }
     requires some { 1 ≤ side }
     requires near { side ≤ 4096 }
-    requires few { length squares.now < 2 ^ 31 }
-    requires small { (i : ℕ) → slice_index squares.now i ≤ 2 ^ 26 }
-    ensures long { IfOk result (λ v. length v.items ≡ length squares.now) }
-    ensures scanned { IfOk result (λ v. (i : ℕ) → i < length squares.now
-        → IsScannedAt before side squares.now i (slice_index v.items i)) }
+    requires few { length squares.items < 2 ^ 31 }
+    requires small { (i : ℕ) → slice_index squares.items i ≤ 2 ^ 26 }
+    ensures long { IfOk result (λ v. length v.items ≡ length squares.items) }
+    ensures scanned { IfOk result (λ v. (i : ℕ) → i < length squares.items
+        → IsScannedAt before side squares.items i (slice_index v.items i)) }
     ensures small { IfOk result (λ v. (i : ℕ) → slice_index v.items i ≤ 2 ^ 26) }
 {
     let behind = squares.len() as u32 / before / side;
-    let mut next = vec![in alloc; 0u32; squares.len()]?;
-    scan_lines(alloc, &mut next, squares, before, side, behind, steps)?;
-    Ok(next)
+    scan_lines(alloc, &mut squares, before, side, behind, steps)?;
+    Ok(squares)
 }
 
 // The squares on one axis more. Before the first axis each point has 0 or nothing, and its lines are looked along once from either end.
 fn scan_more<L: Ledger>(
     alloc: Global,
-    squares: &[u32],
+    squares: Vec<u32>,
     before: u32,
     side: u32,
     steps: &mut Steps<L>,
 ) -> Result<Vec<u32>, NoMemory>
-    requires whole { (rows : ℕ) × (length squares.now ≡ before * (side * rows)) }
+    requires whole { (rows : ℕ) × (length squares.items ≡ before * (side * rows)) }
     requires apart { 0 < before }
     requires some { 1 ≤ side }
     requires near { side ≤ 4096 }
-    requires few { length squares.now < 2 ^ 31 }
-    requires small { (i : ℕ) → slice_index squares.now i ≤ 2 ^ 26 }
-    requires two { before ≡ 1 → HasTwo squares.now }
-    ensures long { IfOk result (λ v. length v.items ≡ length squares.now) }
-    ensures scanned { IfOk result (λ v. (i : ℕ) → i < length squares.now
-        → IsScannedAt before side squares.now i (slice_index v.items i)) }
+    requires few { length squares.items < 2 ^ 31 }
+    requires small { (i : ℕ) → slice_index squares.items i ≤ 2 ^ 26 }
+    requires two { before ≡ 1 → HasTwo squares.items }
+    ensures long { IfOk result (λ v. length v.items ≡ length squares.items) }
+    ensures scanned { IfOk result (λ v. (i : ℕ) → i < length squares.items
+        → IsScannedAt before side squares.items i (slice_index v.items i)) }
     ensures small { IfOk result (λ v. (i : ℕ) → slice_index v.items i ≤ 2 ^ 26) }
 {
     if before == 1 {
-        scan_first(alloc, squares, side)
+        scan_first(alloc, &squares, side)
     } else {
         scan_axis(alloc, squares, before, side, steps)
     }
@@ -124,8 +123,7 @@ fn all_squares<P: Point, L: Ledger>(
     let mut before: u32 = 1;
     for k in 0..P::DIM {
         let side = sides.framed_side(k);
-        let next = scan_more(alloc, &squares, before, side, steps)?;
-        squares = next;
+        squares = scan_more(alloc, squares, before, side, steps)?;
         before *= side;
     }
     Ok(squares)

@@ -1,15 +1,45 @@
-use Rattle.std.proofs.Common.{◌*◌, ◌<◌, arith}
-use Rattle.shape_envelope.proofs.LineNumbers.{line_inside}
-use Rattle.judge_field.proofs.ScanSteps.{line_scanned}
+use Rattle.std.proofs.Common.{◌*◌, ◌<◌, ◌^◌, arith, rules}
+use Rattle.std.proofs.lemmas.Nat.{mul-le}
+use Rattle.shape_envelope.proofs.LinesDone.{lines_within, lines_inside, none_done}
+use Rattle.judge_field.specs.Scanned.{IsLeastAlong}
+use Rattle.judge_field.proofs.ScanSteps.{left_small, block_scanned, all_scanned}
 use Rattle.judge_field.proofs.line.scan_lines.Goals as goal
 
-pub scan_line-requires-clause-inside : goal.scan_line-requires-clause-inside
-scan_line-requires-clause-inside g c =
-    let t : c.loop-t.t < c.args.before * c.args.behind = omega (arith, c.line_count-t-end.ensures) in
-    λ y l. rw (c.line_start-start.ensures) (omega (arith, line_inside c.args.before c.args.side c.args.behind c.loop-t.t y t l, c.requires.whole))
+pub loop-t-init : goal.loop-t-init
+loop-t-init g c = record {
+  within = omega arith;
+  room = search rules;
+  long = search rules;
+  scanned = none_done (λ line x s. IsLeastAlong line c.args.side x s) 0 c.args.side c.args.before c.args.behind c.args.squares.now;
+}
+
+pub scan_block-requires-clause-inside : goal.scan_block-requires-clause-inside
+scan_block-requires-clause-inside g c =
+    let t : c.loop-t.t < c.args.before * c.args.behind = omega (arith, c.line_count-count.ensures) in
+    let n = c.lines_beside-lines.ensures in
+    λ y l. rw (c.line_start-start.ensures) (omega (arith, lines_inside c.args.before c.args.side c.args.behind c.loop-t.t c.lines_beside-lines.result y t n.some n.beside l, c.requires.whole))
+
+pub scan_block-requires-clause-room : goal.scan_block-requires-clause-room
+scan_block-requires-clause-room g c =
+    let m = mul-le c.lines_beside-lines.result c.args.side 8 c.args.side c.lines_beside-lines.ensures.few (omega arith) in
+    search (rules, m)
+
+pub scan_block-requires-clause-small : goal.scan_block-requires-clause-small
+scan_block-requires-clause-small g c =
+    let t : c.loop-t.t < c.args.before * c.args.behind = omega (arith, c.line_count-count.ensures) in
+    rw (c.line_start-start.ensures) (left_small c.args.before c.args.side c.args.behind c.loop-t.t c.lines_beside-lines.result (2 ^ 26) c.args.squares.now c.loop-t.squares t c.lines_beside-lines.ensures.beside c.requires.small c.loop-t.invariant.scanned)
 
 pub loop-t-preserved : goal.loop-t-preserved
 loop-t-preserved g c =
-    let t : c.loop-t.t < c.args.before * c.args.behind = omega (arith, c.line_count-t-end.ensures) in
-    let h = c.in_ok-scan_line.ensures in
-    line_scanned c.args.before c.args.side c.args.behind c.loop-t.t c.args.squares.now c.loop-t.next c.scan_line.new.next t c.loop-t.invariant (rw c.line_start-start.ensures at h.on_line) (rw c.line_start-start.ensures at h.others)
+    let t : c.loop-t.t < c.args.before * c.args.behind = omega (arith, c.line_count-count.ensures) in
+    let beside = c.lines_beside-lines.ensures.beside in
+    let h = c.in_ok-scan_block.ensures in
+    record {
+      within = omega (arith, lines_within c.args.before c.args.behind c.loop-t.t c.lines_beside-lines.result t beside, c.line_count-count.ensures);
+      room = c.loop-t.invariant.room;
+      long = c.loop-t.invariant.long;
+      scanned = block_scanned c.args.before c.args.side c.args.behind c.loop-t.t c.lines_beside-lines.result c.args.squares.now c.loop-t.squares c.scan_block.new.squares t beside c.loop-t.invariant.scanned (rw c.line_start-start.ensures at h.on_lines) (rw c.line_start-start.ensures at h.others);
+    }
+
+pub returns : goal.returns
+returns g c = all_scanned c.args.before c.args.side c.args.behind c.loop-t.t c.args.squares.now c.loop-t.squares (omega (arith, c.line_count-count.ensures)) c.loop-t.invariant.scanned

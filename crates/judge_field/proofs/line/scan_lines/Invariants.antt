@@ -1,5 +1,14 @@
-use Rattle.judge_field.specs.Scanned.{HasScannedTo}
+use Rattle.std.proofs.Common.{◌≡◌, ◌*◌, ◌-◌, ◌≤◌}
+use Rattle.judge_field.proofs.ScanSteps.{HasScannedTo}
 use Rattle.judge_field.proofs.line.scan_lines.Given as goal
 
 abbrev pub invariant-loop-t : goal.invariant-loop-t
-invariant-loop-t g l = HasScannedTo l.before l.side l.behind l.t l.squares l.next
+invariant-loop-t g l = record {
+  within : l.t ≤ l.count;
+  room : l.block.len ≡ 8 * l.side;
+  long : l.out.len ≡ l.block.len;
+  scanned : HasScannedTo l.before l.side l.behind l.t l.fn.squares l.squares;
+}
+
+abbrev pub decreases-loop-t : goal.decreases-loop-t
+decreases-loop-t g l = l.count - l.t

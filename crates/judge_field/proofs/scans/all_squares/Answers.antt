@@ -1,10 +1,9 @@
-use Rattle.std.proofs.Common.{◌≡◌, ◌<◌, ◌+◌, ◌*◌, ◌∙◌, take, drop, length, refl, ap, sym, subst, arith, ◌≤◌}
+use Rattle.std.proofs.Common.{◌≡◌, ◌<◌, ◌+◌, ◌*◌, ◌∙◌, take, drop, length, refl, ap, sym, arith, ◌≤◌}
 use Rattle.std.proofs.lemmas.Nat.{mul-le}
 use Rattle.shape_terms.specs.Points.{box_count, sides_of}
 use Rattle.shape_terms.specs.FramedBox.{framed_sides}
 use Rattle.shape_terms.proofs.FramedBoxes.{few_framed}
 use Rattle.shape_terms.proofs.AxisCounts.{whole_count, before_step, before_few, some_framed, apart_on_axis}
-use Rattle.judge_field.specs.Scanned.{HasTwo}
 use Rattle.judge_field.proofs.ScanAxes.{scanned, scan_more}
 use Rattle.judge_field.proofs.scans.all_squares.Goals as goal
 
@@ -16,7 +15,7 @@ scan_more-requires-clause-whole g c =
     let l : k < length ns = omega arith in
     let i = c.loop-k.invariant in (
       box_count (framed_sides (sides_of (drop (k + 1) ns))),
-      ap length c.deref.ensures.value ∙ i.long ∙ ap (λ s. box_count (framed_sides s)) (sym c.sides-sides.ensures.value) ∙ whole_count ns k c.loop-k.before c.framed_side-side.result _ l i.before c.framed_side-side.ensures.value refl,
+      i.long ∙ ap (λ s. box_count (framed_sides s)) (sym c.sides-sides.ensures.value) ∙ whole_count ns k c.loop-k.before c.framed_side-side.result _ l i.before c.framed_side-side.ensures.value refl,
     )
 
 pub scan_more-requires-clause-apart : goal.scan_more-requires-clause-apart
@@ -28,11 +27,8 @@ scan_more-requires-clause-few g c =
     let ns = g.P.Point.coords s.lengths in
     let a = g.met.P.Point.axes s.lengths in
     let f = few_framed g.P.Point.MAX_SIDE ns s.in_range g.met.P.Point.flat_side (rw a g.met.P.Point.two_or_three) (rw a g.met.P.Point.solid_side) in
-    let long : length c.deref.result.now ≡ box_count (framed_sides (sides_of ns)) = ap length c.deref.ensures.value ∙ c.loop-k.invariant.long ∙ ap (λ s. box_count (framed_sides s)) (sym c.sides-sides.ensures.value) in
+    let long : length c.loop-k.squares.items ≡ box_count (framed_sides (sides_of ns)) = c.loop-k.invariant.long ∙ ap (λ s. box_count (framed_sides s)) (sym c.sides-sides.ensures.value) in
     omega (arith, f, long)
-
-pub scan_more-requires-clause-two : goal.scan_more-requires-clause-two
-scan_more-requires-clause-two g c = λ e. subst HasTwo (sym c.deref.ensures.value) (c.loop-k.invariant.two e)
 
 pub overflow_mul-before : goal.overflow_mul-before
 overflow_mul-before g c =
@@ -60,14 +56,12 @@ loop-k-preserved g c =
     let is = sym c.sides-sides.ensures.value in
     let rows = box_count (framed_sides (sides_of (drop (k + 1) ns))) in
     let total : box_count (framed_sides X.sides) ≡ c.loop-k.before * (side * rows) = ap (λ s. box_count (framed_sides s)) is ∙ whole_count ns k c.loop-k.before side rows l i.before w refl in
-    let same = c.deref.ensures.value in
-    let long : length c.deref.result.now ≡ box_count (framed_sides X.sides) = ap length same ∙ i.long in
-    let scan = scanned c.loop-k.before side rows (length c.deref.result.now) c.deref.result.now c.in_ok-next.next.items (long ∙ total) c.in_ok-next.ensures.scanned in
+    let scan = scanned c.loop-k.before side rows (length c.loop-k.squares.items) c.loop-k.squares.items c.in_ok-squares-2.squares.items (i.long ∙ total) c.in_ok-squares-2.ensures.scanned in
     record {
       before = before_step ns k c.loop-k.before side l w i.before;
-      long = c.in_ok-next.ensures.long ∙ long;
-      squares = scan_more X c.loop-k.before side rows total (λ low low2 x y high p q h j m. apart_on_axis X.sides ns k c.loop-k.before side low low2 x y high is l i.before w p q h j) c.loop-k.squares.items i.squares c.in_ok-next.next.items (rw same at scan);
-      small = c.in_ok-next.ensures.small;
+      long = c.in_ok-squares-2.ensures.long ∙ i.long;
+      squares = scan_more X c.loop-k.before side rows total (λ low low2 x y high p q h j m. apart_on_axis X.sides ns k c.loop-k.before side low low2 x y high is l i.before w p q h j) c.loop-k.squares.items i.squares c.in_ok-squares-2.squares.items scan;
+      small = c.in_ok-squares-2.ensures.small;
       two = λ e. absurd (
           let s : 1 ≤ c.loop-k.before = omega (arith, i.before, some_framed (sides_of (take k ns))) in
           let m = mul-le 1 2 c.loop-k.before side s (omega (arith, w)) in
