@@ -5,16 +5,13 @@ ghost use Rattle.std.specs.Prelude.{◌≡◌, ◌+◌, ◌*◌, ◌<◌, ◌≤
 ghost use Rattle.judge_field.specs.Scanned.{IsLeastAlong, HasScanned};
 
 use crate::part::{scan_part, square_at};
-use shape_envelope::{line_count, line_start, lines_beside, put_lines, take_lines};
+use shape_envelope::{block_room, line_count, line_start, lines_beside, put_lines, take_lines};
 use shape_space::{NoMemory, Steps};
 use std::alloc::Global;
 use std::sync::ledger::Ledger;
 
 // So many places with 0 in a row end a part of a line. To take in fewer of them costs less than to begin another part.
 const REST: u32 = 4;
-
-// No more lines than this make a block.
-const BLOCK: usize = 8;
 
 // The end of the part of a line that goes on at x: a place with 0, or the end of the line.
 fn part_end(squares: &[u32], start: usize, side: u32, x: u32) -> u32
@@ -160,8 +157,8 @@ pub fn scan_lines<L: Ledger>(
     requires small { (i : ℕ) → slice_index squares.old i ≤ 2 ^ 26 }
     ensures { IfOk result (λ _. HasScanned before side behind squares.old squares.new) }
 {
-    let mut block = vec![in alloc; 0u32; BLOCK * side as usize]?;
-    let mut out = vec![in alloc; 0u32; BLOCK * side as usize]?;
+    let mut block = vec![in alloc; 0u32; block_room(side)]?;
+    let mut out = vec![in alloc; 0u32; block_room(side)]?;
     let count = line_count(before, side, behind);
     let mut t: u32 = 0;
     while t < count {
