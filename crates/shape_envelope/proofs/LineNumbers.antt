@@ -1,44 +1,26 @@
 -- The lines of an axis, each with a number, and the places of a row.
 -- Laws over numbers and rows alone.
-use Rattle.std.proofs.Common.{◌≡◌, ℕ, ◌+◌, ◌*◌, ◌/◌, ◌%◌, ◌<◌, ◌≤◌, inl, inr, List, length, sym, ap, ◌∙◌, arith, mul_comm}
+use Rattle.std.proofs.Common.{◌≡◌, ℕ, ◌+◌, ◌*◌, ◌/◌, ◌%◌, ◌<◌, inl, inr, List, length, arith, mul_comm}
 use Rattle.std.specs.Prelude.{ℤ, Option, None}
 use Rattle.std.proofs.lemmas.Bool.{cases_lt}
 use Rattle.std.proofs.lemmas.List.{get_or_past}
-use Rattle.std.proofs.lemmas.Nat.{div_below, div-mul-add, mod-mul-add, mul-le}
-use Rattle.shape_terms.specs.AxisLines.{place}
+use Rattle.std.proofs.lemmas.Nat.{div_below}
 use Rattle.shape_terms.specs.Rows.{cell, IsLowest}
 use Rattle.shape_terms.proofs.AxisPlaces.{place_below}
 use Rattle.shape_terms.proofs.Boxes.{some_side}
 
 -- the line with a number
-pub line_low : (c rows t : ℕ) → t < c * rows → t % c < c
+line_low : (c rows t : ℕ) → t < c * rows → t % c < c
 line_low c rows t l = let s = some_side c rows t l in omega arith
 
 pub line_high : (c rows t : ℕ) → t < c * rows → t / c < rows
 line_high c rows t l = div_below t c rows (some_side c rows t l) (omega (arith, mul_comm c rows))
 
-pub line_place : (c w t x : ℕ) → (t % c + c * (w * (t / c))) + x * c ≡ place c w (t % c) x (t / c)
-line_place c w t x = omega arith
-
 pub line_inside : (c w rows t x : ℕ) → t < c * rows → x < w → (t % c + c * (w * (t / c))) + x * c < c * (w * rows)
 line_inside c w rows t x l h = omega (arith, place_below c w rows (t % c) x (t / c) (line_low c rows t l) h (line_high c rows t l))
 
-pub line_of_number : (c low high t : ℕ) → low < c → low + c * high ≡ t → (low ≡ t % c) × (high ≡ t / c)
-line_of_number c low high t l e =
-    let f : high * c + low ≡ t = omega (arith, mul_comm c high) in
-    (sym (mod-mul-add high c low l) ∙ ap (λ n. n % c) f, sym (div-mul-add high c low l) ∙ ap (λ n. n / c) f)
-
 pub number_of_line : (c t : ℕ) → t % c + c * (t / c) ≡ t
 number_of_line c t = omega arith
-
--- the places of a line from one of them on, and that they are all different
-pub on_places : (base step a y : ℕ) → (base + a * step) + y * step ≡ base + (a + y) * step
-on_places base step a y = omega arith
-
-pub other_place : (base step x y : ℕ) → 0 < step → x < y → base + x * step ≡ base + y * step → ⊥
-other_place base step x y apart l e =
-    let m : (x + 1) * step ≤ y * step = mul-le (x + 1) step y step (omega arith) (omega arith) in
-    omega (arith, m, e)
 
 -- a lowest place is a place of the row
 pub lowest_inside : (row : List (Option ℕ)) (x : ℤ) (i : ℕ) → IsLowest row x i → i < length row

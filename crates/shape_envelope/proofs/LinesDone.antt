@@ -52,16 +52,16 @@ module _ {A : Type 0} (R : (ℕ → A) → ℕ → A → Type 0) (d : A) (w : �
   abbrev pub AreLinesLeft : ℕ → List A → List A → Type 0
   AreLinesLeft n first block = (i x : ℕ) → n ≤ i → x < w → get_or block (i * w + x) d ≡ get_or first (i * w + x) d
 
-  module _ (first block new : List A) (n : ℕ) (others : (i : ℕ) → ((x : ℕ) → x < w → i ≡ n * w + x * 1 → ⊥) → get_or new i d ≡ get_or block i d) where
+  module _ (first block new : List A) (n : ℕ) (others : (i : ℕ) → ((x : ℕ) → x < w → i ≡ n * w + x → ⊥) → get_or new i d ≡ get_or block i d) where
     -- the place of another line is as before
     other_line : (i x : ℕ) → (i ≡ n → ⊥) → x < w → get_or new (i * w + x) d ≡ get_or block (i * w + x) d
     other_line i x apart l = others (i * w + x) (λ z h e. apart (same_from_place i x n z w l h (omega (arith, e))).0)
 
     -- one line of a block more
-    pub line_done : ((x : ℕ) → x < w → R (λ y. get_or first (n * w + y) d) x (get_or new (n * w + x * 1) d)) → AreLinesDone n first block → AreLinesDone (n + 1) first new
+    pub line_done : ((x : ℕ) → x < w → R (λ y. get_or first (n * w + y) d) x (get_or new (n * w + x) d)) → AreLinesDone n first block → AreLinesDone (n + 1) first new
     line_done here before i x l h = below_more (λ i. R (λ y. get_or first (i * w + y) d) x (get_or new (i * w + x) d)) n
         (λ i m. subst (R (λ y. get_or first (i * w + y) d) x) (sym (other_line i x (λ e. omega arith) h)) (before i x m h))
-        (subst (λ k. R (λ y. get_or first (n * w + y) d) x (get_or new k d)) (omega arith) (here x h)) i l
+        (here x h) i l
 
     pub line_left : AreLinesLeft n first block → AreLinesLeft (n + 1) first new
     line_left before i x l h = other_line i x (λ e. omega arith) h ∙ before i x (omega arith) h

@@ -1,4 +1,4 @@
-use Rattle.std.proofs.Common.{◌≡◌, ℕ, ◌+◌, ◌*◌, length, get_or, sym, ◌∙◌, subst, arith}
+use Rattle.std.proofs.Common.{length, arith}
 use Rattle.shape_envelope.proofs.Blocks.{line_in_block}
 use Rattle.shape_envelope.proofs.LinesDone.{line_done}
 use Rattle.judge_field.specs.Scanned.{IsLeastAlong}
@@ -16,9 +16,4 @@ scan_line-requires-clause-small g c = λ y l. omega (arith, c.requires.small c.l
 pub loop-j-preserved : goal.loop-j-preserved
 loop-j-preserved g c =
     let h = c.in_ok-scan_line.ensures in
-    let at = c.loop-j.j * c.args.side in
-    let same : (x : ℕ) → at + x * 1 ≡ at + x = λ x. omega arith in
-    line_done (λ line x s. IsLeastAlong line c.args.side x s) 0 c.args.side c.args.block.now c.loop-j.out c.scan_line.new.next c.loop-j.j
-    (λ i apart. h.others i (λ x l e. apart x l (e ∙ sym (same x))))
-    (λ x l. subst (λ i. IsLeastAlong (λ y. get_or c.args.block.now (at + y) 0) c.args.side x (get_or c.scan_line.new.next i 0)) (sym (same x)) (h.on_line x l))
-    c.loop-j.invariant
+    line_done (λ line x s. IsLeastAlong line c.args.side x s) 0 c.args.side c.args.block.now c.loop-j.out c.scan_line.new.next c.loop-j.j h.others h.on_line c.loop-j.invariant
