@@ -7,7 +7,7 @@ use Rattle.std.specs.BTreeMap.{is_at}
 use Rattle.std.proofs.lemmas.Bool.Decides.{nat_tests}
 use Rattle.std.proofs.lemmas.Bool.{cases_lt}
 use Rattle.shape_queue.specs.declared.key.Key.{Key}
-use Rattle.shape_queue.specs.Keys.{key_cmp}
+use Rattle.shape_queue.specs.Keys.{key_cmp, IsLeastKey}
 
 nat_less : (a b : ℕ) → a < b → nat_cmp a b ≡ Less
 nat_less a b l = grind (arith, nat_tests)
@@ -79,5 +79,18 @@ not_greater a b n = elim (cases_lt a.distance b.distance) [
             | inr q ↦ rw (nat_same a.distance b.distance e, nat_same a.place b.place (omega arith)) refl
           ]
         ])
+  ]
+]
+
+-- two least keys are one
+pub one_least : (keys : Key → Bool) (a b : Key) → keys a ≡ true → keys b ≡ true → IsLeastKey keys a → IsLeastKey keys b → a ≡ b
+one_least keys a b at bt al bl = elim (not_above a b (al b bt)) [
+  | inl l ↦ elim (not_above b a (bl a at)) [
+    | inl m ↦ absurd (omega (arith, l, m))
+    | inr m ↦ absurd (omega (arith, l, m.0))
+  ]
+  | inr e ↦ elim (not_above b a (bl a at)) [
+    | inl m ↦ absurd (omega (arith, e.0, m))
+    | inr m ↦ same_key a b e.0 (omega (arith, e.1, m.1))
   ]
 ]

@@ -169,3 +169,20 @@ module _ (ds ranks : List ℕ) (keys : List Key) (waiting : List ℕ) (queued : 
       let before : Precedes ds k.place p.0 = subst (λ d. (d < slice_index ds p.0) ⊎ ((d ≡ slice_index ds p.0) × (k.place < p.0))) t.same o in
       let s = rank_rises ds k.place p.0 t.inside before in
       omega (arith, a, s, p.2)))
+
+  -- taken out of the set by its rank, it is taken out of the queue
+  pub popped_key : (key : Key) → key ≡ get_or keys r key → (new : List ℕ) → IsPut waiting new r 0
+      → Put (has (record { distances = ds; waiting = waiting })) (has (record { distances = ds; waiting = new })) key false
+  popped_key key e new put =
+      let p = place in
+      subst (λ k. Put (has (record { distances = ds; waiting = waiting })) (has (record { distances = ds; waiting = new })) k false) (sym (key_read key e))
+      (put_rank (record { distances = ds; waiting = waiting }) new p.0 false p.1 (subst (λ r. IsPut waiting new r 0) (sym p.2) put))
+
+  pub popped_within : (key : Key) → key ≡ get_or keys r key → key.place < length ds
+  popped_within key e = let p = place in subst (λ (k : Key). k.place < length ds) (sym (key_read key e)) p.1
+
+  pub popped_fits : (key : Key) → key ≡ get_or keys r key → (new : List ℕ) → IsPut waiting new r 0 → AreFitting ds ranks keys new (set queued key.place false)
+  popped_fits key e new put =
+      let p = place in
+      subst (λ (k : Key). AreFitting ds ranks keys new (set queued k.place false)) (sym (key_read key e))
+      (fitting_put ds ranks keys waiting new queued p.0 false p.1 h (subst (λ r. IsPut waiting new r 0) (sym p.2) put))

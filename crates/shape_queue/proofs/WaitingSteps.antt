@@ -1,6 +1,6 @@
 -- The queue while places are looked at, one after the other, and when its least key is taken.
 -- Laws over pictures and keys alone; how the queue is kept does not matter here.
-use Rattle.std.proofs.Common.{◌≡◌, ◌≢◌, ◌⊎◌, inl, inr, ℕ, ◌<◌, ◌≤◌, ◌↔◌, Bool, true, false, cond, List, slice_index, sym, ◌∙◌, ap, subst}
+use Rattle.std.proofs.Common.{◌≡◌, ◌≢◌, ◌⊎◌, inl, inr, ℕ, ◌<◌, ◌≤◌, ◌↔◌, Bool, true, false, cond, List, slice_index, Option, None, Some, MatchOption, IfSome, sym, ◌∙◌, ap, subst}
 use Rattle.std.specs.Ordering.{is_gt}
 use Rattle.std.specs.BTreeMap.{is_at}
 use native.Mathlib.Decide.{ℕ_discrete}
@@ -9,9 +9,9 @@ use Rattle.shape_terms.specs.Pictures.{Picture}
 use Rattle.shape_terms.specs.Parts.{Object}
 use Rattle.shape_terms.proofs.PointTests.{same_point}
 use Rattle.shape_queue.specs.declared.key.Key.{Key}
-use Rattle.shape_queue.specs.Keys.{key_cmp}
+use Rattle.shape_queue.specs.Keys.{key_cmp, IsLeastKey}
 use Rattle.shape_queue.specs.Waiting.{key_at, MayBeTaken, Waits, Put}
-use Rattle.shape_queue.proofs.KeyOrder.{at_itself, at_only, not_above, by_key}
+use Rattle.shape_queue.proofs.KeyOrder.{at_itself, at_only, not_above, by_key, one_least}
 
 put_here : (old new : Key → Bool) (key : Key) (b : Bool) → Put old new key b → new key ≡ b
 put_here old new key b h = h key ∙ ap (λ t. cond t b (old key)) (at_itself key)
@@ -21,6 +21,12 @@ put_there old new key k b h n = elim (by_key key k) [
   | inl t ↦ absurd (n (at_only key k t))
   | inr f ↦ h k ∙ ap (λ t. cond t b (old k)) f
 ]
+
+-- the key that was taken out of the queue as its least one is the least one
+pub popped : (result : Option Key) (A : Type 0) (old new : Key → Bool) → MatchOption result ((k : Key) → old k ≡ false) (λ key. old key ≡ true) → IfSome result (λ key. IsLeastKey old key)
+    → MatchOption result A (λ key. Put old new key false) → (k : Key) → old k ≡ true → IsLeastKey old k → Put old new k false
+popped None A old new none _ _ k there _ = absurd (let f : true ≡ false = sym there ∙ none k in cc)
+popped (Some key) A old new is least put k there first = subst (λ k. Put old new k false) (one_least old key k is there least first) put
 
 other_place : (distances : List ℕ) (i j : ℕ) → (j ≡ i → ⊥) → key_at distances i ≡ key_at distances j → ⊥
 other_place distances i j n e = n (sym (ap (λ (k : Key). k.place) e))

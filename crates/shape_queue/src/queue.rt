@@ -100,4 +100,24 @@ impl Queue {
             Some(rank) => Some(self.keys[rank]),
         }
     }
+
+    /// Takes out the least key of the queue. Its rank is known from the set, so that none is looked up.
+    pub fn pop(&mut self) -> Option<Key>
+        ensures there { MatchOption result ((k : Key) → has self.old k ≡ false)
+            (λ key. has self.old key ≡ true) }
+        ensures least { IfSome result (λ key. IsLeastKey (has self.old) key) }
+        ensures taken { MatchOption result (self.new ≡ self.old)
+            (λ key. Put (has self.old) (has self.new) key false) }
+        ensures distances { self.new.distances ≡ self.old.distances }
+    {
+        match self.waiting.least() {
+            None => None,
+            Some(rank) => {
+                let key = self.keys[rank];
+                self.queued.clear(key.place as usize);
+                self.waiting.remove(rank);
+                Some(key)
+            }
+        }
+    }
 }

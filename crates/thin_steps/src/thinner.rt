@@ -74,7 +74,7 @@ impl<P: SimpleMask> Thinner<P> {
         ensures stands { GoesOn self.old next.now (P.coords next.now.point) true self.new }
         ensures room { room_of self.new + 1 ≡ room_of self.old }
     {
-        self.keys.settle(next.place, false);
+        self.keys.pop();
         self.free.clear_number(next.place);
     }
 
@@ -86,7 +86,7 @@ impl<P: SimpleMask> Thinner<P> {
         ensures few { steps.new ≤ steps.old + P.NEAR_COUNT }
     {
         let mask = self.left.mask(next.place);
-        self.keys.settle(next.place, false);
+        self.keys.pop();
         self.free.clear_number(next.place);
         self.left.clear(next.place);
         look_round(
