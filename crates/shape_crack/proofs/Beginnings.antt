@@ -142,21 +142,18 @@ module _ (X : Picture) (axes : length X.sides ≡ 2) where
         let all : All (IsCrack X) r.0 = All-each (IsCrack X) r.0 (λ x j. f.cracks x (of_list cycles r.0 x r.1 j)) in
         of_list cycles r.0 c r.1 (cycle_back r.0 (All-contains (IsCycle X) cycles r.0 f.cycle r.1) all c k r.2)
 
-    pub right_marked : (c : Crack) → IsCrack X c → c.side ≡ 1 → crack_number X.sides c ≡ n → marks n ≡ true
-    right_marked c k s e =
+    pub right_found : (c : Crack) → IsCrack X c → c.side ≡ 1 → crack_number X.sides c ≡ n → Contains (flat_map (λ c. c) cycles) c
+    right_found c k s e =
         let a = placed X axes c k in
         let q : c ≡ crack_at a.place 1 = a.is ∙ ap (crack_at a.place) s in
         let r = right_preceded a.place (subst (IsCrack X) q k) in
         let l : crack_number X.sides r.0 < n = subst (λ j. crack_number X.sides r.0 < j) (ap (crack_number X.sides) (sym q) ∙ e) r.2 in
-        let i = on r.0 (f.passed r.0 r.1 l) in
-        let m = f.marks_all c (subst (Contains (flat_map (λ c. c) cycles)) (r.3 ∙ sym q) i) in
-        subst (λ j. marks j ≡ true) e m
+        subst (Contains (flat_map (λ c. c) cycles)) (r.3 ∙ sym q) (on r.0 (f.passed r.0 r.1 l))
 
-    pub left_marked : (c : Crack) → IsCrack X c → c.side ≡ 3 → crack_number X.sides c ≡ n → marks n ≡ true
-    left_marked c k s e =
+    pub left_found : (c : Crack) → IsCrack X c → c.side ≡ 3 → crack_number X.sides c ≡ n → Contains (flat_map (λ c. c) cycles) c
+    left_found c k s e =
         let a = placed X axes c k in
         let q : c ≡ crack_at a.place 3 = a.is ∙ ap (crack_at a.place) s in
         let r = left_follows a.place (subst (IsCrack X) q k) in
         let l : crack_number X.sides (successor X c) < n = subst (λ j. crack_number X.sides (successor X c) < j) e (subst (λ (d : Crack). crack_number X.sides (successor X d) < crack_number X.sides d) (sym q) r) in
-        let m = f.marks_all c (back c k (f.passed (successor X c) (successor_crack X axes c k) l)) in
-        subst (λ j. marks j ≡ true) e m
+        back c k (f.passed (successor X c) (successor_crack X axes c k) l)

@@ -1,26 +1,39 @@
 -- One more mark: a bit is set, and no other changes.
--- Stated of the bytes alone.
-use Rattle.std.proofs.Common.{◌≡◌, ◌≢◌, ◌*◌, ◌/◌, ◌%◌, ◌^◌, ◌<◌, ℕ, List, length, get_or, set, ap, sym, ◌∙◌, subst, arith, bit_or, w8, get_or-set_other, get_or-set_same}
-use Rattle.std.specs.Prelude.{◌==◌}
-use Rattle.std.specs.Int.{bit_at}
-use Rattle.std.proofs.lemmas.List.{get_or_default}
-use Rattle.std.proofs.lemmas.Nat.Bits.{bit_at_set_same, bit_at_set_other}
+-- Stated of the bits alone.
+use Rattle.std.proofs.Common.{◌≡◌, ◌≢◌, ◌/◌, ◌%◌, ◌<◌, ℕ, zero, suc, Bool, true, false, List, length, get_or, set, refl, ap, ◌∙◌, arith}
+use Rattle.std.proofs.lemmas.List.{get_or-set_same, get_or-set_other}
 use native.Mathlib.Decide.{ℕ_discrete}
 use Rattle.shape_terms.specs.CrackNumbers.{IsMarkedBesides}
-use Rattle.shape_crack.specs.MarkBits.{is_marked}
+use Rattle.shape_crack.specs.MarkBits.{side_bit, is_set}
 
-pub one_more_mark : (old : List ℕ) (n b : ℕ) → n / 4 < length old → b ≡ get_or old (n / 4) b → IsMarkedBesides n (is_marked old) (is_marked (set old (n / 4) (bit_or b (1 * 2 ^ (n % 4) % 256))))
-one_more_mark old n b l e = record {
-  marked = ap (λ v. bit_at v (n % 4) == 1) (get_or-set_same old (n / 4) _ 0 l) ∙ ap (λ v. v == 1) (bit_at_set_same w8 b (n % 4) (omega arith));
-  others = others;
-}
-  where
-    others : (j : ℕ) → j ≢ n → is_marked (set old (n / 4) (bit_or b (1 * 2 ^ (n % 4) % 256))) j ≡ is_marked old j
-    others j d = elim (ℕ_discrete (j / 4) (n / 4)) [
-      | yes q ↦
-          (let apart : j % 4 ≢ n % 4 = (λ r. d (omega arith)) in
-          let read : get_or (set old (n / 4) (bit_or b (1 * 2 ^ (n % 4) % 256))) (j / 4) 0 ≡ bit_or b (1 * 2 ^ (n % 4) % 256) = subst (λ i. get_or (set old (n / 4) (bit_or b (1 * 2 ^ (n % 4) % 256))) i 0 ≡ bit_or b (1 * 2 ^ (n % 4) % 256)) (sym q) (get_or-set_same old (n / 4) _ 0 l) in
-          let was : b ≡ get_or old (j / 4) 0 = e ∙ (get_or_default old (n / 4) b 0 l ∙ ap (λ i. get_or old i 0) (sym q)) in
-          ap (λ v. bit_at v (j % 4) == 1) read ∙ (ap (λ v. v == 1) (bit_at_set_other w8 b (n % 4) (omega arith) (j % 4) apart) ∙ ap (λ v. bit_at v (j % 4) == 1) was))
-      | no q ↦ ap (λ v. bit_at v (j % 4) == 1) (get_or-set_other old (n / 4) (j / 4) _ 0 q)
-    ]
+-- the bit of another side than the upper one, or the lower one, does not depend on it
+not_upper : (a b l : Bool) (s : ℕ) → s ≢ 0 → side_bit a l s ≡ side_bit b l s
+not_upper a b l zero n = absurd (n refl)
+not_upper a b l (suc zero) n = refl
+not_upper a b l (suc (suc zero)) n = refl
+not_upper a b l (suc (suc (suc s))) n = refl
+
+not_lower : (u a b : Bool) (s : ℕ) → s ≢ 2 → side_bit u a s ≡ side_bit u b s
+not_lower u a b zero n = refl
+not_lower u a b (suc zero) n = refl
+not_lower u a b (suc (suc zero)) n = absurd (n refl)
+not_lower u a b (suc (suc (suc s))) n = refl
+
+module _ (upper lower : List Bool) (n : ℕ) where
+  pub upper_marked : n % 4 ≡ 0 → n / 4 < length upper → IsMarkedBesides n (is_set upper lower) (is_set (set upper (n / 4) true) lower)
+  upper_marked e l = record {
+    marked = ap (side_bit (get_or (set upper (n / 4) true) (n / 4) false) (get_or lower (n / 4) false)) e ∙ get_or-set_same upper (n / 4) true false l;
+    others = λ j d. elim (ℕ_discrete (j / 4) (n / 4)) [
+      | yes q ↦ not_upper (get_or (set upper (n / 4) true) (j / 4) false) (get_or upper (j / 4) false) (get_or lower (j / 4) false) (j % 4) (λ r. d (omega (arith, q, r, e)))
+      | no q ↦ ap (λ u. side_bit u (get_or lower (j / 4) false) (j % 4)) (get_or-set_other upper (n / 4) (j / 4) true false q)
+    ];
+  }
+
+  pub lower_marked : n % 4 ≡ 2 → n / 4 < length lower → IsMarkedBesides n (is_set upper lower) (is_set upper (set lower (n / 4) true))
+  lower_marked e l = record {
+    marked = ap (side_bit (get_or upper (n / 4) false) (get_or (set lower (n / 4) true) (n / 4) false)) e ∙ get_or-set_same lower (n / 4) true false l;
+    others = λ j d. elim (ℕ_discrete (j / 4) (n / 4)) [
+      | yes q ↦ not_lower (get_or upper (j / 4) false) (get_or (set lower (n / 4) true) (j / 4) false) (get_or lower (j / 4) false) (j % 4) (λ r. d (omega (arith, q, r, e)))
+      | no q ↦ ap (λ u. side_bit (get_or upper (j / 4) false) u (j % 4)) (get_or-set_other lower (n / 4) (j / 4) true false q)
+    ];
+  }

@@ -1,10 +1,10 @@
 //! One contour: the points of the cycle of cracks that begins with a crack, found by following it round.
 //! Another way of keeping the points changes nothing outside this file.
-ghost use Rattle.std.specs.Prelude.{◌≡◌, ◌==◌, ◌*◌, ◌<◌, ◌++◌, [], ◌∷◌, map, if◌then◌else◌, Some, slice_get, IfOk, OnOk, length, vec_len};
+ghost use Rattle.std.specs.Prelude.{◌≡◌, ◌==◌, ◌*◌, ◌<◌, ◌++◌, [], ◌∷◌, map, if◌then◌else◌, Some, slice_get, IfOk, OnOk, length};
 ghost use Rattle.shape_terms.specs.Points.{box_count};
 ghost use Rattle.shape_terms.specs.Contours.{IsCrack, stays, successor as successor_of};
 ghost use Rattle.shape_terms.specs.Traces.{IsContourFrom, IsClosedPath};
-ghost use Rattle.shape_terms.specs.CrackNumbers.{crack_number};
+ghost use Rattle.shape_terms.specs.CrackNumbers.{crack_number, IsPassed};
 ghost use Rattle.shape_crack.specs.Terms.{point_of, crack_of};
 ghost use Rattle.shape_crack.specs.MarkBits.{is_marked};
 ghost use Rattle.shape_crack.specs.Marked.{IsCycleMarked};
@@ -135,7 +135,20 @@ fn number(grid: &Grid<P2>, c: Crack) -> u32
     grid.sides().raster(c.p) * 4 + c.side as u32
 }
 
-// The contour that `trace` finds, with the cracks of its cycle marked on the way.
+// Marks a crack that a walk passes, if it is level.
+fn pass(grid: &Grid<P2>, c: Crack, marks: &mut CrackMarks)
+    requires crack { IsCrack grid.now (crack_of c) }
+    requires room { length marks.old.upper ≡ box_count grid.now.sides }
+    ensures passed { IsPassed grid.now.sides (crack_of c) (is_marked marks.old)
+        (is_marked marks.new) }
+    ensures room { length marks.new.upper ≡ length marks.old.upper }
+{
+    if c.side % 2 == 0 {
+        marks.mark(number(grid, c));
+    }
+}
+
+// The contour that `trace` finds, with the level cracks of its cycle marked on the way.
 pub(crate) fn trace_marked(
     alloc: Global,
     grid: &Grid<P2>,
@@ -143,19 +156,19 @@ pub(crate) fn trace_marked(
     marks: &mut CrackMarks,
 ) -> Result<Contour, NoMemory>
     requires crack { IsCrack grid.now (crack_of start) }
-    requires room { vec_len marks.old.bytes ≡ box_count grid.now.sides }
+    requires room { length marks.old.upper ≡ box_count grid.now.sides }
     ensures contour { IfOk result (IsContourFrom grid.now (crack_of start)) }
     ensures marked { OnOk result (IsCycleMarked grid.now (crack_of start)
-        (is_marked marks.old.bytes.items) (is_marked marks.new.bytes.items)) }
-    ensures len { vec_len marks.new.bytes ≡ vec_len marks.old.bytes }
+        (is_marked marks.old) (is_marked marks.new)) }
+    ensures room { length marks.new.upper ≡ length marks.old.upper }
 {
     grid.is_picture();
     let mut points = Vec::new(alloc);
-    marks.mark(number(grid, start));
+    pass(grid, start, marks);
     let mut c = advance(&mut points, grid, start)?;
     let mut steps: u32 = 1;
     while c != start {
-        marks.mark(number(grid, c));
+        pass(grid, c, marks);
         c = advance(&mut points, grid, c)?;
         steps += 1;
     }

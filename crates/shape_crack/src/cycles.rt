@@ -1,6 +1,6 @@
 //! All contours of a picture: its object pixels are looked at in raster order, and where a crack is not marked yet its cycle is traced and marked.
 //! The least crack of a cycle is over an upper or a lower side, so that no other side is looked at.
-ghost use Rattle.std.specs.Prelude.{◌≡◌, ◌<◌, ◌↔◌, IsTrue, IfOk, OnOk, vec_len};
+ghost use Rattle.std.specs.Prelude.{◌≡◌, ◌<◌, ◌↔◌, IsTrue, IfOk, OnOk, ◌%◌, length};
 ghost use Rattle.shape_terms.specs.Points.{box_count, raster_point};
 ghost use Rattle.shape_terms.specs.Pictures.{at};
 ghost use Rattle.shape_terms.specs.Contours.{IsCrack};
@@ -38,7 +38,7 @@ fn is_bottom(grid: &Grid<P2>, i: u32) -> bool
     below >= sides.count() || !grid.has_number(below)
 }
 
-// Puts the contour from a side of a pixel last and marks its cycle, where the side is not marked yet.
+// Puts the contour from an upper or a lower side of a pixel last and marks its cycle, where the side is not marked yet.
 fn take(
     alloc: Global,
     grid: &Grid<P2>,
@@ -49,10 +49,11 @@ fn take(
 ) -> Result<(), NoMemory>
     requires pixel { i < box_count grid.now.sides }
     requires crack { IsCrack grid.now (side_of grid.now.sides i side) }
-    requires room { vec_len marks.old.bytes ≡ box_count grid.now.sides }
+    requires level { side % 2 ≡ 0 }
+    requires room { length marks.old.upper ≡ box_count grid.now.sides }
     ensures taken { OnOk result (IsTaken grid.now (side_of grid.now.sides i side)
-        (is_marked marks.old.bytes.items) (is_marked marks.new.bytes.items) list.old.items list.new.items) }
-    ensures len { vec_len marks.new.bytes ≡ vec_len marks.old.bytes }
+        (is_marked marks.old) (is_marked marks.new) list.old.items list.new.items) }
+    ensures room { length marks.new.upper ≡ length marks.old.upper }
 {
     let sides = grid.sides();
     if !marks.has(i * 4 + side as u32) {
@@ -68,10 +69,11 @@ fn take(
 
 /// The contours of a picture: one for each cycle of its cracks, from the least crack of it, in the order of these.
 ///
-/// It takes time by the numbers of pixels and cracks, and beside the contours one byte for each pixel.
+/// It takes time by the numbers of pixels and cracks, and beside the contours two bits for each pixel.
 pub fn contours(alloc: Global, grid: &Grid<P2>) -> Result<Contours, NoMemory>
     ensures { IfOk result (AreContours grid.now) }
 {
+    grid.is_picture();
     let count = grid.sides().count();
     let mut marks = CrackMarks::new(alloc, count as usize)?;
     let mut list = Vec::new(alloc);

@@ -11,7 +11,7 @@ use Rattle.shape_terms.specs.Points.{box_count}
 use Rattle.shape_terms.specs.Pictures.{Picture}
 use Rattle.shape_terms.specs.Contours.{Crack, IsCrack, CrackBefore, Follow, IsCycle, BeginsLeast, AreCycles, first_of_cycle}
 use Rattle.shape_terms.proofs.Successor.{successor_crack}
-use Rattle.shape_terms.specs.CrackNumbers.{crack_number, numbered, MarksCycle}
+use Rattle.shape_terms.specs.CrackNumbers.{crack_number, numbered, IsLevel, MarksCycle}
 use Rattle.shape_terms.proofs.Numbered.{is_numbered, number_below, number_rises}
 use Rattle.shape_terms.proofs.SameCycles.{pairs-head, pairs-tail, head_in, later_in, in_cases, in_none, reaches, cycle_on, of_list, list_of}
 
@@ -40,7 +40,7 @@ follow_cracks X axes f c (d ∷ xs) k h x i = elim (in_cases c (d ∷ xs) x i) [
   | inr n ↦ follow_cracks X axes f d xs (subst (IsCrack X) h.0 (successor_crack X axes c k)) h.1 x n
 ]
 
--- the cycles of all cracks with numbers below i, and what is marked
+-- the cycles of all cracks with numbers below i, whose level cracks are marked
 pub record Found (X : Picture) (i : ℕ) (marks : ℕ → Bool) (cycles : List (List Crack)) : Type 0 where
   pub cycle : All (IsCycle X) cycles
   pub least : All BeginsLeast cycles
@@ -49,7 +49,7 @@ pub record Found (X : Picture) (i : ℕ) (marks : ℕ → Bool) (cycles : List (
   pub cracks : (x : Crack) → Contains (flat_map (λ c. c) cycles) x → IsCrack X x
   pub begun : All (λ x. crack_number X.sides (first_of_cycle x) < i) cycles
   pub marked : (x : Crack) → IsCrack X x → marks (crack_number X.sides x) ≡ true → Contains (flat_map (λ c. c) cycles) x
-  pub marks_all : (x : Crack) → Contains (flat_map (λ c. c) cycles) x → marks (crack_number X.sides x) ≡ true
+  pub marks_all : (x : Crack) → Contains (flat_map (λ c. c) cycles) x → IsLevel x → marks (crack_number X.sides x) ≡ true
   pub passed : (x : Crack) → IsCrack X x → crack_number X.sides x < i → Contains (flat_map (λ c. c) cycles) x
 
 module _ (X : Picture) (axes : length X.sides ≡ 2) where
@@ -62,12 +62,13 @@ module _ (X : Picture) (axes : length X.sides ≡ 2) where
     cracks = λ x i. absurd (in_none x i);
     begun = All-nil (λ x. crack_number X.sides (first_of_cycle x) < 0);
     marked = λ x k e. let f : false ≡ true = sym (none (crack_number X.sides x)) ∙ e in cc;
-    marks_all = λ x i. absurd (in_none x i);
+    marks_all = λ x i l. absurd (in_none x i);
     passed = λ x k l. absurd (omega arith);
   }
 
-  -- a number that is not that of an unmarked crack
-  pub found_skip : (i : ℕ) (marks : ℕ → Bool) (cycles : List (List Crack)) → Found X i marks cycles → (marks i ≡ true) ⊎ (IsCrack X (numbered X.sides i) → ⊥) → Found X (i + 1) marks cycles
+  -- a number that is not that of a crack, or that of one on a cycle that was found
+  pub found_skip : (i : ℕ) (marks : ℕ → Bool) (cycles : List (List Crack)) → Found X i marks cycles
+      → (IsCrack X (numbered X.sides i) → Contains (flat_map (λ c. c) cycles) (numbered X.sides i)) → Found X (i + 1) marks cycles
   found_skip i marks cycles f s = record {
     cycle = f.cycle;
     least = f.least;
@@ -83,14 +84,11 @@ module _ (X : Picture) (axes : length X.sides ≡ 2) where
       passed : (x : Crack) → IsCrack X x → crack_number X.sides x < i + 1 → Contains (flat_map (λ c. c) cycles) x
       passed x k l = elim (ℕ_discrete (crack_number X.sides x) i) [
         | no n ↦ f.passed x k (omega arith)
-        | yes e ↦ elim s [
-          | inl m ↦ f.marked x k (subst (λ j. marks j ≡ true) (sym e) m)
-          | inr n ↦ absurd (n (subst (IsCrack X) (is_numbered X x k ∙ ap (numbered X.sides) e) k))
-        ]
+        | yes e ↦ (let q = is_numbered X x k ∙ ap (numbered X.sides) e in subst (Contains (flat_map (λ c. c) cycles)) (sym q) (s (subst (IsCrack X) q k)))
       ]
 
-  -- the cycle of an unmarked crack comes last
-  module _ (i : ℕ) (marks marks' : ℕ → Bool) (cycles : List (List Crack)) (f : Found X i marks cycles) (s : Crack) (k : IsCrack X s) (n : crack_number X.sides s ≡ i) (new : marks i ≡ false)
+  -- the cycle of an unmarked level crack comes last
+  module _ (i : ℕ) (marks marks' : ℕ → Bool) (cycles : List (List Crack)) (f : Found X i marks cycles) (s : Crack) (k : IsCrack X s) (n : crack_number X.sides s ≡ i) (level : IsLevel s) (new : marks i ≡ false)
       (xs : List Crack) (cyc : IsCycle X (s ∷ xs)) (m : MarksCycle X.sides (s ∷ xs) marks marks') where
     ours : (x : Crack) → Contains (s ∷ xs) x → IsCrack X x
     ours x j = follow_cracks X axes s s xs k cyc.1 x j
@@ -100,7 +98,7 @@ module _ (X : Picture) (axes : length X.sides ≡ 2) where
     apart x j p =
         let r = list_of cycles x p in
         let on : Contains r.0 s = meets r.0 (All-contains (IsCycle X) cycles r.0 f.cycle r.1) r.2 in
-        let t : marks i ≡ true = subst (λ j. marks j ≡ true) n (f.marks_all s (of_list cycles r.0 s r.1 on)) in
+        let t : marks i ≡ true = subst (λ j. marks j ≡ true) n (f.marks_all s (of_list cycles r.0 s r.1 on) level) in
         let u : false ≡ true = sym new ∙ t in
         cc
       where
@@ -155,7 +153,7 @@ module _ (X : Picture) (axes : length X.sides ≡ 2) where
         | inl o ↦ old_in x (f.marked x q o)
         | inr o ↦ new_in x (subst (Contains (s ∷ xs)) (is_numbered X o.0 (ours o.0 o.1) ∙ (ap (numbered X.sides) o.2 ∙ sym (is_numbered X x q))) o.1)
       ];
-      marks_all = λ x j. elim (split x j) [ inl p ↦ m.kept (crack_number X.sides x) (f.marks_all x p) | inr p ↦ m.added x p ];
+      marks_all = λ x j l. elim (split x j) [ inl p ↦ m.kept (crack_number X.sides x) (f.marks_all x p l) | inr p ↦ m.added x p l ];
       passed = passed;
     }
       where

@@ -1,5 +1,4 @@
 use Rattle.std.proofs.Common.{arith, ◌∙◌, refl, ap, subst, map, ℕ}
-use Rattle.shape_terms.specs.CrackNumbers.{IsMarkedBesides}
 use Rattle.shape_terms.proofs.Tracing.{reached_crack, traced_more}
 use Rattle.shape_terms.proofs.Marking.{marking_first, marking_more}
 use Rattle.shape_crack.specs.declared.contour.TheConstants.{GREATEST_SIDE}
@@ -26,35 +25,33 @@ loop-c-smaller c =
 
 pub loop-c-init : goal.loop-c-init
 loop-c-init c =
-    let old = is_marked c.args.marks.now.bytes.items in
-    let new = is_marked c.mark.new.self.bytes.items in
-    let m = subst (λ (n : ℕ). IsMarkedBesides n old new) c.number.ensures.value c.mark.ensures.marks in
+    let old = is_marked c.args.marks.now in
+    let new = is_marked c.pass.new.marks in
     record {
       tracing = rw (c.in_ok-c.ensures.next, c.in_ok-c.ensures.points, c.new-points.ensures.items) (traced_first c.args.grid.now (crack_of c.args.start));
-      marking = rw c.in_ok-c.ensures.next (marking_first c.args.grid.now (crack_of c.args.start) old new m);
-      room = c.mark.ensures.len;
+      marking = rw c.in_ok-c.ensures.next (marking_first c.args.grid.now (crack_of c.args.start) old new c.pass.ensures.passed);
+      room = c.pass.ensures.room;
     }
 
-pub number-requires-in-loop-c : goal.number-requires-in-loop-c
-number-requires-in-loop-c c = reached_crack c.args.grid.now c.is_picture.ensures.picture.axes (crack_of c.args.start) (crack_of c.loop-c.c) c.loop-c.steps c.requires.crack c.loop-c.invariant.tracing.reached
+pub pass-requires-in-loop-c-clause-crack : goal.pass-requires-in-loop-c-clause-crack
+pass-requires-in-loop-c-clause-crack c = reached_crack c.args.grid.now c.is_picture.ensures.picture.axes (crack_of c.args.start) (crack_of c.loop-c.c) c.loop-c.steps c.requires.crack c.loop-c.invariant.tracing.reached
 
 pub loop-c-preserved : goal.loop-c-preserved
 loop-c-preserved c =
     let X = c.args.grid.now in
     let axes = c.is_picture.ensures.picture.axes in
     let away = cracks_differ c.loop-c.c c.args.start c.ne.result c.ne.ensures c.loop-c-test.true in
-    let old = is_marked c.args.marks.now.bytes.items in
-    let mid = is_marked c.loop-c.marks.bytes.items in
-    let new = is_marked c.mark-in-loop-c.new.self.bytes.items in
-    let m = subst (λ (n : ℕ). IsMarkedBesides n mid new) c.number-in-loop-c.ensures.value c.mark-in-loop-c.ensures.marks in
+    let old = is_marked c.args.marks.now in
+    let mid = is_marked c.loop-c.marks in
+    let new = is_marked c.pass-in-loop-c.new.marks in
     record {
       tracing =
           rw (c.in_ok-c-2.ensures.next, c.in_ok-c-2.ensures.points)
           (traced_more X axes (crack_of c.args.start) (crack_of c.loop-c.c) c.loop-c.steps (map point_of c.loop-c.points.items) c.requires.crack c.loop-c.invariant.tracing away);
       marking =
           rw c.in_ok-c-2.ensures.next
-          (marking_more X axes (crack_of c.args.start) (crack_of c.loop-c.c) c.loop-c.steps old mid new c.requires.crack c.loop-c.invariant.marking away m);
-      room = c.mark-in-loop-c.ensures.len ∙ c.loop-c.invariant.room;
+          (marking_more X axes (crack_of c.args.start) (crack_of c.loop-c.c) c.loop-c.steps old mid new c.requires.crack c.loop-c.invariant.marking away c.pass-in-loop-c.ensures.passed);
+      room = c.pass-in-loop-c.ensures.room ∙ c.loop-c.invariant.room;
     }
 
 pub invariant_of-result : goal.invariant_of-result
@@ -73,4 +70,4 @@ pub returns-clause-marked : goal.returns-clause-marked
 returns-clause-marked c =
     let same = ap crack_of (cracks_equal c.loop-c.c c.args.start c.ne.result c.ne.ensures c.loop-c-test.false) in
     cycle_marked c.args.grid.now c.is_picture.ensures.picture.axes (crack_of c.args.start) (crack_of c.loop-c.c) c.loop-c.steps c.requires.crack c.loop-c.invariant.tracing.reached same
-    (is_marked c.args.marks.now.bytes.items) (is_marked c.loop-c.marks.bytes.items) c.loop-c.invariant.marking
+    (is_marked c.args.marks.now) (is_marked c.loop-c.marks) c.loop-c.invariant.marking

@@ -1,4 +1,4 @@
-use Rattle.std.proofs.Common.{◌≡◌, ◌-◌, map, vec_len}
+use Rattle.std.proofs.Common.{◌≡◌, ◌-◌, map, length}
 use Rattle.shape_terms.proofs.Tracing.{Tracing}
 use Rattle.shape_terms.proofs.Marking.{Marking}
 use Rattle.shape_crack.specs.Terms.{point_of, crack_of}
@@ -8,8 +8,8 @@ use Rattle.shape_crack.proofs.contour.trace_marked.Given as goal
 abbrev pub invariant-loop-c : goal.invariant-loop-c
 invariant-loop-c l = record {
   tracing : Tracing l.grid (crack_of l.start) (crack_of l.c) l.steps (map point_of l.points.items);
-  marking : Marking l.grid (crack_of l.start) (crack_of l.c) l.steps (is_marked l.fn.marks.bytes.items) (is_marked l.marks.bytes.items);
-  room : vec_len l.marks.bytes ≡ vec_len l.fn.marks.bytes;
+  marking : Marking l.grid (crack_of l.start) (crack_of l.c) l.steps (is_marked l.fn.marks) (is_marked l.marks);
+  room : length l.marks.upper ≡ length l.fn.marks.upper;
 }
 
 abbrev pub decreases-loop-c : goal.decreases-loop-c
