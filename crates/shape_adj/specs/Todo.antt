@@ -1,6 +1,6 @@
 -- Rows of truth values over the places of a net, as of those that a search has not come to yet.
 -- Which points the places stand for does not matter here.
-use Rattle.std.specs.Prelude.{◌≡◌, ℕ, ◌<◌, ◌↔◌, Bool, true, false, List, Option, Some, length, slice_index, slice_index_or, IsTrue}
+use Rattle.std.specs.Prelude.{◌≡◌, ℕ, ◌+◌, ◌<◌, ◌↔◌, Bool, true, false, cond, List, [], ◌∷◌, Option, Some, length, slice_index, slice_index_or, IsTrue}
 use Rattle.shape_terms.specs.Points.{Point}
 use Rattle.shape_terms.specs.FramedBox.{framed_point}
 use Rattle.shape_terms.specs.Adjacency.{side_steps, side_point}
@@ -10,6 +10,11 @@ use Rattle.shape_adj.specs.NearMasks.{In}
 -- the value at the place is true
 abbrev pub Marked : List Bool → ℕ → Type 0
 Marked values i = slice_index_or values i false ≡ true
+
+-- how many values are true
+abbrev pub trues : List Bool → ℕ
+trues [] = 0
+trues (x ∷ xs) = cond x 1 0 + trues xs
 
 -- one value for each place, true for places of O alone
 pub record IsRowOf (size : ℕ) (O : ℕ → Type 0) (values : List Bool) : Type 0 where

@@ -1,41 +1,34 @@
-//! The components of a net, labelled one after the other by flooding.
+//! The components of a net, found one after the other by flooding.
 //! The places to be visited stand in a list, so that no call goes as deep as a component is large.
-ghost use Rattle.std.specs.Prelude.{◌≡◌, ◌⊎◌, ◌+◌, ◌≤◌, ℕ, suc, [], length, slice_index, IfOk, vec_len};
-ghost use Rattle.std.specs.List.{Contains};
+ghost use Rattle.std.specs.Prelude.{◌≡◌, ℕ, suc, ◌+◌, ◌≤◌, List, length, slice_index, IfOk, vec_len};
 ghost use Rattle.shape_terms.specs.Parts.{NamesParts, InOrder};
-ghost use Rattle.shape_adj.specs.Flood.{Flooded};
-ghost use Rattle.shape_adj.specs.Labels.{Spreading, zeros, Kept};
-ghost use Rattle.shape_adj.specs.Todo.{IsTodo};
+ghost use Rattle.shape_adj.specs.Labels.{Following, Grown, Searched, LabelsNet};
+ghost use Rattle.shape_adj.specs.Todo.{Marked, trues};
 
 use crate::net::Net;
+use crate::store::LabelStore;
 use shape_bits::Bits;
 use shape_space::NoMemory;
 use std::alloc::{AllocError, Global};
 
 // Labels the places that have no label yet and that the links of `p` lead to.
-fn spread<N: Net>(
+// What is ensured holds of each list of labels that `labels` may tell.
+fn spread<N: Net, L: LabelStore>(
     net: &N,
     p: u32,
     label: u32,
-    labels: &mut [u32],
+    labels: &mut L,
     todo: &mut Bits,
     work: &mut Vec<u32>,
 ) -> Result<(), AllocError>
-    requires same { length labels.old ≡ N.size net.now }
-    requires todo { IsTodo (N.size net.now) (N.Holds net.now) labels.old todo.old }
-    requires here { slice_index labels.old p ≡ label }
-    requires spreading { Spreading (N.Holds net.now) (N.Adjacent net.now) label (λ x. (x ≡ p)
-        ⊎ Contains work.old.items x) labels.old }
-    requires labelled { (x : ℕ) → Contains work.old.items x → slice_index labels.old x ≡ label }
-    ensures todo { IfOk result (λ _. IsTodo (N.size net.now) (N.Holds net.now) labels.new
-        todo.new) }
-    ensures labelled { IfOk result (λ _. (x : ℕ) → Contains work.new.items x
-        → slice_index labels.new x ≡ label) }
-    ensures kept { IfOk result (λ _. Kept labels.old labels.new) }
-    ensures spreading { IfOk result (λ _. Spreading (N.Holds net.now) (N.Adjacent net.now) label
-        (Contains work.new.items) labels.new) }
+    requires { (list : List ℕ) × L.Tells labels.old list × Following (N.Holds net.now)
+        (N.Adjacent net.now) (N.size net.now) p label list todo.old work.old.items }
+    ensures grown { IfOk result (λ _. (list : List ℕ) → L.Tells labels.old list → Following
+        (N.Holds net.now) (N.Adjacent net.now) (N.size net.now) p label list todo.old
+        work.old.items → (more : List ℕ) × L.Tells labels.new more × Grown (N.Holds net.now)
+        (N.Adjacent net.now) (N.size net.now) label list more todo.new work.new.items) }
     ensures less { IfOk result
-        (λ _. zeros labels.new + vec_len work.new ≡ zeros labels.old + vec_len work.old) }
+        (λ _. trues todo.new + vec_len work.new ≡ trues todo.old + vec_len work.old) }
 {
     let mut rest = net.open(todo, p);
     while rest != 0 {
@@ -44,7 +37,7 @@ fn spread<N: Net>(
         let q = net.lead(p, k);
         // Another link may have led there.
         if todo.get(q as usize) {
-            labels[q as usize] = label;
+            labels.put(q, label);
             todo.clear(q as usize);
             work.push(q)?;
         }
@@ -53,31 +46,21 @@ fn spread<N: Net>(
 }
 
 // Labels the component of `s`, the next one.
-fn fill<N: Net>(
+fn fill<N: Net, L: LabelStore>(
     net: &N,
     s: u32,
     label: u32,
-    labels: &mut [u32],
+    labels: &mut L,
     todo: &mut Bits,
     work: &mut Vec<u32>,
 ) -> Result<(), AllocError>
-    requires same { length labels.old ≡ N.size net.now }
-    requires todo { IsTodo (N.size net.now) (N.Holds net.now) labels.old todo.old }
-    requires empty { work.old.items ≡ [] }
-    requires member { N.Holds net.now s }
-    requires new { slice_index labels.old s ≡ 0 }
-    requires flooded { (n : ℕ) × (label ≡ suc n)
-        × Flooded (N.Holds net.now) (N.Adjacent net.now) n (slice_index labels.old) }
-    ensures todo { IfOk result (λ _. IsTodo (N.size net.now) (N.Holds net.now) labels.new
-        todo.new) }
-    ensures kept { IfOk result (λ _. Kept labels.old labels.new) }
-    ensures seed { IfOk result (λ _. slice_index labels.new s ≡ label) }
-    ensures same { IfOk result (λ _. length labels.new ≡ length labels.old) }
-    ensures flooded { IfOk result (λ _. Flooded (N.Holds net.now) (N.Adjacent net.now) label
-        (slice_index labels.new)) }
-    ensures empty { IfOk result (λ _. work.new.items ≡ []) }
+    requires next { Marked todo.old s }
+    requires searched { (n : ℕ) × (label ≡ suc n) × Searched (N.Holds net.now) (N.Adjacent net.now)
+        (N.size net.now) (L.Tells labels.old) todo.old work.old.items s n }
+    ensures { IfOk result (λ _. Searched (N.Holds net.now) (N.Adjacent net.now) (N.size net.now)
+        (L.Tells labels.new) todo.new work.new.items (s + 1) label) }
 {
-    labels[s as usize] = label;
+    labels.put(s, label);
     todo.clear(s as usize);
     work.push(s)?;
     while let Some(p) = work.pop() {
@@ -86,25 +69,21 @@ fn fill<N: Net>(
     Ok(())
 }
 
-/// The components of a net: their number, and a label for each place.
+/// The components of a net: their number, and the labels of the places as `L` keeps them.
 #[derive(Drop)]
-pub struct Components {
+pub struct Components<L> {
     /// How many components there are.
     pub count: u32,
     /// For each place the number of its component from 1 on, or 0 where it is not in the set.
-    pub labels: Vec<u32>,
+    pub labels: L,
 }
 
-/// Labels the components in the order of their first places.
-pub fn label_components<N: Net>(alloc: Global, net: &N) -> Result<Components, NoMemory>
-    ensures filled { IfOk result (λ c. length c.labels.items ≡ N.size net.now) }
-    ensures members { IfOk result (λ c. (i : ℕ) → 1 ≤ slice_index c.labels.items i
-        → N.Holds net.now i) }
-    ensures ordered { IfOk result (λ c. InOrder c.labels.items) }
-    ensures parts { IfOk result (λ c. NamesParts (N.Adjacent net.now) (N.Holds net.now) c.count
-        (slice_index c.labels.items)) }
+/// Finds the components in the order of their first places, and labels them.
+pub fn flood<N: Net, L: LabelStore>(alloc: Global, net: &N) -> Result<Components<L>, NoMemory>
+    ensures { IfOk result (λ c. (list : List ℕ) × L.Tells c.labels list × LabelsNet
+        (N.Holds net.now) (N.Adjacent net.now) (N.size net.now) c.count list) }
 {
-    let mut labels = vec![in alloc; 0u32; net.places() as usize]?;
+    let mut labels = L::blank(alloc, net.places())?;
     let mut todo = net.todo(alloc)?;
     let mut work = Vec::new(alloc);
     let mut count = 0;
@@ -115,4 +94,16 @@ pub fn label_components<N: Net>(alloc: Global, net: &N) -> Result<Components, No
         from = s + 1;
     }
     Ok(Components { count, labels })
+}
+
+/// Labels the components in the order of their first places.
+pub fn label_components<N: Net>(alloc: Global, net: &N) -> Result<Components<Vec<u32>>, NoMemory>
+    ensures filled { IfOk result (λ c. length c.labels.items ≡ N.size net.now) }
+    ensures members { IfOk result (λ c. (i : ℕ) → 1 ≤ slice_index c.labels.items i
+        → N.Holds net.now i) }
+    ensures ordered { IfOk result (λ c. InOrder c.labels.items) }
+    ensures parts { IfOk result (λ c. NamesParts (N.Adjacent net.now) (N.Holds net.now) c.count
+        (slice_index c.labels.items)) }
+{
+    flood(alloc, net)
 }

@@ -3,6 +3,7 @@
 #![tactic(auto)]
 
 mod answers;
+mod count;
 mod flood;
 mod framed;
 mod near;
@@ -13,6 +14,7 @@ mod picture;
 mod places;
 mod side;
 mod solid;
+mod store;
 
 pub use answers::{Labels, Parts};
 pub use near::NearNumbers;

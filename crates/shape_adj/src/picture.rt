@@ -2,26 +2,18 @@
 //! What a component is stands in the definitions; how it is found, in the flood.
 ghost use Rattle.std.specs.Prelude.{IfOk, length};
 ghost use Rattle.shape_terms.specs.Pictures.{object_points};
-ghost use Rattle.shape_terms.specs.Parts.{HasParts, Counts, LabelsObject};
+ghost use Rattle.shape_terms.specs.Parts.{Counts, LabelsObject};
 
 use crate::answers::{Labels, Parts};
+use crate::count::component_count;
 use crate::flood::label_components;
 use crate::near::NearNumbers;
-use crate::net::Net;
 use crate::pairing::Pairing;
 use crate::places::{Background, Object};
 use crate::side::SideNumbers;
 use shape_grid::Grid;
 use shape_space::NoMemory;
 use std::alloc::Global;
-
-// How many components a net has.
-fn component_count<N: Net>(alloc: Global, net: &N) -> Result<u32, NoMemory>
-    ensures { IfOk result (λ n. HasParts (N.Adjacent net.now) (N.Holds net.now) n) }
-{
-    let components = label_components(alloc, net)?;
-    Ok(components.count)
-}
 
 /// Counts the components of the object in the box and of the background in the framed box.
 ///

@@ -1,9 +1,0 @@
-use Rattle.std.proofs.Common.{◌-◌}
-use Rattle.shape_adj.proofs.Labelling.{Labelling}
-use Rattle.shape_adj.proofs.flood.label_components.Given as goal
-
-abbrev pub invariant-loop-s : goal.invariant-loop-s
-invariant-loop-s g l = Labelling (g.N.Net.Holds l.net) (g.N.Net.Adjacent l.net) (g.N.Net.size l.net) l.labels.items l.todo l.work.items l.from l.count
-
-abbrev pub decreases-loop-s : goal.decreases-loop-s
-decreases-loop-s g l = g.N.Net.size l.net - l.from
