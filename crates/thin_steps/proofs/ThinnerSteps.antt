@@ -13,7 +13,7 @@ use Rattle.shape_terms.specs.Thinning.{Rule, Event, without}
 use Rattle.shape_terms.proofs.OneValue.{value_there, value_elsewhere}
 use Rattle.shape_topo.proofs.MaskSteps.{cleared_is}
 use Rattle.shape_queue.specs.declared.key.Key.{Key}
-use Rattle.shape_queue.specs.Waiting.{key_at, Waits, IsQueue, IsQueueBut, Put}
+use Rattle.shape_queue.specs.Waiting.{Waits, IsQueue, IsQueueBut, Put}
 use Rattle.shape_queue.specs.Standing.{IsSubset}
 use Rattle.shape_queue.specs.Going.{IsGoing}
 use Rattle.shape_queue.proofs.GoingSteps.{key_place, at_object, at_free, one_free_less, stands_marked, waits_marked, stands_deleted, near_first}
@@ -57,17 +57,6 @@ module _ {left free : Picture} {ds : List ℕ} {keys : Key → Bool} (fits : ∥
   module _ (k : Key) (there : keys k ≡ true) where
     pub fits_place : k.place < box_count left.sides
     fits_place = ∥∥₁_elim fits (Prim.hlevel props) (λ a. key_place a.opening a.marked a.state left free ds keys a.stands a.waits k there)
-
-    -- it is the key of its place
-    fits_key : k ≡ key_at ds k.place
-    fits_key = ∥∥₁_elim fits (Prim.hlevel props) (λ a. (a.waits.proper k there).2)
-
-    pub fits_room : k.place < length ds
-    fits_room = let p = fits_place in let f = fits_filled in omega (arith, p, f)
-
-    -- so what is told of that key is told of it
-    pub put_there : (new : Key → Bool) → Put keys new (key_at ds k.place) false → Put keys new k false
-    put_there new put = subst (λ (k : Key). Put keys new k false) (sym fits_key) put
 
     module _ (q : Point) (e : q ≡ raster_point left.sides k.place) where
       pub fits_left : Object left q
