@@ -70,8 +70,8 @@ pub marking_end : (X : Picture) (start c : Crack) (steps : ℕ) (old new : ℕ �
 marking_end X start c steps old new m = record {
   kept = m.kept;
   added = λ x (i, l, e) level.
-        let l' : i < steps = omega (arith, length-walk X steps start) in
-        let q = sym (walk-get X steps start i x l') ∙ e in
-        subst (λ v. new (crack_number X.sides v) ≡ true) q (m.added i l' (subst IsLevel (sym q) level));
+      let l' : i < steps = omega (arith, length-walk X steps start) in
+      let q = sym (walk-get X steps start i x l') ∙ e in
+      subst (λ v. new (crack_number X.sides v) ≡ true) q (m.added i l' (subst IsLevel (sym q) level));
   none = λ j e. elim (m.none j e) [ inl a ↦ inl a | inr a ↦ inr (iterate (successor X) a.0 start, (a.0, omega (arith, length-walk X steps start, a.1), walk-get X steps start a.0 _ a.1), a.2) ];
 }

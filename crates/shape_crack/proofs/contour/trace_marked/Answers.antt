@@ -1,4 +1,4 @@
-use Rattle.std.proofs.Common.{arith, ◌∙◌, refl, ap, subst, map, ℕ}
+use Rattle.std.proofs.Common.{arith, ◌∙◌, refl, ap, map}
 use Rattle.shape_terms.proofs.Tracing.{reached_crack, traced_more}
 use Rattle.shape_terms.proofs.Marking.{marking_first, marking_more}
 use Rattle.shape_crack.specs.declared.contour.TheConstants.{GREATEST_SIDE}
