@@ -11,7 +11,7 @@ use Rattle.shape_terms.proofs.ThinningOnce.{one_stage, one_step}
 use Rattle.shape_queue.specs.declared.key.Key.{Key}
 use Rattle.shape_queue.specs.Keys.{key_cmp}
 use Rattle.shape_queue.specs.Events.{event_by}
-use Rattle.shape_queue.specs.Going.{stage_of, IsGoing}
+use Rattle.shape_queue.specs.Going.{stage_of, Reach, IsGoing}
 use Rattle.shape_queue.proofs.GoingSteps.{going_end, one_event}
 
 same_event : (m t : Bool) (q p : Point) → event_by m q ≡ event_by t p → (m ≡ t) × (q ≡ p)
@@ -20,23 +20,23 @@ same_event true false q p e = absurd (let f : Event.Tip q ≡ Event.Del p = e in
 same_event false true q p e = absurd (let f : Event.Del q ≡ Event.Tip p = e in cc)
 same_event false false q p e = (refl, let f : Event.Del q ≡ Event.Del p = e in cc)
 
-module _ (rule : Rule) (X : Picture) (events : List Event) (state : List ℕ) (left free : Picture) (ds : List ℕ) (keys : Key → Bool)
-    (c : IsGoing rule X events state left free ds keys) where
+module _ (rule : Rule) (X : Picture) (events : List Event) (state : List ℕ) (left : Picture) (f : Reach)
+    (c : IsGoing rule X events state left f) where
   -- another stage after the same events is the same
   pub same_stage : (s : Stage) → ThinsTo rule X events s → s ≡ stage_of left c.marked state
   same_stage s t = one_stage rule X events (opening_stage rule X) s (stage_of left c.marked state) t c.thins
 
-  -- no key: no event is next, and they are complete
-  pub none_next : ((k : Key) → keys k ≡ false) → (e : Event) → IsNextEvent rule X events e → ⊥
-  none_next none e (s, s', t, (p, f, n, d, a)) =
-      going_end rule X events state left free ds keys c none p (subst (λ u. IsCandidate u p) (same_stage s t) n.candidate)
+  -- no key, and nothing ahead: no event is next, and they are complete
+  pub none_next : ((k : Key) → f.keys k ≡ false) → f.ahead ≡ 0 → (e : Event) → IsNextEvent rule X events e → ⊥
+  none_next none z e (s, s', t, (p, facts, n, d, a)) =
+      going_end rule X events state left f c none z p (subst (λ u. IsCandidate u p) (same_stage s t) n.candidate)
 
-  pub all_of_none : ((k : Key) → keys k ≡ false) → AreAllEvents rule X events
-  all_of_none none = (stage_of left c.marked state, c.thins, going_end rule X events state left free ds keys c none)
+  pub all_of_none : ((k : Key) → f.keys k ≡ false) → f.ahead ≡ 0 → AreAllEvents rule X events
+  all_of_none none z = (stage_of left c.marked state, c.thins, going_end rule X events state left f c none z)
 
   -- k is the least key, and q its point, which has n object near neighbours
-  module _ (k : Key) (there : keys k ≡ true) (q : Point) (e : q ≡ raster_point left.sides k.place)
-      (least : (j : Key) → keys j ≡ true → is_gt (key_cmp k j) ≡ false) (n : ℕ) (near : n ≡ near_count left q) where
+  module _ (k : Key) (there : f.keys k ≡ true) (q : Point) (e : q ≡ raster_point left.sides k.place)
+      (least : (j : Key) → f.keys j ≡ true → is_gt (key_cmp k j) ≡ false) (n : ℕ) (near : n ≡ near_count left q) where
     facts : Facts
     facts = record { neighbours = n; distance = k.distance }
 
@@ -47,13 +47,13 @@ module _ (rule : Rule) (X : Picture) (events : List Event) (state : List ℕ) (l
       where
         to : IsNextEvent rule X events (event_by t p) → (m ≡ t) × (q ≡ p)
         to (s, s', r, d) =
-            let here = one_event rule X events state left free ds keys c k there q e least n near m h in
+            let here = one_event rule X events state left f c k there q e least n near m h in
             let there = subst (λ u. ThinStep rule X u (event_by t p) s') (same_stage s r) d in
             same_event m t q p (one_step rule X (stage_of left c.marked state) _ s' (event_by m q) (event_by t p) here there).0
 
         of : (m ≡ t) × (q ≡ p) → IsNextEvent rule X events (event_by t p)
         of w =
-            let here = one_event rule X events state left free ds keys c k there q e least n near m h in
+            let here = one_event rule X events state left f c k there q e least n near m h in
             let next : IsNextEvent rule X events (event_by m q) = (stage_of left c.marked state, _, c.thins, here) in
             subst (λ b. IsNextEvent rule X events (event_by b p)) w.0 (subst (λ r. IsNextEvent rule X events (event_by m r)) w.1 next)
 
@@ -61,7 +61,7 @@ module _ (rule : Rule) (X : Picture) (events : List Event) (state : List ℕ) (l
     pub not_all : AreAllEvents rule X events → ⊥
     not_all (s, t, none) =
         let m = rule.marks state (record { neighbours = n; distance = k.distance }) in
-        let d = one_event rule X events state left free ds keys c k there q e least n near m refl in
+        let d = one_event rule X events state left f c k there q e least n near m refl in
         none d.0 (subst (λ u. IsCandidate u d.0) (sym (same_stage s t)) d.2.candidate)
 
 -- ---- truth values

@@ -17,7 +17,7 @@ use Rattle.shape_terms.proofs.Members.{Contains-filter}
 use Rattle.shape_queue.specs.Distances.{AreDistances}
 
 -- each object point is one of the list
-object_listed : (X : Picture) (q : Point) → Object X q → Contains (object_points X) q
+pub object_listed : (X : Picture) (q : Point) → Object X q → Contains (object_points X) q
 object_listed X q o =
     let b = object_in_box X q o in
     let l = raster_below X.sides q b in

@@ -31,21 +31,21 @@ popped (Some key) A old new is least put k there first = subst (λ k. Put old ne
 other_place : (distances : List ℕ) (i j : ℕ) → (j ≡ i → ⊥) → key_at distances i ≡ key_at distances j → ⊥
 other_place distances i j n e = n (sym (ap (λ (k : Key). k.place) e))
 
-module _ (sides : List ℕ) (left free : Picture) (distances : List ℕ) (later later' : ℕ → Type 0) (old new : Key → Bool) (w : Waits sides left free distances later old) where
+module _ (sides : List ℕ) (left reached : Picture) (distances : List ℕ) (later later' : ℕ → Type 0) (old new : Key → Bool) (w : Waits sides left reached distances later old) where
   -- a place is looked at
-  pub settled_more : (i : ℕ) (b : Bool) → i < box_count sides → Object free (raster_point sides i) → (b ≡ true) ↔ MayBeTaken sides left free i → Put old new (key_at distances i) b
-      → ((j : ℕ) → j < box_count sides → j ≢ i → later j → later' j) → Waits sides left free distances later' new
+  pub settled_more : (i : ℕ) (b : Bool) → i < box_count sides → Object reached (raster_point sides i) → (b ≡ true) ↔ MayBeTaken sides left reached i → Put old new (key_at distances i) b
+      → ((j : ℕ) → j < box_count sides → j ≢ i → later j → later' j) → Waits sides left reached distances later' new
   settled_more i b l o is put less = record {
     proper = λ k h. elim (by_key (key_at distances i) k) [
       | inl t ↦ (
           let e = at_only (key_at distances i) k t in
           let p : i ≡ k.place = ap (λ (k : Key). k.place) e in
-          (subst (λ j. j < box_count sides) p l, subst (λ j. Object free (raster_point sides j)) p o, sym e ∙ ap (key_at distances) p))
+          (subst (λ j. j < box_count sides) p l, subst (λ j. Object reached (raster_point sides j)) p o, sym e ∙ ap (key_at distances) p))
       | inr f ↦ w.proper k (sym (put_there old new (key_at distances i) k b put (λ e. let t : true ≡ false = sym (at_itself (key_at distances i)) ∙
           ap (is_at (key_cmp (key_at distances i))) e ∙ f in cc)) ∙ h)
     ];
     settled = λ j m n. elim (ℕ_discrete j i) [
-      | yes e ↦ subst (λ x. (new (key_at distances x) ≡ true) ↔ MayBeTaken sides left free x) (sym e) (
+      | yes e ↦ subst (λ x. (new (key_at distances x) ≡ true) ↔ MayBeTaken sides left reached x) (sym e) (
           let here = put_here old new (key_at distances i) b put in
           ((λ h. is.0 (sym here ∙ h)), λ c. here ∙ is.1 c))
       | no e ↦ (
@@ -56,42 +56,55 @@ module _ (sides : List ℕ) (left free : Picture) (distances : List ℕ) (later 
   }
 
   -- a point is passed that is not free
-  pub passed_more : (q : Point) → (Object free q → ⊥) → ((j : ℕ) → j < box_count sides → raster_point sides j ≢ q → later j → later' j) → Waits sides left free distances later' old
+  pub passed_more : (q : Point) → (Object reached q → ⊥) → ((j : ℕ) → j < box_count sides → raster_point sides j ≢ q → later j → later' j) → Waits sides left reached distances later' old
   passed_more q closed less = record {
     proper = w.proper;
     settled = λ j m n. elim (same_point (raster_point sides j) q) [
       | yes e ↦ (
-        (λ h. absurd (closed (subst (Object free) e (w.proper (key_at distances j) h).1))),
-        λ c. absurd (closed (subst (Object free) e c.0)),
+        (λ h. absurd (closed (subst (Object reached) e (w.proper (key_at distances j) h).1))),
+        λ c. absurd (closed (subst (Object reached) e c.0)),
       )
       | no e ↦ w.settled j m (λ z. n (less j m e z))
     ];
   }
 
+  -- a place is reached that was to be looked at later
+  pub reached_more : (i : ℕ) (reached' : Picture) → later i → ((q : Point) → Object reached q → Object reached' q)
+      → ((j : ℕ) → j ≢ i → j < box_count sides → Object reached' (raster_point sides j) → Object reached (raster_point sides j)) → Waits sides left reached' distances later old
+  reached_more i reached' l more less = record {
+    proper = λ k h. let p = w.proper k h in (p.0, more (raster_point sides k.place) p.1, p.2);
+    settled = λ j m n.
+        let d : j ≢ i = λ e. n (subst later (sym e) l) in
+        let s = w.settled j m n in
+        ((λ h. let t = s.0 h in (more (raster_point sides j) t.0, t.1)), λ c. s.1 (less j d m c.0, c.1));
+  }
+
 -- other places may be named
-pub waits_less : (sides : List ℕ) (left free : Picture) (distances : List ℕ) (later later' : ℕ → Type 0) (keys : Key → Bool)
-    → ((i : ℕ) → i < box_count sides → later i → later' i) → Waits sides left free distances later keys → Waits sides left free distances later' keys
-waits_less sides left free distances later later' keys less w = record { proper = w.proper; settled = λ i m n. w.settled i m (λ z. n (less i m z)) }
+pub waits_less : (sides : List ℕ) (left reached : Picture) (distances : List ℕ) (later later' : ℕ → Type 0) (keys : Key → Bool)
+    → ((i : ℕ) → i < box_count sides → later i → later' i) → Waits sides left reached distances later keys → Waits sides left reached distances later' keys
+waits_less sides left reached distances later later' keys less w = record { proper = w.proper; settled = λ i m n. w.settled i m (λ z. n (less i m z)) }
 
 -- ---- the least key
 
-module _ (sides : List ℕ) (left free : Picture) (distances : List ℕ) (old : Key → Bool) (w : Waits sides left free distances (λ i. ⊥) old) (k : Key) (there : old k ≡ true) where
-  pub taken_is : (k.place < box_count sides) × MayBeTaken sides left free k.place × (k.distance ≡ slice_index distances k.place)
+module _ (sides : List ℕ) (left reached : Picture) (distances : List ℕ) (before : ℕ → Type 0) (old : Key → Bool) (w : Waits sides left reached distances before old)
+    (k : Key) (there : old k ≡ true) (here : before k.place → ⊥) where
+  pub taken_is : (k.place < box_count sides) × MayBeTaken sides left reached k.place × (k.distance ≡ slice_index distances k.place)
   taken_is =
       let p = w.proper k there in
-      (p.0, (w.settled k.place p.0 (λ z. z)).0 (sym (ap old p.2) ∙ there), ap (λ (k : Key). k.distance) p.2)
+      (p.0, (w.settled k.place p.0 here).0 (sym (ap old p.2) ∙ there), ap (λ (k : Key). k.distance) p.2)
 
-  pub taken_least : ((q : Key) → old q ≡ true → is_gt (key_cmp k q) ≡ false) → (i : ℕ) → i < box_count sides → MayBeTaken sides left free i
+  pub taken_least : ((q : Key) → old q ≡ true → is_gt (key_cmp k q) ≡ false) → (i : ℕ) → i < box_count sides → (before i → ⊥) → MayBeTaken sides left reached i
       → (k.distance < slice_index distances i) ⊎ ((k.distance ≡ slice_index distances i) × (k.place ≤ i))
-  taken_least least i m c = not_above k (key_at distances i) (least (key_at distances i) ((w.settled i m (λ z. z)).1 c))
+  taken_least least i m n c = not_above k (key_at distances i) (least (key_at distances i) ((w.settled i m n).1 c))
 
-  -- without the least key: its place is no more free, and what may be taken changes at later places alone
-  pub taken_out : (left' free' : Picture) (later : ℕ → Type 0) (new : Key → Bool) → Put old new k false
-      → ((i : ℕ) → i ≢ k.place → i < box_count sides → Object free (raster_point sides i) → Object free' (raster_point sides i))
-      → (Object free' (raster_point sides k.place) → ⊥)
-      → ((i : ℕ) → i ≢ k.place → i < box_count sides → (later i → ⊥) → MayBeTaken sides left free i ↔ MayBeTaken sides left' free' i)
-      → Waits sides left' free' distances later new
-  taken_out left' free' later new put stays gone alike = record {
+  -- without the least key: its place is no more reached, and what may be taken changes at later places alone
+  pub taken_out : (left' reached' : Picture) (later : ℕ → Type 0) (new : Key → Bool) → Put old new k false
+      → ((i : ℕ) → before i → later i)
+      → ((i : ℕ) → i ≢ k.place → i < box_count sides → Object reached (raster_point sides i) → Object reached' (raster_point sides i))
+      → (Object reached' (raster_point sides k.place) → ⊥)
+      → ((i : ℕ) → i ≢ k.place → i < box_count sides → (later i → ⊥) → MayBeTaken sides left reached i ↔ MayBeTaken sides left' reached' i)
+      → Waits sides left' reached' distances later new
+  taken_out left' reached' later new put more stays gone alike = record {
     proper = λ q h. elim (by_key k q) [
       | inl t ↦ absurd (
           let z : new q ≡ false = put q ∙ ap (λ t. cond t false (old q)) t in
@@ -107,11 +120,11 @@ module _ (sides : List ℕ) (left free : Picture) (distances : List ℕ) (old : 
         (λ h. absurd (
             let z : new (key_at distances i) ≡ false = ap new (ap (key_at distances) e ∙ sym (w.proper k there).2) ∙ put_here old new k false put in
             let f : true ≡ false = sym h ∙ z in cc)),
-        λ c. absurd (gone (subst (λ j. Object free' (raster_point sides j)) e c.0)),
+        λ c. absurd (gone (subst (λ j. Object reached' (raster_point sides j)) e c.0)),
       )
       | no e ↦ (
           let same : new (key_at distances i) ≡ old (key_at distances i) = put_there old new k (key_at distances i) false put (λ q. e (sym (ap (λ (k : Key). k.place) q))) in
-          let s = w.settled i m (λ z. z) in
+          let s = w.settled i m (λ z. n (more i z)) in
           let a = alike i e m n in
           ((λ h. a.0 (s.0 (sym same ∙ h))), λ c. same ∙ s.1 (a.1 c)))
     ];

@@ -3,6 +3,7 @@
 ghost use Rattle.std.specs.Prelude.{◌≡◌, ℕ, ◌<◌, ◌≤◌, ◌^◌, length, IfOk, MatchOption, IfSome, false, true};
 ghost use Rattle.shape_queue.specs.declared.key.Key.{Key};
 ghost use Rattle.shape_queue.specs.Keys.{has, IsLeastKey};
+ghost use Rattle.shape_queue.specs.Ranks.{rank_in};
 ghost use Rattle.shape_queue.specs.Waiting.{key_at, Put};
 
 use crate::banded::Banded;
@@ -87,6 +88,16 @@ impl Queue {
             self.queued.clear(place as usize);
             self.waiting.remove(rank);
         }
+    }
+
+    /// The key with a rank: so many places have a smaller one.
+    pub fn ranked(&self, rank: u32) -> Key
+        requires { rank < length self.now.distances }
+        ensures place { result.place < length self.now.distances }
+        ensures key { result ≡ key_at self.now.distances result.place }
+        ensures rank { rank_in self.now.distances result.place ≡ rank }
+    {
+        self.keys[rank as usize]
     }
 
     /// The least key of the queue.

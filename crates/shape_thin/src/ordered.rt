@@ -20,8 +20,8 @@ use thin_steps::Thinner;
 
 /// The thinning of a picture by a rule, which begins anew, where the squared distances of its object points are known.
 ///
-/// Each object point is tested once, and after a deletion each near neighbour: a step each. The rule is asked once for each
-/// event, and is in the last state afterwards.
+/// Each object point is tested once, when its turn comes by its key, and after a deletion each near neighbour whose turn has come:
+/// a step each. The rule is asked once for each event, and is in the last state afterwards.
 pub fn thin_by_distances<P: SimpleMask, L: Ledger>(
     alloc: Global,
     grid: &Grid<P>,

@@ -1,5 +1,5 @@
 //! Topological numbers and simple points, by masks of near neighbours.
-//! Everything here is generic over the dimension; the grid that keeps masks takes memory, and nothing else.
+//! Everything here is generic over the dimension; the grid that tells masks takes memory, and nothing else.
 #![tactic(auto)]
 
 mod count;
@@ -7,7 +7,6 @@ mod joined;
 mod links;
 mod mask;
 mod masked;
-mod masks;
 mod number;
 mod simple;
 mod spread;

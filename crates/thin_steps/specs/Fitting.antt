@@ -1,18 +1,19 @@
 -- That the parts of a thinning fit together: they are those of a stage of some picture's thinning.
 -- This keeps each look-up in its place; which thinning it is does not matter for it.
-use Rattle.std.specs.Prelude.{◌≡◌, ℕ, Bool, List, length}
-use Rattle.shape_terms.specs.Points.{Point, box_count}
+use Rattle.std.specs.Prelude.{◌≡◌, ℕ, false, List}
+use Rattle.shape_terms.specs.Points.{Point}
 use Rattle.shape_terms.specs.Pictures.{Picture}
 use Rattle.shape_queue.specs.declared.key.Key.{Key}
-use Rattle.shape_queue.specs.Waiting.{Waits}
-use Rattle.shape_queue.specs.Standing.{Stands}
-use Rattle.shape_queue.specs.Going.{stage_of}
+use Rattle.shape_queue.specs.Going.{Reach, stage_of, IsFrontOf}
 
--- for some picture, marks and state of a rule these are the free points, their distances, and the queue of those that are simple
-pub record AreFitting (left free : Picture) (distances : List ℕ) (keys : Key → Bool) : Type 0 where
+-- for some picture, marks and state of a rule this is the front, and these are the points left
+pub record IsSomeFront (left : Picture) (f : Reach) : Type 0 where
   pub opening : Picture
   pub marked : List Point
   pub state : List ℕ
-  pub filled : length distances ≡ box_count left.sides
-  pub stands : Stands opening (stage_of left marked state) free distances
-  pub waits : Waits opening.sides left free distances (λ i. ⊥) keys
+  pub front : IsFrontOf opening (stage_of left marked state) f
+
+-- and a key waits, unless no point left is ahead
+pub record AreFitting (left : Picture) (f : Reach) : Type 0 where
+  pub some : IsSomeFront left f
+  pub done : ((k : Key) → f.keys k ≡ false) → f.ahead ≡ 0

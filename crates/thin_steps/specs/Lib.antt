@@ -1,2 +1,3 @@
+pub mod Fronts
 pub mod Fitting
 pub mod Standing

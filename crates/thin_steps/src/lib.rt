@@ -2,6 +2,7 @@
 //! Whoever asks a rule, or follows events, stands above; no rule and no list of events occurs here.
 #![tactic(auto)]
 
+mod front;
 mod look;
 mod next;
 mod thinner;

@@ -12,4 +12,6 @@ pub struct Next<P> {
     pub place: u32,
     /// What a rule is told of it.
     pub facts: Facts,
+    // Its near neighbours that are left: bit k is set for neighbour k.
+    pub(crate) mask: u32,
 }

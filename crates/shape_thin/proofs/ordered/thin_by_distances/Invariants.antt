@@ -2,7 +2,7 @@ use Rattle.std.proofs.Common.{◌≡◌, ◌+◌, ◌*◌, ◌<◌, ◌≤◌, l
 use Rattle.std.specs.Prelude.{All}
 use Rattle.shape_terms.specs.Points.{box_count}
 use Rattle.shape_terms.specs.Pictures.{object_points}
-use Rattle.thin_steps.specs.Standing.{StandsFor, room_of}
+use Rattle.thin_steps.specs.Standing.{StandsFor, room_of, ahead_of}
 use Rattle.shape_thin.specs.EventLists.{events_at}
 use Rattle.shape_thin.proofs.ordered.thin_by_distances.Given as goal
 
@@ -12,7 +12,7 @@ invariant-loop-next g l = record {
   stands : StandsFor ((g.dyn-1.0.entry l.fn.rule.vtable).1.means l.fn.rule.value) l.grid (events_at l.grid.sides l.events.items) ((g.dyn-1.0.entry l.rule.vtable).1.state l.rule.value) l.thinner;
   places : All (λ d. d.place < box_count l.grid.sides) l.events.items;
   count : length l.events.items + room_of l.thinner ≡ length (object_points l.grid);
-  few : l.steps ≤ l.fn.steps + length (object_points l.grid) + g.P.Pairing.NEAR_COUNT * length l.events.items;
+  few : l.steps + ahead_of l.thinner ≤ l.fn.steps + length (object_points l.grid) + g.P.Pairing.NEAR_COUNT * length l.events.items;
 }
 
 abbrev pub decreases-loop-next : goal.decreases-loop-next

@@ -1,5 +1,5 @@
 use Rattle.std.proofs.Common.{◌≡◌, true, false, refl, sym, ◌∙◌, ap, not}
-use Rattle.shape_queue.specs.Keys.{has}
+use Rattle.thin_steps.specs.Fronts.{reach_of}
 use Rattle.thin_steps.specs.Standing.{key_of}
 use Rattle.judge_thin.proofs.Followed.{none_next, next_is, not_false, same_truth, other_truth}
 use Rattle.judge_thin.proofs.judge.ThinJudge.event.Goals as goal
@@ -11,7 +11,7 @@ returns-in_default-clause-answer g c = λ X events h. (
   (λ b. cc),
   λ e. absurd (
       let t = c.args.self.now.thinner in
-      none_next _ X events _ t.left t.free _ (has t.keys) h c.in_default.ensures _ e),
+      none_next _ X events _ t.left (reach_of t.front) h c.in_default.ensures.0 c.in_default.ensures.1 _ e),
 )
 
 pub returns-then-ne-clause-answer : goal.returns-then-ne-clause-answer
@@ -21,7 +21,7 @@ returns-then-ne-clause-answer g c = λ X events h. (
       let t = c.args.self.now.thinner in
       let n = c.in-Some.next in
       let is = c.in-Some.ensures in
-      let w = (next_is _ X events _ t.left t.free _ (has t.keys) h (key_of n) is.there (g.P.Point.coords n.point) is.place is.least _ is.near _ refl
+      let w = (next_is _ X events _ t.left (reach_of t.front) h (key_of n) is.there (g.P.Point.coords n.point) is.place is.least _ is.near _ refl
       c.args.tips (g.P.Point.coords c.args.p)).0 e in
       let same = g.met.P.Point.same n.point c.args.p w.1 in
       let equal : g.P.PartialEq.eq c.args.p n.point ≡ true = ap (g.P.PartialEq.eq c.args.p) same ∙ g.met.P.Eq.laws.refl c.args.p in
@@ -36,7 +36,7 @@ returns-then-marked-tips-clause-answer g c = λ X events h. (
       let t = c.args.self.now.thinner in
       let n = c.in-Some.next in
       let is = c.in-Some.ensures in
-      let next = next_is _ X events _ t.left t.free _ (has t.keys) h (key_of n) is.there (g.P.Point.coords n.point) is.place is.least _ is.near
+      let next = next_is _ X events _ t.left (reach_of t.front) h (key_of n) is.there (g.P.Point.coords n.point) is.place is.least _ is.near
       c.keep-marked.result (sym c.keep-marked.ensures.0) in
       other_truth c.keep-marked.result c.args.tips c.if-marked-tips.true ((next c.args.tips (g.P.Point.coords c.args.p)).0 e).0),
 )
@@ -48,7 +48,7 @@ returns-clause-answer g c = λ X events h.
     let t = c.args.self.now.thinner in
     let n = c.in-Some.next in
     let is = c.in-Some.ensures in
-    let next = next_is _ X events _ t.left t.free _ (has t.keys) h (key_of n) is.there (g.P.Point.coords n.point) is.place is.least _ is.near
+    let next = next_is _ X events _ t.left (reach_of t.front) h (key_of n) is.there (g.P.Point.coords n.point) is.place is.least _ is.near
     c.keep-marked.result (sym c.keep-marked.ensures.0) in
     let p = sym (ap g.P.Point.coords (g.met.P.Point.equal c.args.p n.point (not_false _ c.if-ne.ensures))) in
     ((λ b. (next c.args.tips (g.P.Point.coords c.args.p)).1 (same_truth c.keep-marked.result c.args.tips c.if-marked-tips.false, p)), λ e. refl)

@@ -2,7 +2,7 @@ use Rattle.std.proofs.Common.{◌≡◌, true, false, Bool, refl, not}
 use Rattle.std.specs.Prelude.{◌↔◌, MatchOption, is_some, IsTrue}
 use Rattle.std.specs.declared.option.Option.{Option}
 use Rattle.std.specs.declared.option.Option.TheVariants.{None, Some}
-use Rattle.shape_queue.specs.Keys.{has}
+use Rattle.thin_steps.specs.Fronts.{reach_of}
 use Rattle.thin_steps.specs.Standing.{key_of}
 use Rattle.judge_thin.proofs.Followed.{all_of_none, not_all}
 use Rattle.judge_thin.proofs.judge.ThinJudge.finished.Goals as goal
@@ -19,5 +19,5 @@ pub returns : goal.returns
 returns g c = λ by X events now h.
     let t = c.args.self.now.thinner in
     none_tells c.next.result c.is_none.result _ _ _ c.next.ensures c.is_none.ensures
-    (all_of_none by X events now t.left t.free t.keys.distances (has t.keys) h)
-    (λ n is. not_all by X events now t.left t.free t.keys.distances (has t.keys) h (key_of n) is.there (g.P.Point.coords n.point) is.place is.least _ is.near)
+    (λ e. all_of_none by X events now t.left (reach_of t.front) h e.0 e.1)
+    (λ n is. not_all by X events now t.left (reach_of t.front) h (key_of n) is.there (g.P.Point.coords n.point) is.place is.least _ is.near)

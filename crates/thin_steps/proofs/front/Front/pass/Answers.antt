@@ -1,0 +1,41 @@
+use Rattle.std.proofs.Common.{ap, sym, ◌∙◌, length, arith}
+use Rattle.shape_terms.specs.Points.{box_count}
+use Rattle.shape_terms.specs.Pictures.{Picture, object_points}
+use Rattle.shape_queue.specs.Keys.{has}
+use Rattle.thin_steps.proofs.ThinnerSteps.{fits_filled, fits_sides, fits_passed, fits_reached, front_reached, front_gone}
+use Rattle.thin_steps.proofs.front.Front.pass.Goals as goal
+
+pub ranked-key-requires : goal.ranked-key-requires
+ranked-key-requires g c = fits_passed c.requires.fits c.requires.some
+
+pub overflow_add-self : goal.overflow_add-self
+overflow_add-self g c =
+    let p = fits_passed c.requires.fits c.requires.some in
+    omega (arith, p, fits_filled c.requires.fits, ap box_count (fits_sides c.requires.fits), c.is_picture.ensures.few)
+
+pub has-requires : goal.has-requires
+has-requires g c = omega (arith, c.ranked-key.ensures.place, fits_filled c.requires.fits)
+
+pub set_number-requires : goal.set_number-requires
+set_number-requires g c = omega (arith, c.ranked-key.ensures.place, fits_filled c.requires.fits, ap box_count (fits_sides c.requires.fits))
+
+pub look_at-requires-clause-below : goal.look_at-requires-clause-below
+look_at-requires-clause-below g c = omega (arith, c.ranked-key.ensures.place, fits_filled c.requires.fits)
+
+pub look_at-requires-clause-filled : goal.look_at-requires-clause-filled
+look_at-requires-clause-filled g c = fits_filled c.requires.fits
+
+pub returns-then-has-clause-front : goal.returns-then-has-clause-front
+returns-then-has-clause-front g c = λ X marked state h.
+    front_reached c.ranked-key.result.place c.ranked-key.ensures.place c.ranked-key.ensures.rank (sym c.has.ensures ∙ c.if-has.true) (has c.look_at.new.keys) c.look_at.ensures.looked
+    _ c.set_number.ensures _ c.look_at.ensures.distances _ (omega (arith, c.requires.some)) X marked state h
+
+pub returns-then-has-clause-room : goal.returns-then-has-clause-room
+returns-then-has-clause-room g c =
+    let e = ap (λ (Y : Picture). length (object_points Y)) c.set_number.ensures in
+    let r = fits_reached c.requires.fits c.ranked-key.result.place c.ranked-key.ensures.place c.ranked-key.ensures.rank (sym c.has.ensures ∙ c.if-has.true) in
+    omega (arith, e, r, c.requires.some)
+
+pub returns-else-has-clause-front : goal.returns-else-has-clause-front
+returns-else-has-clause-front g c = λ X marked state h.
+    front_gone c.ranked-key.result.place c.ranked-key.ensures.place c.ranked-key.ensures.rank (sym c.has.ensures ∙ c.if-has.false) X marked state h
