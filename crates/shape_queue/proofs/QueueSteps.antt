@@ -1,7 +1,8 @@
 -- The keys of a queue while a rank is put into its set or taken out, and the least of them.
 -- Laws over keys and lists alone.
-use Rattle.std.proofs.Common.{◌≡◌, ◌⊎◌, inl, inr, ℕ, ◌*◌, ◌<◌, ◌≤◌, Bool, true, false, cond, eqb, ltb, List, length, set, replicate, get_or, slice_index, refl, sym, ◌∙◌, ap, subst, arith}
+use Rattle.std.proofs.Common.{◌≡◌, ◌⊎◌, inl, inr, ℕ, ◌*◌, ◌<◌, ◌≤◌, Bool, true, false, not, cond, eqb, ltb, List, length, set, replicate, get_or, slice_index, refl, sym, ◌∙◌, ap, subst, arith}
 use Rattle.std.specs.Prelude.{◌&&◌, slice_get}
+use Rattle.std.specs.Bool.{beq}
 use Rattle.std.proofs.lemmas.Bool.{eqb-true, eq-eqb, ltb-true, lt-ltb}
 use Rattle.std.proofs.lemmas.List.{length-set, length-replicate, get_or-replicate, get_or-set_same, get_or-set_other}
 use Rattle.std.proofs.lemmas.Option.{get_or_from_slice_get}
@@ -186,3 +187,10 @@ module _ (ds ranks : List ℕ) (keys : List Key) (waiting : List ℕ) (queued : 
       let p = place in
       subst (λ (k : Key). AreFitting ds ranks keys new (set queued k.place false)) (sym (key_read key e))
       (fitting_put ds ranks keys waiting new queued p.0 false p.1 h (subst (λ r. IsPut waiting new r 0) (sym p.2) put))
+
+-- the test found no difference
+pub same_value : (a b : Bool) → not (beq a b) ≡ false → a ≡ b
+same_value true true h = refl
+same_value true false h = h
+same_value false true h = sym h
+same_value false false h = refl

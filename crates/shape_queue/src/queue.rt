@@ -70,23 +70,37 @@ impl Queue {
         ensures distances { self.new.distances ≡ self.old.distances }
     {
         if self.queued.get(place as usize) != waits {
-            self.change(place, waits);
+            let rank = self.ranks.get(place);
+            self.change(place, rank, waits);
+        }
+    }
+
+    /// The same of a place whose rank is known, so that it is not looked up.
+    pub fn settle_ranked(&mut self, place: u32, rank: u32, waits: bool)
+        requires below { place < length self.old.distances }
+        requires ranked { rank_in self.old.distances place ≡ rank }
+        ensures put { Put (has self.old) (has self.new) (key_at self.old.distances place) waits }
+        ensures distances { self.new.distances ≡ self.old.distances }
+    {
+        if self.queued.get(place as usize) != waits {
+            self.change(place, rank, waits);
         }
     }
 
     // Puts the key in or takes it out, by its rank, and has its bit tell so.
-    fn change(&mut self, place: u32, waits: bool)
-        requires { place < length self.old.distances }
+    fn change(&mut self, place: u32, rank: u32, waits: bool)
+        requires below { place < length self.old.distances }
+        requires ranked { rank_in self.old.distances place ≡ rank }
         ensures put { Put (has self.old) (has self.new) (key_at self.old.distances place) waits }
         ensures distances { self.new.distances ≡ self.old.distances }
     {
-        let rank = self.ranks.get(place) as usize;
+        let place = place as usize;
         if waits {
-            self.queued.set(place as usize);
-            self.waiting.insert(rank);
+            self.queued.set(place);
+            self.waiting.insert(rank as usize);
         } else {
-            self.queued.clear(place as usize);
-            self.waiting.remove(rank);
+            self.queued.clear(place);
+            self.waiting.remove(rank as usize);
         }
     }
 

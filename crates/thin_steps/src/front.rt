@@ -10,7 +10,7 @@ ghost use Rattle.shape_queue.specs.Distances.{AreDistances};
 ghost use Rattle.shape_queue.specs.Going.{IsFrontOf, stage_of};
 ghost use Rattle.thin_steps.specs.Fitting.{IsSomeFront};
 
-use crate::look::look_at;
+use crate::look::look_first;
 use crate::next::Next;
 use shape_grid::Grid;
 use shape_queue::Queue;
@@ -73,12 +73,13 @@ impl<P: SimpleMask> Front<P> {
         ensures distances { self.new.keys.distances ≡ self.old.keys.distances }
     {
         self.reached.is_picture();
-        let key = self.keys.ranked(self.passed);
+        let rank = self.passed;
+        let key = self.keys.ranked(rank);
         self.passed += 1;
         if left.has(key.place) {
             self.ahead -= 1;
             self.reached.set_number(key.place);
-            look_at(left, &mut self.keys, key.place, steps);
+            look_first(left, &mut self.keys, key.place, rank, steps);
         }
     }
 

@@ -6,6 +6,7 @@ ghost use Rattle.shape_terms.specs.Pictures.{at};
 ghost use Rattle.shape_terms.specs.Adjacency.{near_point};
 ghost use Rattle.shape_adj.specs.NearMasks.{In};
 ghost use Rattle.shape_queue.specs.Keys.{has};
+ghost use Rattle.shape_queue.specs.Ranks.{rank_in};
 ghost use Rattle.shape_queue.specs.Standing.{IsSubset};
 ghost use Rattle.shape_queue.specs.Waiting.{IsQueue, IsQueueBut, IsLookedAt};
 
@@ -16,7 +17,7 @@ use shape_topo::{MaskedGrid, SimpleMask};
 use std::sync::ledger::Ledger;
 
 // Looks at a point that is left: its key is in the queue afterwards exactly where it is simple.
-pub(crate) fn look_at<P: SimpleMask, L: Ledger>(
+fn look_at<P: SimpleMask, L: Ledger>(
     left: &MaskedGrid<P>,
     keys: &mut Queue,
     place: u32,
@@ -32,6 +33,27 @@ pub(crate) fn look_at<P: SimpleMask, L: Ledger>(
 {
     let simple = left.is_simple(place, steps);
     keys.settle(place, simple);
+}
+
+// The same of a point with this rank, at its turn.
+pub(crate) fn look_first<P: SimpleMask, L: Ledger>(
+    left: &MaskedGrid<P>,
+    keys: &mut Queue,
+    place: u32,
+    rank: u32,
+    steps: &mut Steps<L>,
+)
+    requires below { place < box_count left.now.sides }
+    requires object { IsTrue (at left.now (raster_point left.now.sides place)) }
+    requires filled { length keys.old.distances ≡ box_count left.now.sides }
+    requires ranked { rank_in keys.old.distances place ≡ rank }
+    ensures looked { IsLookedAt left.now keys.old.distances (raster_point left.now.sides place)
+        (has keys.old) (has keys.new) }
+    ensures distances { keys.new.distances ≡ keys.old.distances }
+    ensures one_step { steps.new ≡ steps.old + 1 }
+{
+    let simple = left.is_simple(place, steps);
+    keys.settle_ranked(place, rank, simple);
 }
 
 // Looks at the near neighbours of a point that was deleted that are reached; its mask has them all.

@@ -1,16 +1,15 @@
-use Rattle.std.proofs.Common.{◌≡◌, ◌<◌, ◌∙◌, Bool, true, false, not, length, refl, sym, subst}
-use Rattle.std.specs.Bool.{beq}
+use Rattle.std.proofs.Common.{◌≡◌, ◌<◌, ◌∙◌, length, sym, subst}
 use Rattle.shape_queue.specs.Keys.{Queued}
-use Rattle.shape_queue.specs.Ranks.{distances_by}
-use Rattle.shape_queue.proofs.QueueSteps.{put_none}
+use Rattle.shape_queue.specs.Ranks.{rank_in, distances_by}
+use Rattle.shape_queue.proofs.QueueSteps.{put_none, same_value}
 use Rattle.shape_queue.proofs.queue.Queue.settle.Goals as goal
 
--- the test found no difference
-same_value : (a b : Bool) → not (beq a b) ≡ false → a ≡ b
-same_value true true h = refl
-same_value true false h = h
-same_value false true h = sym h
-same_value false false h = refl
+pub change-requires-clause-ranked : goal.change-requires-clause-ranked
+change-requires-clause-ranked c =
+    let i = c.self.inside in
+    let ds = distances_by i.ranks i.keys.items in
+    let l : c.args.place < length ds = subst (λ (q : Queued). c.args.place < length q.distances) (sym c.self.view_is) c.requires in
+    subst (λ (q : Queued). rank_in q.distances c.args.place ≡ c.get-rank.result) c.self.view_is (sym (c.get-rank.ensures ∙ c.self.invariant.ranks_are.each c.args.place l))
 
 pub returns-else-get-waits-clause-put : goal.returns-else-get-waits-clause-put
 returns-else-get-waits-clause-put c =
