@@ -28,8 +28,9 @@ module _ (sides : List ℕ) (left reached : Picture) (ds : List ℕ) (passed : �
   less k i d (inl a) = inl a
   less k i d (inr (m, a, b, e)) = inr (m, (let f : m ≢ k = λ h. d (sym e ∙ ap (near_point p) h) in omega arith), b, e)
 
-  pub round_more : (k : ℕ) (old new : Key → Bool) (b : Bool) → Waits sides left reached ds (LaterFrom ds passed sides p n k) old → IsTrue (in_box sides (near_point p k)) → Object reached (near_point p k)
-      → (b ≡ true) ↔ IsSimple left (near_point p k) → Put old new (key_at ds (raster_number sides (near_point p k))) b → Waits sides left reached ds (LaterFrom ds passed sides p n (k + 1)) new
+  pub round_more : (k : ℕ) (old new : Key → Bool) (b : Bool) → Waits sides left reached ds (LaterFrom ds passed sides p n k) old
+      → IsTrue (in_box sides (near_point p k)) → Object reached (near_point p k) → (b ≡ true) ↔ IsSimple left (near_point p k)
+      → Put old new (key_at ds (raster_number sides (near_point p k))) b → Waits sides left reached ds (LaterFrom ds passed sides p n (k + 1)) new
   round_more k old new b w h o is put =
       let e = raster_point-raster_number sides (near_point p k) h in
       settled_more sides left reached ds (LaterFrom ds passed sides p n k) (LaterFrom ds passed sides p n (k + 1)) old new w (raster_number sides (near_point p k)) b

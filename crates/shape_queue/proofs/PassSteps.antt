@@ -11,7 +11,7 @@ use Rattle.shape_terms.specs.Parts.{Object}
 use Rattle.shape_terms.specs.Simple.{IsSimple}
 use Rattle.shape_terms.specs.Thinning.{Stage, without}
 use Rattle.shape_terms.proofs.PointTests.{same_point}
-use Rattle.shape_terms.proofs.Boxes.{raster_below, raster_number-raster_point, raster_point-raster_number}
+use Rattle.shape_terms.proofs.Boxes.{raster_below, raster_number-raster_point}
 use Rattle.shape_terms.proofs.BoxLists.{object_count}
 use Rattle.shape_terms.proofs.ObjectPlaces.{object_in_box}
 use Rattle.shape_terms.proofs.OneValue.{value_there, value_gone, value_elsewhere, one_object_less}
@@ -21,6 +21,7 @@ use Rattle.shape_queue.specs.Waiting.{key_at, Waits, Put}
 use Rattle.shape_queue.specs.Standing.{IsPassed, IsAhead, Stands, AreAhead}
 use Rattle.shape_queue.specs.Going.{Reach, IsFrontOf}
 use Rattle.shape_queue.proofs.RankPlaces.{rank_one}
+use Rattle.shape_queue.proofs.StageSteps.{of_object}
 use Rattle.shape_queue.proofs.WaitingSteps.{settled_more, passed_more, reached_more}
 
 -- one object point more
@@ -57,14 +58,8 @@ module _ (X : Picture) (s : Stage) (f : Reach) (h : IsFrontOf X s f) (i : ℕ) (
     | inr b ↦ absurd (n (rank_one f.distances j i (omega (arith, st.listed)) (omega (arith, st.listed)) (omega (arith, a, b, rank))))
   ]
 
-  -- the number of a point
-  of_left : (q : Point) → Object s.left q → (raster_number X.sides q < box_count X.sides) × (raster_point X.sides (raster_number X.sides q) ≡ q)
-  of_left q o =
-      let b : IsTrue (in_box X.sides q) = subst (λ n. IsTrue (in_box n q)) st.sides (object_in_box s.left q o) in
-      (raster_below X.sides q b, raster_point-raster_number X.sides q b)
-
   apart : (q : Point) → Object s.left q → q ≢ raster_point X.sides i → raster_number X.sides q ≢ i
-  apart q o n e = n (sym (of_left q o).1 ∙ ap (raster_point X.sides) e)
+  apart q o n e = n (sym (of_object X s f h q o).1 ∙ ap (raster_point X.sides) e)
 
   elsewhere : (j : ℕ) → j < box_count X.sides → j ≢ i → raster_point X.sides j ≢ raster_point X.sides i
   elsewhere j m n e = n (sym (raster_number-raster_point X.sides j m) ∙ ap (raster_number X.sides) e ∙ raster_number-raster_point X.sides i l)
@@ -90,7 +85,7 @@ module _ (X : Picture) (s : Stage) (f : Reach) (h : IsFrontOf X s f) (i : ℕ) (
         reached_filled = st.reached_filled;
         reached_is = λ q. (
           (λ o. let g = (st.reached_is q).0 o in (g.0, g.1, omega (arith, g.2))),
-          λ o. elim (passed_now (raster_number X.sides q) (of_left q o.0).0 o.2) [
+          λ o. elim (passed_now (raster_number X.sides q) (of_object X s f h q o.0).0 o.2) [
             | inl p ↦ (st.reached_is q).1 (o.0, o.1, p)
             | inr e ↦ absurd (apart q o.0 (other q o.0) e)
           ],
@@ -108,7 +103,7 @@ module _ (X : Picture) (s : Stage) (f : Reach) (h : IsFrontOf X s f) (i : ℕ) (
           (λ o. let g = (h.rest.points_are q).0 o in (
             g.0,
             subst (λ n. IsAhead f.distances (f.passed + 1) (raster_number n q)) (sym st.sides)
-                (ahead_still (raster_number X.sides q) (of_left q g.0).0 (apart q g.0 (other q g.0)) (subst (λ n. IsAhead f.distances f.passed (raster_number n q)) st.sides g.1)),
+                (ahead_still (raster_number X.sides q) (of_object X s f h q g.0).0 (apart q g.0 (other q g.0)) (subst (λ n. IsAhead f.distances f.passed (raster_number n q)) st.sides g.1)),
           )),
           λ o. (h.rest.points_are q).1 (o.0, omega (arith, o.1)),
         );
@@ -155,7 +150,7 @@ module _ (X : Picture) (s : Stage) (f : Reach) (h : IsFrontOf X s f) (i : ℕ) (
         )
         | no n ↦ (
           (λ o. let g = (st.reached_is q).0 (sym (as_before q n) ∙ o) in (g.0, g.1, omega (arith, g.2))),
-          λ o. elim (passed_now (raster_number X.sides q) (of_left q o.0).0 o.2) [
+          λ o. elim (passed_now (raster_number X.sides q) (of_object X s f h q o.0).0 o.2) [
             | inl p ↦ as_before q n ∙ (st.reached_is q).1 (o.0, o.1, p)
             | inr e ↦ absurd (apart q o.0 n e)
           ],
@@ -189,7 +184,7 @@ module _ (X : Picture) (s : Stage) (f : Reach) (h : IsFrontOf X s f) (i : ℕ) (
           (λ o. let g = (h.rest.points_are q).0 (sym (less_before q n) ∙ o) in (
             g.0,
             subst (λ n. IsAhead f.distances (f.passed + 1) (raster_number n q)) (sym st.sides)
-                (ahead_still (raster_number X.sides q) (of_left q g.0).0 (apart q g.0 n) (subst (λ n. IsAhead f.distances f.passed (raster_number n q)) st.sides g.1)),
+                (ahead_still (raster_number X.sides q) (of_object X s f h q g.0).0 (apart q g.0 n) (subst (λ n. IsAhead f.distances f.passed (raster_number n q)) st.sides g.1)),
           )),
           λ o. less_before q n ∙ (h.rest.points_are q).1 (o.0, omega (arith, o.1)),
         )

@@ -51,7 +51,7 @@ module _ (X : Picture) (s : Stage) (f : Reach) (h : IsFrontOf X s f) where
   st = h.stands
 
   -- an object point and its place
-  of_object : (q : Point) → Object s.left q → (raster_number X.sides q < box_count X.sides) × (raster_point X.sides (raster_number X.sides q) ≡ q)
+  pub of_object : (q : Point) → Object s.left q → (raster_number X.sides q < box_count X.sides) × (raster_point X.sides (raster_number X.sides q) ≡ q)
   of_object q o =
       let b : IsTrue (in_box X.sides q) = subst (λ n. IsTrue (in_box n q)) st.sides (object_in_box s.left q o) in
       (raster_below X.sides q b, raster_point-raster_number X.sides q b)

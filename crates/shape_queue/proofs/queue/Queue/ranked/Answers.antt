@@ -4,23 +4,10 @@ use Rattle.shape_queue.specs.Ranks.{distances_by}
 use Rattle.shape_queue.proofs.RankPlaces.{key_of_rank}
 use Rattle.shape_queue.proofs.queue.Queue.ranked.Goals as goal
 
-pub returns-clause-place : goal.returns-clause-place
-returns-clause-place c =
+pub returns : goal.returns
+returns c =
     let i = c.self.inside in
     let ds = distances_by i.ranks i.keys.items in
     let l : c.args.rank < length ds = subst (λ (q : Queued). c.args.rank < length q.distances) (sym c.self.view_is) c.requires in
-    rw (← c.self.view_is) (key_of_rank ds i.keys.items c.self.invariant.keys_are c.args.rank l c.index.result.now c.index.ensures).inside
-
-pub returns-clause-key : goal.returns-clause-key
-returns-clause-key c =
-    let i = c.self.inside in
-    let ds = distances_by i.ranks i.keys.items in
-    let l : c.args.rank < length ds = subst (λ (q : Queued). c.args.rank < length q.distances) (sym c.self.view_is) c.requires in
-    rw (← c.self.view_is) (key_of_rank ds i.keys.items c.self.invariant.keys_are c.args.rank l c.index.result.now c.index.ensures).same
-
-pub returns-clause-rank : goal.returns-clause-rank
-returns-clause-rank c =
-    let i = c.self.inside in
-    let ds = distances_by i.ranks i.keys.items in
-    let l : c.args.rank < length ds = subst (λ (q : Queued). c.args.rank < length q.distances) (sym c.self.view_is) c.requires in
-    rw (← c.self.view_is) (key_of_rank ds i.keys.items c.self.invariant.keys_are c.args.rank l c.index.result.now c.index.ensures).ranked
+    let t = key_of_rank ds i.keys.items c.self.invariant.keys_are c.args.rank l c.index.result.now c.index.ensures in
+    rw (← c.self.view_is) (record { place = t.inside; key = t.same; rank = t.ranked })
