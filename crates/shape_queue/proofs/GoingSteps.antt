@@ -21,7 +21,7 @@ use Rattle.shape_queue.specs.Standing.{IsAhead, Stands}
 use Rattle.shape_queue.specs.Distances.{AreDistances}
 use Rattle.shape_queue.specs.Events.{event_by}
 use Rattle.shape_queue.specs.Going.{stage_of, Reach, IsFrontOf, IsGoing}
-use Rattle.shape_queue.proofs.StageSteps.{none_waits, taken_place, taken_object, taken_reached, taken_next, deleted_stands, deleted_ahead, marked_stands, marked_waits, deleted_waits}
+use Rattle.shape_queue.proofs.StageSteps.{none_waits, taken_place, taken_reached, taken_next, deleted_stands, deleted_ahead, marked_stands, marked_waits, deleted_waits}
 
 -- no point is one of the blank picture
 none_blank : (sides : List ℕ) (q : Point) → Object (blank sides) q → ⊥
@@ -68,9 +68,6 @@ module _ (X : Picture) (marked : List Point) (state : List ℕ) (left : Picture)
   module _ (q : Point) (e : q ≡ raster_point left.sides k.place) where
     pub in_opening : q ≡ raster_point X.sides k.place
     in_opening = e ∙ ap (λ n. raster_point n k.place) h.stands.sides
-
-    pub at_object : Object left q
-    at_object = subst (Object left) (sym in_opening) (taken_object X (stage_of left marked state) f h k there)
 
     pub at_reached : Object f.reached q
     at_reached = subst (Object f.reached) (sym in_opening) (taken_reached X (stage_of left marked state) f h k there)

@@ -109,7 +109,7 @@ module _ (X : Picture) (s : Stage) (f : Reach) (h : IsFrontOf X s f) where
     pub taken_place : k.place < box_count X.sides
     taken_place = taken.0
 
-    pub taken_object : Object s.left (raster_point X.sides k.place)
+    taken_object : Object s.left (raster_point X.sides k.place)
     taken_object = ((st.reached_is (raster_point X.sides k.place)).0 taken.1.0).0
 
     pub taken_reached : Object f.reached (raster_point X.sides k.place)
