@@ -1,2 +1,3 @@
 pub mod ThinnerSteps
 pub mod RoundPlaces
+pub mod RoundSteps

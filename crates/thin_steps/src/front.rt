@@ -1,16 +1,14 @@
 //! The front of a thinning: places are passed in the order of their keys, and a point is looked at when its turn comes.
 //! Which point is the next one, and what becomes of it, belongs to `thinner.rt`.
-ghost use Rattle.std.specs.Prelude.{◌≡◌, ◌≢◌, ◌+◌, ◌<◌, ◌≤◌, List, ℕ, [], true, false, length, slice_set, IfOk};
+ghost use Rattle.std.specs.Prelude.{◌≡◌, ◌≢◌, ◌+◌, ◌<◌, ◌≤◌, List, ℕ, [], true, false, length, IfOk};
 ghost use Rattle.shape_terms.specs.Points.{Point, box_count};
 ghost use Rattle.shape_terms.specs.Pictures.{Picture, object_points};
 ghost use Rattle.shape_queue.specs.declared.key.Key.{Key};
 ghost use Rattle.shape_queue.specs.Keys.{has, IsLeastKey};
-ghost use Rattle.shape_queue.specs.Waiting.{Put};
 ghost use Rattle.shape_queue.specs.Distances.{AreDistances};
 ghost use Rattle.shape_queue.specs.Going.{IsFrontOf, stage_of};
 ghost use Rattle.thin_steps.specs.Fitting.{IsSomeFront};
 
-use crate::look::look_first;
 use crate::next::Next;
 use shape_grid::Grid;
 use shape_queue::Queue;
@@ -33,7 +31,7 @@ pub(crate) struct Front<P: SimpleMask> {
 }
 
 impl<P: SimpleMask> Front<P> {
-    ghost use Rattle.thin_steps.specs.Fronts.{reach_of, room_in};
+    ghost use Rattle.thin_steps.specs.Fronts.{reach_of, room_in, IsTakenOut};
     ghost use Rattle.thin_steps.specs.Standing.{key_of};
 
     /// The front before any place is passed.
@@ -79,7 +77,8 @@ impl<P: SimpleMask> Front<P> {
         if left.has(key.place) {
             self.ahead -= 1;
             self.reached.set_number(key.place);
-            look_first(left, &mut self.keys, key.place, rank, steps);
+            let simple = left.is_simple(key.place, steps);
+            self.keys.settle_ranked(key.place, rank, simple);
         }
     }
 
@@ -103,14 +102,7 @@ impl<P: SimpleMask> Front<P> {
         requires there { has self.old.keys (key_of next.now) ≡ true }
         requires least { IsLeastKey (has self.old.keys) (key_of next.now) }
         requires inside { next.now.place < box_count self.old.reached.sides }
-        ensures put { Put (has self.old.keys) (has self.new.keys) (key_of next.now) false }
-        ensures distances { self.new.keys.distances ≡ self.old.keys.distances }
-        ensures reached { self.new.reached ≡ record {
-          sides = self.old.reached.sides;
-          values = slice_set self.old.reached.values next.now.place false;
-        } }
-        ensures passed { self.new.passed ≡ self.old.passed }
-        ensures ahead { self.new.ahead ≡ self.old.ahead }
+        ensures { IsTakenOut (key_of next.now) (reach_of self.old) (reach_of self.new) }
     {
         self.keys.pop();
         self.reached.clear_number(next.place);

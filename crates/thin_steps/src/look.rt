@@ -1,12 +1,11 @@
-//! Looks at points, whether they wait in the queue: at one when its place is passed, at the near ones after a deletion.
-//! Each look is one step of the counter.
+//! Looks at the near neighbours of a point after its deletion, whether they wait in the queue. Each look is one step of the counter.
+//! How a point is looked at when its place is passed stands in `front.rt`.
 ghost use Rattle.std.specs.Prelude.{◌≡◌, ℕ, ◌+◌, ◌<◌, ◌≤◌, length, IsTrue};
 ghost use Rattle.shape_terms.specs.Points.{in_box, box_count, raster_point};
 ghost use Rattle.shape_terms.specs.Pictures.{at};
 ghost use Rattle.shape_terms.specs.Adjacency.{near_point};
 ghost use Rattle.shape_adj.specs.NearMasks.{In};
 ghost use Rattle.shape_queue.specs.Keys.{has};
-ghost use Rattle.shape_queue.specs.Ranks.{rank_in};
 ghost use Rattle.shape_queue.specs.Standing.{IsSubset};
 ghost use Rattle.shape_queue.specs.Waiting.{IsQueue, IsQueueBut, IsLookedAt};
 
@@ -33,27 +32,6 @@ fn look_at<P: SimpleMask, L: Ledger>(
 {
     let simple = left.is_simple(place, steps);
     keys.settle(place, simple);
-}
-
-// The same of a point with this rank, at its turn.
-pub(crate) fn look_first<P: SimpleMask, L: Ledger>(
-    left: &MaskedGrid<P>,
-    keys: &mut Queue,
-    place: u32,
-    rank: u32,
-    steps: &mut Steps<L>,
-)
-    requires below { place < box_count left.now.sides }
-    requires object { IsTrue (at left.now (raster_point left.now.sides place)) }
-    requires filled { length keys.old.distances ≡ box_count left.now.sides }
-    requires ranked { rank_in keys.old.distances place ≡ rank }
-    ensures looked { IsLookedAt left.now keys.old.distances (raster_point left.now.sides place)
-        (has keys.old) (has keys.new) }
-    ensures distances { keys.new.distances ≡ keys.old.distances }
-    ensures one_step { steps.new ≡ steps.old + 1 }
-{
-    let simple = left.is_simple(place, steps);
-    keys.settle_ranked(place, rank, simple);
 }
 
 // Looks at the near neighbours of a point that was deleted that are reached; its mask has them all.

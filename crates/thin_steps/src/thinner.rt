@@ -1,5 +1,5 @@
 //! A thinning between two events: the points left, and how far its front has come.
-//! How places are passed stands in `front.rt`, how points are looked at in `look.rt`.
+//! How places are passed stands in `front.rt`, how near points are looked at after a deletion in `look.rt`.
 ghost use Rattle.std.specs.Prelude.{◌≡◌, ◌+◌, ◌≤◌, ◌^◌, [], length, MatchOption, IfOk};
 ghost use Rattle.shape_terms.specs.Points.{box_count};
 ghost use Rattle.shape_terms.specs.Pictures.{IsPicture, object_points};

@@ -2,7 +2,7 @@ use Rattle.std.proofs.Common.{◌<◌, arith, ap, ◌∙◌}
 use Rattle.shape_terms.specs.Points.{box_count, raster_point}
 use Rattle.shape_terms.specs.Pictures.{Picture}
 use Rattle.shape_terms.specs.Thinning.{without}
-use Rattle.shape_topo.proofs.MaskSteps.{cleared_is}
+use Rattle.shape_topo.proofs.Cleared.{cleared_is}
 use Rattle.shape_topo.proofs.masked.MaskedGrid.clear.Goals as goal
 
 pub returns : goal.returns

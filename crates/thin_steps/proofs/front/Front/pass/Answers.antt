@@ -19,16 +19,14 @@ has-requires g c = omega (arith, c.ranked-key.ensures.place, fits_filled c.requi
 pub set_number-requires : goal.set_number-requires
 set_number-requires g c = omega (arith, c.ranked-key.ensures.place, fits_filled c.requires.fits, ap box_count (fits_sides c.requires.fits))
 
-pub look_first-requires-clause-below : goal.look_first-requires-clause-below
-look_first-requires-clause-below g c = omega (arith, c.ranked-key.ensures.place, fits_filled c.requires.fits)
-
-pub look_first-requires-clause-filled : goal.look_first-requires-clause-filled
-look_first-requires-clause-filled g c = fits_filled c.requires.fits
+pub is_simple-simple-requires-clause-below : goal.is_simple-simple-requires-clause-below
+is_simple-simple-requires-clause-below g c = omega (arith, c.ranked-key.ensures.place, fits_filled c.requires.fits)
 
 pub returns-then-has-clause-front : goal.returns-then-has-clause-front
 returns-then-has-clause-front g c = λ X marked state h.
-    front_reached c.ranked-key.result.place c.ranked-key.ensures.place c.ranked-key.ensures.rank (sym c.has.ensures ∙ c.if-has.true) (has c.look_first.new.keys) c.look_first.ensures.looked
-    _ c.set_number.ensures _ c.look_first.ensures.distances _ (omega (arith, c.requires.some)) X marked state h
+    front_reached c.ranked-key.result.place c.ranked-key.ensures.place c.ranked-key.ensures.rank (sym c.has.ensures ∙ c.if-has.true)
+    (has c.settle_ranked.new.self) c.is_simple-simple.result c.is_simple-simple.ensures.simple c.settle_ranked.ensures.put
+    _ c.set_number.ensures _ c.settle_ranked.ensures.distances _ (omega (arith, c.requires.some)) X marked state h
 
 pub returns-then-has-clause-room : goal.returns-then-has-clause-room
 returns-then-has-clause-room g c =
