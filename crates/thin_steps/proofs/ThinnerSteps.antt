@@ -38,6 +38,10 @@ was_object Y q r filled b o =
 
 -- ---- of a front
 
+-- at each stage with these points left where f is a front, g is one too
+abbrev pub StaysFront : Picture → Reach → Reach → Type 0
+StaysFront left f g = (X : Picture) (marked : List Point) (state : List ℕ) → IsFrontOf X (stage_of left marked state) f → IsFrontOf X (stage_of left marked state) g
+
 -- before the first event the picture is left
 pub started : {X left : Picture} {f : Reach} → left ≡ X → ((state : List ℕ) → IsFrontOf X (stage_of X [] state) f) → (state : List ℕ) → IsFrontOf X (stage_of left [] state) f
 started {X} {f = f} e front state = subst (λ (Y : Picture). IsFrontOf X (stage_of Y [] state) f) (sym e) (front state)
@@ -49,8 +53,8 @@ started_thins {X} by e = subst (λ (Y : Picture). ThinsTo by X [] (stage_of Y []
 pub front_reached : {left : Picture} {f : Reach} (i : ℕ) → i < length f.distances → rank_in f.distances i ≡ f.passed → Object left (raster_point left.sides i)
     → (new : Key → Bool) (b : Bool) → (b ≡ true) ↔ IsSimple left (raster_point left.sides i) → Put f.keys new (key_at f.distances i) b
     → (reached' : Picture) → reached' ≡ record { sides = f.reached.sides; values = set f.reached.values i true }
-    → (ds' : List ℕ) → ds' ≡ f.distances → (n : ℕ) → n + 1 ≡ f.ahead → (X : Picture) (marked : List Point) (state : List ℕ) → IsFrontOf X (stage_of left marked state) f
-    → IsFrontOf X (stage_of left marked state) (record { reached = reached'; distances = ds'; keys = new; passed = f.passed + 1; ahead = n })
+    → (ds' : List ℕ) → ds' ≡ f.distances → (n : ℕ) → n + 1 ≡ f.ahead
+    → StaysFront left f (record { reached = reached'; distances = ds'; keys = new; passed = f.passed + 1; ahead = n })
 front_reached {left} {f} i l rank there new b is put reached' r ds' d n c X marked state h =
     let m : i < box_count X.sides = omega (arith, l, h.stands.listed) in
     let q : raster_point left.sides i ≡ raster_point X.sides i = ap (λ z. raster_point z i) h.stands.sides in
@@ -62,15 +66,13 @@ front_reached {left} {f} i l rank there new b is put reached' r ds' d n c X mark
 
 -- the next place is passed, whose point is not left
 pub front_gone : {left : Picture} {f : Reach} (i : ℕ) → i < length f.distances → rank_in f.distances i ≡ f.passed → at left (raster_point left.sides i) ≡ false
-    → (X : Picture) (marked : List Point) (state : List ℕ) → IsFrontOf X (stage_of left marked state) f
-    → IsFrontOf X (stage_of left marked state) (record { reached = f.reached; distances = f.distances; keys = f.keys; passed = f.passed + 1; ahead = f.ahead })
+    → StaysFront left f (record { reached = f.reached; distances = f.distances; keys = f.keys; passed = f.passed + 1; ahead = f.ahead })
 front_gone {left} {f} i l rank gone X marked state h =
     front_skipped X (stage_of left marked state) f h i (omega (arith, l, h.stands.listed)) rank
     (λ o. let t : false ≡ true = sym gone ∙ subst (Object left) (sym (ap (λ z. raster_point z i) h.stands.sides)) o in cc)
 
 -- a front that goes on is one still
-pub fits_on : {left : Picture} {f g : Reach} → ((X : Picture) (marked : List Point) (state : List ℕ) → IsFrontOf X (stage_of left marked state) f → IsFrontOf X (stage_of left marked state) g)
-    → ∥ IsSomeFront left f ∥₁ → ∥ IsSomeFront left g ∥₁
+pub fits_on : {left : Picture} {f g : Reach} → StaysFront left f g → ∥ IsSomeFront left f ∥₁ → ∥ IsSomeFront left g ∥₁
 fits_on on fits = ∥∥₁_elim fits (Prim.hlevel props) (λ a. merely (record { opening = a.opening; marked = a.marked; state = a.state; front = on a.opening a.marked a.state a.front }))
 
 -- ---- of the parts of some thinning
@@ -112,8 +114,9 @@ module _ {left : Picture} {f : Reach} (fits : ∥ IsSomeFront left f ∥₁) whe
     pub fits_place : k.place < box_count left.sides
     fits_place = ∥∥₁_elim fits (Prim.hlevel props) (λ a. key_place a.opening a.marked a.state left f a.front k there)
 
--- ---- an event: the next point q, whose key is the least one, is taken out
+-- ---- an event
 
+-- n is the next point, q, and f' the front when its key was taken out
 module _ {P : Type 0} {left : Picture} {f f' : Reach} {n : Next P} {q : Point} (next : IsNextIn left f.keys n q) (taken : IsTakenOut (key_of n) f f') where
   same_reach : f' ≡ record { reached = f'.reached; distances = f.distances; keys = f'.keys; passed = f.passed; ahead = f.ahead }
   same_reach = λ i. record { reached = f'.reached; distances = taken.distances i; keys = f'.keys; passed = taken.passed i; ahead = taken.ahead i }
@@ -127,16 +130,16 @@ module _ {P : Type 0} {left : Picture} {f f' : Reach} {n : Next P} {q : Point} (
     less = reached_without a.front.stands.reached_sides
 
     was_left : (r : Point) → Object f'.reached r → Object left r
-    was_left r o = ((a.front.stands.reached_is r).0 (was_object f.reached q r a.front.stands.reached_filled
-        (object_in_box f.reached q (at_reached a.opening a.marked a.state left f a.front (key_of n) next.there q next.place)) (subst (λ (Y : Picture). Object Y r) less o))).0
+    was_left r o =
+        let b = object_in_box f.reached q (at_reached a.opening a.marked a.state left f a.front (key_of n) next.there q next.place) in
+        ((a.front.stands.reached_is r).0 (was_object f.reached q r a.front.stands.reached_filled b (subst (λ (Y : Picture). Object Y r) less o))).0
 
-  module _ (fits : ∥ IsSomeFront left f ∥₁) where
-    pub one_less : length (object_points f'.reached) + 1 ≡ length (object_points f.reached)
-    one_less = ∥∥₁_elim fits (Prim.hlevel props)
-        (λ a. one_reached_less a.opening a.marked a.state left f a.front (key_of n) next.there q next.place f'.reached (less a))
+  pub one_less : ∥ IsSomeFront left f ∥₁ → length (object_points f'.reached) + 1 ≡ length (object_points f.reached)
+  one_less fits = ∥∥₁_elim fits (Prim.hlevel props)
+      (λ a. one_reached_less a.opening a.marked a.state left f a.front (key_of n) next.there q next.place f'.reached (less a))
 
   -- q is marked
-  pub marked_front : (X : Picture) (marked : List Point) (state state' : List ℕ) → IsFrontOf X (stage_of left marked state) f → IsFrontOf X (stage_of left (q ∷ marked) state') f'
+  marked_front : (X : Picture) (marked : List Point) (state state' : List ℕ) → IsFrontOf X (stage_of left marked state) f → IsFrontOf X (stage_of left (q ∷ marked) state') f'
   marked_front X marked state state' h = subst (λ (g : Reach). IsFrontOf X (stage_of left (q ∷ marked) state') g) (sym same_reach)
       (front_marked X marked state left f h (key_of n) next.there q next.place f'.reached (reached_without h.stands.reached_sides) f'.keys taken.put state')
 
@@ -144,7 +147,7 @@ module _ {P : Type 0} {left : Picture} {f f' : Reach} {n : Next P} {q : Point} (
   marked_fits fits = ∥∥₁_elim fits (Prim.hlevel props)
       (λ a. merely (record { opening = a.opening; marked = q ∷ a.marked; state = a.state; front = marked_front a.opening a.marked a.state a.state a.front }))
 
-  pub marked_goes : {g : Reach} → ((X : Picture) (marked : List Point) (state : List ℕ) → IsFrontOf X (stage_of left marked state) f' → IsFrontOf X (stage_of left marked state) g)
+  pub marked_goes : {g : Reach} → StaysFront left f' g
       → (rule : Rule) (X : Picture) (events : List Event) (state : List ℕ) → IsGoing rule X events state left f → rule.marks state (facts_of n.facts) ≡ true
       → IsGoing rule X (events ++ event_by true q ∷ []) (rule.next state (facts_of n.facts)) left g
   marked_goes {g} on rule X events state h m = going_marked rule X events state left f h (key_of n) next.there q next.place next.least n.facts.neighbours next.near g m
@@ -199,7 +202,7 @@ module _ {P : Type 0} {left : Picture} {f f' : Reach} {n : Next P} {q : Point} (
       deleted_fits fits = ∥∥₁_elim fits (Prim.hlevel props)
           (λ a. merely (record { opening = a.opening; marked = a.marked; state = a.state; front = deleted_front a.opening a.marked a.state a.state a.front }))
 
-      pub deleted_goes : {g : Reach} → ((X : Picture) (marked : List Point) (state : List ℕ) → IsFrontOf X (stage_of left' marked state) after → IsFrontOf X (stage_of left' marked state) g)
+      pub deleted_goes : {g : Reach} → StaysFront left' after g
           → (rule : Rule) (X : Picture) (events : List Event) (state : List ℕ) → IsGoing rule X events state left f → rule.marks state (facts_of n.facts) ≡ false
           → IsGoing rule X (events ++ event_by false q ∷ []) (rule.next state (facts_of n.facts)) left' g
       deleted_goes {g} on rule X events state h m = going_deleted rule X events state left f h (key_of n) next.there q next.place next.least n.facts.neighbours next.near
