@@ -1,4 +1,4 @@
-//! Numbers of at most three digits, each put where it stands.
+//! Numbers of at most six digits, each digit put where it stands.
 //! How every other number is put belongs elsewhere.
 ghost use Rattle.std.specs.Prelude.{◌≡◌, ◌≤◌, ◌<◌, ◌+◌, ◌++◌, [], ◌∷◌, length, take, drop};
 ghost use Rattle.std.specs.Fmt.{decimal};
@@ -36,9 +36,9 @@ fn put_two(n: u64, buf: &mut [u8], at: usize) -> usize
 // Puts the digits of a number below 1000 at a place of the buffer, and answers the place after them.
 pub(crate) fn put_short(n: u64, buf: &mut [u8], at: usize) -> usize
     requires short { n < 1000 }
-    requires room { at + 20 ≤ length buf.old }
+    requires room { at + 3 ≤ length buf.old }
     ensures place { result ≡ at + length (decimal n) }
-    ensures room { result ≤ at + 20 }
+    ensures few { result ≤ at + 3 }
     ensures text { take result buf.new ≡ take at buf.old ++ decimal n }
     ensures rest { drop result buf.new ≡ drop result buf.old }
     ensures length { length buf.new ≡ length buf.old }
@@ -47,5 +47,22 @@ pub(crate) fn put_short(n: u64, buf: &mut [u8], at: usize) -> usize
         return put_two(n, buf, at);
     }
     let end = put_two(n / 10, buf, at);
+    put_digit(n % 10, buf, end)
+}
+
+// Puts the digits of a number of four to six digits: those of its thousands, and three more.
+pub(crate) fn put_thousands(n: u64, buf: &mut [u8], at: usize) -> usize
+    requires long { 1000 ≤ n }
+    requires short { n < 1000000 }
+    requires room { at + 6 ≤ length buf.old }
+    ensures place { result ≡ at + length (decimal n) }
+    ensures few { result ≤ at + 6 }
+    ensures text { take result buf.new ≡ take at buf.old ++ decimal n }
+    ensures rest { drop result buf.new ≡ drop result buf.old }
+    ensures length { length buf.new ≡ length buf.old }
+{
+    let end = put_short(n / 1000, buf, at);
+    let end = put_digit(n / 100 % 10, buf, end);
+    let end = put_digit(n / 10 % 10, buf, end);
     put_digit(n % 10, buf, end)
 }
