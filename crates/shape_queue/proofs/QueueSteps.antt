@@ -1,6 +1,6 @@
 -- The keys of a queue while a rank is put into its set or taken out, and the least of them.
 -- Laws over keys and lists alone.
-use Rattle.std.proofs.Common.{◌≡◌, ◌⊎◌, inl, inr, ℕ, ◌*◌, ◌<◌, ◌≤◌, Bool, true, false, not, cond, eqb, ltb, List, length, set, replicate, get_or, slice_index, refl, sym, ◌∙◌, ap, subst, arith}
+use Rattle.std.proofs.Common.{◌≡◌, ◌⊎◌, inl, inr, ℕ, ◌*◌, ◌<◌, ◌≤◌, Bool, true, false, not, cond, eqb, ltb, List, length, set, replicate, get_or, slice_index, refl, sym, ◌∙◌, ap, subst, arith, Some}
 use Rattle.std.specs.Prelude.{◌&&◌, slice_get}
 use Rattle.std.specs.Bool.{beq}
 use Rattle.std.proofs.lemmas.Bool.{eqb-true, eq-eqb, ltb-true, lt-ltb}
@@ -150,18 +150,18 @@ module _ (ds ranks : List ℕ) (keys : List Key) (waiting : List ℕ) (queued : 
   least_within = let p = place in let s = rank_small ds p.0 p.1 in let n = h.keys_are.filled in omega (arith, s, n, p.2)
 
   -- its key is that of the place
-  key_read : (key : Key) → key ≡ get_or keys r key → key ≡ key_at ds place.0
+  key_read : (key : Key) → slice_get keys r ≡ Some key → key ≡ key_at ds place.0
   key_read key e =
       let p = place in
-      e ∙ get_or_from_slice_get keys r (key_at ds p.0) key (ap (slice_get keys) (sym p.2) ∙ h.keys_are.each p.0 p.1)
+      sym (get_or_from_slice_get keys r key key e) ∙ get_or_from_slice_get keys r (key_at ds p.0) key (ap (slice_get keys) (sym p.2) ∙ h.keys_are.each p.0 p.1)
 
-  pub least_has : (key : Key) → key ≡ get_or keys r key → has (record { distances = ds; waiting = waiting }) key ≡ true
+  pub least_has : (key : Key) → slice_get keys r ≡ Some key → has (record { distances = ds; waiting = waiting }) key ≡ true
   least_has key e =
       let p = place in
       ap (has (record { distances = ds; waiting = waiting })) (key_read key e) ∙ has_place (record { distances = ds; waiting = waiting }) p.0 p.1
       ∙ ap (λ x. eqb (bit_of waiting x) 1) p.2 ∙ eq-eqb (bit_of waiting r) 1 least.there
 
-  pub least_key : (key : Key) → key ≡ get_or keys r key → IsLeastKey (has (record { distances = ds; waiting = waiting })) key
+  pub least_key : (key : Key) → slice_get keys r ≡ Some key → IsLeastKey (has (record { distances = ds; waiting = waiting })) key
   least_key key e = subst (IsLeastKey (has (record { distances = ds; waiting = waiting }))) (sym (key_read key e)) (λ k w.
       let t = has_tells (record { distances = ds; waiting = waiting }) k w in
       let p = place in
@@ -172,17 +172,17 @@ module _ (ds ranks : List ℕ) (keys : List Key) (waiting : List ℕ) (queued : 
       omega (arith, a, s, p.2)))
 
   -- taken out of the set by its rank, it is taken out of the queue
-  pub popped_key : (key : Key) → key ≡ get_or keys r key → (new : List ℕ) → IsPut waiting new r 0
+  pub popped_key : (key : Key) → slice_get keys r ≡ Some key → (new : List ℕ) → IsPut waiting new r 0
       → Put (has (record { distances = ds; waiting = waiting })) (has (record { distances = ds; waiting = new })) key false
   popped_key key e new put =
       let p = place in
       subst (λ k. Put (has (record { distances = ds; waiting = waiting })) (has (record { distances = ds; waiting = new })) k false) (sym (key_read key e))
       (put_rank (record { distances = ds; waiting = waiting }) new p.0 false p.1 (subst (λ r. IsPut waiting new r 0) (sym p.2) put))
 
-  pub popped_within : (key : Key) → key ≡ get_or keys r key → key.place < length ds
+  pub popped_within : (key : Key) → slice_get keys r ≡ Some key → key.place < length ds
   popped_within key e = let p = place in subst (λ (k : Key). k.place < length ds) (sym (key_read key e)) p.1
 
-  pub popped_fits : (key : Key) → key ≡ get_or keys r key → (new : List ℕ) → IsPut waiting new r 0 → AreFitting ds ranks keys new (set queued key.place false)
+  pub popped_fits : (key : Key) → slice_get keys r ≡ Some key → (new : List ℕ) → IsPut waiting new r 0 → AreFitting ds ranks keys new (set queued key.place false)
   popped_fits key e new put =
       let p = place in
       subst (λ (k : Key). AreFitting ds ranks keys new (set queued k.place false)) (sym (key_read key e))

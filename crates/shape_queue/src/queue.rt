@@ -9,6 +9,7 @@ ghost use Rattle.shape_queue.specs.Waiting.{key_at, Put};
 use crate::banded::Banded;
 use crate::key::Key;
 use crate::ranks::{keys_of, ranks_of};
+use crate::spaced::Spaced;
 use shape_bits::{Bits, Numbers};
 use shape_space::NoMemory;
 use std::alloc::Global;
@@ -20,7 +21,7 @@ use std::marker::Model;
 #[derive(Drop)]
 pub struct Queue {
     ranks: Banded,
-    keys: Vec<Key>,
+    keys: Spaced,
     waiting: Numbers,
     queued: Bits,
 }
@@ -32,11 +33,11 @@ impl Model for Queue {
     ghost Value = { Queued };
 
     ghost view = { λ q. record {
-      distances = distances_by q.ranks q.keys.items;
+      distances = distances_by q.ranks q.keys;
       waiting = q.waiting;
     } };
 
-    ghost invariant = { λ q. AreFitting (distances_by q.ranks q.keys.items) q.ranks q.keys.items
+    ghost invariant = { λ q. AreFitting (distances_by q.ranks q.keys) q.ranks q.keys
         q.waiting q.queued };
 }
 
@@ -111,7 +112,7 @@ impl Queue {
         ensures key { result ≡ key_at self.now.distances result.place }
         ensures rank { rank_in self.now.distances result.place ≡ rank }
     {
-        self.keys[rank as usize]
+        self.keys.get(rank as usize)
     }
 
     /// The least key of the queue.
@@ -122,7 +123,7 @@ impl Queue {
     {
         match self.waiting.least() {
             None => None,
-            Some(rank) => Some(self.keys[rank]),
+            Some(rank) => Some(self.keys.get(rank)),
         }
     }
 
@@ -138,7 +139,7 @@ impl Queue {
         match self.waiting.least() {
             None => None,
             Some(rank) => {
-                let key = self.keys[rank];
+                let key = self.keys.get(rank);
                 self.queued.clear(key.place as usize);
                 self.waiting.remove(rank);
                 Some(key)

@@ -8,7 +8,7 @@ use Rattle.shape_queue.proofs.queue.Queue.change.Goals as goal
 pub insert-requires : goal.insert-requires
 insert-requires c =
     let i = c.self.inside in
-    let ds = distances_by i.ranks i.keys.items in
+    let ds = distances_by i.ranks i.keys in
     let h = c.self.invariant in
     let l : c.args.place < length ds = subst (λ (q : Queued). c.args.place < length q.distances) (sym c.self.view_is) c.requires.below in
     let read = sym (subst (λ (q : Queued). rank_in q.distances c.args.place ≡ c.args.rank) (sym c.self.view_is) c.requires.ranked) in
@@ -17,7 +17,7 @@ insert-requires c =
 pub remove-requires : goal.remove-requires
 remove-requires c =
     let i = c.self.inside in
-    let ds = distances_by i.ranks i.keys.items in
+    let ds = distances_by i.ranks i.keys in
     let h = c.self.invariant in
     let l : c.args.place < length ds = subst (λ (q : Queued). c.args.place < length q.distances) (sym c.self.view_is) c.requires.below in
     let read = sym (subst (λ (q : Queued). rank_in q.distances c.args.place ≡ c.args.rank) (sym c.self.view_is) c.requires.ranked) in
@@ -26,27 +26,27 @@ remove-requires c =
 pub invariant_of-self : goal.invariant_of-self
 invariant_of-self c =
     let i = c.self.inside in
-    let ds = distances_by i.ranks i.keys.items in
+    let ds = distances_by i.ranks i.keys in
     let h = c.self.invariant in
     let l : c.args.place < length ds = subst (λ (q : Queued). c.args.place < length q.distances) (sym c.self.view_is) c.requires.below in
     let read = sym (subst (λ (q : Queued). rank_in q.distances c.args.place ≡ c.args.rank) (sym c.self.view_is) c.requires.ranked) in
-    subst (AreFitting ds i.ranks i.keys.items c.insert.new.self) (sym c.set.ensures)
-    (fitting_put ds i.ranks i.keys.items i.waiting c.insert.new.self i.queued c.args.place true l h (subst (λ r. IsPut i.waiting c.insert.new.self r 1) read c.insert.ensures))
+    subst (AreFitting ds i.ranks i.keys c.insert.new.self) (sym c.set.ensures)
+    (fitting_put ds i.ranks i.keys i.waiting c.insert.new.self i.queued c.args.place true l h (subst (λ r. IsPut i.waiting c.insert.new.self r 1) read c.insert.ensures))
 
 pub invariant_of-self-else-waits : goal.invariant_of-self-else-waits
 invariant_of-self-else-waits c =
     let i = c.self.inside in
-    let ds = distances_by i.ranks i.keys.items in
+    let ds = distances_by i.ranks i.keys in
     let h = c.self.invariant in
     let l : c.args.place < length ds = subst (λ (q : Queued). c.args.place < length q.distances) (sym c.self.view_is) c.requires.below in
     let read = sym (subst (λ (q : Queued). rank_in q.distances c.args.place ≡ c.args.rank) (sym c.self.view_is) c.requires.ranked) in
-    subst (AreFitting ds i.ranks i.keys.items c.remove.new.self) (sym c.clear.ensures)
-    (fitting_put ds i.ranks i.keys.items i.waiting c.remove.new.self i.queued c.args.place false l h (subst (λ r. IsPut i.waiting c.remove.new.self r 0) read c.remove.ensures))
+    subst (AreFitting ds i.ranks i.keys c.remove.new.self) (sym c.clear.ensures)
+    (fitting_put ds i.ranks i.keys i.waiting c.remove.new.self i.queued c.args.place false l h (subst (λ r. IsPut i.waiting c.remove.new.self r 0) read c.remove.ensures))
 
 pub returns-then-waits-clause-put : goal.returns-then-waits-clause-put
 returns-then-waits-clause-put c =
     let i = c.self.inside in
-    let ds = distances_by i.ranks i.keys.items in
+    let ds = distances_by i.ranks i.keys in
     let h = c.self.invariant in
     let l : c.args.place < length ds = subst (λ (q : Queued). c.args.place < length q.distances) (sym c.self.view_is) c.requires.below in
     let read = sym (subst (λ (q : Queued). rank_in q.distances c.args.place ≡ c.args.rank) (sym c.self.view_is) c.requires.ranked) in
@@ -56,7 +56,7 @@ returns-then-waits-clause-put c =
 pub returns-else-waits-clause-put : goal.returns-else-waits-clause-put
 returns-else-waits-clause-put c =
     let i = c.self.inside in
-    let ds = distances_by i.ranks i.keys.items in
+    let ds = distances_by i.ranks i.keys in
     let h = c.self.invariant in
     let l : c.args.place < length ds = subst (λ (q : Queued). c.args.place < length q.distances) (sym c.self.view_is) c.requires.below in
     let read = sym (subst (λ (q : Queued). rank_in q.distances c.args.place ≡ c.args.rank) (sym c.self.view_is) c.requires.ranked) in

@@ -6,25 +6,25 @@ use Rattle.shape_queue.proofs.queue.Queue.new.Goals as goal
 
 pub returns-clause-none : goal.returns-clause-none
 returns-clause-none c =
-    none_has (record { distances = distances_by c.in_ok-ranks.ranks c.in_ok-keys.keys.items; waiting = c.in_ok-waiting.waiting })
+    none_has (record { distances = distances_by c.in_ok-ranks.ranks c.in_ok-keys.keys; waiting = c.in_ok-waiting.waiting })
     c.in_ok-waiting.ensures.empty
 
 pub returns-clause-distances : goal.returns-clause-distances
 returns-clause-distances c =
     let ds = c.args.distances.items in
     let ranks : AreRanks ds c.in_ok-ranks.ranks = search rules in
-    let keys : AreKeys ds c.in_ok-keys.keys.items = search rules in
-    distances_back ds c.in_ok-ranks.ranks c.in_ok-keys.keys.items ranks keys
+    let keys : AreKeys ds c.in_ok-keys.keys = search rules in
+    distances_back ds c.in_ok-ranks.ranks c.in_ok-keys.keys ranks keys
 
 pub invariant_of-result : goal.invariant_of-result
 invariant_of-result c =
     let ds = c.args.distances.items in
     let ranks : AreRanks ds c.in_ok-ranks.ranks = search rules in
-    let keys : AreKeys ds c.in_ok-keys.keys.items = search rules in
+    let keys : AreKeys ds c.in_ok-keys.keys = search rules in
     let n : c.len-2.result ≡ length ds = search rules in
     let e : c.in_ok-queued.queued ≡ replicate (length ds) false = c.in_ok-queued.ensures ∙ ap (λ n. replicate n false) n in
-    subst (λ (d : List ℕ). AreFitting d c.in_ok-ranks.ranks c.in_ok-keys.keys.items c.in_ok-waiting.waiting c.in_ok-queued.queued)
-    (sym (distances_back ds c.in_ok-ranks.ranks c.in_ok-keys.keys.items ranks keys))
+    subst (λ (d : List ℕ). AreFitting d c.in_ok-ranks.ranks c.in_ok-keys.keys c.in_ok-waiting.waiting c.in_ok-queued.queued)
+    (sym (distances_back ds c.in_ok-ranks.ranks c.in_ok-keys.keys ranks keys))
     (record {
       ranks_are = ranks;
       keys_are = keys;

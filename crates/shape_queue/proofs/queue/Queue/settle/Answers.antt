@@ -7,14 +7,14 @@ use Rattle.shape_queue.proofs.queue.Queue.settle.Goals as goal
 pub change-requires-clause-ranked : goal.change-requires-clause-ranked
 change-requires-clause-ranked c =
     let i = c.self.inside in
-    let ds = distances_by i.ranks i.keys.items in
+    let ds = distances_by i.ranks i.keys in
     let l : c.args.place < length ds = subst (λ (q : Queued). c.args.place < length q.distances) (sym c.self.view_is) c.requires in
     subst (λ (q : Queued). rank_in q.distances c.args.place ≡ c.get-rank.result) c.self.view_is (sym (c.get-rank.ensures ∙ c.self.invariant.ranks_are.each c.args.place l))
 
 pub returns-else-get-waits-clause-put : goal.returns-else-get-waits-clause-put
 returns-else-get-waits-clause-put c =
     let i = c.self.inside in
-    let ds = distances_by i.ranks i.keys.items in
+    let ds = distances_by i.ranks i.keys in
     let l : c.args.place < length ds = subst (λ (q : Queued). c.args.place < length q.distances) (sym c.self.view_is) c.requires in
     let q : Queued = record { distances = ds; waiting = i.waiting } in
     let same = same_value c.get.result c.args.waits c.if-get-waits.false in

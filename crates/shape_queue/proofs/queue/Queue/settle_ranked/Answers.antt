@@ -7,7 +7,7 @@ use Rattle.shape_queue.proofs.queue.Queue.settle_ranked.Goals as goal
 pub returns-else-get-waits-clause-put : goal.returns-else-get-waits-clause-put
 returns-else-get-waits-clause-put c =
     let i = c.self.inside in
-    let ds = distances_by i.ranks i.keys.items in
+    let ds = distances_by i.ranks i.keys in
     let l : c.args.place < length ds = subst (λ (q : Queued). c.args.place < length q.distances) (sym c.self.view_is) c.requires.below in
     let q : Queued = record { distances = ds; waiting = i.waiting } in
     let same = same_value c.get.result c.args.waits c.if-get-waits.false in
