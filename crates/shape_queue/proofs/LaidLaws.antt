@@ -13,10 +13,6 @@ module _ {A : Type 0} (none : A) (cell : ℕ → ℕ) (len : ℕ) where
   item_at : (i : ℕ) (cells : List A) → i < len → get_or (laid none cell len cells) i none ≡ get_or cells (cell i) none
   item_at i cells l = get_or-map-range_with_len (λ i. get_or cells (cell i) none) 0 len i i none l (omega arith)
 
-  -- a place that has an item is one of the list
-  pub item_within : (i : ℕ) (cells items : List A) → laid none cell len cells ≡ items → i < length items → i < len
-  item_within i cells items e l = omega (arith, length-laid cells, ap length e, l)
-
   -- where all cells are the same, so are all items
   pub all_same : (room : ℕ) → AreApart cell len room → (cells : List A) → cells ≡ replicate room none → laid none cell len cells ≡ replicate len none
   all_same room h cells e =
@@ -26,23 +22,31 @@ module _ {A : Type 0} (none : A) (cell : ℕ → ℕ) (len : ℕ) where
       item_at i cells m ∙ ap (λ (v : List A). get_or v (cell i) none) e
       ∙ get_or-replicate room (cell i) none none (h.within i m) ∙ sym (get_or-replicate len i none none m))
 
-  module _ (cells : List A) (h : AreApart cell len (length cells)) where
-    -- what is read from the cell of an item is the item
-    pub item_read : (i : ℕ) (r : A) → i < len → r ≡ get_or cells (cell i) r → r ≡ get_or (laid none cell len cells) i none
-    item_read i r l read = read ∙ get_or_default cells (cell i) r none (h.within i l) ∙ sym (item_at i cells l)
+  -- item i of the list that is kept so
+  module _ (cells items : List A) (e : laid none cell len cells ≡ items) (i : ℕ) (l : i < length items) where
+    pub item_within : i < len
+    item_within = omega (arith, length-laid cells, ap length e, l)
 
-    -- what is written into the cell of an item is the item then, and all others are as before
-    pub item_put : (i : ℕ) (x : A) → i < len → laid none cell len (set cells (cell i) x) ≡ set (laid none cell len cells) i x
-    item_put i x l =
-        let n = length-laid cells in
-        let n' = length-laid (set cells (cell i) x) in
-        ext_get_or none (laid none cell len (set cells (cell i) x)) (set (laid none cell len cells) i x) (n' ∙ sym (length-set (laid none cell len cells) i x ∙ n)) (λ j m.
-        let inside : j < len = omega (arith, m, n') in
-        item_at j (set cells (cell i) x) inside ∙ elim (ℕ_discrete j i) [
-          | yes e ↦ (
-              ap (λ j. get_or (set cells (cell i) x) (cell j) none) e ∙ get_or-set_same cells (cell i) x none (h.within i l)
-              ∙ sym (ap (λ j. get_or (set (laid none cell len cells) i x) j none) e ∙ get_or-set_same (laid none cell len cells) i x none (omega (arith, l, n))))
-          | no d ↦ (
-              get_or-set_other cells (cell i) (cell j) x none (h.apart j i d)
-              ∙ sym (get_or-set_other (laid none cell len cells) i j x none d ∙ item_at j cells inside))
-        ])
+    module _ (h : AreApart cell len (length cells)) where
+      -- what is read from its cell is the item
+      pub item_read : (r : A) → r ≡ get_or cells (cell i) r → r ≡ get_or items i none
+      item_read r read =
+          read ∙ get_or_default cells (cell i) r none (h.within i item_within) ∙ sym (item_at i cells item_within) ∙ ap (λ v. get_or v i none) e
+
+      -- what is written into its cell is the item then, and all others are as before
+      pub item_put : (x : A) → laid none cell len (set cells (cell i) x) ≡ set items i x
+      item_put x =
+          let n = length-laid cells in
+          let n' = length-laid (set cells (cell i) x) in
+          ext_get_or none (laid none cell len (set cells (cell i) x)) (set (laid none cell len cells) i x) (n' ∙ sym (length-set (laid none cell len cells) i x ∙ n)) (λ j m.
+          let inside : j < len = omega (arith, m, n') in
+          item_at j (set cells (cell i) x) inside ∙ elim (ℕ_discrete j i) [
+            | yes q ↦ (
+                ap (λ j. get_or (set cells (cell i) x) (cell j) none) q ∙ get_or-set_same cells (cell i) x none (h.within i item_within)
+                ∙ sym (ap (λ j. get_or (set (laid none cell len cells) i x) j none) q
+                ∙ get_or-set_same (laid none cell len cells) i x none (omega (arith, item_within, n))))
+            | no d ↦ (
+                get_or-set_other cells (cell i) (cell j) x none (h.apart j i d)
+                ∙ sym (get_or-set_other (laid none cell len cells) i j x none d ∙ item_at j cells inside))
+          ])
+          ∙ ap (λ v. set v i x) e
