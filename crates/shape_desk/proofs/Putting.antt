@@ -1,37 +1,27 @@
--- Digits that are put one behind the other: what stands before them, and what behind them.
--- Laws of lists and of the spelling of numbers.
-use Rattle.std.proofs.Common.{◌≡◌, ◌+◌, ◌/◌, ◌%◌, ◌<◌, ◌≤◌, ℕ, List, [], ◌∷◌, ◌++◌, length, take, drop, sym, ◌∙◌, ap, arith, append_assoc, length-append, drop-drop}
+-- Texts that are put one behind the other are put as one text.
+-- So the digits of a number are put where those but the last are, and the last behind them.
+use Rattle.std.proofs.Common.{◌≡◌, ◌+◌, ◌/◌, ◌%◌, ◌^◌, ◌<◌, ◌≤◌, ℕ, List, [], ◌∷◌, ◌++◌, length, take, drop, sym, ◌∙◌, ap, subst, arith, append_assoc, length-append, drop-drop}
 use Rattle.std.specs.Fmt.{decimal}
-use Rattle.std.proofs.lemmas.Fmt.{decimal_step, decimal_digit}
+use Rattle.std.proofs.lemmas.Fmt.{decimal_step}
+use Rattle.shape_desk.specs.Putting.{PutsAt}
 
-pub one_digit : (n : ℕ) → n < 10 → decimal n ≡ (48 + n) ∷ []
-one_digit n h = decimal_digit n h
+-- the same text, told otherwise
+pub PutsAt-told : {text other : List ℕ} {at : ℕ} {old new : List ℕ} {end : ℕ} → text ≡ other → PutsAt text at old new end → PutsAt other at old new end
+PutsAt-told {at = at} {old} {new} {end} same p = subst (λ t. PutsAt t at old new end) same p
 
-pub one_long : (n : ℕ) → n < 10 → length (decimal n) ≡ 1
-one_long n h = ap length (decimal_digit n h)
+-- a text, and another behind it
+pub PutsAt-more : {a b : List ℕ} {at : ℕ} {old mid new : List ℕ} {m end : ℕ} → PutsAt a at old mid m → PutsAt b m mid new end → PutsAt (a ++ b) at old new end
+PutsAt-more {a} {b} {at} {old} {mid} {new} {m} {end} p q = record {
+  place = omega (arith, p.place, q.place, length-append a b);
+  front = q.front ∙ ap (λ xs. xs ++ b) p.front ∙ append_assoc (take at old) a b;
+  behind =
+      let after : (xs : List ℕ) → drop end xs ≡ drop (length b) (drop m xs) = λ xs. ap (λ k. drop k xs) q.place ∙ sym (drop-drop (length b) m xs) in
+      q.behind ∙ after mid ∙ ap (drop (length b)) p.behind ∙ sym (after old);
+  same_length = q.same_length ∙ p.same_length;
+}
 
--- the digits but the last end at m, and the last at e
-module _ (n : ℕ) (some : 10 ≤ n) (few : n < 1000000) where
-  step : decimal n ≡ decimal (n / 10) ++ (48 + n % 10) ∷ []
-  step = decimal_step n some (omega arith)
-
-  pub longer : length (decimal n) ≡ length (decimal (n / 10)) + 1
-  longer = let a = ap length step in let b = length-append (decimal (n / 10)) ((48 + n % 10) ∷ []) in omega arith
-
-  pub put_text : (bs ms cs : List ℕ) (at m e : ℕ) → take m ms ≡ take at bs ++ decimal (n / 10) → take e cs ≡ take m ms ++ (48 + n % 10) ∷ [] → take e cs ≡ take at bs ++ decimal n
-  put_text bs ms cs at m e first last =
-      last ∙ ap (λ xs. xs ++ (48 + n % 10) ∷ []) first ∙ append_assoc (take at bs) (decimal (n / 10)) ((48 + n % 10) ∷ []) ∙ ap (λ xs. take at bs ++ xs) (sym step)
-
--- a number of four to six digits has three more than its thousands
-pub thousands_longer : (n : ℕ) → 1000 ≤ n → n < 1000000 → length (decimal n) ≡ length (decimal (n / 1000)) + 3
-thousands_longer n long short =
-    let hundreds : n / 100 / 10 ≡ n / 1000 = omega arith in
-    let tens : n / 10 / 10 ≡ n / 100 = omega arith in
-    let a = longer (n / 100) (omega (arith, long)) (omega (arith, short)) in
-    let b = longer (n / 10) (omega (arith, long)) (omega (arith, short)) in
-    let c = longer n (omega (arith, long)) short in
-    omega (arith, a, b, c, ap (λ k. length (decimal k)) hundreds, ap (λ k. length (decimal k)) tens)
-
-pub put_rest : (bs ms cs : List ℕ) (m e : ℕ) → e ≡ m + 1 → drop m ms ≡ drop m bs → drop e cs ≡ drop e ms → drop e cs ≡ drop e bs
-put_rest bs ms cs m e is first last =
-    last ∙ ap (λ k. drop k ms) is ∙ sym (drop-drop 1 m ms) ∙ ap (drop 1) first ∙ drop-drop 1 m bs ∙ ap (λ k. drop k bs) (sym is)
+-- the digits of a tenth, and the last digit behind them
+pub PutsAt-digit : {at : ℕ} {old mid new : List ℕ} {m end : ℕ} (n tenth : ℕ) → 10 ≤ n → n < 2 ^ 64 → tenth ≡ n / 10
+    → PutsAt (decimal tenth) at old mid m → PutsAt ((48 + n % 10) ∷ []) m mid new end → PutsAt (decimal n) at old new end
+PutsAt-digit n tenth some few is p q =
+    PutsAt-told (ap (λ k. decimal k ++ (48 + n % 10) ∷ []) is ∙ sym (decimal_step n some few)) (PutsAt-more p q)

@@ -1,16 +1,14 @@
 //! Numbers of at most six digits, each digit put where it stands.
 //! How every other number is put belongs elsewhere.
-ghost use Rattle.std.specs.Prelude.{◌≡◌, ◌≤◌, ◌<◌, ◌+◌, ◌++◌, [], ◌∷◌, length, take, drop};
+ghost use Rattle.std.specs.Prelude.{◌≤◌, ◌<◌, ◌+◌, [], ◌∷◌, length};
 ghost use Rattle.std.specs.Fmt.{decimal};
+ghost use Rattle.shape_desk.specs.Putting.{PutsAt};
 
 // Puts a digit at a place of the buffer, and answers the place after it.
 fn put_digit(n: u64, buf: &mut [u8], at: usize) -> usize
     requires digit { n < 10 }
     requires room { at + 1 ≤ length buf.old }
-    ensures place { result ≡ at + 1 }
-    ensures text { take result buf.new ≡ take at buf.old ++ (48 + n) ∷ [] }
-    ensures rest { drop result buf.new ≡ drop result buf.old }
-    ensures length { length buf.new ≡ length buf.old }
+    ensures put { PutsAt ((48 + n) ∷ []) at buf.old buf.new result }
 {
     buf[at] = b'0' + n as u8;
     at + 1
@@ -20,11 +18,8 @@ fn put_digit(n: u64, buf: &mut [u8], at: usize) -> usize
 fn put_two(n: u64, buf: &mut [u8], at: usize) -> usize
     requires short { n < 100 }
     requires room { at + 2 ≤ length buf.old }
-    ensures place { result ≡ at + length (decimal n) }
+    ensures put { PutsAt (decimal n) at buf.old buf.new result }
     ensures few { result ≤ at + 2 }
-    ensures text { take result buf.new ≡ take at buf.old ++ decimal n }
-    ensures rest { drop result buf.new ≡ drop result buf.old }
-    ensures length { length buf.new ≡ length buf.old }
 {
     if n < 10 {
         return put_digit(n, buf, at);
@@ -37,11 +32,8 @@ fn put_two(n: u64, buf: &mut [u8], at: usize) -> usize
 pub(crate) fn put_short(n: u64, buf: &mut [u8], at: usize) -> usize
     requires short { n < 1000 }
     requires room { at + 3 ≤ length buf.old }
-    ensures place { result ≡ at + length (decimal n) }
+    ensures put { PutsAt (decimal n) at buf.old buf.new result }
     ensures few { result ≤ at + 3 }
-    ensures text { take result buf.new ≡ take at buf.old ++ decimal n }
-    ensures rest { drop result buf.new ≡ drop result buf.old }
-    ensures length { length buf.new ≡ length buf.old }
 {
     if n < 100 {
         return put_two(n, buf, at);
@@ -55,11 +47,8 @@ pub(crate) fn put_thousands(n: u64, buf: &mut [u8], at: usize) -> usize
     requires long { 1000 ≤ n }
     requires short { n < 1000000 }
     requires room { at + 6 ≤ length buf.old }
-    ensures place { result ≡ at + length (decimal n) }
+    ensures put { PutsAt (decimal n) at buf.old buf.new result }
     ensures few { result ≤ at + 6 }
-    ensures text { take result buf.new ≡ take at buf.old ++ decimal n }
-    ensures rest { drop result buf.new ≡ drop result buf.old }
-    ensures length { length buf.new ≡ length buf.old }
 {
     let end = put_short(n / 1000, buf, at);
     let end = put_digit(n / 100 % 10, buf, end);
