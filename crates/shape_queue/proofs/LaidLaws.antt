@@ -1,7 +1,7 @@
 -- Lists that are kept in cells: what is read from a cell is the item, and what is written into it changes this item alone.
 -- Laws over lists of anything.
-use Rattle.std.proofs.Common.{◌≡◌, ℕ, ◌<◌, List, length, set, replicate, get_or, sym, ◌∙◌, ap, arith}
-use Rattle.std.proofs.lemmas.List.{length-set, length-replicate, get_or-replicate, get_or-set_same, get_or-set_other, get_or_default, ext_get_or}
+use Rattle.std.proofs.Common.{◌≡◌, ℕ, ◌<◌, List, length, set, get_or, sym, ◌∙◌, ap, arith}
+use Rattle.std.proofs.lemmas.List.{length-set, get_or-set_same, get_or-set_other, get_or_default, ext_get_or}
 use Rattle.std.proofs.lemmas.List.FromFn.{length-map-range_with_len, get_or-map-range_with_len}
 use native.Mathlib.Decide.{ℕ_discrete}
 use Rattle.shape_queue.specs.Laid.{laid, AreApart}
@@ -12,15 +12,6 @@ module _ {A : Type 0} (none : A) (cell : ℕ → ℕ) (len : ℕ) where
 
   item_at : (i : ℕ) (cells : List A) → i < len → get_or (laid none cell len cells) i none ≡ get_or cells (cell i) none
   item_at i cells l = get_or-map-range_with_len (λ i. get_or cells (cell i) none) 0 len i i none l (omega arith)
-
-  -- where all cells are the same, so are all items
-  pub all_same : (room : ℕ) → AreApart cell len room → (cells : List A) → cells ≡ replicate room none → laid none cell len cells ≡ replicate len none
-  all_same room h cells e =
-      let n = length-laid cells in
-      ext_get_or none (laid none cell len cells) (replicate len none) (n ∙ sym (length-replicate len none)) (λ i l.
-      let m : i < len = omega (arith, l, n) in
-      item_at i cells m ∙ ap (λ (v : List A). get_or v (cell i) none) e
-      ∙ get_or-replicate room (cell i) none none (h.within i m) ∙ sym (get_or-replicate len i none none m))
 
   -- item i of the list that is kept so
   module _ (cells items : List A) (e : laid none cell len cells ≡ items) (i : ℕ) (l : i < length items) where
@@ -46,7 +37,7 @@ module _ {A : Type 0} (none : A) (cell : ℕ → ℕ) (len : ℕ) where
                 ∙ sym (ap (λ j. get_or (set (laid none cell len cells) i x) j none) q
                 ∙ get_or-set_same (laid none cell len cells) i x none (omega (arith, item_within, n))))
             | no d ↦ (
-                get_or-set_other cells (cell i) (cell j) x none (h.apart j i d)
+                get_or-set_other cells (cell i) (cell j) x none (h.apart j i inside item_within d)
                 ∙ sym (get_or-set_other (laid none cell len cells) i j x none d ∙ item_at j cells inside))
           ])
           ∙ ap (λ v. set v i x) e

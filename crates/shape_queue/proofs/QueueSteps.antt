@@ -1,19 +1,22 @@
 -- The keys of a queue while a rank is put into its set or taken out, and the least of them.
 -- Laws over keys and lists alone.
-use Rattle.std.proofs.Common.{◌≡◌, ◌⊎◌, inl, inr, ℕ, ◌*◌, ◌<◌, ◌≤◌, Bool, true, false, not, cond, eqb, ltb, List, length, set, replicate, get_or, slice_index, refl, sym, ◌∙◌, ap, subst, arith, Some}
-use Rattle.std.specs.Prelude.{◌&&◌, slice_get}
-use Rattle.std.specs.Bool.{beq}
+use Rattle.std.proofs.Common.{◌≡◌, ◌⊎◌, inl, inr, ℕ, ◌*◌, ◌<◌, Bool, true, false, not, cond, eqb, ltb, List, length, set, replicate, get_or, slice_index, refl, sym, ◌∙◌, ap, subst, arith, Option, Some}
+use Rattle.std.specs.Prelude.{◌&&◌, ◌↔◌, slice_get, None, MatchOption, IfSome, is_none}
 use Rattle.std.proofs.lemmas.Bool.{eqb-true, eq-eqb, ltb-true, lt-ltb}
 use Rattle.std.proofs.lemmas.List.{length-set, length-replicate, get_or-replicate, get_or-set_same, get_or-set_other}
 use Rattle.std.proofs.lemmas.Option.{get_or_from_slice_get}
+use Rattle.std.specs.Bool.{beq}
 use Rattle.std.specs.BTreeMap.{is_at}
 use native.Mathlib.Decide.{ℕ_discrete, dec_lt}
 use Rattle.shape_bits.specs.Sets.{In, bit_of, IsPut, IsLeast}
 use Rattle.shape_bits.specs.Truths.{is_in}
 use Rattle.shape_queue.specs.declared.key.Key.{Key}
+use Rattle.shape_queue.specs.declared.ranked.Ranked.{Ranked}
+use Rattle.shape_queue.specs.declared.spot.Spot.{Spot}
 use Rattle.shape_queue.specs.Keys.{key_cmp, IsLeastKey, Queued, has}
-use Rattle.shape_queue.specs.Ranks.{rank_in, Precedes, AreQueued, AreFitting}
+use Rattle.shape_queue.specs.Ranks.{rank_in, spot_of, Precedes, HasKey, AreSpots, AreQueued, AreFitting}
 use Rattle.shape_queue.specs.Waiting.{key_at, Put}
+use Rattle.shape_queue.proofs.RankPlaces.{place_of_rank}
 use Rattle.shape_queue.proofs.KeyOrder.{at_itself, at_only, by_key, same_key, not_greater}
 use Rattle.shape_queue.proofs.RankLaws.{rank_small, rank_rises, rank_apart}
 
@@ -85,7 +88,7 @@ others q new i b l p k f = elim (ℕ_discrete k.place i) [
   ]
 ]
 
-pub put_rank : (q : Queued) (new : List ℕ) (i : ℕ) (b : Bool) → i < length q.distances → IsPut q.waiting new (rank_in q.distances i) (bool_of b)
+put_rank : (q : Queued) (new : List ℕ) (i : ℕ) (b : Bool) → i < length q.distances → IsPut q.waiting new (rank_in q.distances i) (bool_of b)
     → Put (has q) (has (with_set q new)) (key_at q.distances i) b
 put_rank q new i b l p k = elim (by_key (key_at q.distances i) k) [
   | inl t ↦ (
@@ -94,18 +97,25 @@ put_rank q new i b l p k = elim (by_key (key_at q.distances i) k) [
   | inr f ↦ others q new i (bool_of b) l p k f ∙ sym (ap (λ t. cond t b (has q k)) f)
 ]
 
--- the set has room for the rank of a place
-pub rank_within : (ds waiting : List ℕ) (i r : ℕ) → length ds ≤ 64 * length waiting → i < length ds → r ≡ rank_in ds i → r < 64 * length waiting
-rank_within ds waiting i r room l e = let s = rank_small ds i l in omega arith
+-- the key that has a rank
+module _ (q : Queued) {r : ℕ} {key : Key} (t : HasKey q.distances r key) where
+  pub key_is : key ≡ key_at q.distances key.place
+  key_is = ap (λ d. record { distance = d; place = key.place }) t.same
 
--- a key that is there or not, as b says, is left as it is
-pub put_none : (q : Queued) (i : ℕ) (b : Bool) → i < length q.distances → is_in q.waiting (rank_in q.distances i) ≡ b → Put (has q) (has q) (key_at q.distances i) b
-put_none q i b l e k = elim (by_key (key_at q.distances i) k) [
-  | inl t ↦ (
-      let s = at_only (key_at q.distances i) k t in
-      ap (has q) (sym s) ∙ has_place q i l ∙ e ∙ sym (ap (λ t. cond t b (has q k)) t))
-  | inr f ↦ sym (ap (λ t. cond t b (has q k)) f)
-]
+  -- it is put in or taken out with its rank
+  pub put_key : (new : List ℕ) (b : Bool) → IsPut q.waiting new r (bool_of b) → Put (has q) (has (with_set q new)) key b
+  put_key new b p = subst (λ k. Put (has q) (has (with_set q new)) k b) (sym key_is)
+      (put_rank q new key.place b t.inside (subst (λ r. IsPut q.waiting new r (bool_of b)) (sym t.ranked) p))
+
+  -- where its rank is there or not, as b says, it is left as it is
+  pub put_none : (b : Bool) → is_in q.waiting (rank_in q.distances key.place) ≡ b → Put (has q) (has q) key b
+  put_none b e k = elim (by_key key k) [
+    | inl t' ↦ ap (has q) (sym (at_only key k t')) ∙ key_there ∙ e ∙ sym (ap (λ t. cond t b (has q k)) t')
+    | inr f ↦ sym (ap (λ t. cond t b (has q k)) f)
+  ]
+    where
+      key_there : has q key ≡ is_in q.waiting (rank_in q.distances key.place)
+      key_there = ap (has q) key_is ∙ has_place q key.place t.inside
 
 -- the truth value of the place is changed with its rank
 queued_put : (ds waiting new : List ℕ) (queued : List Bool) (i : ℕ) (b : Bool) → i < length ds → AreQueued ds waiting queued → IsPut waiting new (rank_in ds i) (bool_of b)
@@ -122,15 +132,26 @@ queued_put ds waiting new queued i b l h p =
       ];
     }
 
-pub fitting_put : (ds ranks : List ℕ) (keys : List Key) (waiting new : List ℕ) (queued : List Bool) (i : ℕ) (b : Bool) → i < length ds → AreFitting ds ranks keys waiting queued
-    → IsPut waiting new (rank_in ds i) (bool_of b) → AreFitting ds ranks keys new (set queued i b)
-fitting_put ds ranks keys waiting new queued i b l h p = record {
-  ranks_are = h.ranks_are;
-  keys_are = h.keys_are;
-  room = let e = p.room in let r = h.room in omega (arith, e, r);
-  inside = λ r w. elim (ℕ_discrete r (rank_in ds i)) [ yes e ↦ (i, l, sym e) | no n ↦ h.inside r (sym (p.others r n) ∙ w) ];
-  queued_are = queued_put ds waiting new queued i b l h.queued_are p;
-}
+-- what is read of a place is its spot
+pub spot_read : {ds : List ℕ} {spots : List Spot} → AreSpots ds spots → {i : ℕ} → i < length ds → {s : Spot} → slice_get spots i ≡ Some s → s ≡ spot_of ds i
+spot_read {ds} {spots} h {i} l {s} e = sym (get_or_from_slice_get spots i s s e) ∙ get_or_from_slice_get spots i (spot_of ds i) s (h.each i l)
+
+module _ {ds : List ℕ} {spots : List Spot} {keys : List Key} {waiting : List ℕ} {queued : List Bool} {latest : Option Ranked} (h : AreFitting ds spots keys waiting queued latest) {i : ℕ} (l : i < length ds) where
+  -- the set has room for the rank of a place
+  pub rank_within : rank_in ds i < 64 * length waiting
+  rank_within = omega (arith, rank_small ds i l, h.room)
+
+  pub fitting_put : {new : List ℕ} {later : Option Ranked} (b : Bool) → IsPut waiting new (rank_in ds i) (bool_of b) → IfSome later (λ l. HasKey ds l.rank l.key)
+      → AreFitting ds spots keys new (set queued i b) later
+  fitting_put {new} {later} b p t = record {
+    few = h.few;
+    spots_are = h.spots_are;
+    keys_are = h.keys_are;
+    room = omega (arith, p.room, h.room);
+    inside = λ r w. elim (ℕ_discrete r (rank_in ds i)) [ yes e ↦ omega (arith, e, rank_small ds i l) | no n ↦ h.inside r (sym (p.others r n) ∙ w) ];
+    queued_are = queued_put ds waiting new queued i b l h.queued_are p;
+    latest_is = t;
+  }
 
 -- in the beginning none waits
 pub none_queued : (ds waiting : List ℕ) → ((r : ℕ) → In waiting r → ⊥) → AreQueued ds waiting (replicate (length ds) false)
@@ -141,52 +162,31 @@ none_queued ds waiting none = record {
 
 -- ---- the least key
 
-module _ (ds ranks : List ℕ) (keys : List Key) (waiting : List ℕ) (queued : List Bool) (h : AreFitting ds ranks keys waiting queued) (r : ℕ) (least : IsLeast waiting r) where
-  -- it is the rank of a place
-  place : (i : ℕ) × (i < length ds) × (rank_in ds i ≡ r)
-  place = h.inside r least.there
+-- the key with the least rank that waits
+module _ (q : Queued) {r : ℕ} {key : Key} (t : HasKey q.distances r key) (least : IsLeast q.waiting r) where
+  pub least_has : has q key ≡ true
+  least_has = ap (has q) (key_is q t) ∙ has_place q key.place t.inside ∙ ap (λ x. eqb (bit_of q.waiting x) 1) t.ranked ∙ eq-eqb (bit_of q.waiting r) 1 least.there
 
-  pub least_within : r < length keys
-  least_within = let p = place in let s = rank_small ds p.0 p.1 in let n = h.keys_are.filled in omega (arith, s, n, p.2)
+  pub least_key : IsLeastKey (has q) key
+  least_key k w =
+      let s = has_tells q k w in
+      let a = least.least (rank_in q.distances k.place) s.waits in
+      not_greater key k (λ o.
+      let before : Precedes q.distances k.place key.place = subst (λ d. (d < slice_index q.distances key.place) ⊎ ((d ≡ slice_index q.distances key.place) × (k.place < key.place))) s.same
+      (subst (λ d. (k.distance < d) ⊎ ((k.distance ≡ d) × (k.place < key.place))) t.same o) in
+      let e = rank_rises q.distances k.place key.place s.inside before in
+      omega (arith, a, e, t.ranked))
 
-  -- its key is that of the place
-  key_read : (key : Key) → slice_get keys r ≡ Some key → key ≡ key_at ds place.0
-  key_read key e =
-      let p = place in
-      sym (get_or_from_slice_get keys r key key e) ∙ get_or_from_slice_get keys r (key_at ds p.0) key (ap (slice_get keys) (sym p.2) ∙ h.keys_are.each p.0 p.1)
-
-  pub least_has : (key : Key) → slice_get keys r ≡ Some key → has (record { distances = ds; waiting = waiting }) key ≡ true
-  least_has key e =
-      let p = place in
-      ap (has (record { distances = ds; waiting = waiting })) (key_read key e) ∙ has_place (record { distances = ds; waiting = waiting }) p.0 p.1
-      ∙ ap (λ x. eqb (bit_of waiting x) 1) p.2 ∙ eq-eqb (bit_of waiting r) 1 least.there
-
-  pub least_key : (key : Key) → slice_get keys r ≡ Some key → IsLeastKey (has (record { distances = ds; waiting = waiting })) key
-  least_key key e = subst (IsLeastKey (has (record { distances = ds; waiting = waiting }))) (sym (key_read key e)) (λ k w.
-      let t = has_tells (record { distances = ds; waiting = waiting }) k w in
-      let p = place in
-      let a = least.least (rank_in ds k.place) t.waits in
-      not_greater (key_at ds p.0) k (λ o.
-      let before : Precedes ds k.place p.0 = subst (λ d. (d < slice_index ds p.0) ⊎ ((d ≡ slice_index ds p.0) × (k.place < p.0))) t.same o in
-      let s = rank_rises ds k.place p.0 t.inside before in
-      omega (arith, a, s, p.2)))
-
-  -- taken out of the set by its rank, it is taken out of the queue
-  pub popped_key : (key : Key) → slice_get keys r ≡ Some key → (new : List ℕ) → IsPut waiting new r 0
-      → Put (has (record { distances = ds; waiting = waiting })) (has (record { distances = ds; waiting = new })) key false
-  popped_key key e new put =
-      let p = place in
-      subst (λ k. Put (has (record { distances = ds; waiting = waiting })) (has (record { distances = ds; waiting = new })) k false) (sym (key_read key e))
-      (put_rank (record { distances = ds; waiting = waiting }) new p.0 false p.1 (subst (λ r. IsPut waiting new r 0) (sym p.2) put))
-
-  pub popped_within : (key : Key) → slice_get keys r ≡ Some key → key.place < length ds
-  popped_within key e = let p = place in subst (λ (k : Key). k.place < length ds) (sym (key_read key e)) p.1
-
-  pub popped_fits : (key : Key) → slice_get keys r ≡ Some key → (new : List ℕ) → IsPut waiting new r 0 → AreFitting ds ranks keys new (set queued key.place false)
-  popped_fits key e new put =
-      let p = place in
-      subst (λ (k : Key). AreFitting ds ranks keys new (set queued k.place false)) (sym (key_read key e))
-      (fitting_put ds ranks keys waiting new queued p.0 false p.1 h (subst (λ r. IsPut waiting new r 0) (sym p.2) put))
+-- no key is there exactly where no rank waits
+pub empty_tells : (q : Queued) → ((r : ℕ) → In q.waiting r → r < length q.distances) → (o : Option ℕ) → MatchOption o ((r : ℕ) → In q.waiting r → ⊥) (IsLeast q.waiting)
+    → (is_none o ≡ true) ↔ ((k : Key) → has q k ≡ false)
+empty_tells q inside None none = (λ t. none_has q none, λ n. refl)
+empty_tells q inside (Some r) least = (
+  λ (t : false ≡ true). cc,
+  λ n. let p = place_of_rank q.distances r (inside r least.there) in
+      let t : HasKey q.distances r (key_at q.distances p.0) = record { inside = p.1; same = refl; ranked = p.2 } in
+      absurd (let e : false ≡ true = sym (n (key_at q.distances p.0)) ∙ least_has q t least in cc),
+)
 
 -- the test found no difference
 pub same_value : (a b : Bool) → not (beq a b) ≡ false → a ≡ b

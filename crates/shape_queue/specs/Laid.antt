@@ -7,7 +7,7 @@ use Rattle.std.specs.List.{range_with_len}
 abbrev pub laid : {A : Type 0} → A → (ℕ → ℕ) → ℕ → List A → List A
 laid none cell len cells = map (λ i. slice_index_or cells (cell i) none) (range_with_len 0 len)
 
--- each of the first len items has a cell among so many, and no two have the same
+-- each of the first len items has a cell among so many, and no two of them have the same
 pub record AreApart (cell : ℕ → ℕ) (len room : ℕ) : Type 0 where
   pub within : (i : ℕ) → i < len → cell i < room
-  pub apart : (i j : ℕ) → i ≢ j → cell i ≢ cell j
+  pub apart : (i j : ℕ) → i < len → j < len → i ≢ j → cell i ≢ cell j

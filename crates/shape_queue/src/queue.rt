@@ -1,44 +1,44 @@
 //! The queue: all places have ranks by their distances, and the ranks of those that wait are a set of numbers.
 //! Which keys wait is a matter of `specs/Waiting`; how ranks are found belongs elsewhere.
-ghost use Rattle.std.specs.Prelude.{◌≡◌, ℕ, ◌<◌, ◌≤◌, ◌^◌, length, IfOk, MatchOption, IfSome, false, true};
+ghost use Rattle.std.specs.Prelude.{◌≡◌, ℕ, ◌<◌, ◌≤◌, ◌↔◌, ◌^◌, length, IfOk, MatchOption, IfSome, false, true};
 ghost use Rattle.shape_queue.specs.declared.key.Key.{Key};
 ghost use Rattle.shape_queue.specs.Keys.{has, IsLeastKey};
-ghost use Rattle.shape_queue.specs.Ranks.{rank_in};
+ghost use Rattle.shape_queue.specs.Ranks.{HasKey};
 ghost use Rattle.shape_queue.specs.Waiting.{key_at, Put};
 
 use crate::banded::Banded;
 use crate::key::Key;
-use crate::ranks::{keys_of, ranks_of};
-use crate::spaced::Spaced;
+use crate::ranked::Ranked;
+use crate::ranks::{keys_of, spots_of};
+use crate::spot::Spot;
 use shape_bits::{Bits, Numbers};
 use shape_space::NoMemory;
 use std::alloc::Global;
 use std::marker::Model;
 
-/// The places that wait, by the ranks of all places, and a bit for each place that tells the same. Each rank has its key.
+/// The places that wait, by the ranks of all places, and a bit for each place that tells the same. Each rank has its key, and each place its spot.
 ///
-/// The bits of near places are near to one another, while their ranks are far apart: a look that changes nothing reads no rank.
+/// The bits of near places are near to one another, while their ranks are far apart: a look that changes nothing reads no spot.
+/// The key that was put in last is often the next to be taken, and is kept at hand: to look it up by its rank is to wait for memory.
 #[derive(Drop)]
 pub struct Queue {
-    ranks: Banded,
-    keys: Spaced,
+    spots: Banded,
+    keys: Vec<Key>,
     waiting: Numbers,
     queued: Bits,
+    latest: Option<Ranked>,
 }
 
 impl Model for Queue {
     ghost use Rattle.shape_queue.specs.Keys.{Queued};
-    ghost use Rattle.shape_queue.specs.Ranks.{distances_by, AreFitting};
+    ghost use Rattle.shape_queue.specs.Ranks.{distances_of, AreFitting};
 
     ghost Value = { Queued };
 
-    ghost view = { λ q. record {
-      distances = distances_by q.ranks q.keys;
-      waiting = q.waiting;
-    } };
+    ghost view = { λ q. record { distances = distances_of q.spots; waiting = q.waiting } };
 
-    ghost invariant = { λ q. AreFitting (distances_by q.ranks q.keys) q.ranks q.keys
-        q.waiting q.queued };
+    ghost invariant = { λ q. AreFitting (distances_of q.spots) q.spots q.keys.items
+        q.waiting q.queued q.latest };
 }
 
 impl Queue {
@@ -52,15 +52,16 @@ impl Queue {
     {
         let greatest = distances.iter().copied().max().unwrap_or(0);
         let bound = greatest as usize + 1;
-        let ranks = ranks_of(alloc, distances.as_slice(), bound, width)?;
-        let keys = keys_of(alloc, distances.as_slice(), &ranks)?;
+        let spots = spots_of(alloc, distances.as_slice(), bound, width)?;
+        let keys = keys_of(alloc, distances.as_slice(), &spots)?;
         let waiting = Numbers::new(alloc, distances.len())?;
         let queued = Bits::new(alloc, distances.len())?;
         Ok(Queue {
-            ranks,
+            spots,
             keys,
             waiting,
             queued,
+            latest: None,
         })
     }
 
@@ -71,48 +72,58 @@ impl Queue {
         ensures distances { self.new.distances ≡ self.old.distances }
     {
         if self.queued.get(place as usize) != waits {
-            let rank = self.ranks.get(place);
-            self.change(place, rank, waits);
+            let Spot { rank, distance } = self.spots.get(place);
+            let key = Key { distance, place };
+            self.change(Ranked { rank, key }, waits);
         }
     }
 
-    /// The same of a place whose rank is known, so that it is not looked up.
-    pub fn settle_ranked(&mut self, place: u32, rank: u32, waits: bool)
-        requires below { place < length self.old.distances }
-        requires ranked { rank_in self.old.distances place ≡ rank }
-        ensures put { Put (has self.old) (has self.new) (key_at self.old.distances place) waits }
+    /// The same of the key with a rank, so that no spot is looked up.
+    pub fn settle_ranked(&mut self, rank: u32, waits: bool)
+        requires { rank < length self.old.distances }
+        ensures put { (key : Key) → HasKey self.old.distances rank key
+            → Put (has self.old) (has self.new) key waits }
         ensures distances { self.new.distances ≡ self.old.distances }
     {
-        if self.queued.get(place as usize) != waits {
-            self.change(place, rank, waits);
+        let key = self.ranked(rank);
+        if self.queued.get(key.place as usize) != waits {
+            self.change(Ranked { rank, key }, waits);
         }
     }
 
-    // Puts the key in or takes it out, by its rank, and has its bit tell so.
-    fn change(&mut self, place: u32, rank: u32, waits: bool)
-        requires below { place < length self.old.distances }
-        requires ranked { rank_in self.old.distances place ≡ rank }
-        ensures put { Put (has self.old) (has self.new) (key_at self.old.distances place) waits }
+    // Puts a key in or takes it out, by its rank, and has the bit of its place tell so.
+    fn change(&mut self, ranked: Ranked, waits: bool)
+        requires { HasKey self.old.distances ranked.rank ranked.key }
+        ensures put { Put (has self.old) (has self.new) ranked.key waits }
         ensures distances { self.new.distances ≡ self.old.distances }
     {
-        let place = place as usize;
+        let place = ranked.key.place as usize;
         if waits {
             self.queued.set(place);
-            self.waiting.insert(rank as usize);
+            self.waiting.insert(ranked.rank as usize);
+            self.latest = Some(ranked);
         } else {
             self.queued.clear(place);
-            self.waiting.remove(rank as usize);
+            self.waiting.remove(ranked.rank as usize);
         }
     }
 
     /// The key with a rank: so many places have a smaller one.
     pub fn ranked(&self, rank: u32) -> Key
         requires { rank < length self.now.distances }
-        ensures place { result.place < length self.now.distances }
-        ensures key { result ≡ key_at self.now.distances result.place }
-        ensures rank { rank_in self.now.distances result.place ≡ rank }
+        ensures { HasKey self.now.distances rank result }
     {
-        self.keys.get(rank as usize)
+        match self.latest {
+            Some(latest) if latest.rank == rank => latest.key,
+            _ => self.keys[rank as usize],
+        }
+    }
+
+    /// Whether no key is in the queue.
+    pub fn is_empty(&self) -> bool
+        ensures { (result ≡ true) ↔ ((k : Key) → has self.now k ≡ false) }
+    {
+        self.waiting.least().is_none()
     }
 
     /// The least key of the queue.
@@ -123,11 +134,11 @@ impl Queue {
     {
         match self.waiting.least() {
             None => None,
-            Some(rank) => Some(self.keys.get(rank)),
+            Some(rank) => Some(self.ranked(rank as u32)),
         }
     }
 
-    /// Takes out the least key of the queue. Its rank is known from the set, so that none is looked up.
+    /// Takes out the least key of the queue. Its rank is known from the set, so that no spot is looked up.
     pub fn pop(&mut self) -> Option<Key>
         ensures there { MatchOption result ((k : Key) → has self.old k ≡ false)
             (λ key. has self.old key ≡ true) }
@@ -139,9 +150,9 @@ impl Queue {
         match self.waiting.least() {
             None => None,
             Some(rank) => {
-                let key = self.keys.get(rank);
-                self.queued.clear(key.place as usize);
-                self.waiting.remove(rank);
+                let rank = rank as u32;
+                let key = self.ranked(rank);
+                self.change(Ranked { rank, key }, false);
                 Some(key)
             }
         }

@@ -46,6 +46,7 @@ module _ {P : Type 0} {pairs : _} {point : _} {eq : _} {order : _} {partial : _}
   abbrev pub IsAtEnd : Thinner P pairs point eq order partial → Type 0
   IsAtEnd t = ((k : Key) → has t.front.keys k ≡ false) × (t.front.ahead ≡ 0)
 
+  -- n is the next point q of the thinning: that with the least of the keys that wait
   abbrev pub IsNextOf : Thinner P pairs point eq order partial → Next P → Point → Type 0
   IsNextOf t n q = IsNextIn t.left (has t.front.keys) n q
 

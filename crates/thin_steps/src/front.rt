@@ -78,7 +78,7 @@ impl<P: SimpleMask> Front<P> {
             self.ahead -= 1;
             self.reached.set_number(key.place);
             let simple = left.is_simple(key.place, steps);
-            self.keys.settle_ranked(key.place, rank, simple);
+            self.keys.settle_ranked(rank, simple);
         }
     }
 
@@ -92,7 +92,7 @@ impl<P: SimpleMask> Front<P> {
         ensures room { room_in self.new ≡ room_in self.old }
         ensures few { steps.new + self.new.ahead ≤ steps.old + self.old.ahead }
     {
-        while self.ahead > 0 && self.keys.least().is_none() {
+        while self.ahead > 0 && self.keys.is_empty() {
             self.pass(left, steps);
         }
     }

@@ -1,29 +1,23 @@
-use Rattle.shape_queue.specs.Ranks.{distances_by}
-use Rattle.shape_queue.proofs.QueueSteps.{none_has, least_within, least_has, least_key}
+use Rattle.std.proofs.Common.{sym, subst, arith}
+use Rattle.shape_queue.specs.Keys.{Queued}
+use Rattle.shape_queue.specs.Ranks.{distances_of, HasKey}
+use Rattle.shape_queue.proofs.QueueSteps.{none_has, least_has, least_key}
 use Rattle.shape_queue.proofs.queue.Queue.least.Goals as goal
 
 pub returns-in-None-clause-there : goal.returns-in-None-clause-there
 returns-in-None-clause-there c =
     let i = c.self.inside in
-    let ds = distances_by i.ranks i.keys in
-    rw (← c.self.view_is) (none_has (record { distances = ds; waiting = i.waiting }) c.in-None.ensures)
+    rw (← c.self.view_is) (none_has (record { distances = distances_of i.spots; waiting = i.waiting }) c.in-None.ensures)
 
-pub get-requires : goal.get-requires
-get-requires c =
-    let i = c.self.inside in
-    let ds = distances_by i.ranks i.keys in
-    least_within ds i.ranks i.keys i.waiting i.queued c.self.invariant c.in-Some.rank c.in-Some.ensures
+pub overflow_cast-rank : goal.overflow_cast-rank
+overflow_cast-rank c = omega (arith, c.self.invariant.inside c.in-Some.rank c.in-Some.ensures.there, c.self.invariant.few)
 
-pub returns-in-Some-clause-there : goal.returns-in-Some-clause-there
-returns-in-Some-clause-there c =
-    let i = c.self.inside in
-    let ds = distances_by i.ranks i.keys in
-    rw (← c.self.view_is)
-    (least_has ds i.ranks i.keys i.waiting i.queued c.self.invariant c.in-Some.rank c.in-Some.ensures c.get.result c.get.ensures)
+pub ranked-requires : goal.ranked-requires
+ranked-requires c = rw (← c.self.view_is) (c.self.invariant.inside c.in-Some.rank c.in-Some.ensures.there)
 
-pub returns-in-Some-clause-least : goal.returns-in-Some-clause-least
-returns-in-Some-clause-least c =
+pub returns-in-Some : goal.returns-in-Some
+returns-in-Some c =
     let i = c.self.inside in
-    let ds = distances_by i.ranks i.keys in
-    rw (← c.self.view_is)
-    (least_key ds i.ranks i.keys i.waiting i.queued c.self.invariant c.in-Some.rank c.in-Some.ensures c.get.result c.get.ensures)
+    let q : Queued = record { distances = distances_of i.spots; waiting = i.waiting } in
+    let t = subst (λ (q : Queued). HasKey q.distances c.in-Some.rank c.ranked.result) (sym c.self.view_is) c.ranked.ensures in
+    rw (← c.self.view_is) (record { there = least_has q t c.in-Some.ensures; least = least_key q t c.in-Some.ensures })
