@@ -1,9 +1,9 @@
 -- The keys of a queue while a rank is put into its set or taken out, and the least of them.
 -- Laws over keys and lists alone.
-use Rattle.std.proofs.Common.{◌≡◌, ◌⊎◌, inl, inr, ℕ, ◌*◌, ◌<◌, Bool, true, false, not, cond, eqb, ltb, List, length, set, replicate, get_or, slice_index, refl, sym, ◌∙◌, ap, subst, arith, Option, Some}
-use Rattle.std.specs.Prelude.{◌&&◌, ◌↔◌, slice_get, None, MatchOption, IfSome, is_none}
+use Rattle.std.proofs.Common.{◌≡◌, ◌⊎◌, inl, inr, ℕ, ◌<◌, Bool, true, false, not, cond, eqb, ltb, List, length, replicate, slice_index, refl, sym, ◌∙◌, ap, subst, arith, Option, Some}
+use Rattle.std.specs.Prelude.{◌&&◌, ◌↔◌, slice_get, None, MatchOption, is_none}
 use Rattle.std.proofs.lemmas.Bool.{eqb-true, eq-eqb, ltb-true, lt-ltb}
-use Rattle.std.proofs.lemmas.List.{length-set, length-replicate, get_or-replicate, get_or-set_same, get_or-set_other}
+use Rattle.std.proofs.lemmas.List.{length-replicate, get_or-replicate}
 use Rattle.std.proofs.lemmas.Option.{get_or_from_slice_get}
 use Rattle.std.specs.Bool.{beq}
 use Rattle.std.specs.BTreeMap.{is_at}
@@ -11,14 +11,13 @@ use native.Mathlib.Decide.{ℕ_discrete, dec_lt}
 use Rattle.shape_bits.specs.Sets.{In, bit_of, IsPut, IsLeast}
 use Rattle.shape_bits.specs.Truths.{is_in}
 use Rattle.shape_queue.specs.declared.key.Key.{Key}
-use Rattle.shape_queue.specs.declared.ranked.Ranked.{Ranked}
 use Rattle.shape_queue.specs.declared.spot.Spot.{Spot}
 use Rattle.shape_queue.specs.Keys.{key_cmp, IsLeastKey, Queued, has}
-use Rattle.shape_queue.specs.Ranks.{rank_in, spot_of, Precedes, HasKey, AreSpots, AreQueued, AreFitting}
+use Rattle.shape_queue.specs.Ranks.{rank_in, spot_of, Precedes, HasKey, AreSpots, AreQueued}
 use Rattle.shape_queue.specs.Waiting.{key_at, Put}
 use Rattle.shape_queue.proofs.RankPlaces.{place_of_rank}
 use Rattle.shape_queue.proofs.KeyOrder.{at_itself, at_only, by_key, same_key, not_greater}
-use Rattle.shape_queue.proofs.RankLaws.{rank_small, rank_rises, rank_apart}
+use Rattle.shape_queue.proofs.RankLaws.{rank_rises, rank_apart}
 
 -- a truth value as a bit
 abbrev pub bool_of : Bool → ℕ
@@ -117,41 +116,9 @@ module _ (q : Queued) {r : ℕ} {key : Key} (t : HasKey q.distances r key) where
       key_there : has q key ≡ is_in q.waiting (rank_in q.distances key.place)
       key_there = ap (has q) key_is ∙ has_place q key.place t.inside
 
--- the truth value of the place is changed with its rank
-queued_put : (ds waiting new : List ℕ) (queued : List Bool) (i : ℕ) (b : Bool) → i < length ds → AreQueued ds waiting queued → IsPut waiting new (rank_in ds i) (bool_of b)
-    → AreQueued ds new (set queued i b)
-queued_put ds waiting new queued i b l h p =
-    let f = h.filled in
-    record {
-      filled = length-set queued i b ∙ f;
-      each = λ j m. elim (ℕ_discrete j i) [
-        | yes e ↦ (
-            let same : get_or (set queued i b) j false ≡ b = ap (λ j. get_or (set queued i b) j false) e ∙ get_or-set_same queued i b false (omega (arith, l, f)) in
-            same ∙ sym (ap (λ j. is_in new (rank_in ds j)) e ∙ ap (λ x. eqb x 1) p.here ∙ bit_test b))
-        | no n ↦ get_or-set_other queued i j b false n ∙ h.each j m ∙ sym (ap (λ x. eqb x 1) (p.others (rank_in ds j) (rank_apart ds j i m l n)))
-      ];
-    }
-
 -- what is read of a place is its spot
 pub spot_read : {ds : List ℕ} {spots : List Spot} → AreSpots ds spots → {i : ℕ} → i < length ds → {s : Spot} → slice_get spots i ≡ Some s → s ≡ spot_of ds i
 spot_read {ds} {spots} h {i} l {s} e = sym (get_or_from_slice_get spots i s s e) ∙ get_or_from_slice_get spots i (spot_of ds i) s (h.each i l)
-
-module _ {ds : List ℕ} {spots : List Spot} {keys : List Key} {waiting : List ℕ} {queued : List Bool} {latest : Option Ranked} (h : AreFitting ds spots keys waiting queued latest) {i : ℕ} (l : i < length ds) where
-  -- the set has room for the rank of a place
-  pub rank_within : rank_in ds i < 64 * length waiting
-  rank_within = omega (arith, rank_small ds i l, h.room)
-
-  pub fitting_put : {new : List ℕ} {later : Option Ranked} (b : Bool) → IsPut waiting new (rank_in ds i) (bool_of b) → IfSome later (λ l. HasKey ds l.rank l.key)
-      → AreFitting ds spots keys new (set queued i b) later
-  fitting_put {new} {later} b p t = record {
-    few = h.few;
-    spots_are = h.spots_are;
-    keys_are = h.keys_are;
-    room = omega (arith, p.room, h.room);
-    inside = λ r w. elim (ℕ_discrete r (rank_in ds i)) [ yes e ↦ omega (arith, e, rank_small ds i l) | no n ↦ h.inside r (sym (p.others r n) ∙ w) ];
-    queued_are = queued_put ds waiting new queued i b l h.queued_are p;
-    latest_is = t;
-  }
 
 -- in the beginning none waits
 pub none_queued : (ds waiting : List ℕ) → ((r : ℕ) → In waiting r → ⊥) → AreQueued ds waiting (replicate (length ds) false)
