@@ -11,7 +11,8 @@ use Rattle.shape_terms.proofs.Boxes.{raster_below, raster_number-raster_point, r
 use Rattle.shape_terms.proofs.ObjectPlaces.{object_in_box}
 use Rattle.shape_terms.proofs.NeighbourNumbers.{near_number}
 use Rattle.shape_queue.specs.declared.key.Key.{Key}
-use Rattle.shape_queue.specs.Waiting.{key_at, Waits, Put}
+use Rattle.shape_queue.specs.Ranks.{key_at}
+use Rattle.shape_queue.specs.Waiting.{Waits, Put}
 use Rattle.shape_queue.specs.Standing.{IsAhead, LaterFrom}
 use Rattle.shape_queue.proofs.WaitingSteps.{settled_more, passed_more, waits_less}
 

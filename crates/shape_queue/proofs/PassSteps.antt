@@ -16,8 +16,8 @@ use Rattle.shape_terms.proofs.BoxLists.{object_count}
 use Rattle.shape_terms.proofs.ObjectPlaces.{object_in_box}
 use Rattle.shape_terms.proofs.OneValue.{value_there, value_gone, value_elsewhere, one_object_less}
 use Rattle.shape_queue.specs.declared.key.Key.{Key}
-use Rattle.shape_queue.specs.Ranks.{rank_in}
-use Rattle.shape_queue.specs.Waiting.{key_at, Waits, Put}
+use Rattle.shape_queue.specs.Ranks.{key_at, rank_in}
+use Rattle.shape_queue.specs.Waiting.{Waits, Put}
 use Rattle.shape_queue.specs.Standing.{IsPassed, IsAhead, Stands, AreAhead}
 use Rattle.shape_queue.specs.Going.{Reach, IsFrontOf}
 use Rattle.shape_queue.proofs.RankPlaces.{rank_one}

@@ -13,8 +13,8 @@ use Rattle.shape_bits.specs.Truths.{is_in}
 use Rattle.shape_queue.specs.declared.key.Key.{Key}
 use Rattle.shape_queue.specs.declared.spot.Spot.{Spot}
 use Rattle.shape_queue.specs.Keys.{key_cmp, IsLeastKey, Queued, has}
-use Rattle.shape_queue.specs.Ranks.{rank_in, spot_of, Precedes, HasKey, AreSpots, AreQueued}
-use Rattle.shape_queue.specs.Waiting.{key_at, Put}
+use Rattle.shape_queue.specs.Ranks.{key_at, rank_in, spot_of, Precedes, HasKey, AreSpots, AreQueued}
+use Rattle.shape_queue.specs.Waiting.{Put}
 use Rattle.shape_queue.proofs.RankPlaces.{place_of_rank}
 use Rattle.shape_queue.proofs.KeyOrder.{at_itself, at_only, by_key, same_key, not_greater}
 use Rattle.shape_queue.proofs.RankLaws.{rank_rises, rank_apart}
@@ -117,8 +117,8 @@ module _ (q : Queued) {r : ℕ} {key : Key} (t : HasKey q.distances r key) where
       key_there = ap (has q) key_is ∙ has_place q key.place t.inside
 
 -- what is read of a place is its spot
-pub spot_read : {ds : List ℕ} {spots : List Spot} → AreSpots ds spots → {i : ℕ} → i < length ds → {s : Spot} → slice_get spots i ≡ Some s → s ≡ spot_of ds i
-spot_read {ds} {spots} h {i} l {s} e = sym (get_or_from_slice_get spots i s s e) ∙ get_or_from_slice_get spots i (spot_of ds i) s (h.each i l)
+pub spot_is : {ds : List ℕ} {spots : List Spot} → AreSpots ds spots → {i : ℕ} → i < length ds → {s : Spot} → slice_get spots i ≡ Some s → s ≡ spot_of ds i
+spot_is {ds} {spots} h {i} l {s} e = sym (get_or_from_slice_get spots i s s e) ∙ get_or_from_slice_get spots i (spot_of ds i) s (h.each i l)
 
 -- in the beginning none waits
 pub none_queued : (ds waiting : List ℕ) → ((r : ℕ) → In waiting r → ⊥) → AreQueued ds waiting (replicate (length ds) false)

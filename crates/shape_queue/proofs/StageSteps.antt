@@ -25,8 +25,8 @@ use Rattle.shape_terms.proofs.SimpleNear.{simple_alike}
 use Rattle.shape_terms.proofs.ThinningOnce.{one_distance}
 use Rattle.shape_queue.specs.declared.key.Key.{Key}
 use Rattle.shape_queue.specs.Keys.{key_cmp}
-use Rattle.shape_queue.specs.Waiting.{key_at, MayBeTaken, Waits, Put}
-use Rattle.shape_queue.specs.Ranks.{rank_in, Precedes}
+use Rattle.shape_queue.specs.Waiting.{MayBeTaken, Waits, Put}
+use Rattle.shape_queue.specs.Ranks.{key_at, rank_in, Precedes}
 use Rattle.shape_queue.specs.Standing.{IsPassed, IsAhead, Stands, AreAhead}
 use Rattle.shape_queue.specs.Going.{Reach, IsFrontOf}
 use Rattle.shape_queue.proofs.RankLaws.{rank_small}

@@ -10,7 +10,8 @@ use Rattle.shape_terms.specs.Parts.{Object}
 use Rattle.shape_terms.proofs.PointTests.{same_point}
 use Rattle.shape_queue.specs.declared.key.Key.{Key}
 use Rattle.shape_queue.specs.Keys.{key_cmp, IsLeastKey}
-use Rattle.shape_queue.specs.Waiting.{key_at, MayBeTaken, Waits, Put}
+use Rattle.shape_queue.specs.Ranks.{key_at}
+use Rattle.shape_queue.specs.Waiting.{MayBeTaken, Waits, Put}
 use Rattle.shape_queue.proofs.KeyOrder.{at_itself, at_only, not_above, by_key, one_least}
 
 put_here : (old new : Key → Bool) (key : Key) (b : Bool) → Put old new key b → new key ≡ b

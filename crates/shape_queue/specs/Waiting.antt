@@ -1,6 +1,6 @@
 -- Which keys wait in the queue of a thinning: those of the points reached that are simple among the points left.
 -- Places may be named that are still to be looked at; of them the queue says nothing.
-use Rattle.std.specs.Prelude.{◌≡◌, ◌⊎◌, ℕ, ◌<◌, ◌↔◌, Bool, true, cond, List, slice_index}
+use Rattle.std.specs.Prelude.{◌≡◌, ◌⊎◌, ℕ, ◌<◌, ◌↔◌, Bool, true, cond, List}
 use Rattle.shape_terms.specs.Points.{Point, box_count, raster_number, raster_point}
 use Rattle.shape_terms.specs.Pictures.{Picture}
 use Rattle.shape_terms.specs.Adjacency.{Near}
@@ -9,11 +9,8 @@ use Rattle.shape_terms.specs.Simple.{IsSimple}
 use Rattle.std.specs.BTreeMap.{is_at}
 use Rattle.shape_queue.specs.Keys.{key_cmp}
 use Rattle.shape_queue.specs.declared.key.Key.{Key}
+use Rattle.shape_queue.specs.Ranks.{key_at}
 use Rattle.shape_queue.specs.Standing.{IsAhead}
-
--- the key of a place
-abbrev pub key_at : List ℕ → ℕ → Key
-key_at distances i = record { distance = slice_index distances i; place = i }
 
 -- the point of the place is reached and simple
 abbrev pub MayBeTaken : List ℕ → Picture → Picture → ℕ → Type 0

@@ -1,14 +1,14 @@
 //! The queue: all places have ranks by their distances, and the ranks of those that wait are a set of numbers.
 //! Which keys wait is a matter of `specs/Waiting`; how ranks are found belongs elsewhere.
-ghost use Rattle.std.specs.Prelude.{◌≡◌, ℕ, ◌<◌, ◌≤◌, ◌↔◌, ◌^◌, length, IfOk, MatchOption, IfSome, false, true};
+ghost use Rattle.std.specs.Prelude.{◌≡◌, ◌<◌, ◌≤◌, ◌↔◌, ◌^◌, length, IfOk, MatchOption, IfSome, false, true};
 ghost use Rattle.shape_queue.specs.declared.key.Key.{Key};
 ghost use Rattle.shape_queue.specs.Keys.{has, IsLeastKey};
-ghost use Rattle.shape_queue.specs.Ranks.{HasKey};
-ghost use Rattle.shape_queue.specs.Waiting.{key_at, Put};
+ghost use Rattle.shape_queue.specs.Ranks.{key_at, HasKey};
+ghost use Rattle.shape_queue.specs.Waiting.{Put};
 
 use crate::banded::Banded;
 use crate::key::Key;
-use crate::ranked::Ranked;
+use crate::ranked_key::RankedKey;
 use crate::ranks::{keys_of, spots_of};
 use crate::spot::Spot;
 use shape_bits::{Bits, Numbers};
@@ -26,7 +26,7 @@ pub struct Queue {
     keys: Vec<Key>,
     waiting: Numbers,
     queued: Bits,
-    latest: Option<Ranked>,
+    latest: Option<RankedKey>,
 }
 
 impl Model for Queue {
@@ -74,11 +74,11 @@ impl Queue {
         if self.queued.get(place as usize) != waits {
             let Spot { rank, distance } = self.spots.get(place);
             let key = Key { distance, place };
-            self.change(Ranked { rank, key }, waits);
+            self.change(RankedKey { rank, key }, waits);
         }
     }
 
-    /// The same of the key with a rank, so that no spot is looked up.
+    /// Puts the key with a rank into the queue, or takes it out. No spot is looked up.
     pub fn settle_ranked(&mut self, rank: u32, waits: bool)
         requires { rank < length self.old.distances }
         ensures put { (key : Key) → HasKey self.old.distances rank key
@@ -87,12 +87,12 @@ impl Queue {
     {
         let key = self.ranked(rank);
         if self.queued.get(key.place as usize) != waits {
-            self.change(Ranked { rank, key }, waits);
+            self.change(RankedKey { rank, key }, waits);
         }
     }
 
     // Puts a key in or takes it out, by its rank, and has the bit of its place tell so.
-    fn change(&mut self, ranked: Ranked, waits: bool)
+    fn change(&mut self, ranked: RankedKey, waits: bool)
         requires { HasKey self.old.distances ranked.rank ranked.key }
         ensures put { Put (has self.old) (has self.new) ranked.key waits }
         ensures distances { self.new.distances ≡ self.old.distances }
@@ -152,7 +152,7 @@ impl Queue {
             Some(rank) => {
                 let rank = rank as u32;
                 let key = self.ranked(rank);
-                self.change(Ranked { rank, key }, false);
+                self.change(RankedKey { rank, key }, false);
                 Some(key)
             }
         }

@@ -17,8 +17,8 @@ use Rattle.shape_terms.proofs.OneValue.{value_there, value_elsewhere}
 use Rattle.shape_adj.specs.NearMasks.{In, near_total}
 use Rattle.shape_rules.specs.FactsOf.{facts_of}
 use Rattle.shape_queue.specs.declared.key.Key.{Key}
-use Rattle.shape_queue.specs.Ranks.{rank_in}
-use Rattle.shape_queue.specs.Waiting.{key_at, IsQueue, IsQueueBut, Put}
+use Rattle.shape_queue.specs.Ranks.{key_at, rank_in}
+use Rattle.shape_queue.specs.Waiting.{IsQueue, IsQueueBut, Put}
 use Rattle.shape_queue.specs.Standing.{IsSubset}
 use Rattle.shape_queue.specs.Events.{event_by}
 use Rattle.shape_queue.specs.Going.{Reach, stage_of, IsFrontOf, IsGoing}

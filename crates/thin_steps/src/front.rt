@@ -1,6 +1,6 @@
 //! The front of a thinning: places are passed in the order of their keys, and a point is looked at when its turn comes.
 //! Which point is the next one, and what becomes of it, belongs to `thinner.rt`.
-ghost use Rattle.std.specs.Prelude.{◌≡◌, ◌≢◌, ◌+◌, ◌<◌, ◌≤◌, List, ℕ, [], true, false, length, IfOk};
+ghost use Rattle.std.specs.Prelude.{◌≡◌, ◌+◌, ◌<◌, ◌≤◌, List, ℕ, [], true, false, length, IfOk};
 ghost use Rattle.shape_terms.specs.Points.{Point, box_count};
 ghost use Rattle.shape_terms.specs.Pictures.{Picture, object_points};
 ghost use Rattle.shape_queue.specs.declared.key.Key.{Key};

@@ -1,7 +1,8 @@
 use Rattle.std.proofs.Common.{sym, subst}
 use Rattle.shape_terms.proofs.Boxes.{raster_number-raster_point}
 use Rattle.shape_queue.specs.Keys.{has}
-use Rattle.shape_queue.specs.Waiting.{key_at, Put}
+use Rattle.shape_queue.specs.Ranks.{key_at}
+use Rattle.shape_queue.specs.Waiting.{Put}
 use Rattle.thin_steps.proofs.look.look_at.Goals as goal
 
 pub returns-clause-looked : goal.returns-clause-looked

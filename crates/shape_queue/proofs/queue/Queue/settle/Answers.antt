@@ -1,7 +1,6 @@
 use Rattle.std.proofs.Common.{◌<◌, ◌∙◌, length, refl, sym, subst}
 use Rattle.shape_queue.specs.Keys.{Queued}
-use Rattle.shape_queue.specs.Ranks.{rank_in, distances_of, HasKey}
-use Rattle.shape_queue.specs.Waiting.{key_at}
+use Rattle.shape_queue.specs.Ranks.{key_at, rank_in, distances_of, HasKey}
 use Rattle.shape_queue.proofs.QueueSteps.{same_value, put_none}
 use Rattle.shape_queue.proofs.queue.Queue.settle.Goals as goal
 

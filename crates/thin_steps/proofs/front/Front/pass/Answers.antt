@@ -2,7 +2,7 @@ use Rattle.std.proofs.Common.{ap, refl, sym, ◌∙◌, length, arith}
 use Rattle.shape_terms.specs.Points.{box_count}
 use Rattle.shape_terms.specs.Pictures.{Picture, object_points}
 use Rattle.shape_queue.specs.Keys.{has}
-use Rattle.shape_queue.specs.Waiting.{key_at}
+use Rattle.shape_queue.specs.Ranks.{key_at}
 use Rattle.thin_steps.proofs.ThinnerSteps.{fits_filled, fits_sides, fits_passed, fits_reached, front_reached, front_gone}
 use Rattle.thin_steps.proofs.front.Front.pass.Goals as goal
 

@@ -2,9 +2,11 @@
 //! How ranks are told stands in `specs/Ranks`.
 use crate::key::Key;
 
-/// A key, and how many places have a smaller one.
+/// A key with its rank.
 #[derive(Clone, Copy, Debug)]
-pub(crate) struct Ranked {
+pub(crate) struct RankedKey {
+    /// How many places have a smaller key.
     pub(crate) rank: u32,
+    /// The key.
     pub(crate) key: Key,
 }
