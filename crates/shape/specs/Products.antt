@@ -27,6 +27,12 @@ AreNoWords product.Drawing words = AreNoForm words
 AreNoWords product.Table words = (name : List ℕ) → words ≢ name ∷ []
 AreNoWords product.Mask words = (mask : Mask) (name : List ℕ) → words ≢ mask_word mask ∷ name ∷ []
 
+-- what is said of words that the product does not take
+abbrev pub usage_of : Product → List ℕ
+usage_of product.Drawing = codes "usage: shape draw [labels] REPORT, shape draw REPORT FURTHER"
+usage_of product.Table = codes "usage: shape measure REPORT"
+usage_of product.Mask = codes "usage: shape mask skeleton|object|distances REPORT"
+
 -- what a run did that draws what these words say
 abbrev pub Drew : List (List ℕ) → DeskState → DeskState → Outcome → Type 0
 Drew words old new outcome =

@@ -2,7 +2,7 @@
 //! A further product is a variant, and an arm or a line of each table.
 ghost use Rattle.std.specs.Prelude.{◌≡◌, ◌≢◌, ◌↔◌, ◌∷◌, ℕ, List, MatchOption};
 ghost use Rattle.shape_desk.specs.Files.{KeepsFiles, texts};
-ghost use Rattle.shape.specs.Products.{product_word, AreNoWords, Ran};
+ghost use Rattle.shape.specs.Products.{product_word, usage_of, AreNoWords, Ran};
 
 use report_making::Outcome;
 use shape_desk::Desk;
@@ -49,7 +49,9 @@ pub(crate) fn product_of<'a>(words: &'a [Vec<u8>]) -> Option<(Product, &'a [Vec<
 
 impl Product {
     /// What the program says of words that the product does not take.
-    pub(crate) fn usage(self) -> &'static str {
+    pub(crate) fn usage(self) -> &'static str
+        ensures { result.now ≡ usage_of self }
+    {
         match self {
             Product::Drawing => draw_report::USAGE,
             Product::Table => measure_report::USAGE,
