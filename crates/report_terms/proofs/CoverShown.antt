@@ -2,6 +2,7 @@
 -- Lists of segments and refusals alone; how the lines of a report give them stands in `ContourSaid`.
 use Rattle.std.proofs.Common.{◌≡◌, ℕ, zero, suc, ◌+◌, ◌-◌, ◌*◌, ◌<◌, ◌≤◌, refl, ap, sym, ◌∙◌, subst, arith, List, [], ◌∷◌, ◌++◌, length, take, get_or, Some}
 use Rattle.std.specs.Prelude.{◌/◌, ◌%◌, pos, slice_get, IfSome, Option, None, option_map}
+use Rattle.std.specs.List.{AllZip}
 use Rattle.std.proofs.lemmas.List.{length-map, length-take-le, take-map, take_all, take_more, get_or_default}
 use Rattle.std.proofs.lemmas.List.Elements.{All-from_get_or}
 use Rattle.std.proofs.lemmas.Option.{slice_get-map, slice_get-get_or, get_or_from_slice_get}
@@ -11,12 +12,15 @@ use Rattle.shape_terms.specs.Straight.{IsStraightFor}
 use Rattle.shape_terms.specs.Contours.{Crack}
 use Rattle.shape_terms.specs.Covers.{Stretch, IsSegment, Evidence, IsEvidence, arc, gap_run}
 use Rattle.shape_terms.specs.GapCover.{stretch_at, AreGapped}
-use Rattle.report_terms.specs.ContourFacts.{Segment, stretches_of, GapKind, GapFact, in_pairs, SegmentShows, RefusalShows, ContourShows}
+use Rattle.report_terms.specs.ContourFacts.{Segment, stretches_of, GapKind, GapFact, in_pairs, SegmentShows, SegmentIsLeast, SegmentHasEvidence, RefusalShows, ContourShows}
+use Rattle.shape_terms.specs.Least.{Pairs}
+use Rattle.shape_terms.proofs.LeastLines.{shows_least}
 use Rattle.shape_terms.proofs.ArcRuns.{length-arc}
 use Rattle.shape_terms.proofs.Senses.{sense_no_turn, straight_for}
 use Rattle.shape_terms.proofs.Members.{slice_get-taken}
 use Rattle.shape_terms.proofs.ContourCovers.{covers}
-use Rattle.report_terms.proofs.CoverTaken.{CoverSoFar, IsListed, AreLeast}
+use Rattle.report_terms.proofs.Zips.{zip_at}
+use Rattle.report_terms.proofs.CoverTaken.{CoverSoFar, IsListed, HaveEvidence}
 
 -- ---- straight segments
 
@@ -53,7 +57,7 @@ pairs_length (a ∷ b ∷ gaps) (suc m) e = ap suc (pairs_length gaps m (omega a
 no_segment : Segment
 no_segment = record { stretch = record { first = 0; last = 0 }; axis = 0; line = record { a = []; mu = pos 0 } }
 
-module _ (number : ℕ) (points : List Point) (m : ℕ) (segments : List Segment) (last : Option Segment) (gaps : List GapFact) (c : CoverSoFar number points m segments last gaps) (some : 1 ≤ m) (many : length segments ≡ m) (all : length gaps ≡ 2 * m) where
+module _ (number : ℕ) (points : List Point) (m : ℕ) (segments : List Segment) (shown : List Pairs) (last : Option Segment) (gaps : List GapFact) (c : CoverSoFar number points m segments shown last gaps) (some : 1 ≤ m) (many : length segments ≡ m) (all : length gaps ≡ 2 * m) where
   length-stretches : length (stretches_of segments) ≡ m
   length-stretches = length-map segments (λ (s : Segment). s.stretch) ∙ many
 
@@ -154,12 +158,24 @@ module _ (number : ℕ) (points : List Point) (m : ℕ) (segments : List Segment
       closed None h = refl
       closed (Some s) h = absurd (let e = ap length (h s refl) in omega (arith, all, some, e))
 
+  -- so each segment has its evidence
+  all_evidence : number ≡ 2 → AllZip (SegmentHasEvidence points) segments shown
+  all_evidence e = subst (HaveEvidence points segments shown) all_shown (c.evidence e)
+
+  -- and its line is least
+  segment_least : number ≡ 2 → (k : ℕ) → k < length segments → SegmentIsLeast points (get_or segments k no_segment)
+  segment_least e k h =
+      let s = get_or segments k no_segment in
+      let pairs = zip_at (SegmentHasEvidence points) segments shown k no_segment (all_evidence e) h in
+      shows_least s.axis (arc points s.stretch.first s.stretch.last) s.line pairs.0 (segment_shows k h).line pairs.1
+
   -- the contour is shown
-  pub cover_shows : (start : Crack) → ContourShows number (record { outline = record { start = start; points = points }; segments = segments; gaps = in_pairs gaps })
+  pub cover_shows : (start : Crack) → ContourShows number (record { outline = record { start = start; points = points }; segments = segments; evidence = shown; gaps = in_pairs gaps })
   cover_shows start = record {
     cover = covers points (stretches_of segments) gapped;
     lines = All-from_get_or (SegmentShows points) segments no_segment segment_shows;
-    least = λ e. subst (AreLeast points segments) all_shown (c.least e);
+    least = λ e. All-from_get_or (SegmentIsLeast points) segments no_segment (segment_least e);
+    evidence = all_evidence;
     all_gaps = pairs_length gaps m all ∙ sym many;
     gaps = λ k g e.
         let p = pairs_get gaps k g e in

@@ -18,13 +18,30 @@ use Rattle.report_terms.specs.Sections.{Section, rank, section_of, lines_of, num
 use Rattle.report_terms.specs.ContourLines.{ContourClaim}
 use Rattle.report_terms.specs.FaceLines.{FaceClaim}
 use Rattle.report_terms.specs.Holds.{Holds}
-use Rattle.report_terms.specs.Shows.{parts_fact, ShowsParts, near_fact, ThinningShows, TextShows}
+use Rattle.report_terms.specs.Shows.{parts_fact, ShowsParts, near_fact, ThinningShows, BeginsWithHeading, TextShows}
 use Rattle.report_terms.proofs.SectionLines.{stood}
 use Rattle.report_terms.proofs.ContoursShown.{lines_contours}
 use Rattle.report_terms.proofs.FacesShown.{lines_faces}
 use Rattle.text_terms.proofs.ListPushes.{get_last, take_front}
 use Rattle.report_terms.proofs.ThinningShown.{thinning_shown, left_tells_parts}
+use Rattle.report_terms.proofs.HeadingFirst.{heading_first}
 use Rattle.report_terms.proofs.SectionLaws.{complete_kept, facts_of_section, claims_of_section}
+
+-- ---- the heading
+
+-- good lines in which the heading names a rule begin with it, and it gives the sides of the picture
+lines_begin : (X : Subject) (lines : List Line) (rule : Rule) → GoodSoFar X lines → NamesRule X.shelf (lines_of Section.Heading lines) rule → BeginsWithHeading X.picture lines (number_of (lines_of Section.Heading lines))
+lines_begin X lines rule good names =
+    let h = names.heading in
+    let first = heading_first X lines (Line.Shape h) good names.first_is in
+    let claim = (good 0 (Line.Shape h) (ap (λ ls. slice_get ls 0) first.1)).claim in
+    record {
+      heading = h;
+      rest = first.0;
+      first = first.1;
+      sides = claim.1.0;
+      number_is = ap number_of (sym names.first_is);
+    }
 
 -- ---- counts
 
@@ -150,6 +167,7 @@ holds_shows X text (lines, b) =
       lines = all;
       fields = b.fields;
       text_is = b.split ∙ append-nil (text_of all);
+      begins = lines_begin X all thinned.0 b.good thinned.1;
       rule = thinned.0;
       names = thinned.1;
       shows = record {

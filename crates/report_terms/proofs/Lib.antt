@@ -9,6 +9,7 @@ pub mod HoldsShows
 pub mod LineLaws
 pub mod Spelled
 pub mod SectionLines
+pub mod Zips
 pub mod CoverTaken
 pub mod CoverShown
 pub mod Words

@@ -1,12 +1,13 @@
--- What a report says of a contour, and when it shows it: the outline, the segments of the tangential cover, and how each gap is refused.
+-- What a report says of a contour, and when it shows it: the outline, the segments of the tangential cover, the evidence that their lines are least, and how each gap is refused.
 -- Geometry alone: no line, spelling or judge stands here.
 use Rattle.std.specs.Prelude.{◌≡◌, ℕ, ◌<◌, List, [], ◌∷◌, length, map, slice_get, Some, All}
-use Rattle.shape_terms.specs.Points.{Point}
+use Rattle.std.specs.List.{AllZip}
+use Rattle.shape_terms.specs.Points.{Point, coordinate}
 use Rattle.shape_terms.specs.Pictures.{Picture}
 use Rattle.shape_terms.specs.Naive.{Naive, IsNaiveFor}
 use Rattle.shape_terms.specs.Straight.{KeepsSense, IsStraightFor}
 use Rattle.shape_terms.specs.Traces.{Contour, AreContours}
-use Rattle.shape_terms.specs.Least.{IsLeastLine}
+use Rattle.shape_terms.specs.Least.{IsLeastLine, Pairs, ShowsLeast}
 use Rattle.shape_terms.specs.Covers.{Stretch, IsCover, Evidence, arc, gap_run}
 
 -- a segment: its stretch of the contour, and a naive line with its main axis
@@ -31,10 +32,11 @@ pub record GapFact : Type 0 where
   pub axis : ℕ
   pub kind : GapKind
 
--- a contour with its segments in order, and for each of them how the gap after it is refused for the one and for the other axis
+-- a contour with its segments in order, the pairs of places that show the lines of these to be least, where the report gives them, and for each segment how the gap after it is refused for the one and for the other axis
 pub record ContourFact : Type 0 where
   pub outline : Contour
   pub segments : List Segment
+  pub evidence : List Pairs
   pub gaps : List (GapFact × GapFact)
 
 -- the facts two by two: each gap has two
@@ -54,6 +56,10 @@ pub record SegmentShows (points : List Point) (s : Segment) : Type 0 where
 abbrev pub SegmentIsLeast : List Point → Segment → Type 0
 SegmentIsLeast points s = IsLeastLine s.axis (arc points s.stretch.first s.stretch.last) s.line
 
+-- the pairs of places show that no proper line of the axis that holds each place of the stretch has a lesser main coefficient
+abbrev pub SegmentHasEvidence : List Point → Segment → Pairs → Type 0
+SegmentHasEvidence points s pairs = ShowsLeast s.axis (arc points s.stretch.first s.stretch.last) (coordinate s.line.a s.axis) pairs
+
 -- the run is not straight for the axis, and where weights refuse it, no proper naive line of that axis holds it
 pub record RefusalShows (run : List Point) (fact : GapFact) : Type 0 where
   pub not_straight : IsStraightFor fact.axis run → ⊥
@@ -66,11 +72,12 @@ pub record GapShows (run : List Point) (facts : GapFact × GapFact) : Type 0 whe
   pub refused_x : RefusalShows run facts.0
   pub refused_y : RefusalShows run facts.1
 
--- the segments are exactly the cover of the contour, each with its line, which is least in a report with the number 2; and each has a gap, whose run is not straight
+-- the segments are exactly the cover of the contour, each with its line, which in a report with the number 2 is least and has evidence of it; and each has a gap, whose run is not straight
 pub record ContourShows (number : ℕ) (fact : ContourFact) : Type 0 where
   pub cover : IsCover fact.outline.points (stretches_of fact.segments)
   pub lines : All (SegmentShows fact.outline.points) fact.segments
   pub least : number ≡ 2 → All (SegmentIsLeast fact.outline.points) fact.segments
+  pub evidence : number ≡ 2 → AllZip (SegmentHasEvidence fact.outline.points) fact.segments fact.evidence
   pub all_gaps : length fact.gaps ≡ length fact.segments
   pub gaps : (k : ℕ) (g : GapFact × GapFact) → slice_get fact.gaps k ≡ Some g → GapShows (gap_run fact.outline.points (stretches_of fact.segments) k) g
 

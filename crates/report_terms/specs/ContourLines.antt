@@ -42,6 +42,11 @@ abbrev pub segment_of : Line → Option Segment
 segment_of (Line.Seg b e t a mu) = Some (record { stretch = record { first = b; last = e }; axis = t; line = record { a = a; mu = mu } })
 segment_of _ = None
 
+-- the pairs of places that a `least` line gives
+abbrev pub pairs_of : Line → Option Pairs
+pairs_of (Line.Least pairs) = Some pairs
+pairs_of _ = None
+
 -- the refusal that a gap line gives
 abbrev pub gap_of : Line → Option GapFact
 gap_of (Line.Gap t evidence) = Some (record { axis = t; kind = kind_of evidence })

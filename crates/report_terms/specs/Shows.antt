@@ -1,6 +1,6 @@
 -- What a report says of a picture, in geometry alone.
 -- No line, spelling or judge stands in what is shown, only in how it is read off the lines.
-use Rattle.std.specs.Prelude.{◌≡◌, ℕ, List, [], ◌∷◌, length, map, filter_map, take, slice_get, Option, Some, None, All}
+use Rattle.std.specs.Prelude.{◌≡◌, ℕ, List, [], ◌∷◌, length, map, filter_map, take, slice_get, Option, Some, None, pos, All}
 use Rattle.shape_terms.specs.Points.{Point}
 use Rattle.shape_terms.specs.Pictures.{Picture}
 use Rattle.shape_terms.specs.Parts.{Counts}
@@ -12,8 +12,8 @@ use Rattle.shape_terms.specs.Simple.{IsSimple}
 use Rattle.shape_terms.specs.Thinning.{Rule, Event, Stage, ThinsTo, IsThinning}
 use Rattle.report_terms.specs.ContourFacts.{ContourFact, in_pairs, ContoursShow}
 use Rattle.report_terms.specs.FaceFacts.{PatchFact, FaceFact, FacesShow}
-use Rattle.report_terms.specs.Lines.{Line, text_of, IsLineOf}
-use Rattle.report_terms.specs.ContourLines.{contour_groups, point_of, segment_of, gap_of}
+use Rattle.report_terms.specs.Lines.{Line, Heading, text_of, IsLineOf}
+use Rattle.report_terms.specs.ContourLines.{contour_groups, point_of, segment_of, pairs_of, gap_of}
 use Rattle.report_terms.specs.FaceLines.{face_groups, patch_groups, on_point, off_point, plane_of}
 use Rattle.report_terms.specs.ThinningLines.{PartsFact, events_of, kept_facts}
 use Rattle.report_terms.specs.Subjects.{Subject}
@@ -38,9 +38,9 @@ start_of _ = record { pixel = []; side = 0 }
 abbrev pub outline_of : List Line → Contour
 outline_of lines = record { start = start_of lines; points = filter_map point_of lines }
 
--- and of its cover: its segments in order, and how the gap after each is refused
+-- and of its cover: its segments in order, the evidence that their lines are least, and how the gap after each is refused
 abbrev pub contour_fact : List Line → ContourFact
-contour_fact lines = record { outline = outline_of lines; segments = filter_map segment_of lines; gaps = in_pairs (filter_map gap_of lines) }
+contour_fact lines = record { outline = outline_of lines; segments = filter_map segment_of lines; evidence = filter_map pairs_of lines; gaps = in_pairs (filter_map gap_of lines) }
 
 -- what the lines of a patch say of it: its points with its plane, and the points that it refused
 abbrev pub patch_fact : List Line → PatchFact
@@ -105,11 +105,20 @@ pub record Shows (X : Picture) (rule : Rule) (content : Content) : Type 0 where
   pub thinning : ThinningShows X rule content.events content.kept
   pub same : TellSameParts thinning.left parts.fact
 
--- the text is made of lines that show of the picture what they say, and of its thinning by the rule that they name
+-- the first of the lines is the heading, which gives the sides of the picture and this number
+pub record BeginsWithHeading (X : Picture) (lines : List Line) (number : ℕ) : Type 0 where
+  pub heading : Heading
+  pub rest : List Line
+  pub first : lines ≡ Line.Shape heading ∷ rest
+  pub sides : heading.sides ≡ map pos X.sides
+  pub number_is : heading.number ≡ number
+
+-- the text is made of lines, of which the first is the heading with the picture's sides and the number, that show of the picture what they say, and of its thinning by the rule that they name
 pub record TextShows (X : Subject) (text : List ℕ) : Type 0 where
   pub lines : List Line
   pub fields : All (IsLineOf (length X.picture.sides)) lines
   pub text_is : text ≡ text_of lines
+  pub begins : BeginsWithHeading X.picture lines (content_of lines).number
   pub rule : Rule
   pub names : NamesRule X.shelf (lines_of Section.Heading lines) rule
   pub shows : Shows X.picture rule (content_of lines)
