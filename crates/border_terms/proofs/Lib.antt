@@ -1,2 +1,4 @@
 pub mod RootFound
 pub mod BordersShown
+pub mod BordersBegin
+pub mod HolesShown

@@ -5,3 +5,5 @@ pub mod Lengths
 pub mod Borders
 pub mod Objects
 pub mod Shown
+pub mod Begins
+pub mod HolesShown

@@ -1,0 +1,3 @@
+pub mod ComponentContours
+pub mod Holes
+pub mod Jordan
