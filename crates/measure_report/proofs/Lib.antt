@@ -1,3 +1,9 @@
 mod Words
 mod TableMade
 mod Telling
+mod LabelsOnce
+mod FeretsOnce
+mod SameTables
+mod FirstNumber
+mod SameHoles
+mod OneTable

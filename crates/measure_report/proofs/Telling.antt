@@ -8,7 +8,8 @@ use Rattle.shape_terms.specs.Pictures.{Picture}
 use Rattle.report_terms.specs.Subjects.{Subject}
 use Rattle.report_terms.specs.Lines.{IsLineOf, text_of}
 use Rattle.report_terms.specs.Holds.{Holds}
-use Rattle.report_terms.specs.Shows.{content_of}
+use Rattle.report_terms.specs.Sections.{number_of}
+use Rattle.report_terms.specs.Shows.{TextShows}
 use Rattle.report_terms.proofs.HoldsShows.{holds_shows}
 use Rattle.report_lines.specs.Reports.{Space}
 use Rattle.report_lines.specs.Said.{said}
@@ -21,7 +22,9 @@ use Rattle.measure_terms.specs.Components.{MeasuresComponents, FeretsComponents}
 use Rattle.measure_terms.proofs.TableOfComponents.{table_measures, labels_kept, ferets_measure}
 use Rattle.border_terms.specs.Borders.{borders}
 use Rattle.border_terms.specs.Shown.{BordersShow}
-use Rattle.border_terms.proofs.BordersShown.{borders_shown}
+use Rattle.border_terms.proofs.BordersShown.{text_borders}
+use Rattle.border_terms.proofs.BordersBegin.{borders_begin}
+use Rattle.border_terms.proofs.HolesShown.{holes_shown}
 use Rattle.measure_report.specs.FurtherColumns.{further_columns}
 use Rattle.measure_report.specs.TableTexts.{IsTableText}
 use Rattle.measure_report.specs.Holding.{SpellsMeasures, TableTells}
@@ -30,14 +33,17 @@ use Rattle.measure_report.specs.Holding.{SpellsMeasures, TableTells}
 WithLabels : Picture → List ℕ → Picture → List Measures → List ℕ → Type 0
 WithLabels X squares left rows labels = (m : MeasuresComponents X squares left rows) × (m.labels ≡ labels)
 
+-- the lines of a text that shows what it says
+lines_same : (s : Space) (X : Subject) (text : List ℕ) (t : Tells s X text) (u : TextShows X text) → StandsIn s X.picture → u.lines ≡ t.lines
+lines_same s X text t u i =
+    let mine = subst (λ n. All (IsLineOf n) u.lines) i.picture.axes u.fields in
+    one_list s.axes u.lines t.lines (recursion_from_All (IsLineOf s.axes) u.lines mine) (recursion_from_All (IsLineOf s.axes) t.lines t.report.whole.fields) (sym u.text_is ∙ t.report.whole.split ∙ append-nil (text_of t.lines))
+
 -- the borders that the lines of a report tell are those of the contours
-borders_so : (s : Space) (X : Subject) (text : List ℕ) (t : Tells s X text) → Holds X text → StandsIn s X.picture → s.axes ≡ 2 → BordersShow (content_of t.lines).number X.picture (borders t.lines)
+pub borders_so : (s : Space) (X : Subject) (text : List ℕ) (t : Tells s X text) → Holds X text → StandsIn s X.picture → s.axes ≡ 2 → BordersShow (number_of t.lines) X.picture (borders t.lines)
 borders_so s X text t h i e =
     let u = holds_shows X text h in
-    let axes : length X.picture.sides ≡ s.axes = i.picture.axes in
-    let mine = subst (λ n. All (IsLineOf n) u.lines) axes u.fields in
-    let same : u.lines ≡ t.lines = one_list s.axes u.lines t.lines (recursion_from_All (IsLineOf s.axes) u.lines mine) (recursion_from_All (IsLineOf s.axes) t.lines t.report.whole.fields) (sym u.text_is ∙ t.report.whole.split ∙ append-nil (text_of t.lines)) in
-    subst (λ ls. BordersShow (content_of ls).number X.picture (borders ls)) same (borders_shown (content_of u.lines).number X.picture u.lines (u.shows.contours (axes ∙ e)))
+    subst (λ ls. BordersShow (number_of ls) X.picture (borders ls)) (lines_same s X text t u i) (text_borders X text (i.picture.axes ∙ e) u)
 
 spelled_so : (s : Space) (X : Subject) (text bytes : List ℕ) (t : Tells s X text) → Holds X text → StandsIn s X.picture → IsTableText s.axes t.lines bytes → SpellsMeasures s.axes X t.lines bytes
 unfolding WithLabels
@@ -59,13 +65,15 @@ spelled_so s X text bytes t holds i h =
       thinning = t.thinning;
       rows = h.rows;
       measures = m3.0;
-      number = (content_of t.lines).number;
       borders = borders t.lines;
       shows = borders_so s X text t holds i;
+      holes = λ e k few. holes_shown X.picture (i.picture.axes ∙ e) (borders t.lines)
+          (borders_begin (number_of t.lines) X.picture (borders t.lines) (borders_so s X text t holds i e))
+          m3.0.labels m3.0.named (length h.rows) m3.0.all k few;
       ferets = h.ferets;
       farthest = λ e. subst (λ (ls : List ℕ). FeretsComponents X.picture ls (length h.rows) h.ferets) same (
           subst (λ (Y : Picture). FeretsComponents Y labels (length h.rows) h.ferets) t.object (ferets_measure said_object said_left squares h.rows h.ferets h.table (h.farthest e)));
-      text = h.text ∙ (λ j. table_text s.axes (further_columns s.axes (t.object j).sides (same j) (borders t.lines) h.ferets) h.rows);
+      text = h.text ∙ (λ j. table_text s.axes (further_columns s.axes (number_of t.lines) (t.object j).sides (same j) (borders t.lines) h.ferets) h.rows);
     }
 
 pub table_tells : (s : Space) (X : Subject) (text bytes : List ℕ) → Holds X text → StandsIn s X.picture → TableTells s X text bytes

@@ -4,3 +4,4 @@ pub mod FeretColumns
 pub mod FurtherColumns
 pub mod TableTexts
 pub mod Holding
+pub mod Tabled

@@ -17,7 +17,7 @@ impl Columns for FlatColumns {
     ghost use Rattle.feret.specs.Told.{ferets_told};
     ghost use Rattle.measure_report.specs.FurtherColumns.{flat_columns};
 
-    ghost columns = { λ c. flat_columns (all_bounds c.borders.bounds.items) (ferets_told c.ferets.ferets.items) };
+    ghost columns = { λ c. flat_columns c.borders.told (all_bounds c.borders.bounds.items) (ferets_told c.ferets.ferets.items) };
 
     fn put_names(&self, csv: &mut Csv) -> Result<(), NoMemory> {
         self.borders.put_names(csv)?;

@@ -1,16 +1,32 @@
-//! What the table of a report tells that holds of a picture, as a law that callers can cite: what counts are the clauses.
-//! The body does nothing.
-ghost use Rattle.std.specs.Prelude.{ℕ, List};
+//! What the table of a report tells that holds of a picture, and that such reports have one table, as laws that callers can
+//! cite: what counts are the clauses. The bodies do nothing.
+ghost use Rattle.std.specs.Prelude.{◌≡◌, ℕ, List};
+ghost use Rattle.shape_terms.specs.Shelves.{AreNames, names_of};
 ghost use Rattle.report_terms.specs.Subjects.{Subject};
 ghost use Rattle.report_terms.specs.Holds.{Holds};
-ghost use Rattle.report_lines.specs.Reports.{Space};
+ghost use Rattle.report_lines.specs.Reports.{Space, flat, solid};
 ghost use Rattle.report_lines.specs.Tells.{StandsIn};
 ghost use Rattle.measure_report.specs.Holding.{TableTells};
+ghost use Rattle.measure_report.specs.Tabled.{HasTable};
 
 /// Of a report that holds of a picture, row k of the table has the measures of the k-th component of the picture, by its least
 /// squared distances to the background and by the points that its thinning leaves. In the plane its borders are the contours
-/// of the picture that begin in it, each measured along its tangential cover.
+/// of the picture that begin in it, and its holes are counted: the bounded components of what is not in it. Where the first
+/// line gives the number 2, each border is measured along the least lines of its tangential cover; else no length is told.
 pub fn holding_measures()
     ensures { (s : Space) (X : Subject) (text bytes : List ℕ) → Holds X text
         → StandsIn s X.picture → TableTells s X text bytes }
+{}
+
+/// Two reports that hold of one picture, with one number and of one rule, have one table: their tables are equal byte by byte,
+/// whatever lines, axes and evidence they give.
+pub fn tables_are_one()
+    ensures flat { (X : Subject) (number : ℕ) (name text other bytes more : List ℕ)
+        → AreNames (names_of X.shelf) → StandsIn flat X.picture
+        → HasTable flat X number name text bytes → HasTable flat X number name other more
+        → bytes ≡ more }
+    ensures solid { (X : Subject) (number : ℕ) (name text other bytes more : List ℕ)
+        → AreNames (names_of X.shelf) → StandsIn solid X.picture
+        → HasTable solid X number name text bytes → HasTable solid X number name other more
+        → bytes ≡ more }
 {}

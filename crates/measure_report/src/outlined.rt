@@ -1,6 +1,7 @@
-//! What is kept of a flat picture's report for its table: what it says of the points of its box, and its contours.
+//! What is kept of a flat picture's report for its table: its number, what it says of the points of its box, and its contours.
 //! Each part knows for itself what it keeps.
-ghost use Rattle.std.specs.Prelude.{[], ◌∷◌, IfOk};
+ghost use Rattle.std.specs.Prelude.{◌≡◌, [], ◌∷◌, IfOk};
+ghost use Rattle.report_terms.specs.Sections.{number_of};
 ghost use Rattle.report_lines.specs.Seen.{flat_line};
 ghost use Rattle.measure_report.specs.Outlined.{IsOutlined};
 
@@ -10,11 +11,22 @@ use shape_report::Line;
 use shape_space::{NoMemory, P2};
 use std::alloc::Global;
 
-/// What a report says of the points of its box, and its contours.
+/// The number of a report, what it says of the points of its box, and its contours.
 #[derive(Drop)]
 pub struct Outlined {
+    pub(crate) number: u8,
     pub(crate) seen: Seen<P2>,
     pub(crate) contours: Contours,
+}
+
+// The number that a heading gives.
+fn number(line: &Line<P2>) -> u8
+    ensures { result ≡ number_of (flat_line line.now ∷ []) }
+{
+    match line {
+        Line::Shape { number, .. } => *number,
+        _ => 0,
+    }
 }
 
 impl Outlined {
@@ -24,6 +36,7 @@ impl Outlined {
     {
         let seen = Seen::new(alloc, heading)?;
         Ok(Outlined {
+            number: number(&heading.line),
             seen,
             contours: Contours::new(alloc),
         })

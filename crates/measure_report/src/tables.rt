@@ -3,6 +3,7 @@
 ghost use Rattle.std.specs.Prelude.{◌≡◌, [], ◌∷◌, List, length, IfOk};
 ghost use Rattle.shape_terms.specs.Points.{sides_of, box_count};
 ghost use Rattle.report_terms.specs.Lines.{Line};
+ghost use Rattle.report_terms.specs.Sections.{number_of};
 ghost use Rattle.report_lines.specs.Said.{said};
 ghost use Rattle.measure_terms.specs.Feret.{AreFerets};
 ghost use Rattle.border_terms.specs.Borders.{borders as borders_of};
@@ -11,6 +12,7 @@ ghost use Rattle.measuring.specs.TellsTable.{TellsTable};
 ghost use Rattle.bordering.specs.Told.{flat, all_borders, all_bounds};
 ghost use Rattle.bordering.specs.Kept.{HasBorders};
 ghost use Rattle.feret.specs.Told.{ferets_told};
+ghost use Rattle.measure_report.specs.BorderColumns.{tells_lengths as told_by};
 ghost use Rattle.measure_report.specs.Outlined.{IsOutlined};
 ghost use Rattle.measure_report.specs.TableTexts.{IsTableText};
 
@@ -38,14 +40,16 @@ fn table_of(alloc: Global, seen: &Seen<P2>) -> Result<Table, NoMemory>
     Ok(table)
 }
 
-// The columns of the objects of a table: their borders and Feret diameters.
+// The columns of the objects of a table: their borders, with or without lengths, and Feret diameters.
 fn further(
     alloc: Global,
     sides: Sides<P2>,
     table: &Table,
+    told: bool,
     borders: &[Border],
 ) -> Result<FlatColumns, NoMemory>
     requires { length table.now.labels ≡ box_count (sides_of (flat sides.lengths)) }
+    ensures told { IfOk result (λ more. more.borders.told ≡ told) }
     ensures bounds { IfOk result (λ more. all_bounds more.borders.bounds.items
         ≡ object_bounds_of (sides_of (flat sides.lengths)) table.now.labels table.now.count
         (all_borders borders.now)) }
@@ -55,35 +59,48 @@ fn further(
     let bounds = object_bounds(alloc, sides, &table.labels, table.count, borders)?;
     let ferets = ferets(alloc, sides, &table.labels, table.count)?;
     Ok(FlatColumns {
-        borders: BorderColumns { bounds },
+        borders: BorderColumns { told, bounds },
         ferets: FeretColumns { ferets },
     })
 }
 
-// The table of the objects that lines tell, with these borders and with Feret diameters.
+// The table of the objects that lines tell, with these borders, with or without lengths, and with Feret diameters.
 fn bordered_table(
     alloc: Global,
     seen: &Seen<P2>,
     table: &Table,
+    told: bool,
     borders: &[Border],
 ) -> Result<Vec<u8>, NoMemory>
     requires { TellsTable seen.now.object seen.now.squares seen.now.left table.now }
-    ensures { (lines : List Line) → seen.now ≡ said lines
+    ensures { (lines : List Line) → told ≡ told_by (number_of lines) → seen.now ≡ said lines
         → all_borders borders.now ≡ borders_of lines
         → IfOk result (λ csv. IsTableText 2 lines csv.items) }
 {
-    let more = further(alloc, seen.sides(), table, borders)?;
+    let more = further(alloc, seen.sides(), table, told, borders)?;
     table_text(alloc, seen.sides(), table.rows.as_slice(), &more)
 }
 
-// The table of the objects that lines tell, with the borders of contours and with Feret diameters.
-fn outlined_table(alloc: Global, seen: &Seen<P2>, contours: Contours) -> Result<Vec<u8>, NoMemory>
-    ensures { (lines : List Line) → seen.now ≡ said lines → HasBorders lines contours
-        → IfOk result (λ csv. IsTableText 2 lines csv.items) }
+// Whether a report with a number tells lengths of borders: its lines are shown to be least.
+fn tells_lengths(number: u8) -> bool
+    ensures { result ≡ told_by number }
+{
+    number == 2
+}
+
+// The table of the objects that lines tell, with the borders of contours, with or without lengths, and with Feret diameters.
+fn outlined_table(
+    alloc: Global,
+    seen: &Seen<P2>,
+    told: bool,
+    contours: Contours,
+) -> Result<Vec<u8>, NoMemory>
+    ensures { (lines : List Line) → told ≡ told_by (number_of lines) → seen.now ≡ said lines
+        → HasBorders lines contours → IfOk result (λ csv. IsTableText 2 lines csv.items) }
 {
     let table = table_of(alloc, seen)?;
     let borders = contours.into_borders()?;
-    bordered_table(alloc, seen, &table, borders.as_slice())
+    bordered_table(alloc, seen, &table, told, borders.as_slice())
 }
 
 // The table of a flat picture's objects, with their borders and Feret diameters.
@@ -91,8 +108,12 @@ fn flat_table(alloc: Global, kept: Outlined) -> Result<Vec<u8>, NoMemory>
     ensures { (lines : List Line) → IsOutlined lines kept
         → IfOk result (λ csv. IsTableText 2 lines csv.items) }
 {
-    let Outlined { seen, contours } = kept;
-    outlined_table(alloc, &seen, contours)
+    let Outlined {
+        number,
+        seen,
+        contours,
+    } = kept;
+    outlined_table(alloc, &seen, tells_lengths(number), contours)
 }
 
 // The table of a volume's objects.

@@ -1,0 +1,225 @@
+-- Two reports of one picture that hold, with one number and one rule, have one table.
+-- Put together from the laws of what their lines tell, of labels, borders and Feret diameters.
+use Rattle.std.proofs.Common.{◌≡◌, inl, inr, ℕ, ◌+◌, ◌<◌, true, refl, ap, sym, ◌∙◌, subst, arith, List, [], ◌∷◌, ◌++◌, length, get_or}
+use Rattle.std.specs.Prelude.{IsTrue}
+use Rattle.std.specs.List.{Contains}
+use Rattle.std.proofs.lemmas.Bool.{cases_Bool, eqb-true}
+use Rattle.std.proofs.lemmas.List.{append-nil}
+use Rattle.std.proofs.lemmas.List.Elements.{recursion_from_All}
+use Rattle.std.proofs.lemmas.Option.{slice_get-get_or}
+use Rattle.shape_terms.specs.Points.{Point, in_box, box_points, raster_point}
+use Rattle.shape_terms.specs.Pictures.{Picture, at, object_points}
+use Rattle.shape_terms.specs.Parts.{LabelsObject}
+use Rattle.shape_terms.specs.Shelves.{AreNames, names_of}
+use Rattle.shape_terms.specs.Thinning.{Rule, Stage, IsThinning}
+use Rattle.shape_terms.proofs.Numbered.{object_in_box}
+use Rattle.shape_terms.proofs.ThinningOnce.{one_distance, one_thinning}
+use Rattle.report_terms.specs.Subjects.{Subject, IsOnShelf}
+use Rattle.report_terms.specs.Lines.{Line, Heading, IsLineOf, text_of}
+use Rattle.report_terms.specs.ThinningLines.{events_of}
+use Rattle.report_terms.specs.Sections.{Section, lines_of, number_of, NamesRule}
+use Rattle.report_terms.proofs.NamedRules.{one_on_shelf}
+use Rattle.report_lines.specs.Reports.{Space, IsReport, flat, solid}
+use Rattle.report_lines.specs.Said.{said}
+use Rattle.report_lines.specs.Tells.{StandsIn, AreSquares}
+use Rattle.report_lines.proofs.Telling as Lines
+use Rattle.report_lines.proofs.TextLines.{one_list}
+use Rattle.measure_terms.specs.Facts.{facts}
+use Rattle.measure_terms.specs.Measures.{Measures, greatest}
+use Rattle.measure_terms.specs.Feret.{Feret}
+use Rattle.measure_terms.specs.Tables.{rows, IsTable}
+use Rattle.measure_terms.specs.Texts.{no_columns, table_text}
+use Rattle.measure_terms.specs.Components.{component, FeretsComponents}
+use Rattle.measure_terms.proofs.ComponentFerets.{filtered}
+use Rattle.measure_terms.proofs.TableOfComponents.{ferets_measure}
+use Rattle.border_terms.specs.Borders.{Border, borders}
+use Rattle.border_terms.specs.Objects.{object_bounds}
+use Rattle.border_terms.specs.Shown.{IsFlat, BordersShow}
+use Rattle.border_terms.proofs.BordersOnce.{borders_once, starts_once}
+use Rattle.bordering.specs.OneMore.{no_bounds}
+use Rattle.measure_report.specs.BorderColumns.{tells_lengths, border_cells}
+use Rattle.measure_report.specs.FeretColumns.{feret_cells, no_feret}
+use Rattle.measure_report.specs.FurtherColumns.{flat_columns}
+use Rattle.measure_report.specs.Tabled.{Opens, HasTable}
+use Rattle.measure_report.proofs.Telling.{borders_so}
+use Rattle.measure_report.proofs.LabelsOnce.{labels_once, same_list}
+use Rattle.measure_report.proofs.FeretsOnce.{feret_once}
+use Rattle.measure_report.proofs.SameTables.{same_table}
+use Rattle.measure_report.proofs.SameHoles.{same_cells}
+
+-- ---- what lines tell
+
+-- the lines tell the picture, its least squared distances, what the thinning by the rule with this name leaves, and its borders
+record TellAll (s : Space) (X : Subject) (name : List ℕ) (lines : List Line) : Type 0 where
+  object : (said lines).object ≡ X.picture
+  squares : AreSquares X.picture (said lines).squares
+  rule : Rule
+  on_shelf : IsOnShelf X.shelf name rule
+  stage : Stage
+  thinning : IsThinning rule X.picture (events_of lines) stage
+  left : (said lines).left ≡ stage.left
+  borders : s.axes ≡ 2 → BordersShow (number_of lines) X.picture (borders lines)
+
+-- the heading names the rule
+named : (X : Subject) (number : ℕ) (name : List ℕ) (lines : List Line) (rule : Rule) → Opens number name lines → NamesRule X.shelf (lines_of Section.Heading lines) rule → IsOnShelf X.shelf name rule
+named X number name lines rule o n =
+    let first : Line.Shape o.heading ∷ lines_of Section.Heading o.rest ≡ Line.Shape n.heading ∷ [] = ap (lines_of Section.Heading) (sym o.first) ∙ n.first_is in
+    let same : n.heading ≡ o.heading = heading_of first in
+    subst (λ m. IsOnShelf X.shelf m rule) (ap (λ (h : Heading). h.rule) same ∙ o.rule_is) n.on_shelf
+  where
+    heading_of : {h k : Heading} {ls ms : List Line} → Line.Shape h ∷ ls ≡ Line.Shape k ∷ ms → k ≡ h
+    heading_of e = cc
+
+-- a text has one list of lines in order
+one_report : (s : Space) (text : List ℕ) (ls ms : List Line) → IsReport s text ls → IsReport s text ms → ls ≡ ms
+one_report s text ls ms a b =
+    one_list s.axes ls ms (recursion_from_All (IsLineOf s.axes) ls a.whole.fields) (recursion_from_All (IsLineOf s.axes) ms b.whole.fields)
+    (sym (append-nil (text_of ls)) ∙ sym a.whole.split ∙ b.whole.split ∙ append-nil (text_of ms))
+
+tell_all : (s : Space) (X : Subject) (number : ℕ) (name text bytes : List ℕ) → StandsIn s X.picture → (h : HasTable s X number name text bytes) → TellAll s X name h.lines
+tell_all s X number name text bytes i h =
+    let t = Lines.holding_tells s X text h.holds i in
+    let same = one_report s text t.lines h.lines t.report h.report in
+    let all : (o : Opens number name t.lines) → TellAll s X name t.lines = λ o. record {
+      object = t.object;
+      squares = t.squares;
+      rule = t.rule;
+      on_shelf = named X number name t.lines t.rule o t.names;
+      stage = t.stage;
+      thinning = t.thinning;
+      left = t.left;
+      borders = borders_so s X text t h.holds i;
+    } in
+    subst (TellAll s X name) same (all (subst (Opens number name) (sym same) h.opens))
+
+-- ---- two lists of lines that tell one picture
+
+-- the squared distances of a picture are determined
+squares_once : (X : Picture) (xs ys : List ℕ) → AreSquares X xs → AreSquares X ys → xs ≡ ys
+squares_once X xs ys a b = same_list 0 xs ys (a.all ∙ sym b.all) (λ i l.
+    let x = slice_get-get_or xs i 0 l in
+    let y = slice_get-get_or ys i 0 (let p = a.all in let q = b.all in omega arith) in
+    elim (cases_Bool (at X (raster_point X.sides i))) [
+      | inl t ↦ one_distance X (raster_point X.sides i) (get_or xs i 0) (get_or ys i 0) (a.object i (get_or xs i 0) x t) (b.object i (get_or ys i 0) y t)
+      | inr f ↦ a.background i (get_or xs i 0) x f ∙ sym (b.background i (get_or ys i 0) y f)
+    ])
+
+-- the lines say the same of the points of their box
+record Agree (ls ms : List Line) : Type 0 where
+  object : (said ls).object ≡ (said ms).object
+  squares : (said ls).squares ≡ (said ms).squares
+  left : (said ls).left ≡ (said ms).left
+
+agree : (s : Space) (X : Subject) (name : List ℕ) (ls ms : List Line) → AreNames (names_of X.shelf) → TellAll s X name ls → TellAll s X name ms → Agree ls ms
+agree s X name ls ms names a b =
+    let rule = one_on_shelf X.shelf names name a.rule b.rule a.on_shelf b.on_shelf in
+    let thinning = subst (λ r. IsThinning r X.picture (events_of ls) a.stage) rule a.thinning in
+    let stage = (one_thinning b.rule X.picture (events_of ls) (events_of ms) a.stage b.stage thinning b.thinning).1 in
+    record {
+      object = a.object ∙ sym b.object;
+      squares = squares_once X.picture (said ls).squares (said ms).squares a.squares b.squares;
+      left = a.left ∙ ap (λ (u : Stage). u.left) stage ∙ sym b.left;
+    }
+
+-- so their labels and rows are the same
+record SameRows (ls ms : List Line) (some other : List Measures) (labels others : List ℕ) : Type 0 where
+  labels_are : labels ≡ others
+  rows_are : some ≡ other
+
+same_rows : (ls ms : List Line) (some other : List Measures) → Agree ls ms → (h : IsTable (said ls).object (said ls).squares (said ls).left some) → (k : IsTable (said ms).object (said ms).squares (said ms).left other) → SameRows ls ms some other h.labels k.labels
+same_rows ls ms some other a h k =
+    let labels = labels_once (said ms).object h.labels k.labels (subst (λ (Y : Picture). LabelsObject Y h.labels) a.object h.named) k.named in
+    let o = a.object in
+    let q = a.squares in
+    let l = a.left in
+    record { labels_are = labels; rows_are = h.rows ∙ (λ i. rows (greatest (labels i)) (facts (o i) (q i) (l i) (labels i))) ∙ sym k.rows }
+
+-- ---- Feret diameters
+
+in_component : (X : Picture) (labels : List ℕ) (k : ℕ) (p : Point) → Contains (component X labels k) p → IsTrue (in_box X.sides p)
+in_component X labels k p c = object_in_box X p (filtered (at X) (box_points X.sides) p (filtered _ (object_points X) p c).0).1
+
+same_ferets : (X : Picture) (labels : List ℕ) (n : ℕ) (fs gs : List Feret) → FeretsComponents X labels n fs → FeretsComponents X labels n gs → (j : ℕ) → j < n → get_or fs j no_feret ≡ get_or gs j no_feret
+same_ferets X labels n fs gs a b j l = feret_once X.sides (Contains (component X labels (j + 1))) (in_component X labels (j + 1)) (get_or fs j no_feret) (get_or gs j no_feret) (a.each j no_feret l) (b.each j no_feret l)
+
+-- ---- borders
+
+same_borders : (n m number : ℕ) (X : Picture) (bs cs : List Border) → n ≡ number → m ≡ number → IsFlat X → BordersShow n X bs → BordersShow m X cs → tells_lengths number ≡ true → bs ≡ cs
+same_borders n m number X bs cs e f flat a b told =
+    let two : number ≡ 2 = eqb-true number 2 told in
+    borders_once X bs cs flat.axes (a.lengths (e ∙ two) flat) (b.lengths (f ∙ two) flat)
+
+-- ---- the tables
+
+pub solid_once : (X : Subject) (number : ℕ) (name text other bytes more : List ℕ) → AreNames (names_of X.shelf) → StandsIn solid X.picture → HasTable solid X number name text bytes → HasTable solid X number name other more → bytes ≡ more
+solid_once X number name text other bytes more names i h k =
+    let a = tell_all solid X number name text bytes i h in
+    let b = tell_all solid X number name other more i k in
+    let same = same_rows h.lines k.lines h.table.rows k.table.rows (agree solid X name h.lines k.lines names a b) h.table.table k.table.table in
+    h.table.text ∙ ap (table_text 3 no_columns) same.rows_are ∙ sym k.table.text
+
+module _ (X : Subject) (number : ℕ) (name text other bytes more : List ℕ) (names : AreNames (names_of X.shelf)) (i : StandsIn flat X.picture) (h : HasTable flat X number name text bytes) (k : HasTable flat X number name other more) where
+  a : TellAll flat X name h.lines
+  a = tell_all flat X number name text bytes i h
+
+  b : TellAll flat X name k.lines
+  b = tell_all flat X number name other more i k
+
+  same : Agree h.lines k.lines
+  same = agree flat X name h.lines k.lines names a b
+
+  same_row : SameRows h.lines k.lines h.table.rows k.table.rows h.table.table.labels k.table.table.labels
+  same_row = same_rows h.lines k.lines h.table.rows k.table.rows same h.table.table k.table.table
+
+  is_flat : IsFlat X.picture
+  is_flat = record { axes = i.picture.axes; box = i.box }
+
+  -- the number of a text
+  number_is : (lines : List Line) → Opens number name lines → number_of lines ≡ number
+  number_is lines o = ap number_of o.first ∙ o.number_is
+
+  abbrev sides : List ℕ
+  sides = (said k.lines).object.sides
+
+  abbrev labels : List ℕ
+  labels = k.table.table.labels
+
+  abbrev table : List Measures
+  table = k.table.rows
+
+  -- the Feret diameters of the one table and of the other
+  ferets_mine : FeretsComponents (said k.lines).object labels (length table) h.table.ferets
+  ferets_mine =
+      let mine = ferets_measure (said h.lines).object (said h.lines).left (said h.lines).squares h.table.rows h.table.ferets h.table.table (h.table.farthest refl) in
+      subst (λ (Y : Picture). FeretsComponents Y labels (length table) h.table.ferets) same.object
+      (subst (λ (ls : List ℕ). FeretsComponents (said h.lines).object ls (length table) h.table.ferets) same_row.labels_are
+      (subst (λ (ms : List Measures). FeretsComponents (said h.lines).object h.table.table.labels (length ms) h.table.ferets) same_row.rows_are mine))
+
+  ferets_other : FeretsComponents (said k.lines).object labels (length table) k.table.ferets
+  ferets_other = ferets_measure (said k.lines).object (said k.lines).left (said k.lines).squares k.table.rows k.table.ferets k.table.table (k.table.farthest refl)
+
+  same_feret : (j : ℕ) → j < length table → get_or h.table.ferets j no_feret ≡ get_or k.table.ferets j no_feret
+  same_feret j l = same_ferets (said k.lines).object labels (length table) h.table.ferets k.table.ferets ferets_mine ferets_other j l
+
+  -- the cells of borders
+  same_border : (j : ℕ) → border_cells (tells_lengths number) (get_or (object_bounds sides labels (greatest labels) (borders h.lines)) j no_bounds) ≡ border_cells (tells_lengths number) (get_or (object_bounds sides labels (greatest labels) (borders k.lines)) j no_bounds)
+  same_border j =
+      let mine = a.borders refl in
+      let theirs = b.borders refl in
+      same_cells (tells_lengths number) sides labels (greatest labels) (borders h.lines) (borders k.lines) j (starts_once X.picture (borders h.lines) (borders k.lines) mine.begin theirs.begin)
+      (same_borders (number_of h.lines) (number_of k.lines) number X.picture (borders h.lines) (borders k.lines) (number_is h.lines h.opens) (number_is k.lines k.opens) is_flat mine theirs)
+
+  pub flat_once : bytes ≡ more
+  flat_once =
+      let nh = number_is h.lines h.opens in
+      let nk = number_is k.lines k.opens in
+      let o = same.object in
+      let ls = same_row.labels_are in
+      let rs = same_row.rows_are in
+      h.table.text
+      ∙ (λ z. table_text 2 (flat_columns (tells_lengths (nh z)) (object_bounds (o z).sides (ls z) (greatest (ls z)) (borders h.lines)) h.table.ferets) (rs z))
+      ∙ same_table 2 (flat_columns (tells_lengths number) (object_bounds sides labels (greatest labels) (borders h.lines)) h.table.ferets)
+      (flat_columns (tells_lengths number) (object_bounds sides labels (greatest labels) (borders k.lines)) k.table.ferets) table refl
+      (λ j l. (let c = same_border j in let f = same_feret j l in λ z. c z ++ feret_cells (f z)))
+      ∙ (λ z. table_text 2 (flat_columns (tells_lengths (sym nk z)) (object_bounds sides labels (greatest labels) (borders k.lines)) k.table.ferets) table)
+      ∙ sym k.table.text
