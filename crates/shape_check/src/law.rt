@@ -1,9 +1,11 @@
 //! What the answers of a check mean, as laws that callers can cite: what counts are the clauses.
 //! A further law is one more function with an empty body.
-ghost use Rattle.std.specs.Prelude.{◌≡◌, ◌≢◌, ◌+◌, ◌++◌, [], ℕ, List, Some, Result, Ok, Err};
+ghost use Rattle.std.specs.Prelude.{◌≡◌, ◌≢◌, ◌+◌, ◌++◌, [], ℕ, List, Some, Result, Ok, Err, All, length};
+ghost use Rattle.shape_terms.specs.Pictures.{Picture};
 ghost use Rattle.shape_desk.specs.Desk.{Rose};
 ghost use Rattle.report_terms.specs.Subjects.{Subject};
 ghost use Rattle.report_terms.specs.Holds.{Holds, FirstBad};
+ghost use Rattle.report_terms.specs.ContourFacts.{ContourFact, SegmentIsLeastOfBoth, ContoursShow};
 ghost use Rattle.report_terms.specs.Shows.{TextShows};
 ghost use Rattle.text_terms.specs.Texts.{line_ends};
 ghost use Rattle.report_text.specs.Checks.{Answer};
@@ -17,6 +19,13 @@ ghost use Rattle.shape_check.specs.Checks.{Checks};
 #[tactic(auto, using(report_terms::proofs::HoldsShows::holds_shows))]
 pub fn holding_shows()
     ensures { (X : Subject) (text : List ℕ) → Holds X text → TextShows X text }
+{}
+
+/// The line of each segment that a report with the number 2 shows of a flat picture is least for its axis; no naive line of
+/// either axis that holds the segment's points has a lesser main coefficient.
+pub fn least_lines_are_least_of_both_axes()
+    ensures { (X : Picture) (facts : List ContourFact) → length X.sides ≡ 2 → ContoursShow 2 X facts
+        → All (λ (f : ContourFact). All (SegmentIsLeastOfBoth f.outline.points) f.segments) facts }
 {}
 
 /// A text has one first bad line at most, so `No` answers the line that it means.
