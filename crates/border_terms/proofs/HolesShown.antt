@@ -21,7 +21,7 @@ use Rattle.jordan_terms.specs.Holes.{InHole, begins_low, inner_contours}
 use Rattle.jordan_terms.proofs.Labelled.{labelled_part}
 use Rattle.jordan_terms.proofs.Theorem.{jordan_in_the_plane, holes_in_the_plane}
 use Rattle.border_terms.specs.Borders.{Border}
-use Rattle.border_terms.specs.Objects.{label_at, is_of, is_hole, is_outer, bounds_of}
+use Rattle.border_terms.specs.Objects.{label_at, is_hole, is_outer, bounds_of}
 use Rattle.border_terms.specs.Begins.{BeginAsContours}
 use Rattle.border_terms.specs.HolesShown.{has_label, borders_from, HolesShow}
 

@@ -6,6 +6,7 @@ mod along;
 mod border;
 mod cells;
 mod contours;
+mod holes;
 mod law;
 mod length;
 mod objects;
@@ -19,6 +20,7 @@ mod totals;
 
 pub use border::{Border, Start};
 pub use contours::Contours;
+pub use holes::{contours_bound_components, holes_are_those_of_the_component};
 pub use law::{holding_tells_borders, shares_are_rounded_down};
 pub use objects::{Bounds, object_bounds};
 pub use total::Total;
