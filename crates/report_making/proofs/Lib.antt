@@ -1,2 +1,4 @@
 pub mod MadeLaws
 pub mod Files
+pub mod OneMaking
+pub mod Complete
