@@ -2,3 +2,4 @@ pub mod MadeLaws
 pub mod Files
 pub mod OneMaking
 pub mod Complete
+pub mod Written

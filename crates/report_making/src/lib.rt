@@ -8,7 +8,7 @@ mod making;
 mod outcome;
 mod top;
 
-pub use law::{one_making, products_are_complete};
+pub use law::{one_making, products_are_complete, reports_are_made};
 pub use making::Making;
 pub use outcome::Outcome;
 pub use top::run_named;
