@@ -1,6 +1,6 @@
 -- A report of pieces that holds shows for each contour of the picture a split with the fewest pieces.
 -- What good lines list stands in `Listed`; here they are read off a report.
-use Rattle.std.proofs.Common.{◌≡◌, ℕ, suc, List, [], ◌∷◌, ◌++◌, length, take, refl, ap, ◌∙◌, subst, append-nil, map, pos, arith}
+use Rattle.std.proofs.Common.{◌≡◌, ℕ, suc, List, [], ◌∷◌, ◌++◌, take, refl, ap, ◌∙◌, subst, append-nil, map, pos}
 use Rattle.std.specs.Prelude.{slice_get, filter_map, flat_map, Option, Some, None, All}
 use Rattle.std.specs.List.{AllZip}
 use Rattle.shape_terms.specs.Points.{Point}

@@ -1,6 +1,6 @@
 -- Lines that are good one after the other, up to the last contour, are exactly those of the facts that they tell.
 -- What these facts show stands in `Listed`.
-use Rattle.std.proofs.Common.{◌≡◌, ℕ, zero, suc, ◌+◌, ◌-◌, ◌<◌, ◌≤◌, List, [], ◌∷◌, ◌++◌, length, refl, ap, sym, ◌∙◌, arith, append_assoc}
+use Rattle.std.proofs.Common.{◌≡◌, ◌+◌, ◌-◌, ◌<◌, List, [], ◌∷◌, ◌++◌, length, refl, ap, sym, ◌∙◌, arith}
 use Rattle.std.specs.Prelude.{flat_map}
 use Rattle.shape_terms.specs.Traces.{Contour}
 use Rattle.piece_terms.specs.Pieces.{Piece}
