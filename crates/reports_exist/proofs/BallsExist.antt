@@ -1,6 +1,6 @@
 -- Each picture whose sides are in range has a ball report.
 -- Which balls it lists stands in `BallsKept`; here they are spelled.
-use Rattle.std.proofs.Common.{◌≡◌, ◌⊎◌, inl, inr, ℕ, ◌+◌, ◌^◌, ◌<◌, ◌≤◌, refl, ap, sym, ◌∙◌, subst, arith, List, [], ◌∷◌, length, map, ℤ, pos, negsuc, ◌≤ℤ◌}
+use Rattle.std.proofs.Common.{◌≡◌, ◌⊎◌, inl, inr, ℕ, ◌+◌, ◌^◌, ◌<◌, ◌≤◌, refl, ap, sym, ◌∙◌, subst, arith, List, [], ◌∷◌, length, map, take, ℤ, pos, negsuc, ◌≤ℤ◌}
 use Rattle.std.specs.Prelude.{IsTrue, All}
 use Rattle.std.proofs.lemmas.Int.{ints}
 use Rattle.std.proofs.lemmas.List.{get_or-map, length-map}
@@ -13,7 +13,7 @@ use Rattle.shape_terms.proofs.Boxes.{in_box_length, few_points}
 use Rattle.shape_terms.proofs.BoxLists.{objects_are, few_objects}
 use Rattle.shape_terms.proofs.FramedBoxes.{box_point_within, framed_point_within}
 use Rattle.shape_terms.proofs.Numbered.{object_in_box}
-use Rattle.text_terms.specs.Spellings.{text_of}
+use Rattle.text_terms.specs.Spellings.{Spelled, text_of}
 use Rattle.text_terms.specs.Fields.{point, weight}
 use Rattle.text_terms.proofs.FramedFields.{within_short, distance_fits}
 use Rattle.ball_terms.specs.Balls.{Ball, BallClaim, AreBalls}
@@ -25,7 +25,7 @@ use Rattle.ball_terms.proofs.BallUnion.{in_object}
 use Rattle.ball_terms.proofs.HoldsShows.{listed_holds}
 use Rattle.reports_exist.specs.Met.{IsMet, HasSides}
 use Rattle.reports_exist.proofs.BallsNearest.{all_nearest}
-use Rattle.reports_exist.proofs.BallsKept.{AreKept, keep, all_stand}
+use Rattle.reports_exist.proofs.BallsKept.{IsNear, AreKept, keep, all_stand}
 
 -- ---- sides as a point
 
@@ -69,7 +69,9 @@ module _ (d greatest : ℕ) (X : Picture) (h : HasSides d greatest X) (axes : (d
   framed_within i = subst (λ s. IsWithin (negsuc 0) (pos 4096) (framed_point s i)) back (framed_point_within (pos greatest) n i range flat_side)
 
   object_within : (p : Point) → IsTrue (at X p) → IsWithin (negsuc 0) (pos 4096) p
-  object_within p o = box_point_within (pos greatest) n p range flat_side (subst (λ s. IsTrue (in_box s p)) (sym back) (object_in_box X p o))
+  object_within p o =
+      let inside : IsTrue (in_box (sides_of n) p) = subst (λ s. IsTrue (in_box s p)) (sym back) (object_in_box X p o) in
+      box_point_within (pos greatest) n p range flat_side inside
 
   object_axes : (p : Point) → IsTrue (at X p) → length p ≡ length X.sides
   object_axes p o = in_box_length X.sides p (object_in_box X p o)
@@ -88,35 +90,30 @@ module _ (d greatest : ℕ) (X : Picture) (h : HasSides d greatest X) (axes : (d
       let c = few_points (pos greatest) n range flat_side two (λ q. let s = solid (sym m ∙ q) in omega (arith, ints)) in
       omega (arith, few_objects X)
 
-  ball_fits : (earlier : List Ball) (b : Ball) → BallClaim X earlier b → IsWithin (negsuc 0) (pos 4096) b.near → (spelled (length X.sides)).IsLine (Line.Ball b)
-  ball_fits earlier b c near =
-      let short : length b.centre ≤ 3 = (let a = object_axes b.centre c.object in let t = three in omega arith) in (
-        object_fits b.centre c.object,
-        (
-          within_short (length X.sides) b.near c.least.background.point near,
-          (
-            subst weight.InRange (sym c.least.distance) (distance_fits b.centre b.near short (object_within b.centre c.object) near),
-            object_fits b.own (in_object X b c.least b.own c.own),
-          ),
-        ),
-      )
+  abbrev T : Spelled Line
+  T = spelled (length X.sides)
 
-  lines_fit : (balls : List Ball) → length balls < 2 ^ 32 → All (λ b. (spelled (length X.sides)).IsLine (Line.Ball b)) balls → All (spelled (length X.sides)).IsLine (listing n balls)
+  ball_fits : (earlier : List Ball) (b : Ball) → BallClaim X earlier b → IsNear b → T.IsLine (Line.Ball b)
+  ball_fits earlier b c near =
+      let short : length b.centre ≤ 3 = (let a = object_axes b.centre c.object in let t = three in omega arith) in
+      let q = within_short (length X.sides) b.near c.least.background.point near in
+      let s = subst weight.InRange (sym c.least.distance) (distance_fits b.centre b.near short (object_within b.centre c.object) near) in
+      (object_fits b.centre c.object, (q, (s, object_fits b.own (in_object X b c.least b.own c.own))))
+
+  lines_fit : (balls : List Ball) → length balls < 2 ^ 32 → All (λ b. T.IsLine (Line.Ball b)) balls → All T.IsLine (listing n balls)
   lines_fit balls l fit =
-      let T = spelled (length X.sides) in
-      All-append T.IsLine (Line.Balls n (length balls) ∷ map (λ b. Line.Ball b) balls) (Line.End ∷ [])
-      (All-cons T.IsLine (Line.Balls n (length balls)) (map (λ b. Line.Ball b) balls) (sides_fit, l) (All-map T.IsLine (λ b. Line.Ball b) balls fit))
-      (All-cons T.IsLine Line.End [] tt (All-nil T.IsLine))
+      let first = All-cons T.IsLine (Line.Balls n (length balls)) (map (λ b. Line.Ball b) balls) (sides_fit, l) (All-map T.IsLine (λ b. Line.Ball b) balls fit) in
+      let last = All-cons T.IsLine Line.End [] tt (All-nil T.IsLine) in
+      All-append T.IsLine (Line.Balls n (length balls) ∷ map (λ b. Line.Ball b) balls) (Line.End ∷ []) first last
 
   -- ---- the report
 
   listed : (k : AreKept X (length (object_points X))) → IsMet (ball_report X)
   listed k =
-      let T = spelled (length X.sides) in
-      let fit : All (λ b. T.IsLine (Line.Ball b)) k.balls = each_of k.balls (λ b. T.IsLine (Line.Ball b)) (λ i b e. ball_fits _ b (k.good i b e) (all_get (λ b. IsWithin (negsuc 0) (pos 4096) b.near) k.balls i b e k.near)) in
+      let fit = each_of k.balls (λ b. T.IsLine (Line.Ball b)) (λ i b e. ball_fits (take i k.balls) b (k.good i b e) (all_get IsNear k.balls i b e k.near)) in
       let are : AreBalls X k.balls = record { few = k.few; each = k.good; all = k.cover } in
-      let text = text_of T (listing n k.balls) in
-      (text, listed_holds X k.balls are three text (record { fields = lines_fit k.balls (let f = k.few in let m = few in omega arith) fit; text_is = refl }))
+      let fields = lines_fit k.balls (let f = k.few in let m = few in omega arith) fit in
+      (text_of T (listing n k.balls), listed_holds X k.balls are three (text_of T (listing n k.balls)) (record { fields = fields; text_is = refl }))
 
   pub ball_report_met : IsMet (ball_report X)
   ball_report_met =

@@ -8,7 +8,7 @@ use Rattle.std.proofs.lemmas.Nat.{mul-le}
 use Rattle.std.proofs.lemmas.List.Elements.{All-nil, All-cons, All-head, All-tail}
 use native.Mathlib.Decide.{dec_lt}
 use Rattle.shape_terms.specs.Points.{Point, box_count, squared_distance}
-use Rattle.shape_terms.specs.Pictures.{Picture, at, Least}
+use Rattle.shape_terms.specs.Pictures.{Picture, at, IsBackground, Least}
 use Rattle.shape_terms.specs.FramedBox.{framed_sides, framed_point, IsWithin}
 use Rattle.shape_terms.specs.Distances.{NearFact}
 use Rattle.shape_terms.proofs.Boxes.{in_box_length}
@@ -77,29 +77,34 @@ pub record IsFound (X : Picture) (f : NearFact) : Type 0 where
   pub least : Least X f.p f.q f.s
   pub near : IsWithin (negsuc 0) (pos 4096) f.q
 
+-- the points of facts, in order
+abbrev pub points_of : List NearFact → List Point
+points_of facts = map (λ f. f.p) facts
+
 module _ (X : Picture) (axes : 0 < length X.sides) (within : (i : ℕ) → IsWithin (negsuc 0) (pos 4096) (framed_point X.sides i)) where
+  abbrev distance : Point → ℕ → ℕ
+  distance p i = squared_distance p (framed_point X.sides i)
+
+  abbrev is_object : ℕ → Bool
+  is_object i = at X (framed_point X.sides i)
+
   nearest : (p : Point) → IsTrue (at X p) → (f : NearFact) × (f.p ≡ p) × IsFound X f
-  nearest p o = elim (lowest_or_none (λ i. squared_distance p (framed_point X.sides i)) (λ i. at X (framed_point X.sides i)) (box_count (framed_sides X.sides))) [
+  nearest p o = elim (lowest_or_none (distance p) is_object (box_count (framed_sides X.sides))) [
     | inl h ↦ (
-        let q = framed_point X.sides h.0 in (
-          record { p = p; q = q; s = squared_distance p q },
-          refl,
-          record {
-            object = o;
-            least = least_found X p q (squared_distance p q) (object_in_box X p o) (record { point = length-framed_point X.sides h.0; value = h.1.off }) refl h.1.least;
-            near = within h.0;
-          },
-        ))
+        let q = framed_point X.sides h.0 in
+        let background : IsBackground X q = record { point = length-framed_point X.sides h.0; value = h.1.off } in
+        let least = least_found X p q (distance p h.0) (object_in_box X p o) background refl h.1.least in
+        (record { p = p; q = q; s = distance p h.0 }, refl, record { object = o; least = least; near = within h.0 }))
     | inr none ↦ absurd (none 0 (some_framed X.sides) (corner_background X axes).value)
   ]
 
   -- of each point of a list of object points
-  pub all_nearest : (ps : List Point) → All (λ p. IsTrue (at X p)) ps → (facts : List NearFact) × (map (λ (f : NearFact). f.p) facts ≡ ps) × All (IsFound X) facts
+  pub all_nearest : (ps : List Point) → All (λ p. IsTrue (at X p)) ps → (facts : List NearFact) × (points_of facts ≡ ps) × All (IsFound X) facts
   all_nearest [] h = ([], refl, All-nil (IsFound X))
   all_nearest (p ∷ ps) h =
       let f = nearest p (All-head (λ p. IsTrue (at X p)) p ps h) in
       let r = all_nearest ps (All-tail (λ p. IsTrue (at X p)) p ps h) in
-      (f.0 ∷ r.0, ap (λ (q : Point). q ∷ map (λ (f : NearFact). f.p) r.0) f.1 ∙ ap (λ qs. p ∷ qs) r.1, All-cons (IsFound X) f.0 r.0 f.2 r.2)
+      (f.0 ∷ r.0, ap (λ (q : Point). q ∷ points_of r.0) f.1 ∙ ap (λ qs. p ∷ qs) r.1, All-cons (IsFound X) f.0 r.0 f.2 r.2)
 
 -- ---- an object point is apart from the background
 
@@ -119,8 +124,8 @@ same_point [] (y ∷ q) l e = absurd (omega arith)
 same_point (x ∷ p) [] l e = absurd (omega arith)
 same_point (x ∷ p) (y ∷ q) l e =
     let c = squared_distance-cons x y p q in
-    let z : x -ℤ y ≡ pos 0 = abs_none (x -ℤ y) (square_none (nat_abs (x -ℤ y)) (squared_distance p q) (omega arith)) in
     let n = square_none (nat_abs (x -ℤ y)) (squared_distance p q) (omega arith) in
+    let z : x -ℤ y ≡ pos 0 = abs_none (x -ℤ y) n in
     let h : x ≡ y = omega (arith, ints) in
     let r = same_point p q (omega arith) (omega (arith, c, e)) in
     ap (λ v. v ∷ p) h ∙ ap (λ v. y ∷ v) r
@@ -130,7 +135,8 @@ some_distance X f h = elim (dec_lt 0 f.s) [
   | yes m ↦ m
   | no m ↦ (
       let d = h.least.distance in
-      let e : f.p ≡ f.q = same_point f.p f.q (in_box_length X.sides f.p (object_in_box X f.p h.object) ∙ sym h.least.background.point) (omega arith) in
+      let axes = in_box_length X.sides f.p (object_in_box X f.p h.object) in
+      let e : f.p ≡ f.q = same_point f.p f.q (axes ∙ sym h.least.background.point) (omega arith) in
       let c : true ≡ false = sym h.object ∙ (ap (at X) e ∙ h.least.background.value) in
       cc)
 ]
