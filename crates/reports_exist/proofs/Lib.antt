@@ -1,0 +1,3 @@
+pub mod BallsNearest
+pub mod BallsKept
+pub mod BallsExist
