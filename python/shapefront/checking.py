@@ -3,13 +3,13 @@ from __future__ import annotations
 
 import re
 import tempfile
-from collections.abc import Iterator
+from collections.abc import Callable, Iterator
 from concurrent.futures import ThreadPoolExecutor
 from contextlib import contextmanager
 from dataclasses import dataclass
 from pathlib import Path
 
-from .arrays import report_of, verdict
+from .arrays import Verdict, report_of, verdict
 from .faults import Fault
 from .files import read_json, shown
 from .folder import run_of, tables_of
@@ -28,6 +28,10 @@ _COMMANDS = {
     "balls": ("balls", "checkballs"),
 }
 
+# Who gives the verdict on a report's file, not gzipped, of a picture, by the program's word for a check of its kind. The proved
+# program does, `verdict`; another checker that answers the same may stand in its place.
+Judge = Callable[[Source, Path, str], Verdict]
+
 
 @dataclass(frozen=True)
 class Finding:
@@ -41,13 +45,13 @@ class Finding:
         return f"{self.name}: yes" if self.holds else f"{self.name}: no, {self.why}"
 
 
-def check_report(name: str, source: Source, report: Path) -> Finding:
+def check_report(name: str, source: Source, report: Path, judge: Judge = verdict) -> Finding:
     """Whether a report, gzipped or not, holds of a picture's file. A Fault where there is no report or no picture."""
     text, _ = text_of(report)
     kind, *rest = text[:200].split(b"\n", 1)[0].decode("ascii", "replace").split(" ")
     make, command = _COMMANDS.get(kind, _COMMANDS["shape"])
     with _plain(text, report) as plain:
-        answer = verdict(source, plain, command)
+        answer = judge(source, plain, command)
     if answer:
         return Finding(name, True)
     rule = rest[-1].strip() if make == "analyse" and rest else "none"

@@ -5,6 +5,7 @@ import argparse
 import io
 import sys
 from collections.abc import Iterable, Iterator
+from pathlib import Path
 
 from .batch import images_of, run
 from .checking import Finding, check_folder
@@ -17,6 +18,7 @@ from .making import Plan, clear_aside
 from .original import check_original
 from .programs import find
 from .report import Analysis, read
+from .second import Second, reports_of
 from .words import options_of, parser, pixel_of, settings_of
 
 DONE, FAILED, USAGE, NOTHING, STOPPED = 0, 1, 2, 3, 130
@@ -48,13 +50,25 @@ def measure(words: argparse.Namespace) -> int:
 
 def check(words: argparse.Namespace) -> int:
     """`shapes check`: one line a file, and one status."""
+    if words.second:
+        return check_second([words.image, *words.report])
     find()
-    if words.report is None:
+    if len(words.report) > 1:
+        raise Fault("--second", "only it takes more than one report", "give an image and one report, or a folder")
+    if not words.report:
         if not words.image.is_dir():
             raise Fault(shown(words.image), "not a folder", "give a folder, or an image and its report")
         findings = list(_printed(check_folder(words.image, words.jobs)))
     else:
-        findings = list(_printed([check_original(words.image, words.report, settings_of(words))]))
+        findings = list(_printed([check_original(words.image, words.report[0], settings_of(words))]))
+    return DONE if all(finding.holds for finding in findings) else FAILED
+
+
+def check_second(paths: list[Path]) -> int:
+    """`shapes check --second`: the same by the second reading, and at last what it looked at."""
+    second = Second()
+    findings = list(_printed(second.check(reports_of(paths))))
+    print(second.summary())
     return DONE if all(finding.holds for finding in findings) else FAILED
 
 

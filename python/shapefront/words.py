@@ -107,7 +107,12 @@ def parser() -> argparse.ArgumentParser:
         "check", help="whether every number of a folder, or a report of an image, is right, and why not", epilog=_STATUS
     )
     check.add_argument("image", type=Path, metavar="FOLDER|IMAGE", help="a folder that `shapes measure` wrote; or the image of a report")
-    check.add_argument("report", nargs="?", type=Path, metavar="REPORT")
+    check.add_argument("report", nargs="*", type=Path, metavar="REPORT")
+    check.add_argument(
+        "--second",
+        action="store_true",
+        help="check FOLDER, or reports that lie beside their pictures, by a second reading in Python, without the proved program",
+    )
     for part in (measure, volume, check):
         _conversion(part)
         part.add_argument("--jobs", type=_jobs, default=1, metavar="N", help="how many images at once")
