@@ -1,0 +1,2 @@
+pub mod ContoursExist
+pub mod SmallRuns
