@@ -1,2 +1,3 @@
 pub mod ContoursExist
 pub mod SmallRuns
+pub mod SegmentsGrow
