@@ -1,0 +1,4 @@
+pub mod ContoursExist
+pub mod SmallRuns
+pub mod SegmentsGrow
+pub mod RunsDecided
