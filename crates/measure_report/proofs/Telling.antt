@@ -22,6 +22,8 @@ use Rattle.measure_terms.proofs.TableOfComponents.{table_measures, labels_kept, 
 use Rattle.border_terms.specs.Borders.{borders}
 use Rattle.border_terms.specs.Shown.{BordersShow}
 use Rattle.border_terms.proofs.BordersShown.{borders_shown}
+use Rattle.border_terms.proofs.BordersBegin.{borders_begin}
+use Rattle.border_terms.proofs.HolesShown.{holes_shown}
 use Rattle.measure_report.specs.FurtherColumns.{further_columns}
 use Rattle.measure_report.specs.TableTexts.{IsTableText}
 use Rattle.measure_report.specs.Holding.{SpellsMeasures, TableTells}
@@ -62,6 +64,9 @@ spelled_so s X text bytes t holds i h =
       number = (content_of t.lines).number;
       borders = borders t.lines;
       shows = borders_so s X text t holds i;
+      holes = λ e k few. holes_shown X.picture (i.picture.axes ∙ e) (borders t.lines)
+          (borders_begin (content_of t.lines).number X.picture (borders t.lines) (borders_so s X text t holds i e))
+          m3.0.labels m3.0.named (length h.rows) m3.0.all k few;
       ferets = h.ferets;
       farthest = λ e. subst (λ (ls : List ℕ). FeretsComponents X.picture ls (length h.rows) h.ferets) same (
           subst (λ (Y : Picture). FeretsComponents Y labels (length h.rows) h.ferets) t.object (ferets_measure said_object said_left squares h.rows h.ferets h.table (h.farthest e)));

@@ -1,6 +1,6 @@
 -- What the table of a report tells that holds of a picture.
 -- Geometry alone: components and their farthest points, least distances, contours and the stage in which the thinning ends.
-use Rattle.std.specs.Prelude.{◌≡◌, ℕ, List, length}
+use Rattle.std.specs.Prelude.{◌≡◌, ℕ, ◌+◌, ◌<◌, List, length}
 use Rattle.shape_terms.specs.Thinning.{Rule, Stage, IsThinning}
 use Rattle.report_terms.specs.Subjects.{Subject}
 use Rattle.report_terms.specs.Lines.{Line}
@@ -14,10 +14,11 @@ use Rattle.measure_terms.specs.Components.{MeasuresComponents, FeretsComponents}
 use Rattle.measure_terms.specs.Texts.{table_text}
 use Rattle.border_terms.specs.Borders.{Border}
 use Rattle.border_terms.specs.Shown.{BordersShow}
+use Rattle.border_terms.specs.HolesShown.{HolesShow}
 use Rattle.measure_report.specs.FurtherColumns.{further_columns}
 use Rattle.measure_report.specs.TableTexts.{IsTableText}
 
--- the bytes spell a table that has a row for each component of the picture, with its measures, where `squares` has the least squared distances `left` the points that a thinning leaves, and in the plane the borders are those of the contours, each with its tangential cover, and each component has its Feret diameter
+-- the bytes spell a table that has a row for each component of the picture, with its measures, where `squares` has the least squared distances `left` the points that a thinning leaves, and in the plane the borders are those of the contours, each with its tangential cover, each row counts the holes of its component, and each component has its Feret diameter
 pub record SpellsMeasures (d : ℕ) (X : Subject) (lines : List Line) (bytes : List ℕ) : Type 0 where
   pub squares : List ℕ
   pub least : AreSquares X.picture squares
@@ -30,6 +31,7 @@ pub record SpellsMeasures (d : ℕ) (X : Subject) (lines : List Line) (bytes : L
   pub number : ℕ
   pub borders : List Border
   pub shows : d ≡ 2 → BordersShow number X.picture borders
+  pub holes : d ≡ 2 → (k : ℕ) → k < length rows → HolesShow X.picture measures.labels (k + 1) borders
   pub ferets : List Feret
   pub farthest : d ≡ 2 → FeretsComponents X.picture measures.labels (length rows) ferets
   pub text : bytes ≡ table_text d (further_columns d X.picture.sides measures.labels borders ferets) rows
