@@ -4,6 +4,6 @@ pub mod Means
 pub mod Lengths
 pub mod Borders
 pub mod Objects
-pub mod Shown
 pub mod Begins
+pub mod Shown
 pub mod HolesShown

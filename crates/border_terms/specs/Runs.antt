@@ -1,5 +1,5 @@
 -- The segments of a contour as runs of its steps along a line, as the lines of a report give them.
--- Which segments are right does not matter here; those beyond the limits count for nothing.
+-- Which segments are right does not matter here; lines need not hold, and those beyond the limits count for nothing, so that no number overflows and no run takes long.
 use Rattle.std.specs.Prelude.{ℕ, ℤ, ◌+◌, ◌^◌, nat_le, nat_abs, Bool, ◌&&◌, if◌then◌else◌, List, Option, Some, None}
 use Rattle.shape_terms.specs.Points.{coordinate}
 use Rattle.report_terms.specs.Lines.{Line}
@@ -11,7 +11,7 @@ pub record Run : Type 0 where
   pub a : ℤ
   pub b : ℤ
 
--- the run has at most 2048 steps, and no coefficient greater in size than 2^23. In a picture with sides up to 2048 no straight run has more steps, and no least line greater coefficients
+-- the run has at most 2048 steps, and no coefficient greater in size than 2^23. In a report with the number 2 that holds of a picture with sides up to 2048 each run is such
 abbrev pub is_fair : Run → Bool
 is_fair r = nat_le r.last (r.first + 2048) && nat_le (nat_abs r.a) (2 ^ 23) && nat_le (nat_abs r.b) (2 ^ 23)
 

@@ -1,6 +1,6 @@
 -- Segments and refusals of their gaps, taken one after another, each good after those before it.
 -- Lists of segments and refusals alone; that all of them show the cover stands in `CoverShown`.
-use Rattle.std.proofs.Common.{◌≡◌, inl, inr, ℕ, ◌<◌, refl, sym, ap, ◌∙◌, subst, List, [], ◌∷◌, ◌++◌, length, take, Some}
+use Rattle.std.proofs.Common.{◌≡◌, inl, inr, ℕ, ◌<◌, refl, sym, subst, List, [], ◌∷◌, ◌++◌, length, take, Some}
 use Rattle.std.specs.Prelude.{◌/◌, ◌%◌, Option, None, slice_get}
 use Rattle.std.specs.List.{AllZip}
 use Rattle.shape_terms.specs.Points.{Point}

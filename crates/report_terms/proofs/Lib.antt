@@ -16,3 +16,9 @@ pub mod Words
 pub mod FaceGroups
 pub mod FaceSaid
 pub mod FacesShown
+pub mod SlopesBetween
+pub mod RunLines
+pub mod SteadyRuns
+pub mod LeastOfAxes
+pub mod ContourPoints
+pub mod LeastShown

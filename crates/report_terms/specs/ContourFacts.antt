@@ -1,6 +1,6 @@
 -- What a report says of a contour, and when it shows it: the outline, the segments of the tangential cover, the evidence that their lines are least, and how each gap is refused.
 -- Geometry alone: no line, spelling or judge stands here.
-use Rattle.std.specs.Prelude.{◌≡◌, ℕ, ◌<◌, List, [], ◌∷◌, length, map, slice_get, Some, All}
+use Rattle.std.specs.Prelude.{◌≡◌, ℕ, ◌<◌, List, [], ◌∷◌, length, map, slice_get, Some, ◌≤ℤ◌, All}
 use Rattle.std.specs.List.{AllZip}
 use Rattle.shape_terms.specs.Points.{Point, coordinate}
 use Rattle.shape_terms.specs.Pictures.{Picture}
@@ -55,6 +55,10 @@ pub record SegmentShows (points : List Point) (s : Segment) : Type 0 where
 -- the line has the least main coefficient of all proper lines of its axis that hold each place of the stretch
 abbrev pub SegmentIsLeast : List Point → Segment → Type 0
 SegmentIsLeast points s = IsLeastLine s.axis (arc points s.stretch.first s.stretch.last) s.line
+
+-- no proper line of the axis x or y that holds each place of the stretch has a lesser main coefficient
+abbrev pub SegmentIsLeastOfBoth : List Point → Segment → Type 0
+SegmentIsLeastOfBoth points s = (u : ℕ) (n : Naive) → u < 2 → IsNaiveFor u (arc points s.stretch.first s.stretch.last) n → coordinate s.line.a s.axis ≤ℤ coordinate n.a u
 
 -- the pairs of places show that no proper line of the axis that holds each place of the stretch has a lesser main coefficient
 abbrev pub SegmentHasEvidence : List Point → Segment → Pairs → Type 0
