@@ -27,11 +27,13 @@ use Rattle.shape_cover.specs.Found.{IsShortLine}
 use Rattle.runs_exist.proofs.SmallRuns.{IsSmallPoint, IsWithin, same_or_not, product_within, height_within, along_within}
 use Rattle.runs_exist.proofs.SegmentsGrow.{IsGrownTo, Reason, one_more}
 
--- a line of the axis holds the run, along which the other coordinate goes one way, and its numbers are short
+-- a line of the axis holds the run, along which the other coordinate goes one way, and its numbers are small
 pub record IsLineFor (t : ℕ) (run : List Point) (line : Naive) : Type 0 where
   pub naive : IsNaiveFor t run line
   pub sense : KeepsSense t run
   pub short : IsShortLine line
+  pub main : coordinate line.a t ≤ℤ pos 8193
+  pub mu : IsWithin (pos 200000000) line.mu
 
 -- the run has such a line, or evidence against each
 abbrev pub IsDecided : ℕ → List Point → Type 0
@@ -89,13 +91,15 @@ module _ (t : ℕ) (l : t < 2) (s : ℤ) (sense : IsSense s) (seg : Seg) (run : 
     sense = keeps t s l sense seg.x0 run r.place;
     short = record {
       two = row_two t (s *ℤ seg.a) seg.b;
-      coefficients = short_row t (s *ℤ seg.a) seg.b (short_abs seg.b (s *ℤ seg.a) (omega (arith, ints, small)) (signed_within s seg.a seg.b sense steep)) (main seg.b some small);
+      coefficients = short_row t (s *ℤ seg.a) seg.b (short_abs seg.b (s *ℤ seg.a) (omega (arith, ints, small)) (signed_within s seg.a seg.b sense steep)) (main_short seg.b some small);
       mu = short_abs (pos 200000000) seg.mu (omega (arith, ints)) mu;
     };
+    main = subst (λ (z : ℤ). z ≤ℤ pos 8193) (line_of t s seg l sense).main small;
+    mu = mu;
   })
     where
-      main : (b : ℤ) → pos 0 <ℤ b → b ≤ℤ pos 8193 → nat_abs b < 2 ^ 63
-      main b h k = omega (arith, ints)
+      main_short : (b : ℤ) → pos 0 <ℤ b → b ≤ℤ pos 8193 → nat_abs b < 2 ^ 63
+      main_short b h k = omega (arith, ints)
 
 -- ---- one point
 
@@ -296,3 +300,9 @@ decided t l (p ∷ more) some near = elim (gone_through t l (p ∷ []) more near
   | inl (inr g) ↦ inl (line_of_grown t l (p ∷ more) near g)
   | inr (run, part, r) ↦ inr (shown_of t (p ∷ more) run part r)
 ]
+
+-- one point alone has a line
+pub one_decided : (t : ℕ) → t < 2 → (run : List Point) → length run ≡ 1 → IsNearRun run → (line : Naive) × IsLineFor t run line
+one_decided t l [] e near = absurd (omega arith)
+one_decided t l (p ∷ []) e near = line_of_one t l p (near.small 0 (omega arith))
+one_decided t l (p ∷ q ∷ run) e near = absurd (omega arith)

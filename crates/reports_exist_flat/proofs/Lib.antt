@@ -1,0 +1,5 @@
+pub mod Fields
+pub mod PiecesExist
+pub mod PieceTexts
+pub mod StepSigns
+pub mod EdgesDecided
