@@ -1,21 +1,18 @@
 -- Each flat picture within the sides of the command has a text that holds as its report of edges.
 -- The cover of a corner path stands in `EdgesExist`; one line more at a time, as the maker grows its text.
-use Rattle.std.proofs.Common.{◌≡◌, ℕ, zero, suc, ◌+◌, ◌*◌, ◌<◌, ◌≤◌, ◌^◌, List, [], ◌∷◌, ◌++◌, length, map, take, refl, ap, sym, subst, ◌∙◌, arith, Some}
+use Rattle.std.proofs.Common.{◌≡◌, ℕ, zero, suc, ◌+◌, ◌*◌, ◌<◌, ◌≤◌, ◌^◌, List, [], ◌∷◌, length, refl, sym, subst, arith, Some}
 use Rattle.std.specs.Prelude.{slice_get, slice_index_or, All}
-use Rattle.std.proofs.lemmas.List.{length-map}
 use Rattle.std.proofs.lemmas.Nat.{mul-le}
 use Rattle.std.proofs.lemmas.Option.{slice_get-get_or}
 use Rattle.shape_terms.specs.Points.{Point, box_count}
 use Rattle.shape_terms.specs.Pictures.{Picture, IsPicture}
-use Rattle.shape_terms.specs.Contours.{Crack, IsCrack, successor, IsCycle}
+use Rattle.shape_terms.specs.Contours.{Crack, IsCrack, successor}
 use Rattle.shape_terms.specs.Covers.{gap_run}
 use Rattle.shape_terms.specs.Traces.{Contour, AreContours}
 use Rattle.shape_terms.proofs.Walks.{walk, length-walk}
 use Rattle.shape_terms.proofs.Tracing.{Reached, reached_cycle, reached_most, first-walk}
-use Rattle.text_terms.specs.Spellings.{line_text}
 use Rattle.edge_terms.specs.Corners.{IsCornerPath, corner_path}
-use Rattle.edge_terms.specs.EdgeCovers.{Arc, arc_in, stretches_of, IsEdgeCover, EdgeFound, IsEdgeCoverFrom}
-use Rattle.edge_terms.specs.EdgeFacts.{arc_line, gap_line}
+use Rattle.edge_terms.specs.EdgeCovers.{arc_in, stretches_of, EdgeFound, IsEdgeCoverFrom}
 use Rattle.edge_terms.specs.Lines.{Line, spelled}
 use Rattle.edge_terms.specs.EdgeReports.{State, edge_report}
 use Rattle.edge_terms.proofs.CornerPaths.{cycle_path}

@@ -1,18 +1,18 @@
 -- Each run of corners one unit step apart is decided: a standard line holds it, or evidence shows that it is not straight.
 -- Its sheared run is decided for the axis y as in `RunsDecided`.
-use Rattle.std.proofs.Common.{◌≡◌, ◌⊎◌, inl, inr, ℕ, zero, suc, ◌+◌, ◌-◌, ◌<◌, ◌≤◌, ◌^◌, refl, ap, sym, ◌∙◌, subst, arith, List, [], ◌∷◌, length}
-use Rattle.std.specs.Prelude.{ℤ, pos, negsuc, ◌+ℤ◌, ◌-ℤ◌, ◌*ℤ◌, neg_ℤ, ◌≤ℤ◌, ◌<ℤ◌, nat_abs}
+use Rattle.std.proofs.Common.{◌≡◌, ◌⊎◌, inl, inr, ℕ, ◌+◌, ◌-◌, ◌<◌, ◌≤◌, ◌^◌, refl, sym, subst, arith, List, [], length}
+use Rattle.std.specs.Prelude.{ℤ, pos, negsuc, ◌+ℤ◌, ◌-ℤ◌, ◌*ℤ◌, ◌≤ℤ◌, nat_abs}
 use Rattle.std.proofs.lemmas.Int.{ints, by_lt_z}
 use Rattle.std.proofs.lemmas.List.{length-map, get_or-map}
 use Rattle.shape_terms.specs.Points.{Point, coordinate}
 use Rattle.shape_terms.specs.Steps.{AreClose}
-use Rattle.shape_terms.specs.Naive.{Naive, IsNaiveFor}
-use Rattle.shape_terms.specs.Refutations.{Refutation, point_at}
+use Rattle.shape_terms.specs.Naive.{Naive}
+use Rattle.shape_terms.specs.Refutations.{point_at}
 use Rattle.shape_terms.specs.Covers.{Evidence}
 use Rattle.shape_terms.proofs.Evidences.{evidence_shows}
 use Rattle.shape_line.specs.Evidence.{IsShown}
-use Rattle.edge_terms.specs.Corners.{IsSign, step_at, IsCorner, IsUnitStep}
-use Rattle.edge_terms.specs.EdgeStraight.{Standard, GoesBy, IsStandardFor}
+use Rattle.edge_terms.specs.Corners.{IsSign, IsCorner, IsUnitStep}
+use Rattle.edge_terms.specs.EdgeStraight.{Standard, GoesBy}
 use Rattle.edge_terms.specs.EdgeEvidence.{EdgeEvidence, from_origin, sheared_run}
 use Rattle.edge_terms.specs.EdgeCovers.{IsHeld, IsGap}
 use Rattle.edge_terms.proofs.Shearing.{step_across, step_down, line_by, standard_by, flat_line, flat_from}

@@ -1,8 +1,7 @@
 -- Each closed path of pixels has a split into pieces that are each as long as a straight run can be, from its first point on.
 -- Each run is decided for both axes as in `RunsDecided`; the texts of such pieces stand in `PieceTexts`.
-use Rattle.std.proofs.Common.{◌≡◌, ℕ, zero, suc, ◌+◌, ◌-◌, ◌*◌, ◌<◌, ◌≤◌, ◌%◌, List, [], ◌∷◌, ◌++◌, length, refl, ap, sym, subst, ◌∙◌, arith, inl, inr}
-use Rattle.std.specs.Prelude.{ℤ, pos, negsuc, nat_abs, IsTrue}
-use Rattle.std.proofs.lemmas.Int.{ints}
+use Rattle.std.proofs.Common.{◌≡◌, ℕ, zero, suc, ◌+◌, ◌-◌, ◌<◌, ◌≤◌, ◌%◌, List, [], ◌∷◌, ◌++◌, length, refl, ap, sym, subst, ◌∙◌, arith, inl, inr}
+use Rattle.std.specs.Prelude.{IsTrue}
 use native.Mathlib.Decide.{dec_lt}
 use Rattle.shape_terms.specs.Points.{Point, in_box}
 use Rattle.shape_terms.specs.Steps.{AreClose}
@@ -16,7 +15,7 @@ use Rattle.shape_line.specs.Evidence.{IsShown}
 use Rattle.shape_cover.proofs.Backs.{close_next}
 use Rattle.shape_cover.proofs.Searching.{shown_refused}
 use Rattle.piece_terms.specs.Pieces.{Piece, ArePieces}
-use Rattle.shape_pieces.specs.Steps.{IsPieceFrom, IsRefusedShortly, AreShortPieces, AreFront}
+use Rattle.shape_pieces.specs.Steps.{IsPieceFrom, AreShortPieces, AreFront}
 use Rattle.shape_pieces.proofs.Fronting.{one_more, ends_whole, short_pieces}
 use Rattle.runs_exist.proofs.SmallRuns.{IsSmallPoint}
 use Rattle.runs_exist.proofs.RunsDecided.{IsLineFor, IsDecided, IsNearRun, decided, one_decided}

@@ -15,8 +15,8 @@ use Rattle.shape_terms.specs.Turns.{other_axis}
 use Rattle.shape_terms.specs.Covers.{Evidence}
 use Rattle.shape_terms.proofs.Products.{rings}
 use Rattle.shape_terms.proofs.ArcRuns.{IsPart}
-use Rattle.shape_line.specs.Segments.{Seg, rest, IsTaken, IsSegment, paired}
-use Rattle.shape_line.specs.Frames.{IsSense, row, along, height, IsRunOf, StandsAt, place_from}
+use Rattle.shape_line.specs.Segments.{Seg, rest, IsTaken, paired}
+use Rattle.shape_line.specs.Frames.{IsSense, row, along, height, IsRunOf, place_from}
 use Rattle.shape_line.specs.Evidence.{IsShown}
 use Rattle.shape_line.proofs.Frames.{IsLineOf, line_holds, keeps, which, stands}
 use Rattle.shape_line.proofs.Growing.{u_taken, v_taken}
