@@ -1,18 +1,18 @@
 -- Each run of corners one unit step apart is decided: a standard line holds it, or evidence shows that it is not straight.
 -- Its sheared run is decided for the axis y as in `RunsDecided`.
-use Rattle.std.proofs.Common.{◌≡◌, ◌⊎◌, inl, inr, ℕ, zero, suc, ◌+◌, ◌-◌, ◌<◌, ◌≤◌, ◌^◌, refl, ap, sym, ◌∙◌, subst, arith, List, [], ◌∷◌, length}
-use Rattle.std.specs.Prelude.{ℤ, pos, negsuc, ◌+ℤ◌, ◌-ℤ◌, ◌*ℤ◌, neg_ℤ, ◌≤ℤ◌, ◌<ℤ◌, nat_abs}
+use Rattle.std.proofs.Common.{◌≡◌, ◌⊎◌, inl, inr, ℕ, ◌+◌, ◌-◌, ◌<◌, ◌≤◌, ◌^◌, refl, sym, subst, arith, List, [], length}
+use Rattle.std.specs.Prelude.{ℤ, pos, negsuc, ◌+ℤ◌, ◌-ℤ◌, ◌*ℤ◌, ◌≤ℤ◌, nat_abs}
 use Rattle.std.proofs.lemmas.Int.{ints, by_lt_z}
 use Rattle.std.proofs.lemmas.List.{length-map, get_or-map}
 use Rattle.shape_terms.specs.Points.{Point, coordinate}
 use Rattle.shape_terms.specs.Steps.{AreClose}
-use Rattle.shape_terms.specs.Naive.{Naive, IsNaiveFor}
-use Rattle.shape_terms.specs.Refutations.{Refutation, point_at}
+use Rattle.shape_terms.specs.Naive.{Naive}
+use Rattle.shape_terms.specs.Refutations.{point_at}
 use Rattle.shape_terms.specs.Covers.{Evidence}
 use Rattle.shape_terms.proofs.Evidences.{evidence_shows}
 use Rattle.shape_line.specs.Evidence.{IsShown}
-use Rattle.edge_terms.specs.Corners.{IsSign, step_at, IsCorner, IsUnitStep}
-use Rattle.edge_terms.specs.EdgeStraight.{Standard, GoesBy, IsStandardFor}
+use Rattle.edge_terms.specs.Corners.{IsSign, IsCorner, IsUnitStep}
+use Rattle.edge_terms.specs.EdgeStraight.{Standard, GoesBy}
 use Rattle.edge_terms.specs.EdgeEvidence.{EdgeEvidence, from_origin, sheared_run}
 use Rattle.edge_terms.specs.EdgeCovers.{IsHeld, IsGap}
 use Rattle.edge_terms.proofs.Shearing.{step_across, step_down, line_by, standard_by, flat_line, flat_from}
@@ -122,15 +122,17 @@ module _ (run : List Point) (r : IsCornerRun run) (n : ℕ) (all : n + 1 ≡ len
         let corner = r.corners 0 r.some in
         let x = signed_within h (coordinate o 0) g.h_sign corner.x_low corner.x_high in
         let y = signed_within v (coordinate o 1) g.v_sign corner.y_low corner.y_high in
-        let small = sizes a c k f.main in
-        (line_by h v o line.mu a c, record {
-          holds = standard_by h v run line g.h_sign g.v_sign goes f.naive a c e k;
-          short = record {
-            a = let s = small.0 in omega arith;
-            c = let s = small.1 in omega arith;
-            mu = bound a c (h *ℤ coordinate o 0) (v *ℤ coordinate o 1) line.mu small.0 small.1 x y f.mu;
-          };
-        })
+        let small = sizes a c k f.main in (
+          line_by h v o line.mu a c,
+          record {
+            holds = standard_by h v run line g.h_sign g.v_sign goes f.naive a c e k;
+            short = record {
+              a = let s = small.0 in omega arith;
+              c = let s = small.1 in omega arith;
+              mu = bound a c (h *ℤ coordinate o 0) (v *ℤ coordinate o 1) line.mu small.0 small.1 x y f.mu;
+            };
+          },
+        )
       where
         sizes : (a c : ℕ) → coordinate line.a 1 ≡ pos a +ℤ pos c → coordinate line.a 1 ≤ℤ pos 8193 → (a ≤ 8193) × (c ≤ 8193)
         sizes a c k l = (omega (arith, ints), omega (arith, ints))
@@ -173,10 +175,13 @@ module _ (run : List Point) (r : IsCornerRun run) (n : ℕ) (all : n + 1 ≡ len
   fold_found (Evidence.Turned i j) s =
       let t = s.shows in
       absurd (t.not_forward (sheared_change h v run g.h_sign g.v_sign goes i t.first, sheared_change h v run g.h_sign g.v_sign goes j t.second))
-  fold_found (Evidence.Cut why) s = (EdgeEvidence.Fold why, record {
-    shows = fold_by run n h v all g (evidence_shows 1 sheared (Evidence.Cut why) s.shows) why s.shows.1;
-    short = short_weights sheared why (let few = r.few in let c = count in omega arith) (record { refutes = s.shows.1; light = s.light });
-  })
+  fold_found (Evidence.Cut why) s = (
+    EdgeEvidence.Fold why,
+    record {
+      shows = fold_by run n h v all g (evidence_shows 1 sheared (Evidence.Cut why) s.shows) why s.shows.1;
+      short = short_weights sheared why (let few = r.few in let c = count in omega arith) (record { refutes = s.shows.1; light = s.light });
+    },
+  )
 
   by_signs : IsEdgeDecided run
   by_signs = elim (decided 1 (omega arith) sheared (let c = count in let s = r.some in omega arith) sheared_near) [

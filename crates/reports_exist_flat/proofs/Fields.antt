@@ -1,11 +1,10 @@
 -- The fields of lines about a flat picture are in range: its sides, and the pixels of its cracks.
 -- Which lines have them, the kinds of reports say.
-use Rattle.std.proofs.Common.{◌≡◌, ℕ, zero, suc, ◌<◌, ◌≤◌, ◌*◌, ◌^◌, List, [], ◌∷◌, length, map, refl, ap, sym, subst, ◌∙◌, arith}
+use Rattle.std.proofs.Common.{◌≡◌, ℕ, zero, suc, ◌<◌, ◌≤◌, List, [], ◌∷◌, length, map, refl, sym, subst, arith}
 use Rattle.std.specs.Prelude.{ℤ, pos, negsuc, ◌≤ℤ◌, nat_abs, IsTrue, FitsSigned, All}
 use Rattle.std.specs.Int.{w32}
 use Rattle.std.proofs.lemmas.Int.{ints}
-use Rattle.std.proofs.lemmas.Nat.{mul-le}
-use Rattle.shape_terms.specs.Points.{Point, in_box, AreSides, box_count, coordinate}
+use Rattle.shape_terms.specs.Points.{Point, in_box, AreSides}
 use Rattle.shape_terms.specs.Pictures.{Picture}
 use Rattle.shape_terms.specs.Contours.{Crack, IsCrack}
 use Rattle.shape_terms.proofs.Boxes.{in_box_first, in_box_length}

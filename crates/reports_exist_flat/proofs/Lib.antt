@@ -3,3 +3,5 @@ pub mod PiecesExist
 pub mod PieceTexts
 pub mod StepSigns
 pub mod EdgesDecided
+pub mod EdgesExist
+pub mod EdgeTexts

@@ -1,17 +1,14 @@
 -- Each flat picture within the sides of the command has a text that holds as its report of pieces.
 -- The pieces of a contour stand in `PiecesExist`; one line more at a time, as the maker grows its text.
-use Rattle.std.proofs.Common.{◌≡◌, ℕ, zero, suc, ◌+◌, ◌<◌, ◌≤◌, ◌^◌, List, [], ◌∷◌, ◌++◌, length, map, refl, ap, sym, subst, ◌∙◌, arith, Some}
+use Rattle.std.proofs.Common.{◌≡◌, ℕ, zero, suc, ◌+◌, ◌<◌, ◌≤◌, ◌^◌, List, length, map, refl, sym, subst, arith, Some}
 use Rattle.std.specs.Prelude.{pos, slice_get, slice_index_or, All}
 use native.Mathlib.Decide.{dec_lt}
 use Rattle.std.proofs.lemmas.Option.{slice_get-get_or}
-use Rattle.shape_terms.specs.Points.{Point}
 use Rattle.shape_terms.specs.Pictures.{Picture, IsPicture}
 use Rattle.shape_terms.specs.Contours.{IsCrack}
 use Rattle.shape_terms.specs.Covers.{arc}
 use Rattle.shape_terms.specs.Traces.{Contour, AreContours, IsClosedPath}
 use Rattle.shape_terms.proofs.ClosedPaths.{closed_path}
-use Rattle.text_terms.specs.Spellings.{line_text}
-use Rattle.text_terms.specs.Reports.{Holds}
 use Rattle.piece_terms.specs.Pieces.{Piece, piece_at, ArePieces}
 use Rattle.piece_terms.specs.SplitLines.{SplitLine, no_contour}
 use Rattle.piece_terms.specs.Lines.{Line, spelled}

@@ -1,8 +1,7 @@
 -- Each closed path of pixels has a split into pieces that are each as long as a straight run can be, from its first point on.
 -- Each run is decided for both axes as in `RunsDecided`; the texts of such pieces stand in `PieceTexts`.
-use Rattle.std.proofs.Common.{◌≡◌, ℕ, zero, suc, ◌+◌, ◌-◌, ◌*◌, ◌<◌, ◌≤◌, ◌%◌, List, [], ◌∷◌, ◌++◌, length, refl, ap, sym, subst, ◌∙◌, arith, inl, inr}
-use Rattle.std.specs.Prelude.{ℤ, pos, negsuc, nat_abs, IsTrue}
-use Rattle.std.proofs.lemmas.Int.{ints}
+use Rattle.std.proofs.Common.{◌≡◌, ℕ, zero, suc, ◌+◌, ◌-◌, ◌<◌, ◌≤◌, ◌%◌, List, [], ◌∷◌, ◌++◌, length, refl, ap, sym, subst, ◌∙◌, arith, inl, inr}
+use Rattle.std.specs.Prelude.{IsTrue}
 use native.Mathlib.Decide.{dec_lt}
 use Rattle.shape_terms.specs.Points.{Point, in_box}
 use Rattle.shape_terms.specs.Steps.{AreClose}
@@ -16,7 +15,7 @@ use Rattle.shape_line.specs.Evidence.{IsShown}
 use Rattle.shape_cover.proofs.Backs.{close_next}
 use Rattle.shape_cover.proofs.Searching.{shown_refused}
 use Rattle.piece_terms.specs.Pieces.{Piece, ArePieces}
-use Rattle.shape_pieces.specs.Steps.{IsPieceFrom, IsRefusedShortly, AreShortPieces, AreFront}
+use Rattle.shape_pieces.specs.Steps.{IsPieceFrom, AreShortPieces, AreFront}
 use Rattle.shape_pieces.proofs.Fronting.{one_more, ends_whole, short_pieces}
 use Rattle.runs_exist.proofs.SmallRuns.{IsSmallPoint}
 use Rattle.runs_exist.proofs.RunsDecided.{IsLineFor, IsDecided, IsNearRun, decided, one_decided}
@@ -57,12 +56,15 @@ module _ (side : ℕ) (low : side ≤ 2048) (points : List Point) (path : IsClos
 
   -- to the last place of the path
   whole : (first e t : ℕ) (line : Naive) → t < 2 → first ≤ e → e < length points → (e + 1 < length points → ⊥) → IsLineFor t (arc points first e) line → (p : Piece) × IsPieceFrom points first p
-  whole first e t line l rises within end h = (piece first e t line (Evidence.Turned 0 0) (Evidence.Turned 0 0), record {
-    begins = refl;
-    piece = record { rises = rises; within = within; axis = l; naive = h.naive; sense = h.sense };
-    short_line = h.short;
-    refused = λ more. absurd (end more);
-  })
+  whole first e t line l rises within end h = (
+    piece first e t line (Evidence.Turned 0 0) (Evidence.Turned 0 0),
+    record {
+      begins = refl;
+      piece = record { rises = rises; within = within; axis = l; naive = h.naive; sense = h.sense };
+      short_line = h.short;
+      refused = λ more. absurd (end more);
+    },
+  )
 
   -- or to where the run with the next point is straight for neither axis
   refused : (first e t : ℕ) (line : Naive) (x y : Evidence) → t < 2 → first ≤ e → e + 1 < length points → IsLineFor t (arc points first e) line → IsShown 0 (arc points first (e + 1)) x → IsShown 1 (arc points first (e + 1)) y → (p : Piece) × IsPieceFrom points first p
@@ -70,13 +72,15 @@ module _ (side : ℕ) (low : side ≤ 2048) (points : List Point) (path : IsClos
       let few = path.few in
       let n = length-arc points first (e + 1) in
       let rx = shown_refused 0 (arc points first (e + 1)) x (omega arith) sx in
-      let ry = shown_refused 1 (arc points first (e + 1)) y (omega arith) sy in
-      (piece first e t line x y, record {
-        begins = refl;
-        piece = record { rises = rises; within = omega arith; axis = l; naive = h.naive; sense = h.sense };
-        short_line = h.short;
-        refused = λ more. record { evidence = record { x = rx.shows; y = ry.shows }; short_x = rx.short; short_y = ry.short };
-      })
+      let ry = shown_refused 1 (arc points first (e + 1)) y (omega arith) sy in (
+        piece first e t line x y,
+        record {
+          begins = refl;
+          piece = record { rises = rises; within = omega arith; axis = l; naive = h.naive; sense = h.sense };
+          short_line = h.short;
+          refused = λ more. record { evidence = record { x = rx.shows; y = ry.shows }; short_x = rx.short; short_y = ry.short };
+        },
+      )
 
   longest : (room first e t : ℕ) (line : Naive) → length points ≤ e + 1 + room → t < 2 → first ≤ e → e < length points → IsLineFor t (arc points first e) line → (p : Piece) × IsPieceFrom points first p
   longest zero first e t line fits l rises within h = whole first e t line l rises within (λ more. omega arith) h

@@ -1,15 +1,15 @@
 -- Each flat picture has contours: all cracks are gone through by number, and from each that is on no cycle yet its cycle is walked.
 -- What is known of the contour of each walk is handed in; the laws of walks and of marks stand below.
-use Rattle.std.proofs.Common.{◌≡◌, ℕ, zero, suc, ◌+◌, ◌*◌, ◌/◌, ◌%◌, ◌<◌, ◌≤◌, Bool, true, false, cond, eqb, refl, ap, sym, ◌∙◌, subst, arith, List, [], ◌∷◌, ◌++◌, length, ◌⊎◌, inl, inr}
+use Rattle.std.proofs.Common.{◌≡◌, ℕ, zero, suc, ◌+◌, ◌*◌, ◌/◌, ◌%◌, ◌<◌, ◌≤◌, Bool, true, false, cond, eqb, refl, ap, sym, subst, arith, List, [], ◌∷◌, ◌++◌, length, ◌⊎◌, inl, inr}
 use Rattle.std.specs.Prelude.{◌≢◌, All}
 use Rattle.std.proofs.lemmas.Bool.Decides.{nat_tests}
 use Rattle.std.proofs.lemmas.List.Elements.{All-push, All-nil}
-use native.Mathlib.Decide.{dec_lt, ℕ_discrete}
-use Rattle.shape_terms.specs.Points.{box_count, raster_point}
+use native.Mathlib.Decide.{ℕ_discrete}
+use Rattle.shape_terms.specs.Points.{box_count}
 use Rattle.shape_terms.specs.Pictures.{Picture}
 use Rattle.shape_terms.specs.Contours.{Crack, IsCrack, successor, contour_points}
 use Rattle.shape_terms.specs.Traces.{Contour, AreContours}
-use Rattle.shape_terms.specs.CrackNumbers.{crack_number, IsMarkedBesides, IsLevel, IsPassed}
+use Rattle.shape_terms.specs.CrackNumbers.{crack_number, IsMarkedBesides, IsPassed}
 use Rattle.shape_terms.proofs.Numbered.{number_once}
 use Rattle.shape_terms.proofs.Walks.{walk}
 use Rattle.shape_terms.proofs.Tracing.{Reached, reached_crack, reached_few}

@@ -15,8 +15,8 @@ use Rattle.shape_terms.specs.Turns.{other_axis}
 use Rattle.shape_terms.specs.Covers.{Evidence}
 use Rattle.shape_terms.proofs.Products.{rings}
 use Rattle.shape_terms.proofs.ArcRuns.{IsPart}
-use Rattle.shape_line.specs.Segments.{Seg, rest, IsTaken, IsSegment, paired}
-use Rattle.shape_line.specs.Frames.{IsSense, row, along, height, IsRunOf, StandsAt, place_from}
+use Rattle.shape_line.specs.Segments.{Seg, rest, IsTaken, paired}
+use Rattle.shape_line.specs.Frames.{IsSense, row, along, height, IsRunOf, place_from}
 use Rattle.shape_line.specs.Evidence.{IsShown}
 use Rattle.shape_line.proofs.Frames.{IsLineOf, line_holds, keeps, which, stands}
 use Rattle.shape_line.proofs.Growing.{u_taken, v_taken}
@@ -86,17 +86,20 @@ row_two (suc t) r q = refl
 -- a segment with small numbers gives a line
 module _ (t : ℕ) (l : t < 2) (s : ℤ) (sense : IsSense s) (seg : Seg) (run : List Point) (some : pos 0 <ℤ seg.b) (steep : IsWithin seg.b seg.a) (small : seg.b ≤ℤ pos 8193) (mu : IsWithin (pos 200000000) seg.mu) (r : IsRunOf t s seg run) where
   line_found : (line : Naive) × IsLineFor t run line
-  line_found = (plane_line t s seg, record {
-    naive = line_holds t s seg (plane_line t s seg) run l sense (line_of t s seg l sense) some steep.low steep.high r;
-    sense = keeps t s l sense seg.x0 run r.place;
-    short = record {
-      two = row_two t (s *ℤ seg.a) seg.b;
-      coefficients = short_row t (s *ℤ seg.a) seg.b (short_abs seg.b (s *ℤ seg.a) (omega (arith, ints, small)) (signed_within s seg.a seg.b sense steep)) (main_short seg.b some small);
-      mu = short_abs (pos 200000000) seg.mu (omega (arith, ints)) mu;
-    };
-    main = subst (λ (z : ℤ). z ≤ℤ pos 8193) (line_of t s seg l sense).main small;
-    mu = mu;
-  })
+  line_found = (
+    plane_line t s seg,
+    record {
+      naive = line_holds t s seg (plane_line t s seg) run l sense (line_of t s seg l sense) some steep.low steep.high r;
+      sense = keeps t s l sense seg.x0 run r.place;
+      short = record {
+        two = row_two t (s *ℤ seg.a) seg.b;
+        coefficients = short_row t (s *ℤ seg.a) seg.b (short_abs seg.b (s *ℤ seg.a) (omega (arith, ints, small)) (signed_within s seg.a seg.b sense steep)) (main_short seg.b some small);
+        mu = short_abs (pos 200000000) seg.mu (omega (arith, ints)) mu;
+      };
+      main = subst (λ (z : ℤ). z ≤ℤ pos 8193) (line_of t s seg l sense).main small;
+      mu = mu;
+    },
+  )
     where
       main_short : (b : ℤ) → pos 0 <ℤ b → b ≤ℤ pos 8193 → nat_abs b < 2 ^ 63
       main_short b h k = omega (arith, ints)

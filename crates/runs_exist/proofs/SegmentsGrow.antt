@@ -1,7 +1,7 @@
 -- A segment and the next point of a run: a longer segment, or a reason why the run with the point is not straight for the axis.
 -- Plain values alone stand here; the arithmetic is that by which segments grow.
-use Rattle.std.proofs.Common.{◌≡◌, ℕ, zero, suc, ◌+◌, ◌-◌, ◌<◌, ◌≤◌, ◌⊎◌, inl, inr, List, [], ◌∷◌, ◌++◌, length, refl, ap, sym, subst, ◌∙◌, arith}
-use Rattle.std.specs.Prelude.{ℤ, pos, negsuc, ◌+ℤ◌, ◌-ℤ◌, ◌*ℤ◌, neg_ℤ, ◌≤ℤ◌, ◌<ℤ◌, nat_abs}
+use Rattle.std.proofs.Common.{◌≡◌, ℕ, ◌+◌, ◌-◌, ◌<◌, ◌≤◌, ◌⊎◌, inl, inr, List, [], ◌∷◌, ◌++◌, length, refl, ap, sym, subst, ◌∙◌, arith}
+use Rattle.std.specs.Prelude.{ℤ, pos, ◌+ℤ◌, ◌-ℤ◌, ◌*ℤ◌, neg_ℤ, ◌≤ℤ◌, ◌<ℤ◌, nat_abs}
 use Rattle.std.proofs.lemmas.Int.{ints, by_lt_z}
 use Rattle.std.proofs.lemmas.List.{length-append}
 use Rattle.std.proofs.Math.ListN.{get_or-append}
@@ -9,9 +9,8 @@ use Rattle.std.proofs.Math.Seq.{get_or-append_seam}
 use Rattle.shape_terms.specs.Points.{Point, coordinate}
 use Rattle.shape_terms.specs.Steps.{AreClose}
 use Rattle.shape_terms.specs.Refutations.{point_at}
-use Rattle.shape_terms.specs.Turns.{other_axis, IsTurn}
-use Rattle.shape_terms.proofs.Products.{rings}
-use Rattle.shape_line.specs.Segments.{Seg, rest, IsTaken, IsSegment, IsLonger, raised, lowered, longer, paired}
+use Rattle.shape_terms.specs.Turns.{IsTurn}
+use Rattle.shape_line.specs.Segments.{Seg, rest, IsTaken, IsSegment, IsLonger, raised, lowered, longer}
 use Rattle.shape_line.specs.Frames.{IsSense, along, height, IsRunOf, place_from, StandsAt}
 use Rattle.shape_line.specs.declared.clash.Crossing.{Crossing}
 use Rattle.shape_line.specs.Clashes.{IsCrossing}
