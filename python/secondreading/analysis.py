@@ -9,12 +9,20 @@ from secondreading.geometry import square
 from secondreading.texts import COORDINATE, LENGTH, WEIGHT, Form, need, word
 from secondreading.thinning import RULES
 
-Told = namedtuple("Told", "version rule sections")
 HEADINGS = {
     2: Form("shape", word("1", "2"), word("pbm"), LENGTH, LENGTH, word(*RULES)),
     3: Form("shape", word("1"), word("raw"), LENGTH, LENGTH, LENGTH, word(*RULES)),
 }
 NEAR = {axes: Form("near", *[COORDINATE] * (2 * axes), WEIGHT) for axes in (2, 3)}
+
+
+class Told(namedtuple("Told", "version rule sections")):
+    """What an analysis tells: its number, its rule, and its contours or patches."""
+
+    @property
+    def contours(self):
+        """The contours of a flat picture with a least line of each segment; None where the report tells no such lines."""
+        return self.sections if self.version == 2 else None
 
 
 def read(picture, lines):

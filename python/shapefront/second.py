@@ -77,8 +77,7 @@ class Second:
         return Finding(name, True)
 
     def _table(self, given: bytes) -> bytes:
-        contours = self.told.sections if self.told.version == 2 else None
-        return table(self.picture, self.told.rule, contours, has_further(given))
+        return table(self.picture, self.told.rule, self.told.contours, has_further(given))
 
     def _masks(self, stem: Path) -> list[Path]:
         """The pictures that are named as masks of the picture."""

@@ -127,7 +127,7 @@ class Products(unittest.TestCase):
                     file.write(text)
                     file.flush()
                     given = made("measure", file.name)
-                    self.assertEqual(given, table(picture, rule, read(picture, text)[1].sections, has_further(given)))
+                    self.assertEqual(given, table(picture, rule, read(picture, text)[1].contours, has_further(given)))
                     for name in MASKS:
                         self.assertEqual(made("mask", name, file.name), mask(picture, rule, name))
 
@@ -175,7 +175,7 @@ class Command(InFolder):
     def test_a_table_and_a_mask(self):
         picture = picture_in(Path("word.pbm").read_bytes())
         told = read(picture, Path("word.report").read_bytes())[1]
-        Path("word.csv").write_bytes(table(picture, told.rule, told.sections if told.version == 2 else None))
+        Path("word.csv").write_bytes(table(picture, told.rule, told.contours))
         Path("word.skeleton.pbm").write_bytes(mask(picture, told.rule, "skeleton"))
         self.assertIn("reports 1, tables 1, masks 1;", self.second("word.report")[1][1])
         Path("word.skeleton.pbm").write_bytes(mask(picture, told.rule, "object"))
