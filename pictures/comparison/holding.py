@@ -1,6 +1,7 @@
 """Forged analyses that still hold: in the place of each choice of the analyser another one that is right as well.
 
-Other nearest points, lines, planes, places and weights, and another order where there is a choice of it. With the number 1 a segment has any line that holds it.
+Other nearest points, lines, planes, places and weights, and another order where there is a choice of it.
+With the number 1 a segment has any line that holds it.
 """
 import itertools
 from math import isqrt

@@ -1,5 +1,6 @@
-"""What the definitions say of a small picture, found again by searches that share no method with the second reading: over all points, before each event of a thinning.
+"""What the definitions say of a small picture, found again by searches that share no method with the second reading.
 
+They go over all points, and so before each event of a thinning.
 Points are tuples, and sets of them have no bounds.
 """
 import itertools

@@ -1,4 +1,7 @@
-"""What a report that holds has to show, by searches: of each kind, whether what was read of it is that; and the contours with the least lines of a picture alone."""
+"""What a report that holds has to show, by searches: of each kind, whether what was read of it is that.
+
+And the contours of a picture with the least lines of their segments, from the picture alone.
+"""
 from secondreading.contours import Contour, Segment
 from secondreading.cracks import Path
 from secondreading.geometry import raster, square

@@ -1,6 +1,7 @@
 """Lengths of borders by the segments of contours, in units of which a million million are the side of a pixel.
 
-The length of a step along a line depends on the slope alone. Of the lines that hold a segment one slope is least, so the lengths by least lines depend on the picture alone.
+The length of a step along a line depends on the slope alone, and one slope has the least lines that hold a segment of two points or more.
+So lengths by least lines depend on the picture alone.
 """
 import functools
 from math import isqrt

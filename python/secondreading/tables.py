@@ -18,7 +18,8 @@ FURTHER = "feret,from_x,from_y,to_x,to_y"
 def table(picture, rule, contours, has_further=True):
     """The text of the table of a report by a rule, with the further columns or without.
 
-    `contours` are those of a flat picture with the least lines of their segments, and None where a report does not tell these: then it gives no lengths of borders.
+    `contours` are those of a flat picture with the least lines of their segments, and None where a report does not tell these:
+    then the cells of lengths of borders are empty.
     """
     header = SOLID if picture.axes == 3 else FLAT + "," + FURTHER if has_further else FLAT
     objects = Objects(picture, rule, contours)

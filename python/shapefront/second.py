@@ -24,6 +24,8 @@ _SUFFIXES = (".report", ".report.gz")
 
 def reports_of(paths: list[Path]) -> list[Path]:
     """The reports that are named, and those in the folders that are. A Fault where there are none."""
+    if any(path.suffix in (".pbm", ".raw") for path in paths):
+        raise Fault("--second", "it takes a folder or reports, no pictures", "name the reports alone: their pictures lie beside them")
     found = [report for path in paths for report in (_reports_in(path) if path.is_dir() else [path])]
     if not found:
         raise Fault(shown(paths[0]), "no report is in this folder", "reports are files whose names end in .report or .report.gz")

@@ -1,4 +1,6 @@
 """The second reading beside the proved program: the same verdicts on reports as they are made and on changed ones, the same tables and masks."""
+import contextlib
+import io
 import random
 import shutil
 import subprocess
@@ -194,13 +196,17 @@ class Command(InFolder):
             self.shapes("check", "--second", "word.report")[1][0], "word: no, line 2: it says `parts 95 4 5`; true is `parts 95 5 5`"
         )
 
+    def test_a_picture_in_place_of_a_report_is_no_command(self):
+        self.assertEqual(self.second("word.pbm", "word.report")[0], 2)
+
     def test_two_reports_of_one_image_are_no_command(self):
         self.assertEqual(self.shapes("check", "word.pbm", "word.report", "word.report")[0], 2 if programs.has() else 3)
 
     def test_alone(self):
-        self.assertEqual(main(["word.pbm", "word.report"]), 0)
-        self.assertEqual(main(["word.pbm", "pores.report"]), 1)
-        self.assertEqual(main(["pores.report", "pores.report"]), 3)
+        out = io.StringIO()
+        with contextlib.redirect_stdout(out), contextlib.redirect_stderr(io.StringIO()):
+            answers = [main(words.split()) for words in ("word.pbm word.report", "word.pbm pores.report", "pores.report pores.report", "word.pbm")]
+        self.assertEqual((answers, out.getvalue()), ([0, 1, 3, 2], "yes\nno 1\n"))
 
 
 @slow
