@@ -4,7 +4,7 @@
 ghost use Rattle.shape_terms.specs.Pictures.{Picture, IsPicture};
 ghost use Rattle.edge_terms.specs.EdgeReports.{edge_report};
 ghost use Rattle.piece_terms.specs.PieceReports.{piece_report};
-ghost use Rattle.reports_exist_flat.specs.Met.{IsMet, HasCovers, HasSidesTo};
+ghost use Rattle.reports_exist_flat.specs.Met.{IsMet, HasCounts, HasCovers, HasSidesTo};
 
 /// Each flat picture with sides from 1 to 2048 has a report of the fewest straight pieces of its contours.
 pub fn piece_reports_exist()
@@ -19,4 +19,9 @@ pub fn edge_reports_exist()
 /// Each flat picture with sides from 1 to 2048 has contours, and each of these has its cover.
 pub fn covers_exist()
     ensures { (X : Picture) → IsPicture 2 X → HasSidesTo 2048 X → HasCovers X }
+{}
+
+/// Each picture, of any number of axes, has its counts.
+pub fn counts_exist()
+    ensures { (X : Picture) → HasCounts X }
 {}
