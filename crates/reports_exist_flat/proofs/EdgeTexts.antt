@@ -27,7 +27,8 @@ use Rattle.reports_exist_flat.proofs.EdgesExist.{edges_exist}
 -- ---- the lines of a cycle
 
 module _ (X : Picture) (k : ℕ) (start : Crack) (f : EdgeFound) (at : IsFoundAt X k start f) (few : f.steps ≤ 2 ^ 25) where
-  put_arc : (j : ℕ) → j < length f.arcs → (text : List ℕ) → Tells X (State.Open (with_arcs k f j)) text → (new : List ℕ) × Tells X (State.Open (with_arcs k f (j + 1))) new
+  put_arc : (j : ℕ) → j < length f.arcs → (text : List ℕ) → Tells X (State.Open (with_arcs k f j)) text
+      → (new : List ℕ) × Tells X (State.Open (with_arcs k f (j + 1))) new
   put_arc j l text h =
       let a = arc_in f.arcs j in
       let c = at.cover.claims.arc j l in
@@ -36,19 +37,22 @@ module _ (X : Picture) (k : ℕ) (start : Crack) (f : EdgeFound) (at : IsFoundAt
       let steps = at.steps in
       (_, arc_told X k start f at text _ j l h (arc_fits at.path f.arcs j a.stretch.first a.stretch.last at.cover l (omega arith) (omega arith)) refl)
 
-  put_arcs : (j : ℕ) → j ≤ length f.arcs → (text : List ℕ) → Tells X (State.Open (with_arcs k f 0)) text → (new : List ℕ) × Tells X (State.Open (with_arcs k f j)) new
+  put_arcs : (j : ℕ) → j ≤ length f.arcs → (text : List ℕ) → Tells X (State.Open (with_arcs k f 0)) text
+      → (new : List ℕ) × Tells X (State.Open (with_arcs k f j)) new
   put_arcs zero l text h = (text, h)
   put_arcs (suc j) l text h =
       let (t, g) = put_arcs j (omega arith) text h in
       let (u, e) = put_arc j (omega arith) t g in
       (u, subst (λ i. Tells X (State.Open (with_arcs k f i)) u) (let q : j + 1 ≡ suc j = omega arith in q) e)
 
-  put_gap : (j : ℕ) → j < length f.arcs → (text : List ℕ) → Tells X (State.Open (with_gaps k f j)) text → (new : List ℕ) × Tells X (State.Open (with_gaps k f (j + 1))) new
+  put_gap : (j : ℕ) → j < length f.arcs → (text : List ℕ) → Tells X (State.Open (with_gaps k f j)) text
+      → (new : List ℕ) × Tells X (State.Open (with_gaps k f (j + 1))) new
   put_gap j l text h =
       let a = arc_in f.arcs j in
       (_, gap_told X k start f at text _ j l h (gap_fits (gap_run at.path (stretches_of f.arcs) j) a.gap (at.cover.claims.gap j l) (at.cover.gaps j l)) refl)
 
-  put_gaps : (j : ℕ) → j ≤ length f.arcs → (text : List ℕ) → Tells X (State.Open (with_gaps k f 0)) text → (new : List ℕ) × Tells X (State.Open (with_gaps k f j)) new
+  put_gaps : (j : ℕ) → j ≤ length f.arcs → (text : List ℕ) → Tells X (State.Open (with_gaps k f 0)) text
+      → (new : List ℕ) × Tells X (State.Open (with_gaps k f j)) new
   put_gaps zero l text h = (text, h)
   put_gaps (suc j) l text h =
       let (t, g) = put_gaps j (omega arith) text h in
@@ -83,7 +87,8 @@ module _ (X : Picture) (axes : length X.sides ≡ 2) (sides : AreFlatSides 1000 
   few_places : box_count X.sides ≤ 1000000
   few_places = subst (λ (s : List ℕ). box_count s ≤ 1000000) sides.are (let h = sides.height_low in mul-le sides.width (sides.height * 1) 1000 1000 sides.width_low (omega arith))
 
-  known : (start end : Crack) (steps : ℕ) → IsCrack X start → Reached X start end steps → end ≡ start → (points : List Point) → IsKnown X (record { start = start; points = points })
+  known : (start end : Crack) (steps : ℕ) → IsCrack X start → Reached X start end steps → end ≡ start → (points : List Point)
+      → IsKnown X (record { start = start; points = points })
   known start end zero k r e points = absurd (let s = r.some in omega arith)
   known start end (suc steps) k r e points =
       let cycle = reached_cycle X axes start end (suc steps) k r e in
@@ -99,7 +104,8 @@ module _ (X : Picture) (axes : length X.sides ≡ 2) (sides : AreFlatSides 1000 
         few = omega arith;
       }
 
-  put_next : (contours : List Contour) → AreContours X contours → All (IsKnown X) contours → (k : ℕ) → k < length contours → (text : List ℕ) → HasTold X k text → (new : List ℕ) × HasTold X (k + 1) new
+  put_next : (contours : List Contour) → AreContours X contours → All (IsKnown X) contours → (k : ℕ) → k < length contours → (text : List ℕ)
+      → HasTold X k text → (new : List ℕ) × HasTold X (k + 1) new
   put_next contours are each k l text h =
       let c = slice_index_or contours k no_contour in
       let there : slice_get contours k ≡ Some c = slice_get-get_or contours k no_contour l in
@@ -111,7 +117,8 @@ module _ (X : Picture) (axes : length X.sides ≡ 2) (sides : AreFlatSides 1000 
       let fields : spelled.IsLine (Line.Cycle c.start is.found.steps (length is.found.arcs)) = (pixel_fits X 1000 (omega arith) sides c.start is.crack, (is.crack.side, (omega arith, omega arith))) in
       put_cycle X k c.start is.found at few text fields h
 
-  put_all : (contours : List Contour) → AreContours X contours → All (IsKnown X) contours → (k : ℕ) → k ≤ length contours → (text : List ℕ) → HasTold X 0 text → (new : List ℕ) × HasTold X k new
+  put_all : (contours : List Contour) → AreContours X contours → All (IsKnown X) contours → (k : ℕ) → k ≤ length contours → (text : List ℕ)
+      → HasTold X 0 text → (new : List ℕ) × HasTold X k new
   put_all contours are each zero l text h = (text, h)
   put_all contours are each (suc k) l text h =
       let (t, g) = put_all contours are each k (omega arith) text h in

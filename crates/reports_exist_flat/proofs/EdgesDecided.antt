@@ -47,7 +47,8 @@ small_sheared h v o p hs vs co cp =
     let d = signed_within v (coordinate o 1) vs co.y_low co.y_high in
     record { flat = refl; x = four _ _ _ _ a b c d; y = two _ _ b d }
   where
-    four : (a b c d : ℤ) → IsWithin (pos 1000) a → IsWithin (pos 1000) b → IsWithin (pos 1000) c → IsWithin (pos 1000) d → nat_abs ((a +ℤ b) +ℤ negsuc 0 *ℤ (c +ℤ d)) ≤ 4096
+    four : (a b c d : ℤ) → IsWithin (pos 1000) a → IsWithin (pos 1000) b → IsWithin (pos 1000) c → IsWithin (pos 1000) d
+        → nat_abs ((a +ℤ b) +ℤ negsuc 0 *ℤ (c +ℤ d)) ≤ 4096
     four a b c d h k l m =
         let hl = h.low in
         let hh = h.high in
@@ -140,7 +141,8 @@ module _ (run : List Point) (r : IsCornerRun run) (n : ℕ) (all : n + 1 ≡ len
         wide : (m z : ℤ) → m ≤ℤ pos 8193 → IsWithin m z → IsWithin (pos 8193) z
         wide m z l w = let a = w.low in let b = w.high in record { low = omega (arith, ints); high = omega (arith, ints) }
 
-        sum : (u w m : ℤ) (a c : ℕ) → a ≤ 8193 → c ≤ 8193 → IsWithin (pos 67125249) u → IsWithin (pos 67125249) w → IsWithin (pos 200000000) m → nat_abs ((u -ℤ w) -ℤ m -ℤ (pos a +ℤ pos c) +ℤ pos 1) < 2 ^ 63
+        sum : (u w m : ℤ) (a c : ℕ) → a ≤ 8193 → c ≤ 8193 → IsWithin (pos 67125249) u → IsWithin (pos 67125249) w → IsWithin (pos 200000000) m
+            → nat_abs ((u -ℤ w) -ℤ m -ℤ (pos a +ℤ pos c) +ℤ pos 1) < 2 ^ 63
         sum u w m a c la lc hu hw hm =
             let ul = hu.low in
             let uh = hu.high in
@@ -153,7 +155,8 @@ module _ (run : List Point) (r : IsCornerRun run) (n : ℕ) (all : n + 1 ≡ len
         natural : (a : ℕ) → a ≤ 8193 → IsWithin (pos 8193) (pos a)
         natural a l = record { low = omega (arith, ints); high = omega (arith, ints) }
 
-        bound : (a c : ℕ) (x y m : ℤ) → a ≤ 8193 → c ≤ 8193 → IsWithin (pos 1000) x → IsWithin (pos 1000) y → IsWithin (pos 200000000) m → nat_abs ((pos a *ℤ x -ℤ pos c *ℤ y) -ℤ m -ℤ (pos a +ℤ pos c) +ℤ pos 1) < 2 ^ 63
+        bound : (a c : ℕ) (x y m : ℤ) → a ≤ 8193 → c ≤ 8193 → IsWithin (pos 1000) x → IsWithin (pos 1000) y → IsWithin (pos 200000000) m
+            → nat_abs ((pos a *ℤ x -ℤ pos c *ℤ y) -ℤ m -ℤ (pos a +ℤ pos c) +ℤ pos 1) < 2 ^ 63
         bound a c x y m la lc hx hy hm =
             let p = product_within (pos 8193) (pos a) x (natural a la) (wide (pos 1000) x (omega (arith, ints)) hx) in
             let q = product_within (pos 8193) (pos c) y (natural c lc) (wide (pos 1000) y (omega (arith, ints)) hy) in

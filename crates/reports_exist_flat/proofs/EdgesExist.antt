@@ -95,7 +95,8 @@ module _ (path : List Point) (is : IsCornerPath path) where
     line : Standard
     held : IsHeld (arc path begins e) line
 
-  next_from : (room first c e : ℕ) (gap : EdgeEvidence) → first < c → c ≤ e → e ≤ first + length path → e ≤ c + room → IsGap (arc path (c - 1) e) gap → IsNext first e
+  next_from : (room first c e : ℕ) (gap : EdgeEvidence) → first < c → c ≤ e → e ≤ first + length path → e ≤ c + room → IsGap (arc path (c - 1) e) gap
+      → IsNext first e
   next_from zero first c e gap l m far fits h = elim (arc_decided c e m (omega arith)) [
     | inl (line, k) ↦ record { begins = c; later = l; near = m; gap = gap; bent = h; line = line; held = k }
     | inr (more, bad) ↦ absurd (one_unrefuted (arc path c e) more (omega (arith, length-arc path c e)) bad.shows)
@@ -143,7 +144,8 @@ module _ (path : List Point) (is : IsCornerPath path) where
   abbrev told : Arc → Arc
   told a = a
 
-  go_round : (room : ℕ) (found : List Arc) (now : Stretch) (line : Standard) (round : ℕ) → round ≤ now.first + room → IsReach now line → IsWalk edge_walk path (map told found) now round → (arcs : List Arc) × IsEdgeCover path arcs
+  go_round : (room : ℕ) (found : List Arc) (now : Stretch) (line : Standard) (round : ℕ) → round ≤ now.first + room → IsReach now line
+      → IsWalk edge_walk path (map told found) now round → (arcs : List Arc) × IsEdgeCover path arcs
   go_round zero found now line round fits r w = (map told found, walk_is_cover path (map told found) now round w (omega arith) is.some)
   go_round (suc room) found now line round fits r w = elim (dec_lt now.first round) [
     | no o ↦ (map told found, walk_is_cover path (map told found) now round w (omega arith) is.some)

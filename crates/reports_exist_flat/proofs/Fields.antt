@@ -66,7 +66,8 @@ point_fits w h wl hl (x ∷ y ∷ []) i =
     two_fit x y (omega arith) (omega arith)
 point_fits w h wl hl (x ∷ y ∷ z ∷ p) i = absurd (let e = in_box_length (w ∷ h ∷ []) (x ∷ y ∷ z ∷ p) i in omega arith)
 
-pub pixel_fits : (X : Picture) (greatest : ℕ) → greatest ≤ 2048 → AreFlatSides greatest X.sides → (c : Crack) → IsCrack X c → AreSoMany 2 (FitsSigned w32) c.pixel
+pub pixel_fits : (X : Picture) (greatest : ℕ) → greatest ≤ 2048 → AreFlatSides greatest X.sides → (c : Crack) → IsCrack X c
+    → AreSoMany 2 (FitsSigned w32) c.pixel
 pixel_fits X greatest low f c k =
     let w = f.width_low in
     let h = f.height_low in

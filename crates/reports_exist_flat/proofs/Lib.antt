@@ -5,3 +5,4 @@ pub mod StepSigns
 pub mod EdgesDecided
 pub mod EdgesExist
 pub mod EdgeTexts
+pub mod CoversExist

@@ -25,7 +25,8 @@ use Rattle.reports_exist_flat.proofs.PiecesExist.{pieces_exist}
 -- ---- the lines of a contour
 
 module _ (X : Picture) (k : ℕ) (contour : Contour) (at : IsContourAt X k contour) (pieces : List Piece) (are : ArePieces contour.points pieces) (shorts : AreShortPieces pieces) (few : length contour.points ≤ 2 ^ 24) where
-  piece_is_line : (j : ℕ) → j < length pieces → spelled.IsLine (Line.Listed (SplitLine.Piece (piece_at pieces j).first (piece_at pieces j).last (piece_at pieces j).axis (piece_at pieces j).line))
+  piece_is_line : (j : ℕ) → j < length pieces
+      → spelled.IsLine (Line.Listed (SplitLine.Piece (piece_at pieces j).first (piece_at pieces j).last (piece_at pieces j).axis (piece_at pieces j).line))
   piece_is_line j l =
       let p = are.piece j l in
       let r = p.rises in
@@ -50,7 +51,8 @@ module _ (X : Picture) (k : ℕ) (contour : Contour) (at : IsContourAt X k conto
       let (u, f) = put_piece j (omega arith) t g in
       (u, subst (λ i. HasPieces X k pieces i u) (let q : j + 1 ≡ suc j = omega arith in q) f)
 
-  put_split : (text : List ℕ) → spelled.IsLine (Line.Listed (SplitLine.Chain contour.start (length contour.points) (length pieces))) → HasSplits X k text → (new : List ℕ) × HasSplits X (k + 1) new
+  put_split : (text : List ℕ) → spelled.IsLine (Line.Listed (SplitLine.Chain contour.start (length contour.points) (length pieces)))
+      → HasSplits X k text → (new : List ℕ) × HasSplits X (k + 1) new
   put_split text fields h =
       let begun = chain_put X k contour at pieces are contour.start (length contour.points) (length pieces) text refl refl refl h fields in
       let (t, g) = put_pieces (length pieces) (omega arith) _ begun in
@@ -64,7 +66,8 @@ pub record IsKnown (X : Picture) (greatest : ℕ) (c : Contour) : Type 0 where
   pub path : IsClosedPath greatest c.points
 
 module _ (X : Picture) (greatest : ℕ) (low : greatest ≤ 2048) (sides : AreFlatSides greatest X.sides) where
-  put_contour : (contours : List Contour) → AreContours X contours → All (IsKnown X greatest) contours → (k : ℕ) → k < length contours → (text : List ℕ) → HasSplits X k text → (new : List ℕ) × HasSplits X (k + 1) new
+  put_contour : (contours : List Contour) → AreContours X contours → All (IsKnown X greatest) contours → (k : ℕ) → k < length contours
+      → (text : List ℕ) → HasSplits X k text → (new : List ℕ) × HasSplits X (k + 1) new
   put_contour contours are known k l text h =
       let c = slice_index_or contours k no_contour in
       let there : slice_get contours k ≡ Some c = slice_get-get_or contours k no_contour l in
@@ -75,7 +78,8 @@ module _ (X : Picture) (greatest : ℕ) (low : greatest ≤ 2048) (sides : AreFl
       let fields : spelled.IsLine (Line.Listed (SplitLine.Chain c.start (length c.points) (length pieces))) = (pixel_fits X greatest low sides c.start is.crack, (is.crack.side, (omega arith, omega arith))) in
       put_split X k c (record { contours = contours; are = are; there = there }) pieces split shorts few text fields h
 
-  put_contours : (contours : List Contour) → AreContours X contours → All (IsKnown X greatest) contours → (k : ℕ) → k ≤ length contours → (text : List ℕ) → HasSplits X 0 text → (new : List ℕ) × HasSplits X k new
+  put_contours : (contours : List Contour) → AreContours X contours → All (IsKnown X greatest) contours → (k : ℕ) → k ≤ length contours
+      → (text : List ℕ) → HasSplits X 0 text → (new : List ℕ) × HasSplits X k new
   put_contours contours are known zero l text h = (text, h)
   put_contours contours are known (suc k) l text h =
       let (t, g) = put_contours contours are known k (omega arith) text h in

@@ -33,7 +33,7 @@ small_in side l (x ∷ y ∷ p) h =
 
 module _ (side : ℕ) (low : side ≤ 2048) (points : List Point) (path : IsClosedPath side points) where
   -- the runs of the path are small and near
-  arc_near : (b e : ℕ) → IsNearRun (arc points b e)
+  pub arc_near : (b e : ℕ) → IsNearRun (arc points b e)
   arc_near b e = record {
     small = λ i l.
         let some = path.some in
@@ -55,7 +55,8 @@ module _ (side : ℕ) (low : side ≤ 2048) (points : List Point) (path : IsClos
   piece first last t line x y = record { first = first; last = last; axis = t; line = line; x = x; y = y }
 
   -- to the last place of the path
-  whole : (first e t : ℕ) (line : Naive) → t < 2 → first ≤ e → e < length points → (e + 1 < length points → ⊥) → IsLineFor t (arc points first e) line → (p : Piece) × IsPieceFrom points first p
+  whole : (first e t : ℕ) (line : Naive) → t < 2 → first ≤ e → e < length points → (e + 1 < length points → ⊥) → IsLineFor t (arc points first e) line
+      → (p : Piece) × IsPieceFrom points first p
   whole first e t line l rises within end h = (
     piece first e t line (Evidence.Turned 0 0) (Evidence.Turned 0 0),
     record {
@@ -67,7 +68,8 @@ module _ (side : ℕ) (low : side ≤ 2048) (points : List Point) (path : IsClos
   )
 
   -- or to where the run with the next point is straight for neither axis
-  refused : (first e t : ℕ) (line : Naive) (x y : Evidence) → t < 2 → first ≤ e → e + 1 < length points → IsLineFor t (arc points first e) line → IsShown 0 (arc points first (e + 1)) x → IsShown 1 (arc points first (e + 1)) y → (p : Piece) × IsPieceFrom points first p
+  refused : (first e t : ℕ) (line : Naive) (x y : Evidence) → t < 2 → first ≤ e → e + 1 < length points → IsLineFor t (arc points first e) line
+      → IsShown 0 (arc points first (e + 1)) x → IsShown 1 (arc points first (e + 1)) y → (p : Piece) × IsPieceFrom points first p
   refused first e t line x y l rises within h sx sy =
       let few = path.few in
       let n = length-arc points first (e + 1) in
@@ -82,7 +84,8 @@ module _ (side : ℕ) (low : side ≤ 2048) (points : List Point) (path : IsClos
         },
       )
 
-  longest : (room first e t : ℕ) (line : Naive) → length points ≤ e + 1 + room → t < 2 → first ≤ e → e < length points → IsLineFor t (arc points first e) line → (p : Piece) × IsPieceFrom points first p
+  longest : (room first e t : ℕ) (line : Naive) → length points ≤ e + 1 + room → t < 2 → first ≤ e → e < length points
+      → IsLineFor t (arc points first e) line → (p : Piece) × IsPieceFrom points first p
   longest zero first e t line fits l rises within h = whole first e t line l rises within (λ more. omega arith) h
   longest (suc room) first e t line fits l rises within h = elim (dec_lt (e + 1) (length points)) [
     | no n ↦ whole first e t line l rises within n h
@@ -116,7 +119,8 @@ module _ (side : ℕ) (low : side ≤ 2048) (points : List Point) (path : IsClos
     near = omega arith;
   }
 
-  all_from : (room : ℕ) (pieces : List Piece) (now : ℕ) → length points ≤ now + room → AreFront points pieces now → (all : List Piece) × ArePieces points all × AreShortPieces all
+  all_from : (room : ℕ) (pieces : List Piece) (now : ℕ) → length points ≤ now + room → AreFront points pieces now
+      → (all : List Piece) × ArePieces points all × AreShortPieces all
   all_from zero pieces now fits f = (pieces, ends_whole points pieces now f path.some (λ more. omega arith), short_pieces points pieces now f)
   all_from (suc room) pieces now fits f = elim (dec_lt now (length points)) [
     | no n ↦ (pieces, ends_whole points pieces now f path.some n, short_pieces points pieces now f)

@@ -143,7 +143,8 @@ no_steps run = record {
   steps = λ i l. absurd (omega arith);
 }
 
-pub signs_told : (run : List Point) → ((i : ℕ) → i + 1 < length run → IsUnitStep (point_at run i) (point_at run (i + 1))) → (n : ℕ) → n < length run → ((h : ℤ) × (v : ℤ) × GoneBy run n h v) ⊎ ((i : ℕ) × (j : ℕ) × IsBend run i j)
+pub signs_told : (run : List Point) → ((i : ℕ) → i + 1 < length run → IsUnitStep (point_at run i) (point_at run (i + 1))) → (n : ℕ) → n < length run
+    → ((h : ℤ) × (v : ℤ) × GoneBy run n h v) ⊎ ((i : ℕ) × (j : ℕ) × IsBend run i j)
 signs_told run units zero l = inl (pos 1, pos 1, no_steps run)
 signs_told run units (suc n) l = elim (signs_told run units n (omega arith)) [
   | inr b ↦ inr b

@@ -1,13 +1,26 @@
--- What it is that a kind of report is met by some text, and which sides pictures have.
--- Which kinds are met, the laws of `src` say.
-use Rattle.std.specs.Prelude.{ℕ, List, map, pos}
+-- What it is that a kind of report is met by some text, that a picture has counts or covers, and which sides pictures have.
+-- Which kinds are met, and which pictures have these, the laws of `src` say.
+use Rattle.std.specs.Prelude.{ℕ, List, map, pos, All}
 use Rattle.shape_terms.specs.Points.{AreSides}
 use Rattle.shape_terms.specs.Pictures.{Picture}
+use Rattle.shape_terms.specs.Parts.{Counts}
+use Rattle.shape_terms.specs.Traces.{Contour, AreContours}
+use Rattle.shape_cover.specs.Found.{Found, IsCoverOf}
 use Rattle.text_terms.specs.Reports.{Report, Holds}
 
 -- some text holds as such a report
 abbrev pub IsMet : {L : Type 0} → Report L → Type 0
 IsMet R = (text : List ℕ) × Holds R text
+
+-- the picture has its counts: those of its object points, of the components of its object and of those of its background
+abbrev pub HasCounts : Picture → Type 0
+HasCounts X = (n : ℕ) × (o : ℕ) × (b : ℕ) × Counts X n o b
+
+-- the picture has contours, and each of them has its cover: its maximal straight runs, each with a least line, and evidence for each gap
+pub record HasCovers (X : Picture) : Type 0 where
+  pub contours : List Contour
+  pub are : AreContours X contours
+  pub covers : All (λ c. (found : List Found) × IsCoverOf c.points found) contours
 
 -- each side of the picture is from 1 to the greatest
 abbrev pub HasSidesTo : ℕ → Picture → Type 0

@@ -1,11 +1,10 @@
 //! Reports of flat pictures exist: for each picture within the sides of a command some text holds as its report.
 //! So no maker's contract is met by giving up alone. What counts are the clauses; each function has an empty body.
 #![tactic(auto)]
-
 ghost use Rattle.shape_terms.specs.Pictures.{Picture, IsPicture};
 ghost use Rattle.edge_terms.specs.EdgeReports.{edge_report};
 ghost use Rattle.piece_terms.specs.PieceReports.{piece_report};
-ghost use Rattle.reports_exist_flat.specs.Met.{IsMet, HasSidesTo};
+ghost use Rattle.reports_exist_flat.specs.Met.{IsMet, HasCounts, HasCovers, HasSidesTo};
 
 /// Each flat picture with sides from 1 to 2048 has a report of the fewest straight pieces of its contours.
 pub fn piece_reports_exist()
@@ -15,4 +14,14 @@ pub fn piece_reports_exist()
 /// Each flat picture with sides from 1 to 1000 has a report of the standard segments of its cracks.
 pub fn edge_reports_exist()
     ensures { (X : Picture) → IsPicture 2 X → HasSidesTo 1000 X → IsMet (edge_report X) }
+{}
+
+/// Each flat picture with sides from 1 to 2048 has contours, and each of these has its cover.
+pub fn covers_exist()
+    ensures { (X : Picture) → IsPicture 2 X → HasSidesTo 2048 X → HasCovers X }
+{}
+
+/// Each picture, of any number of axes, has its counts.
+pub fn counts_exist()
+    ensures { (X : Picture) → HasCounts X }
 {}

@@ -58,7 +58,8 @@ module _ (X : Picture) (axes : length X.sides ≡ 2) where
     | no n ↦ inr (λ e. n (ap (crack_number X.sides) e))
   ]
 
-  go_round : (room : ℕ) (start c : Crack) (steps : ℕ) (old new : ℕ → Bool) → IsCrack X start → box_count X.sides * 4 ≤ steps + room → Marking X start c steps old new → Round X start old
+  go_round : (room : ℕ) (start c : Crack) (steps : ℕ) (old new : ℕ → Bool) → IsCrack X start → box_count X.sides * 4 ≤ steps + room
+      → Marking X start c steps old new → Round X start old
   go_round zero start c steps old new k fits m = elim (back start c steps old new k m) [
     | inl r ↦ r
     | inr away ↦ absurd (let l = reached_few X axes start c steps k m.reached away in omega arith)

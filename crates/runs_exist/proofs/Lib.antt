@@ -2,3 +2,4 @@ pub mod ContoursExist
 pub mod SmallRuns
 pub mod SegmentsGrow
 pub mod RunsDecided
+pub mod PartsExist

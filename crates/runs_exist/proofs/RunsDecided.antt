@@ -13,6 +13,7 @@ use Rattle.shape_terms.specs.Straight.{KeepsSense}
 use Rattle.shape_terms.specs.Refutations.{point_at}
 use Rattle.shape_terms.specs.Turns.{other_axis}
 use Rattle.shape_terms.specs.Covers.{Evidence}
+use Rattle.shape_terms.specs.Least.{Pairs, ShowsLeast}
 use Rattle.shape_terms.proofs.Products.{rings}
 use Rattle.shape_terms.proofs.ArcRuns.{IsPart}
 use Rattle.shape_line.specs.Segments.{Seg, rest, IsTaken, paired}
@@ -22,18 +23,21 @@ use Rattle.shape_line.proofs.Frames.{IsLineOf, line_holds, keeps, which, stands}
 use Rattle.shape_line.proofs.Growing.{u_taken, v_taken}
 use Rattle.shape_line.proofs.Refusing.{pairs}
 use Rattle.shape_line.proofs.Reasons.{turns_once}
+use Rattle.shape_line.proofs.LeastSegments.{pairs_in, segment_shows, one_shows}
 use Rattle.shape_line.proofs.Moving.{front_turn, turn_shown, crossing_shown}
 use Rattle.shape_cover.specs.Found.{IsShortLine}
 use Rattle.runs_exist.proofs.SmallRuns.{IsSmallPoint, IsWithin, same_or_not, product_within, height_within, along_within}
 use Rattle.runs_exist.proofs.SegmentsGrow.{IsGrownTo, Reason, one_more}
 
--- a line of the axis holds the run, along which the other coordinate goes one way, and its numbers are small
+-- a line of the axis holds the run, along which the other coordinate goes one way; its numbers are small, and pairs of places show it to be least
 pub record IsLineFor (t : ℕ) (run : List Point) (line : Naive) : Type 0 where
   pub naive : IsNaiveFor t run line
   pub sense : KeepsSense t run
   pub short : IsShortLine line
   pub main : coordinate line.a t ≤ℤ pos 8193
   pub mu : IsWithin (pos 200000000) line.mu
+  pub pairs : Pairs
+  pub shows : ShowsLeast t run (coordinate line.a t) pairs
 
 -- the run has such a line, or evidence against each
 abbrev pub IsDecided : ℕ → List Point → Type 0
@@ -84,7 +88,8 @@ row_two zero r q = refl
 row_two (suc t) r q = refl
 
 -- a segment with small numbers gives a line
-module _ (t : ℕ) (l : t < 2) (s : ℤ) (sense : IsSense s) (seg : Seg) (run : List Point) (some : pos 0 <ℤ seg.b) (steep : IsWithin seg.b seg.a) (small : seg.b ≤ℤ pos 8193) (mu : IsWithin (pos 200000000) seg.mu) (r : IsRunOf t s seg run) where
+module _ (t : ℕ) (l : t < 2) (s : ℤ) (sense : IsSense s) (seg : Seg) (run : List Point) (some : pos 0 <ℤ seg.b) (steep : IsWithin seg.b seg.a) (small : seg.b ≤ℤ pos 8193) (mu : IsWithin (pos 200000000) seg.mu) (r : IsRunOf t s seg run)
+    (pairs : Pairs) (least : ShowsLeast t run seg.b pairs) where
   line_found : (line : Naive) × IsLineFor t run line
   line_found = (
     plane_line t s seg,
@@ -98,6 +103,8 @@ module _ (t : ℕ) (l : t < 2) (s : ℤ) (sense : IsSense s) (seg : Seg) (run : 
       };
       main = subst (λ (z : ℤ). z ≤ℤ pos 8193) (line_of t s seg l sense).main small;
       mu = mu;
+      pairs = pairs;
+      shows = subst (λ (z : ℤ). ShowsLeast t run z pairs) (line_of t s seg l sense).main least;
     },
   )
     where
@@ -116,13 +123,17 @@ one_seg x y = record { a = pos 0; b = pos 1; mu = rest (pos 0) (pos 1) x y; x0 =
 flat_rest : (x y : ℤ) → rest (pos 0) (pos 1) x y ≡ neg_ℤ y
 flat_rest x y = omega (arith, ints, rings)
 
+-- the pairs of one place alone
+abbrev nowhere : Pairs
+nowhere = record { low1 = 0; high1 = 0; low2 = 0; high2 = 0 }
+
 line_of_one : (t : ℕ) → t < 2 → (p : Point) → IsSmallPoint p → (line : Naive) × IsLineFor t (p ∷ []) line
 line_of_one t l p h = line_found t l (pos 1) refl (one_seg x y) (p ∷ []) (omega (arith, ints)) (record { low = omega (arith, ints); high = omega (arith, ints) }) (omega (arith, ints)) (bound x y (height_within t l p h)) (record {
   count = counted x;
   flat = λ i m. only_one (λ i. length (point_at (p ∷ []) i) ≡ 2) i m h.flat;
   place = λ i m. only_one (λ i. along t (pos 1) (point_at (p ∷ []) i) ≡ x +ℤ pos i) i m (nothing x);
   taken = λ i m. only_one (λ i. IsTaken (one_seg x y) (along t (pos 1) (point_at (p ∷ []) i)) (height t (point_at (p ∷ []) i))) i m (record { from = same x; to = same x; low = same _; high = less _ });
-})
+}) nowhere (one_shows t (p ∷ []) nowhere (omega arith) refl refl refl refl (pos 1) refl)
   where
     x : ℤ
     x = along t (pos 1) p
@@ -157,7 +168,7 @@ line_of_grown t l run near g =
     let steep : IsWithin g.seg.b g.seg.a = record { low = g.is.a_low; high = g.is.a_high } in
     let small : g.seg.b ≤ℤ pos 8193 = short_main in
     let mu : IsWithin (pos 200000000) g.seg.mu = subst (IsWithin (pos 200000000)) g.is.u_is (bound g.seg.a g.seg.b g.seg.ux g.seg.uy steep small wx wy) in
-    line_found t l g.sense g.is_sense g.seg run g.is.b_pos steep small mu g.points
+    line_found t l g.sense g.is_sense g.seg run g.is.b_pos steep small mu g.points (pairs_in g.seg) (segment_shows t g.sense l g.is_sense g.seg g.is run g.points)
   where
     wide : (m n z : ℤ) → m ≤ℤ n → IsWithin m z → IsWithin n z
     wide m n z l h = let a = h.low in let b = h.high in record { low = omega (arith, ints); high = omega (arith, ints) }
@@ -176,7 +187,8 @@ line_of_grown t l run near g =
     two : (n : ℕ) (x0 x1 b : ℤ) → pos n ≡ x1 -ℤ x0 +ℤ pos 1 → pos 0 <ℤ b → b ≤ℤ (x1 -ℤ x0) → 2 ≤ n
     two n x0 x1 b e h k = omega (arith, ints)
 
-    main : (n : ℕ) (x0 x1 b z : ℤ) → pos n ≡ x1 -ℤ x0 +ℤ pos 1 → b ≤ℤ (x1 -ℤ x0) → z ≡ x0 +ℤ pos (n - 1) → 2 ≤ n → IsWithin (pos 4096) (x0 +ℤ pos 0) → IsWithin (pos 4096) z → b ≤ℤ pos 8193
+    main : (n : ℕ) (x0 x1 b z : ℤ) → pos n ≡ x1 -ℤ x0 +ℤ pos 1 → b ≤ℤ (x1 -ℤ x0) → z ≡ x0 +ℤ pos (n - 1) → 2 ≤ n → IsWithin (pos 4096) (x0 +ℤ pos 0)
+        → IsWithin (pos 4096) z → b ≤ℤ pos 8193
     main n x0 x1 b z e k f m h i = let a = h.low in let c = i.high in omega (arith, ints)
 
     short_main : g.seg.b ≤ℤ pos 8193
@@ -188,7 +200,8 @@ line_of_grown t l run near g =
 
 -- ---- the second point
 
-pair_grown : (t : ℕ) → t < 2 → (s : ℤ) → IsSense s → (p q : Point) → length p ≡ 2 → length q ≡ 2 → AreClose p q → along t s q ≡ along t s p +ℤ pos 1 → IsGrownTo t (p ∷ q ∷ [])
+pair_grown : (t : ℕ) → t < 2 → (s : ℤ) → IsSense s → (p q : Point) → length p ≡ 2 → length q ≡ 2 → AreClose p q → along t s q ≡ along t s p +ℤ pos 1
+    → IsGrownTo t (p ∷ q ∷ [])
 pair_grown t l s sense p q hp hq close next =
     let h = heights (coordinate p t) (coordinate q t) (close t) in
     let seg = paired (along t s p) (height t p) (along t s q) (height t q) in
@@ -257,7 +270,9 @@ Begun t run = ((p : Point) × (run ≡ p ∷ [])) ⊎ IsGrownTo t run
 abbrev Fails : ℕ → List Point → Type 0
 Fails t whole = (run : List Point) × IsPart whole run 0 × Reason t run
 
-next_point : (t : ℕ) → t < 2 → (run : List Point) → Begun t run → (p : Point) → ((i : ℕ) → i < length (run ++ p ∷ []) → IsSmallPoint (point_at (run ++ p ∷ []) i)) → AreClose (point_at run (length run - 1)) p → IsGrownTo t (run ++ p ∷ []) ⊎ Reason t (run ++ p ∷ [])
+next_point : (t : ℕ) → t < 2 → (run : List Point) → Begun t run → (p : Point)
+    → ((i : ℕ) → i < length (run ++ p ∷ []) → IsSmallPoint (point_at (run ++ p ∷ []) i)) → AreClose (point_at run (length run - 1)) p
+    → IsGrownTo t (run ++ p ∷ []) ⊎ Reason t (run ++ p ∷ [])
 next_point t l run (inr g) p small close = one_more t l run g p small close
 next_point t l run (inl (q, e)) p small close =
     subst (λ (r : List Point). IsGrownTo t (r ++ p ∷ []) ⊎ Reason t (r ++ p ∷ [])) (sym e) (second t l q p

@@ -36,7 +36,8 @@ pub data Reason (t : ℕ) (run : List Point) : Type 0 where
 
 -- ---- the line stays
 
-stays : (s : Seg) → IsSegment s → (mx my : ℤ) → mx ≡ s.x1 +ℤ pos 1 → s.mu ≤ℤ rest s.a s.b mx my → rest s.a s.b mx my <ℤ (s.mu +ℤ s.b) → (r : Seg) × IsLonger s mx my r
+stays : (s : Seg) → IsSegment s → (mx my : ℤ) → mx ≡ s.x1 +ℤ pos 1 → s.mu ≤ℤ rest s.a s.b mx my → rest s.a s.b mx my <ℤ (s.mu +ℤ s.b)
+    → (r : Seg) × IsLonger s mx my r
 stays s is mx my next low high =
     by_lt_z s.mu (rest s.a s.b mx my)
     (λ above. by_lt_z (rest s.a s.b mx my) (s.mu +ℤ s.b -ℤ pos 1)
@@ -97,7 +98,8 @@ fate s is y1 mx my last next up down =
 -- ---- two pairs of points of a small run as a crossing
 
 -- by how much the one bound exceeds the other
-excess : (ya xb xa yb xc yc xd yd : ℤ) → IsWithin (pos 4096) xa → IsWithin (pos 4096) ya → IsWithin (pos 4096) xb → IsWithin (pos 4096) yb → IsWithin (pos 4096) xc → IsWithin (pos 4096) yc → IsWithin (pos 4096) xd → IsWithin (pos 4096) yd
+excess : (ya xb xa yb xc yc xd yd : ℤ) → IsWithin (pos 4096) xa → IsWithin (pos 4096) ya → IsWithin (pos 4096) xb → IsWithin (pos 4096) yb
+    → IsWithin (pos 4096) xc → IsWithin (pos 4096) yc → IsWithin (pos 4096) xd → IsWithin (pos 4096) yd
     → (((yb -ℤ ya) +ℤ pos 1) *ℤ (xd -ℤ xc)) ≤ℤ (((yd -ℤ yc) -ℤ pos 1) *ℤ (xb -ℤ xa))
     → (n : ℕ) × (pos n ≡ ((yd -ℤ yc) -ℤ pos 1) *ℤ (xb -ℤ xa) -ℤ ((yb -ℤ ya) +ℤ pos 1) *ℤ (xd -ℤ xc)) × (n ≤ 268435456)
 excess ya xb xa yb xc yc xd yd hxa hya hxb hyb hxc hyc hxd hyd order =
@@ -105,7 +107,8 @@ excess ya xb xa yb xc yc xd yd hxa hya hxb hyb hxc hyc hxd hyd order =
     let q = product_within (pos 8193) ((yb -ℤ ya) +ℤ pos 1) (xd -ℤ xc) (apart yb ya hyb hya).2 (apart xd xc hxd hxc).1 in
     by (((yd -ℤ yc) -ℤ pos 1) *ℤ (xb -ℤ xa)) (((yb -ℤ ya) +ℤ pos 1) *ℤ (xd -ℤ xc)) p q order
   where
-    apart : (a b : ℤ) → IsWithin (pos 4096) a → IsWithin (pos 4096) b → IsWithin (pos 8193) ((a -ℤ b) -ℤ pos 1) × IsWithin (pos 8193) (a -ℤ b) × IsWithin (pos 8193) ((a -ℤ b) +ℤ pos 1)
+    apart : (a b : ℤ) → IsWithin (pos 4096) a → IsWithin (pos 4096) b
+        → IsWithin (pos 8193) ((a -ℤ b) -ℤ pos 1) × IsWithin (pos 8193) (a -ℤ b) × IsWithin (pos 8193) ((a -ℤ b) +ℤ pos 1)
     apart a b h k =
         let hl = h.low in
         let hh = h.high in
@@ -205,7 +208,8 @@ module _ (t : ℕ) (l : t < 2) (run : List Point) (g : IsGrownTo t run) (p : Poi
         by : (n m : ℕ) (x0 z : ℤ) → z ≡ x0 +ℤ pos n → m ≡ n + 1 → IsWithin (pos 4096) (x0 +ℤ pos 0) → IsWithin (pos 4096) z → m ≤ 8194
         by n m x0 z e f h k = let hl = h.low in let kh = k.high in omega (arith, ints)
 
-    crossing : (xa ya xb yb xc yc xd yd : ℤ) → In xa ya → In xb yb → In xc yc → In xd yd → xa <ℤ xb → xc <ℤ xd → (((yb -ℤ ya) +ℤ pos 1) *ℤ (xd -ℤ xc)) ≤ℤ (((yd -ℤ yc) -ℤ pos 1) *ℤ (xb -ℤ xa)) → Reason t (run ++ p ∷ [])
+    crossing : (xa ya xb yb xc yc xd yd : ℤ) → In xa ya → In xb yb → In xc yc → In xd yd → xa <ℤ xb → xc <ℤ xd
+        → (((yb -ℤ ya) +ℤ pos 1) *ℤ (xd -ℤ xc)) ≤ℤ (((yd -ℤ yc) -ℤ pos 1) *ℤ (xb -ℤ xa)) → Reason t (run ++ p ∷ [])
     crossing xa ya xb yb xc yc xd yd a b c d lower upper order =
         let n = excess ya xb xa yb xc yc xd yd (within_x xa ya a) (within_y xa ya a) (within_x xb yb b) (within_y xb yb b) (within_x xc yc c) (within_y xc yc c) (within_x xd yd d) (within_y xd yd d) order in
         let k : Crossing = record { lower = record { first = place_from g.seg.x0 xa; last = place_from g.seg.x0 xb }; upper = record { first = place_from g.seg.x0 xc; last = place_from g.seg.x0 xd }; up = n.0 } in
