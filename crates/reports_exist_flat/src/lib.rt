@@ -1,6 +1,7 @@
 //! Reports of flat pictures exist: for each picture within the sides of a command some text holds as its report.
 //! So no maker's contract is met by giving up alone. What counts are the clauses; each function has an empty body.
 #![tactic(auto)]
+
 ghost use Rattle.shape_terms.specs.Pictures.{Picture, IsPicture};
 ghost use Rattle.edge_terms.specs.EdgeReports.{edge_report};
 ghost use Rattle.piece_terms.specs.PieceReports.{piece_report};
