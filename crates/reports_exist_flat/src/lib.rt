@@ -1,4 +1,4 @@
-//! Reports of flat pictures exist: for each picture within the sides of a command some text holds as its report.
+//! Reports of flat pictures exist, and the counts, covers and thinnings that they tell: some text holds as the report of each picture within the sides of a command.
 //! So no maker's contract is met by giving up alone. What counts are the clauses; each function has an empty body.
 #![tactic(auto)]
 
