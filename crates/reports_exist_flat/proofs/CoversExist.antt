@@ -67,7 +67,12 @@ module _ (side : ℕ) (low : side ≤ 2048) (points : List Point) (path : IsClos
       | inr (y, sy) ↦ (
           let few = path.few in
           let n = length-arc points b e in
-          inr (record { x = x; y = y; bent = record { x = shown_refused 0 (arc points b e) x (omega arith) sx; y = shown_refused 1 (arc points b e) y (omega arith) sy } }))
+          inr (record {
+            x = x;
+            y = y;
+            bent = record
+                { x = shown_refused 0 (arc points b e) x (omega arith) sx; y = shown_refused 1 (arc points b e) y (omega arith) sy };
+          }))
     ]
   ]
 
@@ -128,8 +133,16 @@ module _ (side : ℕ) (low : side ≤ 2048) (points : List Point) (path : IsClos
   next_from (suc room) first c e l m far fits h = elim (decided_of c e m (omega arith)) [
     | inl k ↦ record { begins = c; later = l; near = m; reasons = h; held = k }
     | inr bad ↦ elim (dec_lt c e) [
-      | no o ↦ record { begins = c; later = l; near = m; reasons = h; held = subst (λ k. HasLine (arc points c k)) (let q : c ≡ e = omega arith in q) (one_line c) }
-      | yes y ↦ next_from room first (c + 1) e (omega arith) (omega arith) far (omega arith) (subst (λ k. HasReasons (arc points k e)) (let q : c ≡ c + 1 - 1 = omega arith in q) bad)
+      | no o ↦ record {
+        begins = c;
+        later = l;
+        near = m;
+        reasons = h;
+        held = subst (λ k. HasLine (arc points c k)) (let q : c ≡ e = omega arith in q)
+            (one_line c);
+      }
+      | yes y ↦ next_from room first (c + 1) e (omega arith) (omega arith) far (omega arith)
+          (subst (λ k. HasReasons (arc points k e)) (let q : c ≡ c + 1 - 1 = omega arith in q) bad)
     ]
   ]
 
@@ -152,7 +165,7 @@ module _ (side : ℕ) (low : side ≤ 2048) (points : List Point) (path : IsClos
         | inl h ↦ absurd (r.longest (straight_of (arc points s.first (s.last + 1)) (arc_some s.first (s.last + 1) (omega arith)) h))
         | inr bad ↦
             on (next_from (s.last + 1) s.first (s.first + 1) (s.last + 1) (omega arith) (omega arith) (omega arith) (omega arith)
-                (subst (λ k. HasReasons (arc points k (s.last + 1))) (let q : s.first ≡ s.first + 1 - 1 = omega arith in q) bad))
+            (subst (λ k. HasReasons (arc points k (s.last + 1))) (let q : s.first ≡ s.first + 1 - 1 = omega arith in q) bad))
       ]
     where
       on : IsNext s.first (s.last + 1) → IsPassed s r
@@ -178,7 +191,8 @@ module _ (side : ℕ) (low : side ≤ 2048) (points : List Point) (path : IsClos
     pub found : List Found
     pub cover : IsCoverOf points found
 
-  go_round : (room : ℕ) (found : List Found) (now : Stretch) (round : ℕ) → round ≤ now.first + room → IsReach now → IsWalk contour_walk points (map told found) now round → IsCovered
+  go_round : (room : ℕ) (found : List Found) (now : Stretch) (round : ℕ) → round ≤ now.first + room → IsReach now
+      → IsWalk contour_walk points (map told found) now round → IsCovered
   go_round zero found now round fits r w = record { found = map told found; cover = walk_is_cover points (map told found) now round w (omega arith) path.some }
   go_round (suc room) found now round fits r w = elim (dec_lt now.first round) [
     | no o ↦ record { found = map told found; cover = walk_is_cover points (map told found) now round w (omega arith) path.some }
@@ -187,8 +201,8 @@ module _ (side : ℕ) (low : side ≤ 2048) (points : List Point) (path : IsClos
         let later = p.followed.first in
         let f = found_of now r.held p.x p.y in
         go_round room (found ++ f ∷ []) p.next round (omega arith) p.reach
-            (walk_goes_on contour_walk told points found f now p.next round w refl m (short_of now.first now.last r.rises r.held)
-                (record { held = held_of (arc points now.first now.last) r.held; grown = refl }) p.followed (reach_longest p.next p.reach)))
+        (walk_goes_on contour_walk told points found f now p.next round w refl m (short_of now.first now.last r.rises r.held)
+        (record { held = held_of (arc points now.first now.last) r.held; grown = refl }) p.followed (reach_longest p.next p.reach)))
   ]
 
   begin : (s : Stretch) → IsReach s → IsStart IsStraight points s → IsCovered
@@ -217,7 +231,7 @@ pub covers_had : (X : Picture) → IsPicture 2 X → HasSidesTo 2048 X → HasCo
 covers_had X is given =
     let sides = flat_sides 2048 X.sides is.axes given in
     let (contours, are, covers) = contours_exist X is.axes (λ c. (found : List Found) × IsCoverOf c.points found) (λ start end steps k r e.
-        let path = closed_path X sides.width sides.height 2048 (sym sides.are) sides.width_low sides.height_low (omega arith) start end steps k r e in
-        let c = covers_exist 2048 (omega arith) (contour_points X (walk X start steps)) path in
-        (c.found, c.cover)) in
+    let path = closed_path X sides.width sides.height 2048 (sym sides.are) sides.width_low sides.height_low (omega arith) start end steps k r e in
+    let c = covers_exist 2048 (omega arith) (contour_points X (walk X start steps)) path in
+    (c.found, c.cover)) in
     record { contours = contours; are = are; covers = covers }

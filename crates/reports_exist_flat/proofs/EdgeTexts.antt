@@ -85,7 +85,8 @@ module _ (X : Picture) (axes : length X.sides ≡ 2) (sides : AreFlatSides 1000 
       each (suc (suc i)) d l = absurd (omega arith)
 
   few_places : box_count X.sides ≤ 1000000
-  few_places = subst (λ (s : List ℕ). box_count s ≤ 1000000) sides.are (let h = sides.height_low in mul-le sides.width (sides.height * 1) 1000 1000 sides.width_low (omega arith))
+  few_places = subst (λ (s : List ℕ). box_count s ≤ 1000000) sides.are
+      (let h = sides.height_low in mul-le sides.width (sides.height * 1) 1000 1000 sides.width_low (omega arith))
 
   known : (start end : Crack) (steps : ℕ) → IsCrack X start → Reached X start end steps → end ≡ start → (points : List Point)
       → IsKnown X (record { start = start; points = points })
@@ -95,7 +96,8 @@ module _ (X : Picture) (axes : length X.sides ≡ 2) (sides : AreFlatSides 1000 
       let most = reached_most X axes start end (suc steps) k r in
       let places = few_places in
       let n = length-walk X (suc steps) start in
-      let path : IsCornerPath (corner_path (walk X start (suc steps))) = cycle_path X axes small start (walk X (successor X start) steps) k cycle.1 (omega arith) in
+      let path : IsCornerPath (corner_path (walk X start (suc steps))) = cycle_path X axes small start (walk X (successor X start) steps) k cycle.1
+      (omega arith) in
       let (arcs, cover) = edges_exist (corner_path (walk X start (suc steps))) path in
       record {
         crack = k;
@@ -114,7 +116,8 @@ module _ (X : Picture) (axes : length X.sides ≡ 2) (sides : AreFlatSides 1000 
       let few = is.few in
       let arcs = at.cover.claims.few in
       let steps = at.steps in
-      let fields : spelled.IsLine (Line.Cycle c.start is.found.steps (length is.found.arcs)) = (pixel_fits X 1000 (omega arith) sides c.start is.crack, (is.crack.side, (omega arith, omega arith))) in
+      let fields : spelled.IsLine (Line.Cycle c.start is.found.steps (length is.found.arcs)) =
+      (pixel_fits X 1000 (omega arith) sides c.start is.crack, (is.crack.side, (omega arith, omega arith))) in
       put_cycle X k c.start is.found at few text fields h
 
   put_all : (contours : List Contour) → AreContours X contours → All (IsKnown X) contours → (k : ℕ) → k ≤ length contours → (text : List ℕ)

@@ -99,7 +99,8 @@ module _ (run : List Point) (r : IsCornerRun run) (n : ℕ) (all : n + 1 ≡ len
         subst IsSmallPoint (sym (sheared_at i m)) (small_sheared h v o (point_at run i) g.h_sign g.v_sign (r.corners 0 r.some) (r.corners i m));
     near = λ i l.
         let m : i + 1 < length run = omega (arith, count) in
-        subst (λ (q : Point). AreClose q (point_at sheared (i + 1))) (sym (sheared_at i (omega arith))) (subst (AreClose (from_origin h v o (point_at run i))) (sym (sheared_at (i + 1) m)) (near_next i m));
+        subst (λ (q : Point). AreClose q (point_at sheared (i + 1))) (sym (sheared_at i (omega arith)))
+        (subst (AreClose (from_origin h v o (point_at run i))) (sym (sheared_at (i + 1) m)) (near_next i m));
   }
 
   -- ---- a line of the sheared run gives a standard line
@@ -197,5 +198,9 @@ edge_decided run r =
     let some = r.some in
     elim (signs_told run r.units (length run - 1) (omega arith)) [
       | inl (h, v, g) ↦ by_signs run r (length run - 1) (omega arith) h v g
-      | inr (i, j, b) ↦ inr (EdgeEvidence.Bend i j, record { shows = b; short = (let f = r.few in let l = b.first in omega arith, let f = r.few in let l = b.second in omega arith) })
+      | inr (i, j, b) ↦ inr (
+        EdgeEvidence.Bend i j,
+        record
+            { shows = b; short = (let f = r.few in let l = b.first in omega arith, let f = r.few in let l = b.second in omega arith) },
+      )
     ]

@@ -37,9 +37,11 @@ module _ (path : List Point) (is : IsCornerPath path) where
         corners = λ i m. subst IsCorner (sym (arc-get path b e i (omega arith))) (is.inside ((b + i) % length path) (omega arith));
         units = λ i m.
             let here = arc-get path b e i (omega arith) in
-            let round : ((b + i) % length path + 1) % length path ≡ (b + (i + 1)) % length path = mod-add-mod (b + i) (length path) 1 ∙ ap (λ k. k % length path) (let q : b + i + 1 ≡ b + (i + 1) = omega arith in q) in
+            let round : ((b + i) % length path + 1) % length path ≡ (b + (i + 1)) % length path = mod-add-mod (b + i) (length path) 1 ∙ ap
+            (λ k. k % length path) (let q : b + i + 1 ≡ b + (i + 1) = omega arith in q) in
             let next = arc-get path b e (i + 1) (omega arith) ∙ ap (point_at path) (sym round) in
-            subst (λ (q : Point). IsUnitStep q (point_at (arc path b e) (i + 1))) (sym here) (subst (IsUnitStep (point_at path ((b + i) % length path))) (sym next) (is.steps ((b + i) % length path) (omega arith)));
+            subst (λ (q : Point). IsUnitStep q (point_at (arc path b e) (i + 1))) (sym here)
+            (subst (IsUnitStep (point_at path ((b + i) % length path))) (sym next) (is.steps ((b + i) % length path) (omega arith)));
       }
 
   arc_decided : (b e : ℕ) → b ≤ e → e ≤ b + length path → IsEdgeDecided (arc path b e)
@@ -105,7 +107,8 @@ module _ (path : List Point) (is : IsCornerPath path) where
     | inl (line, k) ↦ record { begins = c; later = l; near = m; gap = gap; bent = h; line = line; held = k }
     | inr (more, bad) ↦ elim (dec_lt c e) [
       | no o ↦ absurd (one_unrefuted (arc path c e) more (omega (arith, length-arc path c e)) bad.shows)
-      | yes y ↦ next_from room first (c + 1) e more (omega arith) (omega arith) far (omega arith) (subst (λ k. IsGap (arc path k e) more) (let q : c ≡ c + 1 - 1 = omega arith in q) bad)
+      | yes y ↦ next_from room first (c + 1) e more (omega arith) (omega arith) far (omega arith)
+          (subst (λ k. IsGap (arc path k e) more) (let q : c ≡ c + 1 - 1 = omega arith in q) bad)
     ]
   ]
 
@@ -123,7 +126,8 @@ module _ (path : List Point) (is : IsCornerPath path) where
       let rises = r.rises in
       elim (arc_decided s.first (s.last + 1) (omega arith) (omega arith)) [
         | inl (more, h) ↦ absurd (r.longest (straight_of s.first (s.last + 1) more (omega arith) h))
-        | inr (gap, bad) ↦ on (next_from (s.last + 1) s.first (s.first + 1) (s.last + 1) gap (omega arith) (omega arith) (omega arith) (omega arith) (subst (λ k. IsGap (arc path k (s.last + 1)) gap) (let q : s.first ≡ s.first + 1 - 1 = omega arith in q) bad))
+        | inr (gap, bad) ↦ on (next_from (s.last + 1) s.first (s.first + 1) (s.last + 1) gap (omega arith) (omega arith) (omega arith) (omega arith)
+            (subst (λ k. IsGap (arc path k (s.last + 1)) gap) (let q : s.first ≡ s.first + 1 - 1 = omega arith in q) bad))
       ]
     where
       on : IsNext s.first (s.last + 1) → IsPassed s line
@@ -154,7 +158,8 @@ module _ (path : List Point) (is : IsCornerPath path) where
         let later = p.followed.first in
         let f : Arc = record { stretch = now; line = line; gap = p.gap } in
         go_round room (found ++ f ∷ []) p.next p.follower round (omega arith) p.reach
-        (walk_goes_on edge_walk told path found f now p.next round w refl low (reach_short now line r) r.held p.followed (reach_longest p.next p.follower p.reach)))
+        (walk_goes_on edge_walk told path found f now p.next round w refl low (reach_short now line r) r.held p.followed
+        (reach_longest p.next p.follower p.reach)))
   ]
 
   begin : (s : Stretch) (line : Standard) → IsReach s line → IsStart IsEdgeStraight path s → (arcs : List Arc) × IsEdgeCover path arcs

@@ -32,7 +32,15 @@ flat_sides greatest (w ∷ h ∷ []) e a =
     let xh : pos w ≤ℤ pos greatest = x.1 in
     let yl : pos 1 ≤ℤ pos h = y.0 in
     let yh : pos h ≤ℤ pos greatest = y.1 in
-    record { width = w; height = h; are = refl; width_some = omega (arith, ints); width_low = omega (arith, ints); height_some = omega (arith, ints); height_low = omega (arith, ints) }
+    record {
+      width = w;
+      height = h;
+      are = refl;
+      width_some = omega (arith, ints);
+      width_low = omega (arith, ints);
+      height_some = omega (arith, ints);
+      height_low = omega (arith, ints);
+    }
 flat_sides greatest (w ∷ h ∷ d ∷ sides) e a = absurd (omega arith)
 
 -- ---- points of 32 bits
@@ -71,4 +79,5 @@ pub pixel_fits : (X : Picture) (greatest : ℕ) → greatest ≤ 2048 → AreFla
 pixel_fits X greatest low f c k =
     let w = f.width_low in
     let h = f.height_low in
-    point_fits f.width f.height (omega arith) (omega arith) c.pixel (subst (λ (l : List ℕ). IsTrue (in_box l c.pixel)) (sym f.are) (object_in_box X c.pixel k.pixel))
+    point_fits f.width f.height (omega arith) (omega arith) c.pixel
+    (subst (λ (l : List ℕ). IsTrue (in_box l c.pixel)) (sym f.are) (object_in_box X c.pixel k.pixel))

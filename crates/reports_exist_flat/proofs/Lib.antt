@@ -6,3 +6,4 @@ pub mod EdgesDecided
 pub mod EdgesExist
 pub mod EdgeTexts
 pub mod CoversExist
+pub mod ThinningsExist

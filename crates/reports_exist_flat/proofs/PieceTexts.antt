@@ -24,14 +24,16 @@ use Rattle.reports_exist_flat.proofs.PiecesExist.{pieces_exist}
 
 -- ---- the lines of a contour
 
-module _ (X : Picture) (k : ℕ) (contour : Contour) (at : IsContourAt X k contour) (pieces : List Piece) (are : ArePieces contour.points pieces) (shorts : AreShortPieces pieces) (few : length contour.points ≤ 2 ^ 24) where
+module _ (X : Picture) (k : ℕ) (contour : Contour) (at : IsContourAt X k contour) (pieces : List Piece) (are : ArePieces contour.points pieces)
+    (shorts : AreShortPieces pieces) (few : length contour.points ≤ 2 ^ 24) where
   piece_is_line : (j : ℕ) → j < length pieces
       → spelled.IsLine (Line.Listed (SplitLine.Piece (piece_at pieces j).first (piece_at pieces j).last (piece_at pieces j).axis (piece_at pieces j).line))
   piece_is_line j l =
       let p = are.piece j l in
       let r = p.rises in
       let w = p.within in
-      piece_fits (piece_at pieces j).first (piece_at pieces j).last (piece_at pieces j).axis (piece_at pieces j).line (omega arith) (omega arith) p.axis (shorts.line j l)
+      piece_fits (piece_at pieces j).first (piece_at pieces j).last (piece_at pieces j).axis (piece_at pieces j).line (omega arith) (omega arith)
+      p.axis (shorts.line j l)
 
   put_piece : (j : ℕ) → j < length pieces → (text : List ℕ) → HasPieces X k pieces j text → (new : List ℕ) × HasPieces X k pieces (j + 1) new
   put_piece j l text h = elim (dec_lt (j + 1) (length pieces)) [
@@ -75,7 +77,8 @@ module _ (X : Picture) (greatest : ℕ) (low : greatest ≤ 2048) (sides : AreFl
       let (pieces, split, shorts) = pieces_exist greatest low c.points is.path in
       let few = is.path.few in
       let n = split.few in
-      let fields : spelled.IsLine (Line.Listed (SplitLine.Chain c.start (length c.points) (length pieces))) = (pixel_fits X greatest low sides c.start is.crack, (is.crack.side, (omega arith, omega arith))) in
+      let fields : spelled.IsLine (Line.Listed (SplitLine.Chain c.start (length c.points) (length pieces))) =
+      (pixel_fits X greatest low sides c.start is.crack, (is.crack.side, (omega arith, omega arith))) in
       put_split X k c (record { contours = contours; are = are; there = there }) pieces split shorts few text fields h
 
   put_contours : (contours : List Contour) → AreContours X contours → All (IsKnown X greatest) contours → (k : ℕ) → k ≤ length contours

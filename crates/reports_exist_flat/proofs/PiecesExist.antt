@@ -38,12 +38,14 @@ module _ (side : ℕ) (low : side ≤ 2048) (points : List Point) (path : IsClos
     small = λ i l.
         let some = path.some in
         let m : i < e + 1 - b = omega (arith, length-arc points b e) in
-        subst IsSmallPoint (sym (arc-get points b e i m)) (small_in side low (point_at points ((b + i) % length points)) (path.inside ((b + i) % length points) [] (omega arith)));
+        subst IsSmallPoint (sym (arc-get points b e i m))
+        (small_in side low (point_at points ((b + i) % length points)) (path.inside ((b + i) % length points) [] (omega arith)));
     near = λ i l.
         let m : i + 1 < e + 1 - b = omega (arith, length-arc points b e) in
         let here = arc-get points b e i (omega arith) in
         let next = arc-get points b e (i + 1) m ∙ ap (λ k. point_at points (k % length points)) (let q : b + (i + 1) ≡ b + i + 1 = omega arith in q) in
-        subst (λ (q : Point). AreClose q (point_at (arc points b e) (i + 1))) (sym here) (subst (AreClose (point_at points ((b + i) % length points))) (sym next) (close_next points side path (b + i)));
+        subst (λ (q : Point). AreClose q (point_at (arc points b e) (i + 1))) (sym here)
+        (subst (AreClose (point_at points ((b + i) % length points))) (sym next) (close_next points side path (b + i)));
   }
 
   pub arc_decided : (t b e : ℕ) → t < 2 → b ≤ e → IsDecided t (arc points b e)

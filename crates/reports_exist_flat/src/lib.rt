@@ -1,10 +1,12 @@
-//! Reports of flat pictures exist: for each picture within the sides of a command some text holds as its report.
+//! Reports of flat pictures exist, and the counts, covers and thinnings that they tell: some text holds as the report of each picture within the sides of a command.
 //! So no maker's contract is met by giving up alone. What counts are the clauses; each function has an empty body.
 #![tactic(auto)]
+
 ghost use Rattle.shape_terms.specs.Pictures.{Picture, IsPicture};
+ghost use Rattle.shape_terms.specs.Thinning.{Rule};
 ghost use Rattle.edge_terms.specs.EdgeReports.{edge_report};
 ghost use Rattle.piece_terms.specs.PieceReports.{piece_report};
-ghost use Rattle.reports_exist_flat.specs.Met.{IsMet, HasCounts, HasCovers, HasSidesTo};
+ghost use Rattle.reports_exist_flat.specs.Met.{IsMet, HasCounts, HasCovers, HasSidesTo, HasThinning};
 
 /// Each flat picture with sides from 1 to 2048 has a report of the fewest straight pieces of its contours.
 pub fn piece_reports_exist()
@@ -24,4 +26,9 @@ pub fn covers_exist()
 /// Each picture, of any number of axes, has its counts.
 pub fn counts_exist()
     ensures { (X : Picture) → HasCounts X }
+{}
+
+/// Each flat picture has a thinning by each rule.
+pub fn thinnings_exist()
+    ensures { (rule : Rule) (X : Picture) → IsPicture 2 X → HasThinning rule X }
 {}

@@ -113,7 +113,8 @@ module _ (X : Picture) (axes : length X.sides ≡ 2) (P : Contour → Type 0)
           record {
             marks = r.new;
             list = w.list ++ contour_walked X c r.steps ∷ [];
-            listing = listing_taken X axes i s n l side at w.marks w.list w.listing r.new (w.list ++ contour_walked X c r.steps ∷ []) level (subst (IsCrack X) f k)
+            listing = listing_taken X axes i s n l side at w.marks w.list w.listing r.new (w.list ++ contour_walked X c r.steps ∷ []) level
+                (subst (IsCrack X) f k)
                 (subst (λ d. IsTaken X d w.marks r.new w.list (w.list ++ contour_walked X c r.steps ∷ [])) f t);
             known = All-push P w.list (contour_walked X c r.steps) w.known (each c r.end r.steps k r.marking.reached r.same);
           }
@@ -146,7 +147,8 @@ module _ (X : Picture) (axes : length X.sides ≡ 2) (P : Contour → Type 0)
 
   walked : (n : ℕ) → n ≤ box_count X.sides * 4 → Walked X P n
   walked zero l = record { marks = λ j. false; list = []; listing = listing_none X axes (λ j. false) (λ j. refl); known = All-nil P }
-  walked (suc n) l = subst (Walked X P) (let q : n + 1 ≡ suc n = omega arith in q) (take_side (n / 4) (n % 4) n (omega arith) (omega arith) (omega arith) (walked n (omega arith)))
+  walked (suc n) l = subst (Walked X P) (let q : n + 1 ≡ suc n = omega arith in q)
+      (take_side (n / 4) (n % 4) n (omega arith) (omega arith) (omega arith) (walked n (omega arith)))
 
   -- the picture has contours, and this is known of each
   pub contours_exist : (contours : List Contour) × AreContours X contours × All P contours

@@ -1,6 +1,6 @@
 -- Each net of places has components: each place alone at first, and one link after another joins the parts of its two places.
 -- Which points the places stand for does not matter here; pictures come last.
-use Rattle.std.proofs.Common.{◌≡◌, ◌⊎◌, inl, inr, ℕ, zero, suc, ◌+◌, ◌-◌, ◌<◌, ◌≤◌, Bool, true, false, cond, eqb, refl, ap, sym, ◌∙◌, subst, arith, length, Option, Some, None}
+use Rattle.std.proofs.Common.{◌≡◌, ◌⊎◌, inl, inr, ℕ, zero, suc, ◌-◌, ◌<◌, ◌≤◌, Bool, true, false, cond, eqb, refl, ap, sym, ◌∙◌, subst, arith, length, Option, Some, None}
 use Rattle.std.proofs.lemmas.Bool.Decides.{nat_tests}
 use native.Mathlib.Decide.{dec_lt, ℕ_discrete}
 use Rattle.shape_terms.specs.Points.{box_count, raster_point}
@@ -19,7 +19,8 @@ Parted R Y = (n : ℕ) × (f : ℕ → ℕ) × NamesParts R Y n f
 
 -- ---- the same parts for another set or relation
 
-same_parts : {R S : ℕ → ℕ → Type 0} {Y Z : ℕ → Type 0} → ((i : ℕ) → Z i → Y i) → ((i : ℕ) → Y i → Z i) → ((i j : ℕ) → Z i → Z j → S i j → R i j) → ((i j : ℕ) → R i j → S i j) → (n : ℕ) (f : ℕ → ℕ)
+same_parts : {R S : ℕ → ℕ → Type 0} {Y Z : ℕ → Type 0} → ((i : ℕ) → Z i → Y i) → ((i : ℕ) → Y i → Z i) → ((i j : ℕ) → Z i → Z j → S i j → R i j)
+    → ((i j : ℕ) → R i j → S i j) → (n : ℕ) (f : ℕ → ℕ)
     → NamesParts R Y n f → NamesParts S Z n f
 same_parts {R} {S} {Y} {Z} to of back forth n f p = record {
   in_range = λ i z. p.in_range i (to i z);
@@ -82,12 +83,16 @@ module _ (O : ℕ → Type 0) (is_in : (i : ℕ) → O i ⊎ (O i → ⊥)) wher
     }
 
   all_alone : (n : ℕ) → Parted Unlinked (Below O n)
-  all_alone zero = (0, (λ i. 0), record {
-    in_range = λ i a. absurd (let l = a.0 in omega arith);
-    used = λ k l u. absurd (omega arith);
-    adjacent = λ i j a b r. absurd r;
-    connected = λ i j a b e. absurd (let l = a.0 in omega arith);
-  })
+  all_alone zero = (
+    0,
+    (λ i. 0),
+    record {
+      in_range = λ i a. absurd (let l = a.0 in omega arith);
+      used = λ k l u. absurd (omega arith);
+      adjacent = λ i j a b r. absurd r;
+      connected = λ i j a b e. absurd (let l = a.0 in omega arith);
+    },
+  )
   all_alone (suc n) = elim (is_in n) [
     | inl o ↦ (let (c, f, p) = all_alone n in (suc c, g n o c f p, one_alone n o c f p))
     | inr out ↦
@@ -174,7 +179,13 @@ record HasMore (O : ℕ → Type 0) (R S : ℕ → ℕ → Type 0) (p q : ℕ) :
   only : (x y : ℕ) → O x → O y → S x y → R x y ⊎ IsPair p q x y
 
 turned : (O : ℕ → Type 0) (R S : ℕ → ℕ → Type 0) (p q : ℕ) → HasMore O R S p q → HasMore O R S q p
-turned O R S p q h = record { old = h.old; forth = h.back; back = h.forth; only = λ x y a b s. elim (h.only x y a b s) [ inl r ↦ inl r | inr w ↦ elim w [ inl v ↦ inr (inr v) | inr v ↦ inr (inl v) ] ] }
+turned O R S p q h = record {
+  old = h.old;
+  forth = h.back;
+  back = h.forth;
+  only = λ x y a b s. elim (h.only x y a b s)
+      [ inl r ↦ inl r | inr w ↦ elim w [ inl v ↦ inr (inr v) | inr v ↦ inr (inl v) ] ];
+}
 
 module _ (O : ℕ → Type 0) (R S : ℕ → ℕ → Type 0) (p q : ℕ) (op : O p) (oq : O q) (more : HasMore O R S p q) (n : ℕ) (f : ℕ → ℕ) (F : NamesParts R O n f) where
   lifted : {x y : ℕ} → Connected R O x y → Connected S O x y
@@ -263,7 +274,8 @@ link_more O R S p q op oq more (n, f, F) = elim (dec_lt (f p) (f q)) [
 
 -- ---- all links
 
-module _ (size : ℕ) (O : ℕ → Type 0) (R : ℕ → ℕ → Type 0) (d : ℕ) (next : ℕ → ℕ → Option ℕ) (net : IsNet size O R d next) (is_in : (i : ℕ) → O i ⊎ (O i → ⊥)) where
+module _ (size : ℕ) (O : ℕ → Type 0) (R : ℕ → ℕ → Type 0) (d : ℕ) (next : ℕ → ℕ → Option ℕ) (net : IsNet size O R d next)
+    (is_in : (i : ℕ) → O i ⊎ (O i → ⊥)) where
   -- a link of the places before i, or of the first k of i
   abbrev Linked : ℕ → ℕ → ℕ → ℕ → Type 0
   Linked i k x y = (m : ℕ) × (m < d) × (next x m ≡ Some y) × ((x < i) ⊎ ((x ≡ i) × (m < k)))
@@ -336,10 +348,13 @@ module _ (size : ℕ) (O : ℕ → Type 0) (R : ℕ → ℕ → Type 0) (d : ℕ
   rows : (i : ℕ) → Parted (Joins 0 0) O → Parted (Joins i 0) O
   rows zero h = h
   rows (suc i) h =
-      let (n, f, F) = links_of_one i d (omega arith) (rows i h) in
-      (n, f, same_parts (λ x a. a) (λ x a. a)
-          (λ x y a b s. elim s as (λ _. Joins i d x y) [ inl r ↦ inl (whole_row i x y r) | inr r ↦ inr (whole_row i y x r) ])
-          (λ x y s. elim s as (λ _. Joins (suc i) 0 x y) [ inl r ↦ inl (row_whole i x y r) | inr r ↦ inr (row_whole i y x r) ]) n f F)
+      let (n, f, F) = links_of_one i d (omega arith) (rows i h) in (
+        n,
+        f,
+        same_parts (λ x a. a) (λ x a. a)
+            (λ x y a b s. elim s as (λ _. Joins i d x y) [ inl r ↦ inl (whole_row i x y r) | inr r ↦ inr (whole_row i y x r) ])
+            (λ x y s. elim s as (λ _. Joins (suc i) 0 x y) [ inl r ↦ inl (row_whole i x y r) | inr r ↦ inr (row_whole i y x r) ]) n f F,
+      )
 
   unlinked : Parted (Joins 0 0) O
   unlinked =

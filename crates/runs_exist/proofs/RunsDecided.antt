@@ -64,8 +64,10 @@ signed_within : (s a m : ℤ) → IsSense s → IsWithin m a → IsWithin m (s *
 signed_within s a m sense h = by (which s sense)
   where
     by : (s ≡ pos 1) ⊎ (s ≡ negsuc 0) → IsWithin m (s *ℤ a)
-    by (inl e) = subst (λ (w : ℤ). IsWithin m (w *ℤ a)) (sym e) (let l = h.low in let u = h.high in record { low = omega (arith, ints); high = omega (arith, ints) })
-    by (inr e) = subst (λ (w : ℤ). IsWithin m (w *ℤ a)) (sym e) (let l = h.low in let u = h.high in record { low = omega (arith, ints); high = omega (arith, ints) })
+    by (inl e) = subst (λ (w : ℤ). IsWithin m (w *ℤ a)) (sym e)
+        (let l = h.low in let u = h.high in record { low = omega (arith, ints); high = omega (arith, ints) })
+    by (inr e) = subst (λ (w : ℤ). IsWithin m (w *ℤ a)) (sym e)
+        (let l = h.low in let u = h.high in record { low = omega (arith, ints); high = omega (arith, ints) })
 
 line_of : (t : ℕ) (s : ℤ) (seg : Seg) → t < 2 → IsSense s → IsLineOf t s seg (plane_line t s seg)
 line_of zero s seg l sense = record { two = refl; side = twice s seg.a sense; main = refl; mu = refl }
@@ -88,7 +90,8 @@ row_two zero r q = refl
 row_two (suc t) r q = refl
 
 -- a segment with small numbers gives a line
-module _ (t : ℕ) (l : t < 2) (s : ℤ) (sense : IsSense s) (seg : Seg) (run : List Point) (some : pos 0 <ℤ seg.b) (steep : IsWithin seg.b seg.a) (small : seg.b ≤ℤ pos 8193) (mu : IsWithin (pos 200000000) seg.mu) (r : IsRunOf t s seg run)
+module _ (t : ℕ) (l : t < 2) (s : ℤ) (sense : IsSense s) (seg : Seg) (run : List Point) (some : pos 0 <ℤ seg.b) (steep : IsWithin seg.b seg.a)
+    (small : seg.b ≤ℤ pos 8193) (mu : IsWithin (pos 200000000) seg.mu) (r : IsRunOf t s seg run)
     (pairs : Pairs) (least : ShowsLeast t run seg.b pairs) where
   line_found : (line : Naive) × IsLineFor t run line
   line_found = (
@@ -98,7 +101,8 @@ module _ (t : ℕ) (l : t < 2) (s : ℤ) (sense : IsSense s) (seg : Seg) (run : 
       sense = keeps t s l sense seg.x0 run r.place;
       short = record {
         two = row_two t (s *ℤ seg.a) seg.b;
-        coefficients = short_row t (s *ℤ seg.a) seg.b (short_abs seg.b (s *ℤ seg.a) (omega (arith, ints, small)) (signed_within s seg.a seg.b sense steep)) (main_short seg.b some small);
+        coefficients = short_row t (s *ℤ seg.a) seg.b
+            (short_abs seg.b (s *ℤ seg.a) (omega (arith, ints, small)) (signed_within s seg.a seg.b sense steep)) (main_short seg.b some small);
         mu = short_abs (pos 200000000) seg.mu (omega (arith, ints)) mu;
       };
       main = subst (λ (z : ℤ). z ≤ℤ pos 8193) (line_of t s seg l sense).main small;
@@ -128,12 +132,14 @@ abbrev nowhere : Pairs
 nowhere = record { low1 = 0; high1 = 0; low2 = 0; high2 = 0 }
 
 line_of_one : (t : ℕ) → t < 2 → (p : Point) → IsSmallPoint p → (line : Naive) × IsLineFor t (p ∷ []) line
-line_of_one t l p h = line_found t l (pos 1) refl (one_seg x y) (p ∷ []) (omega (arith, ints)) (record { low = omega (arith, ints); high = omega (arith, ints) }) (omega (arith, ints)) (bound x y (height_within t l p h)) (record {
-  count = counted x;
-  flat = λ i m. only_one (λ i. length (point_at (p ∷ []) i) ≡ 2) i m h.flat;
-  place = λ i m. only_one (λ i. along t (pos 1) (point_at (p ∷ []) i) ≡ x +ℤ pos i) i m (nothing x);
-  taken = λ i m. only_one (λ i. IsTaken (one_seg x y) (along t (pos 1) (point_at (p ∷ []) i)) (height t (point_at (p ∷ []) i))) i m (record { from = same x; to = same x; low = same _; high = less _ });
-}) nowhere (one_shows t (p ∷ []) nowhere (omega arith) refl refl refl refl (pos 1) refl)
+line_of_one t l p h = line_found t l (pos 1) refl (one_seg x y) (p ∷ []) (omega (arith, ints))
+    (record { low = omega (arith, ints); high = omega (arith, ints) }) (omega (arith, ints)) (bound x y (height_within t l p h)) (record {
+      count = counted x;
+      flat = λ i m. only_one (λ i. length (point_at (p ∷ []) i) ≡ 2) i m h.flat;
+      place = λ i m. only_one (λ i. along t (pos 1) (point_at (p ∷ []) i) ≡ x +ℤ pos i) i m (nothing x);
+      taken = λ i m. only_one (λ i. IsTaken (one_seg x y) (along t (pos 1) (point_at (p ∷ []) i)) (height t (point_at (p ∷ []) i))) i m
+          (record { from = same x; to = same x; low = same _; high = less _ });
+    }) nowhere (one_shows t (p ∷ []) nowhere (omega arith) refl refl refl refl (pos 1) refl)
   where
     x : ℤ
     x = along t (pos 1) p
@@ -168,7 +174,8 @@ line_of_grown t l run near g =
     let steep : IsWithin g.seg.b g.seg.a = record { low = g.is.a_low; high = g.is.a_high } in
     let small : g.seg.b ≤ℤ pos 8193 = short_main in
     let mu : IsWithin (pos 200000000) g.seg.mu = subst (IsWithin (pos 200000000)) g.is.u_is (bound g.seg.a g.seg.b g.seg.ux g.seg.uy steep small wx wy) in
-    line_found t l g.sense g.is_sense g.seg run g.is.b_pos steep small mu g.points (pairs_in g.seg) (segment_shows t g.sense l g.is_sense g.seg g.is run g.points)
+    line_found t l g.sense g.is_sense g.seg run g.is.b_pos steep small mu g.points (pairs_in g.seg)
+    (segment_shows t g.sense l g.is_sense g.seg g.is run g.points)
   where
     wide : (m n z : ℤ) → m ≤ℤ n → IsWithin m z → IsWithin n z
     wide m n z l h = let a = h.low in let b = h.high in record { low = omega (arith, ints); high = omega (arith, ints) }
@@ -194,7 +201,8 @@ line_of_grown t l run near g =
     short_main : g.seg.b ≤ℤ pos 8193
     short_main =
         let m = two (length run) g.seg.x0 g.seg.x1 g.seg.b g.points.count g.is.b_pos g.is.b_short in
-        let first = subst (IsWithin (pos 4096)) (g.points.place 0 (omega arith)) (along_within t l (point_at run 0) (near.small 0 (omega arith)) g.sense g.is_sense) in
+        let first = subst (IsWithin (pos 4096)) (g.points.place 0 (omega arith))
+        (along_within t l (point_at run 0) (near.small 0 (omega arith)) g.sense g.is_sense) in
         let last = along_within t l (point_at run (length run - 1)) (near.small (length run - 1) (omega arith)) g.sense g.is_sense in
         main (length run) g.seg.x0 g.seg.x1 g.seg.b _ g.points.count g.is.b_short (g.points.place (length run - 1) (omega arith)) m first last
 
@@ -295,9 +303,12 @@ gone_through t l run (p ∷ more) near b =
     let some = begun_some t run b in
     let n = length-append run (p ∷ more) in
     let last : point_at (run ++ p ∷ more) (length run - 1) ≡ point_at run (length run - 1) = get_or-append run (p ∷ more) [] (length run - 1) (omega arith) in
-    let here : point_at (run ++ p ∷ more) (length run - 1 + 1) ≡ p = ap (point_at (run ++ p ∷ more)) (let q : length run - 1 + 1 ≡ length run = omega arith in q) ∙ get_or-append_seam run p more [] in
-    let close : AreClose (point_at run (length run - 1)) p = subst (λ (q : Point). AreClose q p) last (subst (AreClose (point_at (run ++ p ∷ more) (length run - 1))) here (near.near (length run - 1) (omega arith))) in
-    let small : (i : ℕ) → i < length (run ++ p ∷ []) → IsSmallPoint (point_at (run ++ p ∷ []) i) = λ i m. subst IsSmallPoint (sym (part.same i m ∙ ap (point_at (run ++ p ∷ more)) (none_before i))) (near.small i (let q = part.len in omega arith)) in
+    let here : point_at (run ++ p ∷ more) (length run - 1 + 1) ≡ p = ap (point_at (run ++ p ∷ more))
+    (let q : length run - 1 + 1 ≡ length run = omega arith in q) ∙ get_or-append_seam run p more [] in
+    let close : AreClose (point_at run (length run - 1)) p = subst (λ (q : Point). AreClose q p) last
+    (subst (AreClose (point_at (run ++ p ∷ more) (length run - 1))) here (near.near (length run - 1) (omega arith))) in
+    let small : (i : ℕ) → i < length (run ++ p ∷ []) → IsSmallPoint (point_at (run ++ p ∷ []) i) = λ i m. subst IsSmallPoint
+    (sym (part.same i m ∙ ap (point_at (run ++ p ∷ more)) (none_before i))) (near.small i (let q = part.len in omega arith)) in
     elim (next_point t l run b p small close) [
       | inr r ↦ inr (run ++ p ∷ [], part, r)
       | inl g ↦ subst (λ (w : List Point). Begun t w ⊎ Fails t w) e (gone_through t l (run ++ p ∷ []) more (subst IsNearRun (sym e) near) (inr g))
@@ -308,13 +319,17 @@ gone_through t l run (p ∷ more) near b =
 shown_of : (t : ℕ) (whole run : List Point) → IsPart whole run 0 → Reason t run → (e : Evidence) × IsShown t whole e
 shown_of t whole run part (Reason.Bends i j turn) = (Evidence.Turned i j, turn_shown t whole i j (front_turn whole run part t i j turn))
 shown_of t whole run part (Reason.Crosses c h) =
-    let len = part.len in
-    (_, crossing_shown t run whole (λ i. i) (let a = h.lower.within in omega arith) (λ i m. omega arith) (λ i m. part.same i m ∙ ap (point_at whole) (none_before i)) c h)
+    let len = part.len in (
+      _,
+      crossing_shown t run whole (λ i. i) (let a = h.lower.within in omega arith) (λ i m. omega arith)
+          (λ i m. part.same i m ∙ ap (point_at whole) (none_before i)) c h,
+    )
 
 pub decided : (t : ℕ) → t < 2 → (run : List Point) → 0 < length run → IsNearRun run → IsDecided t run
 decided t l [] some near = absurd (omega arith)
 decided t l (p ∷ more) some near = elim (gone_through t l (p ∷ []) more near (inl (p, refl))) [
-  | inl (inl (q, e)) ↦ inl (subst (λ (r : List Point). (line : Naive) × IsLineFor t r line) (sym e) (line_of_one t l q (subst (λ (r : List Point). (i : ℕ) → i < length r → IsSmallPoint (point_at r i)) e near.small 0 (omega arith))))
+  | inl (inl (q, e)) ↦ inl (subst (λ (r : List Point). (line : Naive) × IsLineFor t r line) (sym e)
+      (line_of_one t l q (subst (λ (r : List Point). (i : ℕ) → i < length r → IsSmallPoint (point_at r i)) e near.small 0 (omega arith))))
   | inl (inr g) ↦ inl (line_of_grown t l (p ∷ more) near g)
   | inr (run, part, r) ↦ inr (shown_of t (p ∷ more) run part r)
 ]

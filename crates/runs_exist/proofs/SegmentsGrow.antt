@@ -43,7 +43,8 @@ stays s is mx my next low high =
     (λ above. by_lt_z (rest s.a s.b mx my) (s.mu +ℤ s.b -ℤ pos 1)
     (λ below. neither above below)
     (λ l. lower above (top (rest s.a s.b mx my) s.mu s.b high l)))
-    (λ l. by_lt_z (rest s.a s.b mx my) (s.mu +ℤ s.b -ℤ pos 1) (λ below. upper (bottom (rest s.a s.b mx my) s.mu low l) below) (λ m. both (bottom (rest s.a s.b mx my) s.mu low l) (top (rest s.a s.b mx my) s.mu s.b high m)))
+    (λ l. by_lt_z (rest s.a s.b mx my) (s.mu +ℤ s.b -ℤ pos 1) (λ below. upper (bottom (rest s.a s.b mx my) s.mu low l) below)
+    (λ m. both (bottom (rest s.a s.b mx my) s.mu low l) (top (rest s.a s.b mx my) s.mu s.b high m)))
   where
     top : (r mu b : ℤ) → r <ℤ (mu +ℤ b) → (mu +ℤ b -ℤ pos 1) ≤ℤ r → r ≡ mu +ℤ b -ℤ pos 1
     top r mu b h k = omega (arith, ints)
@@ -61,16 +62,32 @@ stays s is mx my next low high =
     none x b h = omega (arith, ints)
 
     neither : s.mu <ℤ rest s.a s.b mx my → rest s.a s.b mx my <ℤ (s.mu +ℤ s.b -ℤ pos 1) → (r : Seg) × IsLonger s mx my r
-    neither above below = (longer s mx s.vx s.vy s.kx s.ky, with_last s is mx my next low high s.vx s.vy s.kx s.ky is.v_is is.k_is (same s.vx) (before _ _ _ is.v_to next) (v_near s is mx my next low high above) (same s.kx) (before _ _ _ is.k_to next) (k_near s is mx my next low high below))
+    neither above below = (
+      longer s mx s.vx s.vy s.kx s.ky,
+      with_last s is mx my next low high s.vx s.vy s.kx s.ky is.v_is is.k_is (same s.vx)
+          (before _ _ _ is.v_to next) (v_near s is mx my next low high above) (same s.kx) (before _ _ _ is.k_to next) (k_near s is mx my next low high below),
+    )
 
     lower : s.mu <ℤ rest s.a s.b mx my → rest s.a s.b mx my ≡ s.mu +ℤ s.b -ℤ pos 1 → (r : Seg) × IsLonger s mx my r
-    lower above e = (longer s mx s.vx s.vy mx my, with_last s is mx my next low high s.vx s.vy mx my is.v_is e (same s.vx) (before _ _ _ is.v_to next) (v_near s is mx my next low high above) (before _ _ _ is.k_to next) (same mx) (none mx s.b is.b_pos))
+    lower above e = (
+      longer s mx s.vx s.vy mx my,
+      with_last s is mx my next low high s.vx s.vy mx my is.v_is e (same s.vx) (before _ _ _ is.v_to next)
+          (v_near s is mx my next low high above) (before _ _ _ is.k_to next) (same mx) (none mx s.b is.b_pos),
+    )
 
     upper : rest s.a s.b mx my ≡ s.mu → rest s.a s.b mx my <ℤ (s.mu +ℤ s.b -ℤ pos 1) → (r : Seg) × IsLonger s mx my r
-    upper e below = (longer s mx mx my s.kx s.ky, with_last s is mx my next low high mx my s.kx s.ky e is.k_is (before _ _ _ is.v_to next) (same mx) (none mx s.b is.b_pos) (same s.kx) (before _ _ _ is.k_to next) (k_near s is mx my next low high below))
+    upper e below = (
+      longer s mx mx my s.kx s.ky,
+      with_last s is mx my next low high mx my s.kx s.ky e is.k_is (before _ _ _ is.v_to next) (same mx)
+          (none mx s.b is.b_pos) (same s.kx) (before _ _ _ is.k_to next) (k_near s is mx my next low high below),
+    )
 
     both : rest s.a s.b mx my ≡ s.mu → rest s.a s.b mx my ≡ s.mu +ℤ s.b -ℤ pos 1 → (r : Seg) × IsLonger s mx my r
-    both e f = (longer s mx mx my mx my, with_last s is mx my next low high mx my mx my e f (before _ _ _ is.v_to next) (same mx) (none mx s.b is.b_pos) (before _ _ _ is.k_to next) (same mx) (none mx s.b is.b_pos))
+    both e f = (
+      longer s mx mx my mx my,
+      with_last s is mx my next low high mx my mx my e f (before _ _ _ is.v_to next) (same mx)
+          (none mx s.b is.b_pos) (before _ _ _ is.k_to next) (same mx) (none mx s.b is.b_pos),
+    )
 
 -- ---- what becomes of a segment: it goes on, or the remainder of the point is too small, or too great
 
@@ -113,8 +130,12 @@ excess ya xb xa yb xc yc xd yd hxa hya hxb hyb hxc hyc hxd hyd order =
         let hl = h.low in
         let hh = h.high in
         let kl = k.low in
-        let kh = k.high in
-        (record { low = omega (arith, ints); high = omega (arith, ints) }, record { low = omega (arith, ints); high = omega (arith, ints) }, record { low = omega (arith, ints); high = omega (arith, ints) })
+        let kh = k.high in (
+          record { low = omega (arith, ints); high = omega (arith, ints) },
+          record { low = omega (arith, ints); high = omega (arith, ints) },
+          record
+              { low = omega (arith, ints); high = omega (arith, ints) },
+        )
 
     by : (x y : ℤ) → IsWithin (pos 67125249) x → IsWithin (pos 67125249) y → y ≤ℤ x → (n : ℕ) × (pos n ≡ x -ℤ y) × (n ≤ 268435456)
     by x y h k o =
@@ -123,7 +144,8 @@ excess ya xb xa yb xc yc xd yd hxa hya hxb hyb hxc hyc hxd hyd order =
         (nat_abs (x -ℤ y), omega (arith, ints), omega (arith, ints))
 
 -- ---- one point more
-module _ (t : ℕ) (l : t < 2) (run : List Point) (g : IsGrownTo t run) (p : Point) (small : (i : ℕ) → i < length (run ++ p ∷ []) → IsSmallPoint (point_at (run ++ p ∷ []) i)) (close : AreClose (point_at run (length run - 1)) p) where
+module _ (t : ℕ) (l : t < 2) (run : List Point) (g : IsGrownTo t run) (p : Point)
+    (small : (i : ℕ) → i < length (run ++ p ∷ []) → IsSmallPoint (point_at (run ++ p ∷ []) i)) (close : AreClose (point_at run (length run - 1)) p) where
   count : length (run ++ p ∷ []) ≡ length run + 1
   count = length-append run (p ∷ [])
 
@@ -149,7 +171,8 @@ module _ (t : ℕ) (l : t < 2) (run : List Point) (g : IsGrownTo t run) (p : Poi
       by n x0 x1 x e l f = omega (arith, ints)
 
   taken_end : IsTaken g.seg g.seg.x1 (height t (point_at run (length run - 1)))
-  taken_end = subst (λ (x : ℤ). IsTaken g.seg x (height t (point_at run (length run - 1)))) end_is (g.points.taken (length run - 1) (let w = two in omega arith))
+  taken_end = subst (λ (x : ℤ). IsTaken g.seg x (height t (point_at run (length run - 1)))) end_is
+      (g.points.taken (length run - 1) (let w = two in omega arith))
 
   heights : (height t p ≤ℤ (height t (point_at run (length run - 1)) +ℤ pos 1)) × (height t (point_at run (length run - 1)) ≤ℤ (height t p +ℤ pos 1))
   heights = by (coordinate (point_at run (length run - 1)) t) (coordinate p t) (close t)
@@ -192,7 +215,8 @@ module _ (t : ℕ) (l : t < 2) (run : List Point) (g : IsGrownTo t run) (p : Poi
         by n x0 z e = omega (arith, ints)
 
     within_x : (x y : ℤ) → In x y → IsWithin (pos 4096) x
-    within_x x y k = subst (IsWithin (pos 4096)) k.far (along_within t l (point_at (run ++ p ∷ []) (place_from g.seg.x0 x)) (small _ k.inside) g.sense g.is_sense)
+    within_x x y k = subst (IsWithin (pos 4096)) k.far
+        (along_within t l (point_at (run ++ p ∷ []) (place_from g.seg.x0 x)) (small _ k.inside) g.sense g.is_sense)
 
     within_y : (x y : ℤ) → In x y → IsWithin (pos 4096) y
     within_y x y k = subst (IsWithin (pos 4096)) k.high (height_within t l (point_at (run ++ p ∷ []) (place_from g.seg.x0 x)) (small _ k.inside))
@@ -211,22 +235,38 @@ module _ (t : ℕ) (l : t < 2) (run : List Point) (g : IsGrownTo t run) (p : Poi
     crossing : (xa ya xb yb xc yc xd yd : ℤ) → In xa ya → In xb yb → In xc yc → In xd yd → xa <ℤ xb → xc <ℤ xd
         → (((yb -ℤ ya) +ℤ pos 1) *ℤ (xd -ℤ xc)) ≤ℤ (((yd -ℤ yc) -ℤ pos 1) *ℤ (xb -ℤ xa)) → Reason t (run ++ p ∷ [])
     crossing xa ya xb yb xc yc xd yd a b c d lower upper order =
-        let n = excess ya xb xa yb xc yc xd yd (within_x xa ya a) (within_y xa ya a) (within_x xb yb b) (within_y xb yb b) (within_x xc yc c) (within_y xc yc c) (within_x xd yd d) (within_y xd yd d) order in
-        let k : Crossing = record { lower = record { first = place_from g.seg.x0 xa; last = place_from g.seg.x0 xb }; upper = record { first = place_from g.seg.x0 xc; last = place_from g.seg.x0 xd }; up = n.0 } in
-        Reason.Crosses k (crosses t g.sense g.seg.x0 (run ++ p ∷ []) l flat_all place_all xa ya xb yb xc yc xd yd a b c d lower upper k refl refl refl refl n.1 n.2 few)
+        let n = excess ya xb xa yb xc yc xd yd (within_x xa ya a) (within_y xa ya a) (within_x xb yb b) (within_y xb yb b) (within_x xc yc c)
+        (within_y xc yc c) (within_x xd yd d) (within_y xd yd d) order in
+        let k : Crossing = record {
+          lower = record { first = place_from g.seg.x0 xa; last = place_from g.seg.x0 xb };
+          upper = record
+              { first = place_from g.seg.x0 xc; last = place_from g.seg.x0 xd };
+          up = n.0;
+        } in
+        Reason.Crosses k (crosses t g.sense g.seg.x0 (run ++ p ∷ []) l flat_all place_all xa ya xb yb xc yc xd yd a b c d lower upper k refl refl refl
+        refl n.1 n.2 few)
 
     before : (x y z : ℤ) → x ≤ℤ y → z ≡ y +ℤ pos 1 → x <ℤ z
     before x y z l e = omega (arith, ints)
 
     by_fate : Fate g.seg (along t g.sense p) (height t p) → IsGrownTo t (run ++ p ∷ []) ⊎ Reason t (run ++ p ∷ [])
-    by_fate (Fate.Goes r longer) = inl (record { sense = g.sense; is_sense = g.is_sense; seg = r; is = longer.is; points = runs_longer t g.sense l g.is_sense g.seg r run p g.points longer next small_p.flat })
+    by_fate (Fate.Goes r longer) = inl (record {
+      sense = g.sense;
+      is_sense = g.is_sense;
+      seg = r;
+      is = longer.is;
+      points = runs_longer t g.sense l g.is_sense g.seg r run p g.points longer
+          next small_p.flat;
+    })
     by_fate (Fate.Low low) =
         let s = g.seg in
-        inr (crossing s.ux s.uy s.kx s.ky s.kx s.ky (along t g.sense p) (height t p) (old_in _ _ (u_taken s g.is)) (old_in _ _ (k_taken s g.is)) (old_in _ _ (k_taken s g.is)) new_in g.is.u_k (before _ _ _ g.is.k_to next)
+        inr (crossing s.ux s.uy s.kx s.ky s.kx s.ky (along t g.sense p) (height t p) (old_in _ _ (u_taken s g.is)) (old_in _ _ (k_taken s g.is))
+        (old_in _ _ (k_taken s g.is)) new_in g.is.u_k (before _ _ _ g.is.k_to next)
         (clash_low s g.is (along t g.sense p) (height t p) next low))
     by_fate (Fate.High high) =
         let s = g.seg in
-        inr (crossing s.vx s.vy (along t g.sense p) (height t p) s.lx s.ly s.vx s.vy (old_in _ _ (v_taken s g.is)) new_in (old_in _ _ (l_taken s g.is)) (old_in _ _ (v_taken s g.is)) (before _ _ _ g.is.v_to next) g.is.l_v
+        inr (crossing s.vx s.vy (along t g.sense p) (height t p) s.lx s.ly s.vx s.vy (old_in _ _ (v_taken s g.is)) new_in
+        (old_in _ _ (l_taken s g.is)) (old_in _ _ (v_taken s g.is)) (before _ _ _ g.is.v_to next) g.is.l_v
         (clash_high s g.is (along t g.sense p) (height t p) next high))
 
     grown : IsGrownTo t (run ++ p ∷ []) ⊎ Reason t (run ++ p ∷ [])
