@@ -1,6 +1,6 @@
 -- The borders that the lines of a report tell begin where the contours do that they say, and where least lines are shown, they have the lengths of these.
 -- Laws of lists of lines; what the contours of a report that holds show stands in `report_terms`.
-use Rattle.std.proofs.Common.{◌≡◌, true, false, List, [], ◌∷◌, map, refl, ap, sym, ◌∙◌, subst}
+use Rattle.std.proofs.Common.{◌≡◌, true, false, List, [], ◌∷◌, length, map, refl, ap, sym, ◌∙◌, subst}
 use Rattle.std.specs.Prelude.{ℕ, not, filter_map, take_while, Option, All}
 use Rattle.std.proofs.lemmas.List.Elements.{All-head, All-tail}
 use Rattle.std.proofs.lemmas.Bool.{cond-true, cond-false}
@@ -8,11 +8,12 @@ use Rattle.std.proofs.lemmas.List.Sums.{take_while-cons}
 use Rattle.std.specs.List.{cons_option}
 use Rattle.shape_terms.specs.Pictures.{Picture}
 use Rattle.report_terms.specs.Lines.{Line}
-use Rattle.report_terms.specs.Sections.{Section, lines_of}
+use Rattle.report_terms.specs.Subjects.{Subject}
+use Rattle.report_terms.specs.Sections.{Section, lines_of, number_of}
 use Rattle.shape_terms.specs.Traces.{Contour}
 use Rattle.report_terms.specs.ContourFacts.{ContourFact, ContourShows, ContoursShow}
 use Rattle.report_terms.specs.ContourLines.{is_contour, contour_groups, point_of, segment_of}
-use Rattle.report_terms.specs.Shows.{start_of, contour_fact, content_of}
+use Rattle.report_terms.specs.Shows.{start_of, contour_fact, content_of, TextShows}
 use Rattle.report_terms.proofs.ContourPoints.{IsInside}
 use Rattle.report_terms.proofs.LeastShown.{facts_inside}
 use Rattle.border_terms.specs.Runs.{run_of, run, fair}
@@ -114,13 +115,19 @@ lengths_shown X lines flat c =
     record { facts = facts; contours = c; are = borders_are lines ∙ facts_told (contour_groups (own lines)) ∙ facts_whole X facts flat c.each (facts_inside 2 X facts c) }
 
 -- where the contours are shown, so are the borders
-pub borders_shown : (number : ℕ) (X : Picture) (lines : List Line) → IsFlat X → ContoursShow number X (content_of lines).contours → BordersShow number X (borders lines)
+pub borders_shown : (number : ℕ) (X : Picture) (lines : List Line) → ContoursShow number X (content_of lines).contours → BordersShow number X (borders lines)
 unfolding own
-borders_shown number X lines flat c = record {
+borders_shown number X lines c = record {
   begin = record {
     contours = map (λ (f : ContourFact). f.outline) (content_of lines).contours;
     are = c.outlines;
     starts = ap (map (λ (b : Border). b.start)) (borders_are lines) ∙ starts_are (contour_groups (own lines));
   };
-  lengths = λ e. lengths_shown X lines flat (subst (λ n. ContoursShow n X (content_of lines).contours) e c);
+  lengths = λ e flat. lengths_shown X lines flat (subst (λ n. ContoursShow n X (content_of lines).contours) e c);
 }
+
+-- the number of a text that shows what it says is that of its first line, and so are its borders
+pub text_borders : (X : Subject) (text : List ℕ) → length X.picture.sides ≡ 2 → (t : TextShows X text) → BordersShow (number_of t.lines) X.picture (borders t.lines)
+text_borders X text flat t =
+    let number : (content_of t.lines).number ≡ number_of t.lines = sym (ap number_of t.begins.first ∙ t.begins.number_is) in
+    subst (λ n. BordersShow n X.picture (borders t.lines)) number (borders_shown (content_of t.lines).number X.picture t.lines (t.shows.contours flat))

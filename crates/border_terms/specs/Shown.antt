@@ -28,7 +28,7 @@ pub record HaveLengths (X : Picture) (bs : List Border) : Type 0 where
   pub contours : ContoursShow 2 X facts
   pub are : bs ≡ map border_shown facts
 
--- the borders begin where the contours of the picture do, in their order; those of a report with the number 2 have their lengths too
+-- the borders begin where the contours of the picture do, in their order; those of a report with the number 2 of a picture with sides up to 2048 have their lengths too
 pub record BordersShow (number : ℕ) (X : Picture) (bs : List Border) : Type 0 where
   pub begin : BeginAsContours X bs
-  pub lengths : number ≡ 2 → HaveLengths X bs
+  pub lengths : number ≡ 2 → IsFlat X → HaveLengths X bs

@@ -3,12 +3,12 @@
 use Rattle.std.specs.Prelude.{◌≡◌, ℕ, List}
 use Rattle.shape_terms.specs.Pictures.{Picture}
 use Rattle.report_terms.specs.Lines.{Line, text_of}
+use Rattle.report_terms.specs.Sections.{number_of}
 use Rattle.border_terms.specs.Borders.{borders}
 use Rattle.border_terms.specs.Shown.{BordersShow}
 
--- the text is made of lines whose borders are those of the picture's contours
+-- the text is made of lines whose borders are those of the picture's contours, with the number that the first line gives
 pub record TellsBorders (X : Picture) (text : List ℕ) : Type 0 where
   pub lines : List Line
   pub is : text ≡ text_of lines
-  pub number : ℕ
-  pub shows : BordersShow number X (borders lines)
+  pub shows : BordersShow (number_of lines) X (borders lines)

@@ -21,7 +21,7 @@ mod totals;
 pub use border::{Border, Start};
 pub use contours::Contours;
 pub use holes::{contours_bound_components, holes_are_those_of_the_component};
-pub use law::{holding_tells_borders, shares_are_rounded_down};
+pub use law::{borders_depend_on_the_picture, holding_tells_borders, shares_are_rounded_down};
 pub use objects::{Bounds, object_bounds};
 pub use total::Total;
 pub use totals::thousandths;
