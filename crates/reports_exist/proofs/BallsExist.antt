@@ -6,7 +6,7 @@ use Rattle.std.proofs.lemmas.Int.{ints}
 use Rattle.std.proofs.lemmas.List.{get_or-map, length-map}
 use Rattle.std.proofs.lemmas.List.Elements.{All-nil, All-cons, All-append, All-map, All-get_or}
 use Rattle.shape_terms.specs.Points.{Point, AreSides, sides_of, in_box, box_count}
-use Rattle.shape_terms.specs.Pictures.{Picture, at, object_points}
+use Rattle.shape_terms.specs.Pictures.{Picture, IsPicture, at, object_points}
 use Rattle.shape_terms.specs.FramedBox.{framed_point, IsWithin}
 use Rattle.shape_terms.specs.Distances.{NearFact}
 use Rattle.shape_terms.proofs.Boxes.{in_box_length, few_points}
@@ -23,7 +23,7 @@ use Rattle.ball_terms.specs.Shows.{listing}
 use Rattle.ball_terms.proofs.BallLists.{all_get, each_of}
 use Rattle.ball_terms.proofs.BallUnion.{in_object}
 use Rattle.ball_terms.proofs.HoldsShows.{listed_holds}
-use Rattle.reports_exist.specs.Met.{IsMet, HasSides}
+use Rattle.reports_exist.specs.Met.{IsMet, HasSidesTo}
 use Rattle.reports_exist.proofs.BallsNearest.{all_nearest}
 use Rattle.reports_exist.proofs.BallsKept.{IsNear, AreKept, keep, all_stand}
 
@@ -33,31 +33,20 @@ pub sides_back : (sides : List ℕ) → sides_of (map pos sides) ≡ sides
 sides_back [] = refl
 sides_back (n ∷ sides) = ap (λ l. n ∷ l) (sides_back sides)
 
-pub are_sides : (greatest : ℕ) (sides : List ℕ) → All (λ n. (1 ≤ n) × (n ≤ greatest)) sides → AreSides (pos greatest) (map pos sides)
-are_sides greatest sides h k l =
-    let m : k < length sides = omega (arith, length-map sides pos) in
-    let b = All-get_or (λ n. (1 ≤ n) × (n ≤ greatest)) sides k 0 m h in
-    let e = get_or-map pos sides k 0 (pos 0) m in
-    let Q : ℤ → Type 0 = λ z. (pos 1 ≤ℤ z) × (z ≤ℤ pos greatest) in
-    subst Q (sym e) (omega (arith, ints, b.0), omega (arith, ints, b.1))
-
 -- ---- the fields of the lines
 
-module _ (d greatest : ℕ) (X : Picture) (h : HasSides d greatest X) (axes : (d ≡ 2) ⊎ (d ≡ 3)) (flat : greatest ≤ 2048) (solid : d ≡ 3 → greatest ≤ 192) where
+module _ (d greatest : ℕ) (X : Picture) (picture : IsPicture d X) (range : HasSidesTo greatest X) (axes : (d ≡ 2) ⊎ (d ≡ 3)) (flat : greatest ≤ 2048) (solid : d ≡ 3 → greatest ≤ 192) where
   abbrev n : Point
   n = map pos X.sides
 
   back : sides_of n ≡ X.sides
   back = sides_back X.sides
 
-  range : AreSides (pos greatest) n
-  range = are_sides greatest X.sides h.sides
-
   flat_side : pos greatest ≤ℤ pos 2048
   flat_side = omega (arith, ints)
 
   long : length X.sides ≡ d
-  long = h.picture.axes
+  long = picture.axes
 
   three : length X.sides ≤ 3
   three = let e = long in elim axes [ inl q ↦ omega arith | inr q ↦ omega arith ]

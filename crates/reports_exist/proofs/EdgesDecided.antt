@@ -20,7 +20,7 @@ use Rattle.edge_terms.proofs.ShearedRuns.{GoneBy, sheared_change, fold_by}
 use Rattle.shape_edges.proofs.Growth.{close_sheared, short_weights}
 use Rattle.runs_exist.proofs.SmallRuns.{IsSmallPoint, IsWithin, product_within}
 use Rattle.runs_exist.proofs.RunsDecided.{IsLineFor, IsNearRun, decided}
-use Rattle.reports_exist_flat.proofs.StepSigns.{signs_told}
+use Rattle.reports_exist.proofs.StepSigns.{signs_told}
 
 -- the run is not long, its points are corners, and each is one unit step from the one before it
 pub record IsCornerRun (run : List Point) : Type 0 where

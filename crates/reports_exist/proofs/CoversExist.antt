@@ -25,9 +25,9 @@ use Rattle.shape_cover.proofs.ContourWalks.{contour_walks, walk_is_cover}
 use Rattle.shape_cover.proofs.Searching.{shown_refused}
 use Rattle.runs_exist.proofs.RunsDecided.{IsLineFor, one_decided}
 use Rattle.runs_exist.proofs.ContoursExist.{contours_exist}
-use Rattle.reports_exist_flat.specs.Met.{HasCovers, HasSidesTo}
-use Rattle.reports_exist_flat.proofs.Fields.{flat_sides}
-use Rattle.reports_exist_flat.proofs.PiecesExist.{arc_near, arc_decided}
+use Rattle.reports_exist.specs.Met.{HasCovers, HasSidesTo}
+use Rattle.reports_exist.proofs.Fields.{flat_sides}
+use Rattle.reports_exist.proofs.PiecesExist.{arc_near, arc_decided}
 
 -- a line of one of the two axes holds the run
 record HasLine (run : List Point) : Type 0 where

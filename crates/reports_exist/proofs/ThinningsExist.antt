@@ -28,7 +28,7 @@ use Rattle.shape_terms.proofs.PointTests.{same_point}
 use Rattle.shape_terms.proofs.RasterOrder.{raster_rises, nat_less}
 use Rattle.shape_terms.proofs.SameCycles.{head_in, later_in, in_cases, in_none}
 use Rattle.shape_terms.proofs.ThinningOnce.{one_distance}
-use Rattle.reports_exist_flat.specs.Met.{HasThinning}
+use Rattle.reports_exist.specs.Met.{HasThinning}
 use Rattle.shape_adj.specs.NearMasks.{IsNearMask}
 use Rattle.shape_topo.specs.Masks.{IsSimpleMask}
 use Rattle.shape_topo.specs.SimpleTable.{simple_flat}

@@ -18,7 +18,7 @@ use Rattle.edge_terms.specs.EdgeWalks.{edge_walk}
 use Rattle.edge_terms.proofs.EdgeExcludes.{evidence_excludes}
 use Rattle.edge_terms.proofs.EdgeWalks.{edge_walks, walk_is_cover}
 use Rattle.edge_terms.proofs.ShortEdges.{short_edge}
-use Rattle.reports_exist_flat.proofs.EdgesDecided.{IsCornerRun, IsEdgeDecided, edge_decided}
+use Rattle.reports_exist.proofs.EdgesDecided.{IsCornerRun, IsEdgeDecided, edge_decided}
 
 -- a run of one corner has no evidence against it
 one_unrefuted : (run : List Point) (e : EdgeEvidence) → length run ≡ 1 → IsEdgeEvidence run e → ⊥

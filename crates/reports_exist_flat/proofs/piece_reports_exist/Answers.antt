@@ -1,5 +1,0 @@
-use Rattle.reports_exist_flat.proofs.PieceTexts.{pieces_met}
-use Rattle.reports_exist_flat.proofs.piece_reports_exist.Goals as goal
-
-pub returns : goal.returns
-returns c = pieces_met

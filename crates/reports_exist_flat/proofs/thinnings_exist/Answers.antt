@@ -1,5 +1,0 @@
-use Rattle.reports_exist_flat.proofs.ThinningsExist.{thinnings_had}
-use Rattle.reports_exist_flat.proofs.thinnings_exist.Goals as goal
-
-pub returns : goal.returns
-returns c = thinnings_had
