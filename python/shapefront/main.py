@@ -22,6 +22,7 @@ from .making import Plan, clear_aside
 from .original import check_original
 from .programs import find
 from .report import Analysis, read
+from .second import Second, reports_of
 from .units import Pixel
 from .words import options_of, parser, settings_of
 
@@ -62,13 +63,25 @@ def _tell_of_others(folder: Path, made: dict[str, Any]) -> None:
 
 def check(words: argparse.Namespace) -> int:
     """`shapes check`: one line a file, and one status."""
+    if words.second:
+        return check_second([words.image, *words.report])
     find()
-    if words.report is None:
+    if len(words.report) > 1:
+        raise Fault("--second", "only it takes more than one report", "give an image and one report, or a folder")
+    if not words.report:
         if not words.image.is_dir():
             raise Fault(shown(words.image), "not a folder", "give a folder, or an image and its report")
         findings = list(_printed(check_folder(words.image, Asked(words.jobs, tuple(words.allow)))))
     else:
-        findings = list(_printed([check_original(words.image, words.report, settings_of(words))]))
+        findings = list(_printed([check_original(words.image, words.report[0], settings_of(words))]))
+    return DONE if all(finding.holds for finding in findings) else FAILED
+
+
+def check_second(paths: list[Path]) -> int:
+    """`shapes check --second`: the same by the second reading, and at last what it looked at."""
+    second = Second()
+    findings = list(_printed(second.check(reports_of(paths))))
+    print(second.summary())
     return DONE if all(finding.holds for finding in findings) else FAILED
 
 

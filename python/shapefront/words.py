@@ -85,7 +85,12 @@ def _checking(words: argparse._SubParsersAction) -> argparse.ArgumentParser:
     """The words of `shapes check` alone."""
     check = words.add_parser("check", help="whether all of a folder, or a report of an image, is right, and why not", epilog=_STATUS)
     check.add_argument("image", type=Path, metavar="FOLDER|IMAGE", help="a folder that `shapes measure` wrote; or the image of a report")
-    check.add_argument("report", nargs="?", type=Path, metavar="REPORT")
+    check.add_argument("report", nargs="*", type=Path, metavar="REPORT")
+    check.add_argument(
+        "--second",
+        action="store_true",
+        help="check FOLDER, or reports that lie beside their pictures, by a second reading in Python, without the proved program",
+    )
     check.add_argument(
         "--allow",
         action="append",

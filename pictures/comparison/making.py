@@ -1,8 +1,8 @@
 """Random pictures and volumes of several kinds: noise, blobs, strips along lines and planes, balls with holes, and the full and the blank one."""
 import itertools
 
-from second.geometry import plus, near_steps, square
-from second.picture import Picture
+from secondreading.geometry import plus, near_steps, square
+from secondreading.picture import Picture
 
 SHARES = (0.1, 0.3, 0.5, 0.5, 0.7, 0.9)
 
@@ -51,4 +51,4 @@ def make(draw, axes, small):
     most = GREATEST[axes] // 2 if small else GREATEST[axes]
     sides = [draw.randint(1, most) for _ in range(axes)]
     box = list(itertools.product(*map(range, sides)))
-    return Picture(sides, draw.choice(WAYS)(draw, box))
+    return Picture.of(sides, draw.choice(WAYS)(draw, box))

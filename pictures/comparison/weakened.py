@@ -2,7 +2,9 @@
 
 What is right is not decided here: the readings of the reports do.
 """
-from second.geometry import square
+from secondreading.geometry import square
+
+from comparison.searches import framed_points
 
 GREATEST = 2**63 - 1
 STEPS = ("up", "up+x", "up-x", "up+y", "up-y", "up+z", "up-z")
@@ -156,8 +158,8 @@ def other_near(draw, picture, words):
     """The point, another point beside it and a squared distance: one of the background or of the object, as near or further away."""
     axes = picture.axes
     p = tuple(whole(words[:axes]))
-    as_near = [q for q in picture.framed if square(p, q) == picture.square.get(p, 1)]
-    q = draw.choice(as_near or picture.framed if draw.random() < 0.6 else picture.framed)
+    as_near = [q for q in framed_points(picture) if square(p, q) == picture.square.get(p, 1)]
+    q = draw.choice(as_near or framed_points(picture) if draw.random() < 0.6 else framed_points(picture))
     return spelled(*p, *q, draw.choice((square(p, q), picture.square.get(p, 1))))
 
 
@@ -172,7 +174,7 @@ def other_point(draw, words):
 def points_of_ball(picture, words):
     axes = picture.axes
     centre, s = tuple(whole(words[:axes])), int(words[2 * axes])
-    return [p for p in picture.framed if square(centre, p) < s]
+    return [p for p in framed_points(picture) if square(centre, p) < s]
 
 
 def other_own(draw, picture, lines, words):
@@ -180,7 +182,7 @@ def other_own(draw, picture, lines, words):
     inside = points_of_ball(picture, words)
     others = [line.split(" ")[1:] for line in lines if line.startswith("ball ")]
     shared = [p for p in inside if any(p in points_of_ball(picture, other) for other in others if other != words)]
-    return spelled(*draw.choice((shared or inside) if draw.random() < 0.8 else picture.framed))
+    return spelled(*draw.choice((shared or inside) if draw.random() < 0.8 else framed_points(picture)))
 
 
 # ---- lines of reports
@@ -235,7 +237,7 @@ def other_ball(draw, picture, lines, words):
         return other_near(draw, picture, words[:k]) + words[k:]
     if way <= 3:
         return words[:k] + other_own(draw, picture, lines, words)
-    p, q = draw.choice(picture.framed), draw.choice(picture.framed)
+    p, q = draw.choice(framed_points(picture)), draw.choice(framed_points(picture))
     return spelled(*p, *q, square(p, q), *p)
 
 

@@ -1,23 +1,25 @@
 """The comparison of the program with the second reading: picture by picture, each report, what is made of it, and its changed versions."""
 from collections import Counter
 
-from second import analysis, balls, edges, pieces
-from second.forged import WAYS, Forging
-from second.making import make
-from second.masks import MASKS, mask
-from second.picture import RULES
-from second.program import Difference
-from second.tables import table
-from second.texts import first_bad
+from secondreading import readings, tables
+from secondreading.masks import MASKS, mask
+from secondreading.texts import first_bad
+from secondreading.thinning import RULES
 
-FURTHER = {"edges": edges, "pieces": pieces, "balls": balls}
+from comparison import searches, shown
+from comparison.forged import WAYS, Forging, text_of
+from comparison.holding import forged
+from comparison.making import make
+from comparison.program import Difference
 
 
 class Report:
-    """A report of a picture: its kind, the form that checks it, its reading, and its lines."""
+    """A report of a picture: its first word, the form that checks it, its reading, what it has to show, and its lines."""
 
-    def __init__(self, kind, check, reading, text):
-        self.kind, self.check, self.reading, self.text = kind, check, reading, text
+    def __init__(self, kind, text):
+        self.kind, self.text, self.reading = kind, text, readings["shape" if kind == "analysis" else kind]
+        self.check = "check" if kind == "analysis" else "check" + kind
+        self.shown = getattr(shown, kind)
         self.lines = text.decode("latin-1").split("\n")[:-1]
         self.kinds = [line.split(" ")[0] for line in self.lines]
 
@@ -27,7 +29,7 @@ class Comparison:
 
     def __init__(self, draw, program):
         self.draw, self.program = draw, program
-        self.made, self.files, self.cases, self.held, self.sizes = Counter(), Counter(), Counter(), 0, Counter()
+        self.made, self.files, self.cases, self.held, self.sizes, self.forged = Counter(), Counter(), Counter(), 0, Counter(), Counter()
 
     def run(self, pictures, volumes, changed):
         """Compares so many pictures and volumes, and reports with so many changes, which fall evenly on them."""
@@ -39,6 +41,7 @@ class Comparison:
     def compare(self, picture, changed):
         self.sizes[picture.axes] += 1
         self.program.lay(picture)
+        self.agree(picture, "the searches", True, searches.agrees(picture, RULES))
         reports = [self.analysis(picture, rule) for rule in RULES] + [self.further(picture, kind) for kind in self.kinds(picture)]
         for _ in range(changed):
             self.change(picture, reports)
@@ -50,33 +53,55 @@ class Comparison:
 
     def analysis(self, picture, rule):
         """The analysis by a rule, and the tables and masks of it."""
-        report = Report("analysis", "check", analysis, self.program.made("analyse", rule))
+        report = Report("analysis", self.program.made("analyse", rule))
         words = ["shape", "2" if picture.axes == 2 else "1", picture.word, *map(str, picture.sides), rule]
         self.agree(picture, "the heading", report.lines[0], " ".join(words))
-        told = self.holds(picture, report)
+        self.holds(picture, report)
         path = self.program.write("report", report.text)
-        given = self.program.run("measure", path)[0]
-        self.agree(picture, "the table by " + rule, given, table(picture, rule, told, given))
+        self.tabled(picture, rule, 2, report.text)
         for name in MASKS:
             given = self.program.run("mask", name, path)[0]
             self.agree(picture, "the mask %s by %s" % (name, rule), given, mask(picture, rule, name))
-        self.files["tables"] += 1
         self.files["masks"] += len(MASKS)
         return report
 
     def further(self, picture, kind):
-        report = Report(kind, "check" + kind, FURTHER[kind], self.program.made(kind))
+        report = Report(kind, self.program.made(kind))
         self.holds(picture, report)
         return report
 
     def holds(self, picture, report):
-        """What a report tells that has to hold, and to show what it has to."""
+        """A report that has to hold, and to show what it has to."""
         bad, told = first_bad(report.reading.read, picture, report.text)
         self.agree(picture, report.kind, None, bad, report.text)
-        self.agree(picture, "what %s shows" % report.kind, True, report.reading.shows(picture, told), report.text)
+        self.agree(picture, "what %s shows" % report.kind, True, report.shown(picture, told), report.text)
         self.agree(picture, report.check, self.program.checked(report.check, report.text), None, report.text)
         self.made[report.kind] += 1
-        return told
+
+    def tabled(self, picture, rule, version, text):
+        """The table of a report that holds is the one of the picture alone: by the number 1 without the lengths of borders, as it does not fix them."""
+        given = self.program.run("measure", self.program.write("report", text))[0]
+        contours = shown.least_contours(picture) if picture.axes == 2 and version == 2 else None
+        wanted = tables.table(picture, rule, contours, tables.has_further(given))
+        self.agree(picture, "the table by %s of number %d" % (rule, version), given, wanted, text)
+        self.files["tables"] += 1
+
+    # ---- forged reports that hold
+
+    def run_forged(self, pictures, volumes):
+        """Compares so many forged reports of pictures and of volumes that still hold."""
+        for k in range(pictures + volumes):
+            self.forge(make(self.draw, 2 if k < pictures else 3, False), self.draw.choice(RULES), 1 + k % 2 if k < pictures else 1)
+
+    def forge(self, picture, rule, version):
+        """A report with other choices throughout: both readings say yes, and its table is that of the picture."""
+        self.program.lay(picture)
+        lines = self.program.made("analyse", rule).decode("ascii").split("\n")[:-1]
+        text = text_of(forged(self.draw, picture, lines, version))
+        self.agree(picture, "a forged report", first_bad(readings["shape"].read, picture, text)[0], None, text)
+        self.agree(picture, "check of a forged report", self.program.checked("check", text), None, text)
+        self.tabled(picture, rule, version, text)
+        self.forged["pictures, number %d" % version if picture.axes == 2 else "volumes"] += 1
 
     # ---- changed reports
 
@@ -87,7 +112,7 @@ class Comparison:
         what = "%s, line %d, %s" % (report.kind, place + 1, way.__name__)
         self.agree(picture, what, self.program.checked(report.check, text), bad, text)
         if bad is None:
-            self.agree(picture, "what it shows: " + what, True, report.reading.shows(picture, told), text)
+            self.agree(picture, "what it shows: " + what, True, report.shown(picture, told), text)
         self.held += bad is None
         self.cases[report.kind, report.kinds[place], way] += 1
 
@@ -117,6 +142,7 @@ class Comparison:
             ways[way.__name__] += count
             kinds["%s %s" % (report, first)] += count
         numbers = ["%d pictures, %d volumes: no difference" % (self.sizes[2], self.sizes[3]), "reports: " + listed(self.made), "files: " + listed(self.files)]
+        numbers += ["forged reports that hold: " + listed(self.forged)]
         numbers += ["%d changed reports, of which %d hold" % (sum(ways.values()), self.held), "changes: " + listed(ways), "lines: " + listed(kinds)]
         return "; ".join(numbers)
 

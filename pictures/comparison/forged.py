@@ -4,8 +4,8 @@ A way gives nothing where the line does not lend itself. Whether a changed repor
 """
 import re
 
-from second.blocks import block_end, exchanged_blocks, grown, pruned, without_counted, without_least
-from second.weakened import other_evidence
+from comparison.blocks import block_end, exchanged_blocks, grown, pruned, without_counted, without_least
+from comparison.weakened import other_evidence
 
 NUMBERS = (0, 1, 2, 3, 2**31 - 1, 2**31, 2**32 - 1, 2**32, 2**63 - 1, 2**63, 2**64, -1, -(2**31), -(2**31) - 1, -(2**63), -(2**63) - 1)
 WORDS = (

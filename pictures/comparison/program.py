@@ -2,11 +2,17 @@
 import os
 import subprocess
 
-from second.picture import file_of
-
 
 class Difference(Exception):
     """The program and the second reading do not say the same."""
+
+
+def file_of(picture):
+    """The bytes of the file of a picture, a plain PBM, or of a volume."""
+    inside = picture.framed[(slice(1, -1),) * picture.axes].ravel()
+    if picture.axes == 3:
+        return bytes(inside)
+    return b"P1\n%d %d\n" % picture.sides + bytes(b"01"[q] for q in inside.astype(int)) + b"\n"
 
 
 class Program:
