@@ -20,7 +20,7 @@ from .common import STORED, InFolder, installed, needs_pillow, needs_shape, rand
 
 from shapefront import programs
 from shapefront.files import spelled_json
-from shapefront.seals import SEAL, sealed
+from shapefront.seals import SEAL, opened, sealed
 
 if installed("PIL"):
     from PIL import Image
@@ -387,6 +387,27 @@ class Changed(OfFolders):
         for name in FOLDERS:
             for round_ in range(1, 6):
                 self.bytes_of(name, round_)
+
+
+@needs_shape
+@needs_pillow
+class Seals(OfFolders):
+    """A record is taken as it was written, and no other way."""
+
+    def test_every_byte_counts(self):
+        draw = random.Random(7)
+        for name in ("cells/made.json", "packed/below/two.pbm.json"):
+            data = (self.made / name).read_bytes()
+            self.assertEqual(opened(data), json.loads(data))
+            for k in range(len(data)):
+                other = bytes([data[k] ^ draw.randrange(1, 256)])
+                changed = (data[:k] + other + data[k + 1 :], data[:k] + data[k + 1 :], data[:k] + other + data[k:])[k % 3]
+                self.assertIsNone(opened(changed), (name, k, changed[k : k + 9]))
+
+    def test_what_is_no_record(self):
+        for data in (b"", b"3", b"[]", b"{}", b"{}\n", b"[" * 100000, b'{"own_sum": "0"}', b"\xff\xfe"):
+            self.assertIsNone(opened(data))
+        self.assertEqual(opened(spelled_json(sealed({"a": [1.5, None, "\udcff"]}))), sealed({"a": [1.5, None, "\udcff"]}))
 
 
 @needs_shape
