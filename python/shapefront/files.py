@@ -64,15 +64,28 @@ def encoded(text: str) -> bytes:
     return text.encode("utf-8", "surrogateescape")
 
 
+def spelled_json(value: Any) -> bytes:
+    """The one spelling of a value that `shapes` writes."""
+    return encoded(json.dumps(value, indent=1, ensure_ascii=False) + "\n")
+
+
 def write_json(path: Path, value: Any) -> None:
-    write(path, encoded(json.dumps(value, indent=1, ensure_ascii=False) + "\n"))
+    write(path, spelled_json(value))
 
 
 def read_json(path: Path) -> Any:
     """The value in a file, and None where there is no such file or something else in it."""
     try:
-        return json.loads(path.read_text("utf-8", "surrogateescape"))
-    except (OSError, ValueError):
+        return parsed(path.read_bytes())
+    except OSError:
+        return None
+
+
+def parsed(data: bytes) -> Any:
+    """The value that some bytes spell, and None where they spell none."""
+    try:
+        return json.loads(data.decode("utf-8", "surrogateescape"))
+    except (ValueError, RecursionError):
         return None
 
 

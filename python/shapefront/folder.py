@@ -1,88 +1,122 @@
-"""What a run writes for all its images together: `objects.csv`, `pictures.csv`, `summary.txt` and `made.json`."""
+"""What a run writes for all its images together: `objects.csv`, `pictures.csv`, `summary.txt` and `made.json`.
+
+All of it follows from the records and the tables of its pictures, and from what the run itself was told; so it can be made again.
+"""
 from __future__ import annotations
 
 import platform
-from collections.abc import Iterator
-from pathlib import Path
+from collections.abc import Callable, Iterator
+from dataclasses import dataclass
+from pathlib import Path, PurePosixPath
 from typing import Any
 
 import numpy as np
 
 from . import __version__
-from .batch import Image
+from .batch import Image, source_sum
 from .faults import Fault
-from .files import encoded, read_json, write, write_json
+from .files import encoded, spelled_json, sum_of_bytes, write, write_json
 from .images import pillow_version
-from .making import Plan, Record
+from .making import Record, key_of
 from .pictures import told_sides
 from .programs import sums
+from .seals import sealed
 from .tables import Part, Row, joined, spelled_rows
 from .units import Pixel
 
+MADE, SUMMARY, PICTURES = "made.json", "summary.txt", "pictures.csv"
 # The tables of all pictures together, and what the names of a picture's own end in.
-_JOINED = {"objects.csv": ".csv", "networks.csv": ".network.csv", "branches.csv": ".branches.csv"}
+JOINED = {"objects.csv": ".csv", "networks.csv": ".network.csv", "branches.csv": ".branches.csv"}
+
+# The text of a record's own table, by what its name ends in.
+Table = Callable[[Record, str], str]
 
 
-def finish(images: list[Image], plan: Plan, pixel: Pixel | None, options: dict[str, Any]) -> None:
-    """Writes the tables, the summary and the record of a run. A Fault where the folder cannot be written."""
-    records = [record for image in images for record in image.records]
-    tables = tables_of(plan.folder, records, pixel)
-    for name, table in tables.items():
-        write(plan.folder / name, table)
-    for name in _JOINED.keys() - tables.keys():
-        (plan.folder / name).unlink(missing_ok=True)
-    write(plan.folder / "summary.txt", encoded("".join(line + "\n" for line in summary(images, plan, pixel))))
-    made = {
-        "shapefront": __version__,
-        "versions": {"Python": platform.python_version(), "numpy": np.__version__, "Pillow": pillow_version()},
-        "programs": sums(),
-        "options": options,
-        "pixel": {"size": str(pixel.size), "unit": pixel.unit} if pixel else None,
-        "images": [_told(image) for image in images],
-    }
-    write_json(plan.folder / "made.json", made)
+@dataclass(frozen=True)
+class Run:
+    """A run: its options, the pixel's size, what became of its images, and the versions of what made it."""
+
+    options: dict[str, Any]
+    pixel: Pixel | None
+    images: list[Image]
+    versions: dict[str, Any]
+
+    @property
+    def records(self) -> list[Record]:
+        return [record for image in self.images for record in image.records]
+
+    def of_all(self, table: Table) -> dict[str, bytes]:
+        """The tables and the summary of all, by the names of their files. A Fault where the tables do not fit together."""
+        files = {PICTURES: spelled_rows(pictures(self.records))}
+        for name, suffix in JOINED.items():
+            if own := [_part(record, table(record, suffix)) for record in self.records if _named(record, suffix) in record["files"]]:
+                files[name] = spelled_rows(joined(own, self.pixel))
+        return {**files, SUMMARY: encoded("".join(line + "\n" for line in summary(self)))}
+
+    def made(self, of_all: dict[str, bytes]) -> dict[str, Any]:
+        """What `made.json` says, where these are the files of all."""
+        files = {name: sum_of_bytes(data) for name, data in of_all.items()}
+        for record in self.records:
+            files |= _files(record)
+        return sealed({
+            **self.versions, "options": self.options, "pixel": self.pixel.record if self.pixel else None,
+            "images": [_told(image) for image in self.images], "files": dict(sorted(files.items())),
+        })  # fmt: skip
+
+
+def finish(folder: Path, images: list[Image], pixel: Pixel | None, options: dict[str, Any]) -> dict[str, Any]:
+    """Writes the tables, the summary and the record of a run; the record. A Fault where the folder cannot be written."""
+    run = Run(options, pixel, images, versions())
+    files = run.of_all(lambda record, suffix: _read(folder / (key_of(record) + suffix)))
+    for name, data in files.items():
+        write(folder / name, data)
+    for name in JOINED.keys() - files.keys():
+        (folder / name).unlink(missing_ok=True)
+    made = run.made(files)
+    write_json(folder / MADE, made)
+    return made
+
+
+def originals(folder: Path, made: dict[str, Any]) -> Iterator[str]:
+    """The names of the images of a run that lie in its own folder as they were measured."""
+    for image in made["images"]:
+        path = folder / image["image"]
+        if path.exists() and image["sum"] and source_sum(path) == image["sum"]:
+            yield image["image"]
+
+
+def versions() -> dict[str, Any]:
+    """What made a run: the versions of this package and of those that it stands on, and the sum of the program."""
+    packages = {"Python": platform.python_version(), "numpy": np.__version__, "Pillow": pillow_version()}
+    return {"shapefront": __version__, "versions": packages, "programs": sums()}
 
 
 def _told(image: Image) -> dict[str, Any]:
-    pictures = [f"{_key(record)}.json" for record in image.records]
+    records = [f"{key_of(record)}.json" for record in image.records]
     thresholds = [record["cut"]["threshold"] for record in image.records if record["cut"]]
-    return {"image": image.name, "sum": image.source, "thresholds": thresholds, "pictures": pictures, "failure": image.failure}
+    return {"image": image.name, "sum": image.source, "thresholds": thresholds, "pictures": records, "failure": image.failure}
 
 
-def _key(record: Record) -> str:
-    return record["image"] if record["label"] is None else f"{record['image']}.label{record['label']}"
+def _files(record: Record) -> dict[str, str]:
+    """The sums of a picture's files and of its record, by their names in the folder of the run."""
+    place = PurePosixPath(key_of(record)).parent
+    own = {str(place / name): told for name, told in record["files"].items()}
+    return {**own, f"{key_of(record)}.json": sum_of_bytes(spelled_json(record))}
 
 
-def tables_of(folder: Path, records: list[Record], pixel: Pixel | None) -> dict[str, bytes]:
-    """The tables of a run, by the names of their files, as its records and the tables of its pictures give them."""
-    tables = {"pictures.csv": spelled_rows(pictures(records))}
-    for name, suffix in _JOINED.items():
-        if own := list(_parts(folder, records, suffix)):
-            tables[name] = spelled_rows(joined(own, pixel))
-    return tables
+def _named(record: Record, suffix: str) -> str:
+    return PurePosixPath(key_of(record) + suffix).name
 
 
-def _parts(folder: Path, records: list[Record], suffix: str) -> Iterator[Part]:
-    """The tables of this kind of the pictures that have one, as they are in the folder. A Fault where one cannot be read."""
-    for record in records:
-        path = folder / (_key(record) + suffix)
-        if path.name not in record["files"]:
-            continue
-        try:
-            yield Part(record["image"], record["label"], record["fit"], path.read_text())
-        except (OSError, UnicodeDecodeError) as error:
-            raise Fault(path, "cannot be read", "measure again into an empty folder") from error
+def _part(record: Record, table: str) -> Part:
+    return Part(record["image"], record["label"], record["fit"], table)
 
 
-def run_of(folder: Path) -> tuple[list[Record], Pixel | None] | None:
-    """The records and the pixel of the run that made a folder; None where no run did."""
-    made = read_json(folder / "made.json")
-    if not isinstance(made, dict):
-        return None
-    names = [name for image in made.get("images", []) for name in image.get("pictures", [])]
-    records = [record for name in names if (record := read_json(folder / name))]
-    pixel = made.get("pixel")
-    return records, Pixel.given(pixel["size"], pixel["unit"]) if pixel else None
+def _read(path: Path) -> str:
+    try:
+        return path.read_text()
+    except (OSError, UnicodeDecodeError) as error:
+        raise Fault(path, "cannot be read", "measure again into an empty folder") from error
 
 
 def pictures(records: list[Record]) -> Iterator[Row]:
@@ -98,27 +132,26 @@ def pictures(records: list[Record]) -> Iterator[Row]:
         yield [str(word) for word in (record["image"], *label, *own, *record["parts"], record["kept"][0])]
 
 
-def summary(images: list[Image], plan: Plan, pixel: Pixel | None) -> Iterator[str]:
+def summary(run: Run) -> Iterator[str]:
     """The lines of `summary.txt`: what was made of each image, how, and what failed."""
-    failed = [image for image in images if image.failure]
+    images, failed = run.images, [image for image in run.images if image.failure]
     yield f"{len(images)} image{'s' if len(images) != 1 else ''}: {len(images) - len(failed)} measured, {len(failed)} failed"
-    yield f"thinned by the rule {plan.rule}; " + (f"a pixel is {pixel} wide" if pixel else "lengths in pixels")
-    yield from _warnings(images)
-    for image in images:
-        for record in image.records:
-            points, pieces, background = record["parts"]
-            yield ""
-            yield f"{_key(record)}: {told_sides(tuple(record['sides']))}"
-            yield f"  object points {points}, pieces {pieces}, pieces of the background {background}, points of the skeleton {record['kept'][0]}"
-            yield from (f"  {note}" for note in record["notes"])
+    yield f"thinned by the rule {run.options['rule']}; " + (f"a pixel is {run.pixel} wide" if run.pixel else "lengths in pixels")
+    yield from _warnings(run.records)
+    for record in run.records:
+        points, pieces, background = record["parts"]
+        yield ""
+        yield f"{key_of(record)}: {told_sides(tuple(record['sides']))}"
+        yield f"  object points {points}, pieces {pieces}, pieces of the background {background}, points of the skeleton {record['kept'][0]}"
+        yield from (f"  {note}" for note in record["notes"])
     if failed:
         yield ""
         yield from (f"failed: {image.failure}" for image in failed)
 
 
-def _warnings(images: list[Image]) -> Iterator[str]:
+def _warnings(records: list[Record]) -> Iterator[str]:
     """What a user should look at before the numbers."""
-    cuts = [record["cut"] for image in images for record in image.records if record["cut"]]
+    cuts = [record["cut"] for record in records if record["cut"]]
     chosen = [cut["objects"] for cut in cuts if cut["side"].startswith("the frame")]
     if len(set(chosen)) > 1:
         dark = chosen.count("dark")

@@ -5,26 +5,33 @@ import argparse
 import io
 import sys
 from collections.abc import Iterable, Iterator
+from pathlib import Path
+from typing import Any
 
 from .batch import images_of, run
-from .checking import Finding, check_folder
+from .beside import Asked, Covered
+from .checking import Finding
 from .convert import pictures_of, volumes_of
 from .exports import dxf, ply
 from .faults import Fault
 from .files import make_folder, shown, write
-from .folder import finish
+from .folder import MADE, finish, originals
+from .foldercheck import check_folder
+from .inventory import others
 from .making import Plan, clear_aside
 from .original import check_original
 from .programs import find
 from .report import Analysis, read
-from .words import options_of, parser, pixel_of, settings_of
+from .second import Second, reports_of
+from .units import Pixel
+from .words import options_of, parser, settings_of
 
 DONE, FAILED, USAGE, NOTHING, STOPPED = 0, 1, 2, 3, 130
 
 
 def measure(words: argparse.Namespace) -> int:
     """`shapes measure` and `shapes volume`: all that the images give, in one folder."""
-    pixel, is_volume, settings = pixel_of(words), words.command == "volume", settings_of(words)
+    pixel, is_volume, settings = Pixel.told(vars(words)), words.command == "volume", settings_of(words)
     find()
     if words.network and words.rule != "curve":
         raise Fault("--network", f"the rule {words.rule} does not keep the ends of branches", "leave out --rule")
@@ -40,25 +47,45 @@ def measure(words: argparse.Namespace) -> int:
     plan = Plan(words.folder, words.rule, words.gzip, tuple(dict.fromkeys(words.masks)), words.network)
     convert = volumes_of if is_volume else pictures_of
     run(images, plan, lambda path, name: convert(path, name, settings), words.jobs)
-    finish(images, plan, pixel, options_of(words))
+    made = finish(words.folder, images, pixel, options_of(words))
+    _tell_of_others(words.folder, made)
     failed = sum(image.failure is not None for image in images)
     print(f"{len(images) - failed} of {len(images)} measured, in {words.folder}: summary.txt tells how")
     return FAILED if failed else DONE
 
 
+def _tell_of_others(folder: Path, made: dict[str, Any]) -> None:
+    """Says on standard error what lies in the folder and is not of this run, as files of an earlier run may."""
+    if names := others(folder, made["files"], [MADE, *originals(folder, made)]):
+        told = ", ".join(names[:3]) + (", .." if len(names) > 3 else "")
+        print(f"{shown(folder)}: not of this run, and `shapes check` will not pass over it: {told}", file=sys.stderr)
+
+
 def check(words: argparse.Namespace) -> int:
     """`shapes check`: one line a file, and one status."""
+    if words.second:
+        return check_second([words.image, *words.report])
     find()
-    if words.report is None:
+    if len(words.report) > 1:
+        raise Fault("--second", "only it takes more than one report", "give an image and one report, or a folder")
+    if not words.report:
         if not words.image.is_dir():
             raise Fault(shown(words.image), "not a folder", "give a folder, or an image and its report")
-        findings = list(_printed(check_folder(words.image, words.jobs)))
+        findings = list(_printed(check_folder(words.image, Asked(words.jobs, tuple(words.allow)))))
     else:
-        findings = list(_printed([check_original(words.image, words.report, settings_of(words))]))
+        findings = list(_printed([check_original(words.image, words.report[0], settings_of(words))]))
     return DONE if all(finding.holds for finding in findings) else FAILED
 
 
-def _printed(findings: Iterable[Finding]) -> Iterator[Finding]:
+def check_second(paths: list[Path]) -> int:
+    """`shapes check --second`: the same by the second reading, and at last what it looked at."""
+    second = Second()
+    findings = list(_printed(second.check(reports_of(paths))))
+    print(second.summary())
+    return DONE if all(finding.holds for finding in findings) else FAILED
+
+
+def _printed(findings: Iterable[Finding | Covered]) -> Iterator[Finding | Covered]:
     for finding in findings:
         print(finding, flush=True)
         yield finding

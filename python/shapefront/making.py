@@ -21,8 +21,15 @@ from .pictures import sides_of, spelled, suffix_of
 from .products import draw, measured, write_mask, write_network
 from .programs import sums
 from .report import counts_of
+from .seals import is_sealed, sealed
 
 Record = dict[str, Any]
+
+# The members of a record, in their order; the sum of its own comes behind them.
+MEMBERS = ("image", "label", "sides", "fit", "cut", "notes", "rule", "gzip", "masks", "network", "picture", "programs", "parts", "kept", "files")
+
+# What the names of the files of all images together begin with: an image cannot be called so.
+OF_ALL = ("made", "pictures", "objects", "networks", "branches")
 
 
 @dataclass(frozen=True)
@@ -36,23 +43,35 @@ class Plan:
     network: bool = False
 
 
+def key_of(record: Record) -> str:
+    """What the names of the files of a record's picture begin with."""
+    return record["image"] if record["label"] is None else f"{record['image']}.label{record['label']}"
+
+
 def make(picture: Picture, plan: Plan) -> Record:
     """Makes what a picture gives, but where its record says that it is there already. The record; a Fault where it fails."""
+    if picture.key in OF_ALL:
+        raise Fault(picture.key, f"its files would have the names of `{picture.key}.csv` or `.json`, which are of all", "rename it")
     head, told = _head(picture, plan), plan.folder / (picture.key + ".json")
     before = read_json(told) or {}
-    if _is_made(before, head, plan.folder):
+    if is_sealed(told) and _is_made(before, head, plan.folder):
         return before
     with _folder_aside(told.parent) as work:
         counts = _products(picture, plan, work)
         files = {path.name: sum_of(path) for path in sorted(work.iterdir())}
         for name in files:
             os.replace(work / name, told.parent / name)
-        record = {**head, **counts, "files": files}
+        record = record_of({**head, **counts, "files": files})
         write_json(told, record)
         for name in before.get("files", {}):
             if name not in files and name.startswith(Path(picture.key).name + ".") and "/" not in name:
                 (told.parent / name).unlink(missing_ok=True)
     return record
+
+
+def record_of(members: Record) -> Record:
+    """The record with these members, as it is written."""
+    return sealed({name: members[name] for name in MEMBERS})
 
 
 def _head(picture: Picture, plan: Plan) -> Record:

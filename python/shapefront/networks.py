@@ -83,10 +83,13 @@ class Network:
     tables: dict[str, str]
 
     @classmethod
-    def of(cls, stem: Path) -> Network:
-        """The network whose files' names begin with `stem`. A Fault where one of them cannot be read."""
+    def of(cls, stem: Path, tables: dict[str, str] | None = None) -> Network:
+        """The network whose files' names begin with `stem`, with these tables of its parts, or with those that lie there.
+
+        A Fault where one of them cannot be read.
+        """
         try:
-            tables = {name: part(stem, name, ".csv").read_text() for name in PARTS}
+            tables = tables or {name: part(stem, name, ".csv").read_text() for name in PARTS}
         except OSError as error:
             raise Fault(error.filename, f"cannot be read ({error.strerror})", "measure again into an empty folder") from error
         reports = {name: _report(part(stem, name, ".report")) for name in PARTS}

@@ -4,8 +4,8 @@ from __future__ import annotations
 import sys
 from pathlib import Path
 
-from .arrays import as_file
-from .checking import Finding, check_report
+from .arrays import as_file, verdict
+from .checking import Finding, Judge, check_report
 from .convert import Picture, pictures_of, volumes_of
 from .faults import Fault
 from .files import read_json, shown
@@ -14,7 +14,7 @@ from .report import text_of
 from .thresholds import Settings
 
 
-def check_original(image: Path, report: Path, settings: Settings) -> Finding:
+def check_original(image: Path, report: Path, settings: Settings, judge: Judge = verdict) -> Finding:
     """The finding on a report of an image: a PBM or a raw volume as it is, and any other made black and white.
 
     That is done by the settings, or where these say nothing as the record beside the report says. A Fault where it cannot be.
@@ -23,10 +23,10 @@ def check_original(image: Path, report: Path, settings: Settings) -> Finding:
     heading = text_of(report)[0][:200].split(b"\n", 1)[0].decode("ascii", "replace").split(" ")
     if image.suffix in (".pbm", ".raw"):
         sides = tuple(int(word) for word in heading[3:6] if word.isdigit())
-        return check_report(name, Source.of(image, sides if len(sides) == 3 else ()), report)
+        return check_report(name, Source.of(image, sides if len(sides) == 3 else ()), report, judge)
     picture = _picture_of(image, report, settings, "raw" in heading)
     with as_file(picture.mask) as source:
-        return check_report(name, source, report)
+        return check_report(name, source, report, judge)
 
 
 def _picture_of(image: Path, report: Path, settings: Settings, is_volume: bool) -> Picture:

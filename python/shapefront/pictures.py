@@ -2,6 +2,7 @@
 from __future__ import annotations
 
 import re
+from collections.abc import Sequence
 from dataclasses import dataclass
 from pathlib import Path
 
@@ -26,7 +27,12 @@ def told_sides(sides: tuple[int, ...]) -> str:
 
 def suffix_of(mask: np.ndarray) -> str:
     """What a file of this picture ends in: `.pbm`, or `.16x16x16.raw` with the sides of a volume."""
-    return ".pbm" if mask.ndim == 2 else ".%dx%dx%d.raw" % sides_of(mask)
+    return told_suffix(sides_of(mask))
+
+
+def told_suffix(sides: Sequence[int]) -> str:
+    """What a file of a picture with these sides ends in."""
+    return ".pbm" if len(sides) == 2 else ".%dx%dx%d.raw" % tuple(sides)
 
 
 def spelled(mask: np.ndarray) -> bytes:

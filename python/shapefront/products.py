@@ -1,14 +1,16 @@
 """What the proved program makes of a picture and its report: the report, the table, the drawing, the masks and the network's parts."""
 from __future__ import annotations
 
-import os
+from collections.abc import Sequence
 from pathlib import Path
+from typing import Any
 
 from .arrays import verdict
 from .convert import Picture
 from .faults import Fault
-from .networks import Network, part, parts_of
-from .pictures import Source, suffix_of
+from .networks import MADE as NETWORK_TABLES
+from .networks import PARTS, Network, part, parts_of
+from .pictures import Source, sides_of, told_suffix
 from .programs import Answer, call, explained, made
 
 # The words for a drawing, the best one first: with the numbers of the objects, where the program knows this word.
@@ -53,14 +55,28 @@ def _drawn(report: Path, drawing: Path) -> Answer:
 
 def write_mask(kind: str, report: Path, stem: Path, picture: Picture) -> None:
     """Writes a picture of what a report says: a PBM or a PGM, or of a volume raw bytes, whose sides its name tells."""
-    path = stem.with_name(f"{stem.name}.{kind}")
-    with open(path, "wb") as out:
+    with open(stem.with_name(stem.name + mask_suffix(kind, sides_of(picture.mask))), "wb") as out:
         made("mask", kind, report, out=out, about=picture.key)
-    with open(path, "rb") as file:
-        suffix = {b"P1": ".pbm", b"P4": ".pbm", b"P2": ".pgm", b"P5": ".pgm"}.get(file.read(2), "")
-    if picture.mask.ndim == 3:
-        suffix = suffix_of(picture.mask) if kind != "distances" else suffix_of(picture.mask).removesuffix("raw") + "16bit.raw"
-    os.replace(path, path.with_name(path.name + suffix))
+
+
+def mask_suffix(kind: str, sides: Sequence[int]) -> str:
+    """What the name of a mask of a picture with these sides ends in."""
+    if len(sides) == 2:
+        return f".{kind}" + (".pgm" if kind == "distances" else ".pbm")
+    return f".{kind}" + (told_suffix(sides).removesuffix("raw") + "16bit.raw" if kind == "distances" else told_suffix(sides))
+
+
+def names_of(stem: str, record: dict[str, Any]) -> set[str]:
+    """The names of the files that a picture with such a record has; those of a volume have a drawing where the record names it."""
+    packed = ".gz" if record["gzip"] else ""
+    names = {stem + told_suffix(record["sides"]), stem + ".report" + packed, stem + ".csv"}
+    if len(record["sides"]) == 2 or stem + ".svg" in record["files"]:
+        names.add(stem + ".svg")
+    names |= {stem + mask_suffix(kind, record["sides"]) for kind in record["masks"]}
+    if record["network"]:
+        names |= {part(Path(stem), name, suffix).name for name in PARTS for suffix in (".pbm", ".report" + packed, ".csv")}
+        names |= {f"{stem}.{suffix}" for suffix in NETWORK_TABLES}
+    return names
 
 
 def write_network(stem: Path, report: Path, picture: Picture) -> None:

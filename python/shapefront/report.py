@@ -6,6 +6,7 @@ Points are rows (x, y) or (x, y, z) as reports write them; pictures of them, suc
 from __future__ import annotations
 
 import gzip
+import zlib
 from collections.abc import Iterator, Sequence
 from dataclasses import dataclass
 from functools import cached_property
@@ -169,7 +170,7 @@ def text_of(report: str | Path | bytes) -> tuple[bytes, str]:
     try:
         data = Path(report).read_bytes()
         return (gzip.decompress(data) if data[:2] == b"\x1f\x8b" else data), str(report)
-    except (OSError, EOFError, gzip.BadGzipFile) as error:
+    except (OSError, EOFError, zlib.error) as error:
         reason = getattr(error, "strerror", None) or str(error)
         raise Fault(report, f"cannot be read ({reason})", "is the name right?") from error
 
@@ -184,6 +185,16 @@ def counts_of(path: Path) -> tuple[list[int], list[int]]:
             file.seek(max(0, path.stat().st_size - 400))
             tail = file.read()
     return [int(word) for word in head.split(b"\n", 2)[1].split()[1:]], [int(word) for word in tail.rsplit(b"\n", 3)[1].split()[1:]]
+
+
+def heading_of(path: Path) -> list[str]:
+    """The words of a report's first line, without reading all of it where it is not gzipped."""
+    if path.suffix == ".gz":
+        head = text_of(path)[0]
+    else:
+        with open(path, "rb") as file:
+            head = file.read(400)
+    return head.split(b"\n", 1)[0].decode("ascii", "replace").split(" ")
 
 
 def read(report: str | Path | bytes):

@@ -3,6 +3,7 @@ from __future__ import annotations
 
 from dataclasses import dataclass
 from decimal import Context, Decimal, InvalidOperation
+from typing import Any
 
 from .faults import Fault
 
@@ -36,6 +37,18 @@ class Pixel:
     def of_dpi(cls, dpi: str) -> Pixel:
         """The size of a pixel of a scan, in millimetres, by its dots per inch. A Fault where that is no number."""
         return cls(Decimal("25.4") / cls.given(dpi, "dpi").size, "mm")
+
+    @classmethod
+    def told(cls, options: dict[str, Any]) -> Pixel | None:
+        """The pixel's size by the options `pixel_size` and `dpi`; None where none of the two was given. A Fault where it is no length."""
+        if options["pixel_size"]:
+            return cls.given(*options["pixel_size"])
+        return cls.of_dpi(options["dpi"]) if options["dpi"] else None
+
+    @property
+    def record(self) -> dict[str, str]:
+        """What the record of a run says of it."""
+        return {"size": str(self.size), "unit": self.unit}
 
     def times(self, number: str, power: int, fit: int = 1) -> str:
         """A number of pixels in the unit, with nine digits; a pixel is `fit` of the image's wide."""

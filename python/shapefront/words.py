@@ -7,11 +7,10 @@ from pathlib import Path
 from . import __version__
 from .arrays import RULES
 from .thresholds import Settings
-from .units import Pixel
 
 MASKS = ("object", "skeleton", "distances")
 _STATUS = """
-status: 0 all is well; 1 an image failed, or a report does not hold; 2 the words are no command; 3 nothing could be done;
+status: 0 all is well; 1 an image failed, or something in a folder is not as it has to be; 2 the words are no command; 3 nothing could be done;
 130 stopped: the same command goes on where it was.
 """
 
@@ -82,6 +81,26 @@ def _making(parser: argparse.ArgumentParser) -> None:
     parser.add_argument("-o", dest="folder", type=Path, default=Path("measured"), metavar="FOLDER", help="where all is written (measured)")
 
 
+def _checking(words: argparse._SubParsersAction) -> argparse.ArgumentParser:
+    """The words of `shapes check` alone."""
+    check = words.add_parser("check", help="whether all of a folder, or a report of an image, is right, and why not", epilog=_STATUS)
+    check.add_argument("image", type=Path, metavar="FOLDER|IMAGE", help="a folder that `shapes measure` wrote; or the image of a report")
+    check.add_argument("report", nargs="*", type=Path, metavar="REPORT")
+    check.add_argument(
+        "--second",
+        action="store_true",
+        help="check FOLDER, or reports that lie beside their pictures, by a second reading in Python, without the proved program",
+    )
+    check.add_argument(
+        "--allow",
+        action="append",
+        default=[],
+        metavar="NAME",
+        help="a file in FOLDER, or a folder in it, that may be there though nothing made it; may be given again for another",
+    )
+    return check
+
+
 def parser() -> argparse.ArgumentParser:
     """The words of the command."""
     top = argparse.ArgumentParser(
@@ -103,11 +122,7 @@ def parser() -> argparse.ArgumentParser:
     volume.set_defaults(network=False)
     for part in (measure, volume):
         _making(part)
-    check = words.add_parser(
-        "check", help="whether every number of a folder, or a report of an image, is right, and why not", epilog=_STATUS
-    )
-    check.add_argument("image", type=Path, metavar="FOLDER|IMAGE", help="a folder that `shapes measure` wrote; or the image of a report")
-    check.add_argument("report", nargs="?", type=Path, metavar="REPORT")
+    check = _checking(words)
     for part in (measure, volume, check):
         _conversion(part)
         part.add_argument("--jobs", type=_jobs, default=1, metavar="N", help="how many images at once")
@@ -126,12 +141,6 @@ def parser() -> argparse.ArgumentParser:
 
 def settings_of(words: argparse.Namespace) -> Settings:
     return Settings(words.threshold, words.objects, words.labels, words.fit)
-
-
-def pixel_of(words: argparse.Namespace) -> Pixel | None:
-    if words.pixel_size:
-        return Pixel.given(*words.pixel_size)
-    return Pixel.of_dpi(words.dpi) if words.dpi else None
 
 
 def options_of(words: argparse.Namespace) -> dict[str, object]:

@@ -26,7 +26,9 @@ class Checking(InFolder):
         return status, out
 
     def test_stored_reports(self):
-        self.assertEqual(self.found("."), (0, ["pores: yes", "word: yes"]))
+        status, out = self.found(".")
+        self.assertEqual((status, out[:2], len(out)), (0, ["pores: yes", "word: yes"], 3))
+        self.assertIn("checked 2 of 2 reports with what lies beside them, as in a folder that was made by hand", out[2])
         self.assertEqual(self.found("word.pbm", "word.report"), (0, ["word.report: yes"]))
         self.assertEqual(self.found("pores.16x16x16.raw", "pores.report"), (0, ["pores.report: yes"]))
 
@@ -91,23 +93,23 @@ class CheckingAFolder(InFolder):
         self.assertEqual(self.shapes("measure", "word.pbm", "cross.pbm", "--pixel-size", "3", "mm", "-o", "out")[0], 0)
 
     def test_it_is_right(self):
-        self.assertEqual(
-            self.shapes("check", "out")[:2],
-            (0, ["out/cross.pbm: yes", "out/word.pbm: yes", "out/pictures.csv: yes", "out/objects.csv: yes"]),
-        )
+        status, out, _ = self.shapes("check", "out")
+        names = ["cross.pbm", "word.pbm", "pictures.csv", "objects.csv", "summary.txt", "made.json"]
+        self.assertEqual((status, out[:-1]), (0, [f"out/{name}: yes" for name in names]))
+        self.assertTrue(out[-1].startswith("checked 2 of 2 images, 8 rows, 13 files; not checked: what only the original images tell"), out[-1])
 
     def test_changed_tables(self):
         path = Path("out/objects.csv")
         path.write_text(path.read_text().replace("word.pbm,1,", "word.pbm,9,", 1))
         self.assertEqual(
-            self.shapes("check", "out")[1][3], "out/objects.csv: no, it is not what the records and tables of the pictures say"
+            self.shapes("check", "out")[1][3], "out/objects.csv: no, row 1 (image word.pbm, object 1): object 9; the report gives 1"
         )
         path = Path("out/word.pbm.csv")
         path.write_text(path.read_text() + "9,9\n")
         status, out, _ = self.shapes("check", "out")
         self.assertEqual(
             (status, out[1]),
-            (1, "out/word.pbm: no, the report holds, but out/word.pbm.csv is not what `shape measure` makes of it"),
+            (1, "out/word.pbm: no, the report holds, but out/word.pbm.csv is not what `shape measure` makes of it: row 6 (object 9) is one that nothing gives"),
         )
 
     def test_a_changed_drawing(self):

@@ -98,13 +98,15 @@ class KnownNetworks(InFolder):
     def test_it_is_checked_and_made_again(self):
         self.assertEqual(self.shapes("measure", STORED / "cross.pbm", "--network", "--gzip", "-o", "out")[0], 0)
         names = ["cross.pbm", *(f"cross.pbm.network-{part}" for part in ("branches", "junctions", "skeleton"))]
-        tables = ["pictures.csv", "objects.csv", "networks.csv", "branches.csv"]
-        self.assertEqual(self.shapes("check", "out")[:2], (0, [f"out/{name}: yes" for name in names + tables]))
+        of_all = ["pictures.csv", "objects.csv", "networks.csv", "branches.csv", "summary.txt", "made.json"]
+        status, out, _ = self.shapes("check", "out")
+        self.assertEqual((status, out[:-1]), (0, [f"out/{name}: yes" for name in names + of_all]))
         path = Path("out/cross.pbm.branches.csv")
         text = path.read_text()
         path.write_text(text.replace(",1,1,", ",2,1,", 1))
         status, out, _ = self.shapes("check", "out")
-        self.assertEqual((status, out[0]), (1, f"out/cross.pbm: no, the report holds, but {path} is not what the reports and tables of its parts say"))
+        told = f"out/cross.pbm: no, the report holds, but {path} is not what the reports and tables of its parts say: row 1 (branch 1): "
+        self.assertEqual((status, any(line.startswith(told) for line in out)), (1, True), out)
         self.assertEqual(self.shapes("measure", STORED / "cross.pbm", "--network", "--gzip", "-o", "out")[0], 0)
         self.assertEqual(path.read_text(), text)
         self.assertEqual(self.shapes("measure", STORED / "cross.pbm", "-o", "out")[0], 0)

@@ -13,6 +13,7 @@ mod cover;
 mod crack;
 #[cfg(test)]
 mod grid;
+pub mod mask;
 #[cfg(test)]
 mod patches;
 #[cfg(test)]

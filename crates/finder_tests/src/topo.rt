@@ -2,10 +2,11 @@
 //! A further picture is one more test.
 ghost use Rattle.std.specs.Prelude.{◌≡◌};
 
+use crate::mask::is_simple_mask;
 use crate::pictures::{at, square};
 use shape_grid::Grid;
 use shape_space::{P2, P3, Steps};
-use shape_topo::{MaskedGrid, SimpleMask, background_number, is_simple, mask_of, object_number};
+use shape_topo::{MaskedGrid, background_number, is_simple, mask_of, object_number};
 use std::marker::Brand;
 use std::sync::ledger::{Blank, Ledger};
 use std::test::Fail;
@@ -15,8 +16,8 @@ fn the_table_and_the_counts(rt: HostRuntime) {
     let mut simple = 0u32;
     for mask in 0..256u32 {
         let both_are_one = object_number::<P2>(mask) == 1 && background_number::<P2>(mask) == 1;
-        assert!(rt; P2::simple_mask(mask) == both_are_one);
-        if P2::simple_mask(mask) {
+        assert!(rt; is_simple_mask::<P2>(mask) == both_are_one);
+        if is_simple_mask::<P2>(mask) {
             simple = simple.saturating_add(1);
         }
     }
@@ -30,7 +31,7 @@ fn the_spreads_and_the_counts(rt: HostRuntime) {
         state = state.wrapping_mul(1664525).wrapping_add(1013904223);
         let mask = state >> 6;
         let both_are_one = object_number::<P3>(mask) == 1 && background_number::<P3>(mask) == 1;
-        assert!(rt; P3::simple_mask(mask) == both_are_one);
+        assert!(rt; is_simple_mask::<P3>(mask) == both_are_one);
     }
 }
 

@@ -1,3 +1,7 @@
 pub mod RootLaws
 pub mod Growing
 pub mod CommandWords
+pub mod ByteBits
+pub mod PbmSpelled
+pub mod LevelLaws
+pub mod Shown

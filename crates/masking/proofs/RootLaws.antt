@@ -21,7 +21,7 @@ first_found p a (suc n) r low high pass fail =
           ∙ first_found p (a + 1) n r (omega arith) (omega arith) pass (λ m h k. fail m (omega arith) k)
     ]
 
-at_most_square : (r : ℕ) → r ≤ r * r
+pub at_most_square : (r : ℕ) → r ≤ r * r
 at_most_square zero = omega arith
 at_most_square (suc r) = let h : suc r * 1 ≤ suc r * suc r = mul-le-mul_left (suc r) (omega arith) in omega (arith, h)
 

@@ -5,10 +5,12 @@
 mod bits;
 mod distances;
 mod header;
+mod law;
 mod mask;
 mod top;
 mod voxels;
 
+pub use law::{masks_are_pictures, masks_of_what_holds};
 pub use mask::Mask;
 pub use report_making::Outcome;
 pub use top::{USAGE, run};

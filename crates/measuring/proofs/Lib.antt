@@ -1,3 +1,4 @@
 mod PointFacts
 mod TableSteps
 mod TextSteps
+mod ThreeDigits

@@ -23,17 +23,6 @@ impl Model for Csv {
     ghost view = { λ s. s.text.items };
 }
 
-// The three digits of a number below a thousand.
-fn three_digits(n: u16) -> [u8; 3]
-    ensures { result ≡ three_digits n }
-{
-    [
-        48 + (n / 100 % 10) as u8,
-        48 + (n / 10 % 10) as u8,
-        48 + (n % 10) as u8,
-    ]
-}
-
 impl Csv {
     /// No text.
     pub(crate) fn new(alloc: Global) -> Csv
@@ -60,6 +49,18 @@ impl Csv {
         self.put(digits.format(n).as_bytes())
     }
 
+    // Puts the three digits of a number below a thousand: those of one that is greater by a thousand, but the first.
+    fn three_digits(&mut self, n: u16) -> Result<(), NoMemory>
+        requires { n < 1000 }
+        ensures { OnOk result (self.new ≡ self.old ++ three_digits n) }
+    {
+        let mut digits = Buffer::new();
+        match digits.format(1000 + n).as_bytes() {
+            [_, rest @ ..] => self.put(rest),
+            [] => Ok(()),
+        }
+    }
+
     /// Puts a cell with a whole number.
     pub fn whole(&mut self, n: u128) -> Result<(), NoMemory>
         ensures { OnOk result (self.new ≡ self.old ++ whole n) }
@@ -75,7 +76,7 @@ impl Csv {
         self.put(b",")?;
         self.number(n / 1000)?;
         self.put(b".")?;
-        self.put(&three_digits((n % 1000) as u16))
+        self.three_digits((n % 1000) as u16)
     }
 
     /// Puts a cell with a whole number for each axis.

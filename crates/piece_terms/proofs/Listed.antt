@@ -13,8 +13,35 @@ use Rattle.shape_terms.specs.Naive.{Naive}
 use Rattle.text_terms.proofs.ListPushes.{drop_here}
 use Rattle.piece_terms.specs.Pieces.{Piece, piece_at, place_after, IsPiece, IsRefusedPiece, ArePieces}
 use Rattle.piece_terms.specs.SplitLines.{SplitLine, Standing, after_line, no_contour, open_contour, IsNextChain, IsNextPiece, IsNextLine, AllListed}
-use Rattle.piece_terms.specs.Shown.{pieces_of, facts_of, first_reason, second_reason, SplitShows}
+use Rattle.piece_terms.specs.Shown.{SplitFact, SplitShows}
 use Rattle.piece_terms.proofs.Fewest.{shortest, breaks_each, no_step_shared}
+
+-- ---- what lines tell
+
+-- the evidence of the first line, and of the second one, where these are gap lines; else it means nothing
+abbrev pub first_reason : List SplitLine → Evidence
+first_reason (SplitLine.Gap t why ∷ lines) = why
+first_reason _ = Evidence.Turned 0 0
+
+abbrev pub second_reason : List SplitLine → Evidence
+second_reason (l ∷ lines) = first_reason lines
+second_reason [] = Evidence.Turned 0 0
+
+-- the pieces that the lines give before the next chain, each with the evidence of the two lines behind it
+abbrev pub pieces_of : List SplitLine → List Piece
+pieces_of [] = []
+pieces_of (SplitLine.Chain c n m ∷ lines) = []
+pieces_of (SplitLine.Gap t why ∷ lines) = pieces_of lines
+pieces_of (SplitLine.Piece b e t line ∷ lines) = record { first = b; last = e; axis = t; line = line; x = first_reason lines; y = second_reason lines } ∷ pieces_of lines
+
+-- what the lines tell of each contour: its chain, with the pieces behind it
+abbrev pub facts_of : List SplitLine → List SplitFact
+facts_of [] = []
+facts_of (SplitLine.Chain c n m ∷ lines) = record { start = c; points = n; pieces = pieces_of lines } ∷ facts_of lines
+facts_of (SplitLine.Piece b e t line ∷ lines) = facts_of lines
+facts_of (SplitLine.Gap t why ∷ lines) = facts_of lines
+
+-- ---- what good lines show
 
 -- each line is good after those before it, and after the last each contour has all its pieces
 abbrev pub GoodFrom : List Contour → Standing → List SplitLine → Type 0
@@ -90,7 +117,7 @@ drop_next xs n x e = drop_here xs n x e ∙ ap (λ k. x ∷ drop k xs) (let q : 
 
 module _ (contours : List Contour) where
   -- after the last piece of a contour no line of it comes
-  ended : (s : Standing) (lines : List SplitLine) → GoodFrom contours s lines → s.pieces ≡ s.declared → pieces_of lines ≡ []
+  pub ended : (s : Standing) (lines : List SplitLine) → GoodFrom contours s lines → s.pieces ≡ s.declared → pieces_of lines ≡ []
   ended s [] g e = refl
   ended s (SplitLine.Chain c n m ∷ lines) g e = refl
   ended s (SplitLine.Piece b l t line ∷ lines) g e = absurd (let m = g.0.places.more in omega arith)
@@ -144,7 +171,7 @@ module _ (contours : List Contour) where
 
   -- a chain with the pieces behind it shows a shortest split of its contour
   chain_shows : (s : Standing) (c : Crack) (n m : ℕ) (lines : List SplitLine) (h : IsNextChain contours s c n m) → GoodFrom contours (after_line s (SplitLine.Chain c n m)) lines
-      → SplitShows (record { start = c; points = h.points }) (record { start = c; points = n; declared = m; pieces = pieces_of lines })
+      → SplitShows (record { start = c; points = h.points }) (record { start = c; points = n; pieces = pieces_of lines })
   chain_shows s c n m lines h g =
       let now = after_line s (SplitLine.Chain c n m) in
       let here : points_at now ≡ h.points = ap (λ (k : Contour). k.points) (ap (λ i. slice_index_or contours i no_contour) (let q : s.begun + 1 - 1 ≡ s.begun = omega arith in q) ∙ get_or_from_slice_get contours s.begun (record { start = c; points = h.points }) no_contour h.next) in
@@ -153,7 +180,6 @@ module _ (contours : List Contour) where
       record {
         start = refl;
         count = h.count;
-        declared = sym on.count;
         pieces = are;
         shortest = shortest h.points (pieces_of lines) are;
         breaks = breaks_each h.points (pieces_of lines) are;

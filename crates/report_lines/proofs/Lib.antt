@@ -10,3 +10,4 @@ pub mod Holding
 pub mod ObjectTold
 pub mod LeftTold
 pub mod Telling
+pub mod OneReading

@@ -8,7 +8,7 @@ use Rattle.text_terms.proofs.Checking.{same_front}
 use Rattle.report_terms.specs.Lines.{Line, IsLineOf, spelling, line_text, text_of}
 use Rattle.report_terms.proofs.Spelled.{spelling_injective, are_spelled}
 
-no_lf : (w : List ℕ) → AllByRecursion (λ c. 10 < c) w → AllByRecursion (λ c. c ≡ 10 → ⊥) w
+pub no_lf : (w : List ℕ) → AllByRecursion (λ c. 10 < c) w → AllByRecursion (λ c. c ≡ 10 → ⊥) w
 no_lf [] h = tt
 no_lf (c ∷ w) h = (λ e. below_irrefl 10 (subst (λ n. 10 < n) e h.0), no_lf w h.1)
 

@@ -13,7 +13,7 @@ mod sketch;
 
 pub use fault::ReportFault;
 pub use heading::read_opening;
-pub use law::holding_tells;
+pub use law::{holding_tells, one_reading};
 pub use opening::{Heading, Opening};
 pub use read::read_lines;
 pub use seen::Seen;

@@ -1,2 +1,5 @@
 pub mod MadeLaws
 pub mod Files
+pub mod OneMaking
+pub mod Complete
+pub mod Written

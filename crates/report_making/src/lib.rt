@@ -2,11 +2,13 @@
 //! A further program is one more `impl` of `Making`; what it makes is its own.
 #![tactic(auto)]
 
+mod law;
 mod make;
 mod making;
 mod outcome;
 mod top;
 
+pub use law::{one_making, products_are_complete, reports_are_made};
 pub use making::Making;
 pub use outcome::Outcome;
 pub use top::run_named;

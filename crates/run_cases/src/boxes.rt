@@ -4,6 +4,7 @@ ghost use Rattle.shape_terms.specs.FramedBox.{IsWithin};
 
 use crate::case::wanting;
 use crate::numbers::{count, picture, point};
+use finder_tests::mask::is_simple_mask;
 use shape_adj::{Pairing, labels};
 use shape_space::{Point, Sides};
 use shape_topo::{SimpleMask, background_number, object_number};
@@ -85,6 +86,6 @@ pub(crate) fn tell_mask<P: SimpleMask>(alloc: Global, mask: u32) -> io::Result<S
 {
     let object = object_number::<P>(mask);
     let background = background_number::<P>(mask);
-    let is_simple = P::simple_mask(mask);
+    let is_simple = is_simple_mask::<P>(mask);
     Ok(format!(in alloc; "{object} {background} {is_simple}")?)
 }

@@ -1,8 +1,7 @@
--- Texts that are put one behind the other are put as one text.
--- So the digits of a number are put where those but the last are, and the last behind them.
-use Rattle.std.proofs.Common.{◌≡◌, ◌+◌, ◌/◌, ◌%◌, ◌^◌, ◌<◌, ◌≤◌, ℕ, List, [], ◌∷◌, ◌++◌, length, take, drop, sym, ◌∙◌, ap, subst, arith, append_assoc, length-append, drop-drop}
-use Rattle.std.specs.Fmt.{decimal}
-use Rattle.std.proofs.lemmas.Fmt.{decimal_step}
+-- Texts that are put one behind the other are put as one text, and a text that stands between what stood there is put.
+-- Which text is put for a number is no matter here.
+use Rattle.std.proofs.Common.{◌≡◌, ◌+◌, ◌≤◌, ℕ, List, ◌++◌, length, take, drop, sym, ◌∙◌, ap, subst, arith, append_assoc, length-append, drop-drop}
+use Rattle.std.proofs.lemmas.List.{length-take-le, length-drop, take-append-drop, take_at, drop_at}
 use Rattle.shape_desk.specs.Putting.{PutsAt}
 
 -- the same text, told otherwise
@@ -20,8 +19,24 @@ PutsAt-more {a} {b} {at} {old} {mid} {new} {m} {end} p q = record {
   same_length = q.same_length ∙ p.same_length;
 }
 
--- the digits of a tenth, and the last digit behind them
-pub PutsAt-digit : {at : ℕ} {old mid new : List ℕ} {m end : ℕ} (n tenth : ℕ) → 10 ≤ n → n < 2 ^ 64 → tenth ≡ n / 10
-    → PutsAt (decimal tenth) at old mid m → PutsAt ((48 + n % 10) ∷ []) m mid new end → PutsAt (decimal n) at old new end
-PutsAt-digit n tenth some few is p q =
-    PutsAt-told (ap (λ k. decimal k ++ (48 + n % 10) ∷ []) is ∙ sym (decimal_step n some few)) (PutsAt-more p q)
+-- what stood before a place, the text, and what stood behind its end
+pub PutsAt-between : {text : List ℕ} {at end : ℕ} {old new : List ℕ} → end ≡ at + length text → end ≤ length old
+    → take at new ≡ take at old → drop at new ≡ text ++ drop end old → PutsAt text at old new end
+PutsAt-between {text} {at} {end} {old} {new} is within before from =
+    let pre : List ℕ = take at old in
+    let long : length (pre ++ text) ≡ end = omega (arith, length-append pre text, length-take-le at old (omega arith)) in
+    let whole : new ≡ (pre ++ text) ++ drop end old =
+    sym (take-append-drop at new) ∙ ap (λ (xs : List ℕ). xs ++ drop at new) before ∙ ap (λ (xs : List ℕ). pre ++ xs) from ∙ sym (append_assoc pre text (drop end old)) in
+    record {
+      place = is;
+      front = ap (take end) whole ∙ take_at (pre ++ text) (drop end old) end long;
+      behind = ap (drop end) whole ∙ drop_at (pre ++ text) (drop end old) end long;
+      same_length = omega (arith, ap length whole, length-append (pre ++ text) (drop end old), length-drop end old);
+    }
+
+-- the same of a text that starts where it must, to end there
+pub PutsAt-until : {text : List ℕ} {at end : ℕ} {old new : List ℕ} (start : ℕ) → end ≡ at + length text → end ≤ length old → start + length text ≡ end
+    → take start new ≡ take start old → drop start new ≡ text ++ drop end old → PutsAt text at old new end
+PutsAt-until {text} {at} {end} {old} {new} start is within starts before from =
+    let same : start ≡ at = omega arith in
+    PutsAt-between is within (subst (λ (k : ℕ). take k new ≡ take k old) same before) (subst (λ (k : ℕ). drop k new ≡ text ++ drop end old) same from)

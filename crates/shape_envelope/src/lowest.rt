@@ -126,7 +126,7 @@ fn read_out(row: &Row, places: &[u32], starts: &[u32], m: u32, out: &mut [u32])
 /// Writes the lower envelope of a row: for each place of the row a filled place whose parabola is lowest there.
 /// Whether there is one: where every cell is empty, nothing is written.
 ///
-/// A step of the row is a test or a comparison of its cells; three times the number of cells are enough.
+/// A step is a test or a comparison of cells of the row; three for each cell are enough. To write the envelope takes no step.
 pub fn envelope<L: Ledger>(
     alloc: Global,
     row: &Row,
@@ -138,7 +138,7 @@ pub fn envelope<L: Ledger>(
     ensures unchanged { IfOk result (λ some. some ≡ false → out.new ≡ out.old) }
     ensures lowest { IfOk result (λ some. some ≡ true
         → EachIndex out.new (λ x. IsLowest row.now (pos x) (slice_index out.new x))) }
-    ensures count { steps.new ≤ steps.old + 4 * length row.now }
+    ensures count { steps.new ≤ steps.old + 3 * length row.now }
 {
     let n = row.len() as usize;
     let mut places = vec![in alloc; 0u32; n]?;

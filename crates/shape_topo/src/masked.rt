@@ -125,7 +125,6 @@ impl<P: SimpleMask> MaskedGrid<P> {
         ensures one_step { steps.new ≡ steps.old + 1 }
     {
         self.grid.is_picture();
-        steps.tick();
-        P::simple_mask(self.mask(i))
+        P::simple_mask(self.mask(i), steps)
     }
 }

@@ -13,4 +13,4 @@ returns-clause-simple g c =
     let axes : length p ≡ g.P.Point.DIM = space ∙ (ap (λ (Y : Picture). length Y.sides) (sym c.self.view_is) ∙ c.is_picture.ensures.picture.axes) in
     let b = simple_is Y p c.mask.result space c.mask.ensures.mask in
     let s = rw axes at b in
-    ((λ t. s.0 (c.simple_mask.ensures.0 t)), λ h. c.simple_mask.ensures.1 (s.1 h))
+    ((λ t. s.0 (c.simple_mask.ensures.simple.0 t)), λ h. c.simple_mask.ensures.simple.1 (s.1 h))

@@ -1,0 +1,12 @@
+pub mod Fields
+pub mod PiecesExist
+pub mod PieceTexts
+pub mod StepSigns
+pub mod EdgesDecided
+pub mod EdgesExist
+pub mod EdgeTexts
+pub mod CoversExist
+pub mod ThinningsExist
+pub mod BallsNearest
+pub mod BallsKept
+pub mod BallsExist

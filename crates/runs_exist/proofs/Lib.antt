@@ -1,0 +1,5 @@
+pub mod ContoursExist
+pub mod SmallRuns
+pub mod SegmentsGrow
+pub mod RunsDecided
+pub mod PartsExist

@@ -1,0 +1,33 @@
+"""The files of `shape mask` by plain code, word for word from docs/USING.md: the object, the points left, and the distances."""
+from math import isqrt
+
+import numpy as np
+
+MASKS = ("skeleton", "object", "distances")
+
+
+def mask(picture, rule, name):
+    """The bytes of a mask of a report by a rule."""
+    if name == "distances":
+        return distances_mask(picture)
+    return points_mask(picture, picture.thinning(rule)[1] if name == "skeleton" else picture.framed)
+
+
+def unframed(framed):
+    return framed[(slice(1, -1),) * framed.ndim]
+
+
+def points_mask(picture, framed):
+    """A raw PBM of eight pixels a byte, a row after the other, or 255 and 0 for each voxel."""
+    if picture.axes == 3:
+        return (unframed(framed) * np.uint8(255)).tobytes()
+    return b"P4\n%d %d\n" % picture.sides + np.packbits(unframed(framed), axis=1).tobytes()
+
+
+def distances_mask(picture):
+    """A PGM of 16 bits, or two bytes for each voxel with the lower first: hundredths, rounded down."""
+    squares, places = np.unique(unframed(picture.squares), return_inverse=True)
+    levels = np.array([min(isqrt(10000 * s), 65535) for s in squares.tolist()])[places.ravel()]
+    if picture.axes == 3:
+        return levels.astype("<u2").tobytes()
+    return b"P5\n%d %d\n65535\n" % picture.sides + levels.astype(">u2").tobytes()

@@ -1,0 +1,129 @@
+"""The table of `shape measure` by plain code: what each column is of each object, word for word from docs/USING.md and docs/MEASURING.md.
+
+All is found from the picture and its thinning, but the lengths of borders: these go by the least lines of segments, which `borders` takes.
+"""
+from math import isqrt
+
+import numpy as np
+
+from secondreading import parts
+from secondreading.borders import UNIT, borders
+from secondreading.geometry import near_steps, side_steps
+
+FLAT = "object,area,left,top,right,bottom,x,y,radius,cx,cy,skeleton,ends,junctions,touches,holes,border,hole_border"
+SOLID = "object,voxels,x0,y0,z0,x1,y1,z1,x,y,z,radius,cx,cy,cz,skeleton,ends,junctions,touches,sides"
+FURTHER = "feret,from_x,from_y,to_x,to_y"
+
+
+def table(picture, rule, contours, has_further=True):
+    """The text of the table of a report by a rule, with the further columns or without.
+
+    `contours` are those of a flat picture with the least lines of their segments, and None where a report does not tell these:
+    then the cells of lengths of borders are empty.
+    """
+    header = SOLID if picture.axes == 3 else FLAT + "," + FURTHER if has_further else FLAT
+    objects = Objects(picture, rule, contours)
+    rows = [[k + 1] + row(objects, part, has_further) for k, part in enumerate(objects.each())]
+    return "".join(text + "\n" for text in [header] + [",".join(map(str, cells)) for cells in rows]).encode()
+
+
+def has_further(text):
+    """Whether a table has the further columns."""
+    return text.startswith((FLAT + "," + FURTHER + "\n").encode())
+
+
+class Objects:
+    """The connected objects of a picture, by their first points in raster order; and of all points what the columns sum up."""
+
+    def __init__(self, picture, rule, contours):
+        self.picture, self.points = picture, np.array(picture.order, int).reshape(-1, picture.axes)
+        left = picture.thinning(rule)[1]
+        self.squares = picture.squares[picture.framed]
+        self.is_left = left[picture.framed]
+        self.near = beside(left, near_steps(picture.axes))[picture.framed]
+        self.sides = 2 * picture.axes - beside(picture.framed, side_steps(picture.axes))[picture.framed]
+        self.borders = borders(contours) if contours is not None else None
+
+    def each(self):
+        """Of each object the places of its points in raster order."""
+        numbers = parts.components(self.picture.framed, near_steps(self.picture.axes))
+        places = np.argsort(numbers, kind="stable")
+        return np.split(places, np.flatnonzero(np.diff(numbers[places])) + 1) if len(places) else []
+
+
+def beside(framed, steps):
+    """Of each point of a framed picture how many of the points at these steps are in a set, which has no point of the frame."""
+    return sum(np.roll(framed, step[::-1], range(framed.ndim)).astype(int) for step in steps)
+
+
+def row(objects, part, is_further):
+    """The cells of an object."""
+    points = objects.points[part]
+    cells = place(points) + depth(points, objects.squares[part]) + skeleton(objects.near[part][objects.is_left[part]])
+    cells.append(int((points == 0).any() or (points == np.array(objects.picture.sides) - 1).any()))
+    if objects.picture.axes == 3:
+        return cells + [objects.sides[part].sum()]
+    return cells + [hole_count(points)] + lengths(objects.borders, points) + (feret(points) if is_further else [])
+
+
+# ---- columns
+
+
+def thousandths(n):
+    return "%d.%03d" % (n // 1000, n % 1000)
+
+
+def mean(total, count):
+    """The mean, to the nearest thousandth, and a half up."""
+    return thousandths((2000 * total + count) // (2 * count))
+
+
+def root(s):
+    """The square root, to the nearest thousandth."""
+    return thousandths((isqrt(4000000 * s) + 1) // 2)
+
+
+def place(points):
+    """An object's size, its box and its centroid."""
+    return [len(points), *points.min(0), *points.max(0), *(mean(int(total), len(points)) for total in points.sum(0))]
+
+
+def depth(points, squares):
+    """The greatest distance to the background, and the first point that has it."""
+    return [root(int(squares.max())), *points[squares.argmax()]]
+
+
+def skeleton(near):
+    """How many points no `del` line takes away, and how many of these have one neighbour among them, and three or more."""
+    return [len(near), (near == 1).sum(), (near >= 3).sum()]
+
+
+def hole_count(points):
+    """The pieces of the background of the object alone, but the outside."""
+    if len(points) < 4:  # a hole takes four points round it
+        return 0
+    alone = np.zeros(points.max(0)[::-1] - points.min(0)[::-1] + 3, bool)
+    alone[tuple((points - points.min(0) + 1).T[::-1])] = True
+    return parts.count(~alone, side_steps(2)) - 1
+
+
+def lengths(borders, points):
+    """The lengths of the outer border, and of those of the holes together; empty cells where they are not told."""
+    if borders is None:
+        return ["", ""]
+    mine = list(map(tuple, points.tolist()))
+    totals = [sum(told.get(p, 0) for p in mine) for told in borders]
+    return [thousandths((n + UNIT // 2000) // (UNIT // 1000)) for n in totals]
+
+
+def feret(points):
+    """The greatest distance of two points: the first point that has another at it, and the last one at it from there.
+
+    Such points are ends of rows, as no point of a row is as far from another as the farther of its ends.
+    """
+    rows = points[:, 1]
+    is_end = np.append(True, rows[1:] != rows[:-1]) | np.append(rows[1:] != rows[:-1], True)
+    ends = points[is_end]
+    most = [int(((ends - p) ** 2).sum(1).max()) for p in ends]
+    first = ends[most.index(max(most))]
+    return [root(max(most)), *first, *ends[((ends - first) ** 2).sum(1) == max(most)][-1]]

@@ -1,0 +1,148 @@
+"""Checks a report against its picture, and the table, the drawing, the masks and the network beside it against the report."""
+from __future__ import annotations
+
+import tempfile
+from collections.abc import Iterator
+from dataclasses import dataclass
+from pathlib import Path
+from typing import Any
+
+from .arrays import verdict
+from .checking import Finding, Judge, check_report, picture_of, plain
+from .comparing import of_tables
+from .faults import Fault
+from .files import shown
+from .networks import Network, part, parts_of
+from .products import DRAWINGS
+from .programs import NAME, call, sums
+from .report import text_of
+
+SUFFIXES = (".report", ".report.gz")
+_NO_NETWORK = "the reports and tables of its network do not fit together; measure again into an empty folder"
+
+
+@dataclass(frozen=True)
+class Asked:
+    """How a folder is to be checked: how many reports at once, what may lie there though nothing made it, and who judges reports."""
+
+    jobs: int = 1
+    allowed: tuple[str, ...] = ()
+    judge: Judge = verdict
+
+
+@dataclass(frozen=True)
+class Covered:
+    """In words what the findings on a folder cover, and what they do not. It is no finding, so it takes nothing back."""
+
+    text: str
+    holds: bool = True
+
+    def __str__(self) -> str:
+        return self.text
+
+
+@dataclass(frozen=True)
+class Beside:
+    """What was found of a report: the findings on it and on what lies beside it, by the file that each is about, and the table
+    that the program makes of it, where it holds."""
+
+    report: Path
+    findings: list[tuple[Path, Finding]]
+    table: bytes | None = None
+
+    @property
+    def holds(self) -> bool:
+        """Whether the report itself holds of its picture."""
+        return self.table is not None
+
+
+def stem_of(report: Path) -> Path:
+    """What the names of the files beside a report begin with."""
+    return report.with_name(report.name.removesuffix(".gz").removesuffix(".report"))
+
+
+def check_beside(report: Path, record: dict[str, Any], judge: Judge) -> Beside:
+    """What is found of a report and of what was made of it; where no check can be made, that is why.
+
+    The record tells which masks were made, and by which program; it may be empty.
+    """
+    stem = stem_of(report)
+    name = shown(stem)
+    try:
+        source = picture_of(stem.name, report)
+        with plain(text_of(report)[0], report) as file:
+            found = check_report(name, source, file, judge)
+            if not found.holds:
+                return Beside(report, [(report, found)])
+            table = _made(("measure",), file)
+            wrong = [(path, Finding(name, False, why)) for path, why in _wrong(stem, file, table, record)]
+    except Fault as fault:
+        return Beside(report, [(report, refused(name, fault))])
+    return Beside(report, wrong or [(report, found)], table or b"")
+
+
+def refused(name: str, fault: Fault) -> Finding:
+    """The finding where a check could not be made."""
+    return Finding(name, False, fault.reason + (f"; {fault.remedy}" if fault.remedy else ""))
+
+
+def _wrong(stem: Path, report: Path, table: bytes | None, record: dict[str, Any]) -> Iterator[tuple[Path, str]]:
+    """The files beside a report that are not what the program makes of it, each with the reason."""
+    for words, path in _products(stem, record):
+        if not path.is_file():
+            continue
+        data = path.read_bytes()
+        if words[0] == ("measure",) and data != table:
+            yield path, _not_made(words, path, record) + (f": {of_tables(data, table)}" if table is not None else "")
+        elif words[0] != ("measure",) and not any(_made(choice, report) == data for choice in words):
+            yield path, _not_made(words, path, record)
+
+
+def _not_made(words: tuple[tuple[str, ...], ...], path: Path, record: dict[str, Any]) -> str:
+    own = sums()[NAME]
+    other = "" if record.get("programs", {}).get(NAME, own) == own else ", and was made by another version of it"
+    return f"the report holds, but {shown(path)} is not what `{NAME} {words[0][0]}` makes of it{other}"
+
+
+def _products(stem: Path, record: dict[str, Any]) -> Iterator[tuple[tuple[tuple[str, ...], ...], Path]]:
+    """The files that are made of a report, there or not, each with the words of which any may have made it."""
+    yield (("measure",),), stem.with_name(stem.name + ".csv")
+    yield DRAWINGS, stem.with_name(stem.name + ".svg")
+    yield (("mask", "skeleton"),), part(stem, "skeleton", ".pbm")
+    for kind in record.get("masks", []):
+        for name in record.get("files", {}):
+            if name.startswith(f"{stem.name}.{kind}.") and "/" not in name:
+                yield (("mask", kind),), stem.with_name(name)
+
+
+def _made(words: tuple[str, ...], report: Path) -> bytes | None:
+    """What the program makes of a report by these words; None where it refuses."""
+    with tempfile.TemporaryFile() as out:
+        if call(*words, report, out=out).status:
+            return None
+        out.seek(0)
+        return out.read()
+
+
+def network_again(stem: Path, tables: dict[str, str] | None = None) -> dict[Path, bytes]:
+    """The pictures and the tables of a picture's network, as its reports and the tables of its parts give them: these, or those
+    that lie there.
+
+    A Fault where one of these cannot be read, or they do not fit together.
+    """
+    try:
+        pictures = {part(stem, name, ".pbm"): data for name, data in parts_of(part(stem, "skeleton", ".pbm").read_bytes()).items()}
+        return pictures | {stem.with_name(f"{stem.name}.{suffix}"): data for suffix, data in Network.of(stem, tables).arranged().items()}
+    except OSError as error:
+        raise Fault(error.filename, f"{shown(error.filename)} cannot be read ({error.strerror})") from error
+    except (KeyError, ValueError, ArithmeticError, AttributeError) as error:
+        raise Fault(stem, _NO_NETWORK) from error
+
+
+def wrong_in_network(stem: Path, again: dict[Path, bytes]) -> Iterator[tuple[Path, Finding]]:
+    """The pictures and the tables of a picture's network that are there and are others."""
+    for path, data in again.items():
+        if path.is_file() and (own := path.read_bytes()) != data:
+            row = f": {of_tables(own, data)}" if path.suffix == ".csv" else ""
+            why = f"the report holds, but {shown(path)} is not what the reports and tables of its parts say{row}"
+            yield path, Finding(shown(stem), False, why)

@@ -1,0 +1,132 @@
+"""Checks a folder: each run of `shapes` in it by its `made.json`, and reports that somebody laid beside their pictures by hand.
+
+What stands at the end, `Covered`, tells what the findings cover and what they do not.
+"""
+from __future__ import annotations
+
+import glob
+from collections.abc import Iterable, Iterator
+from concurrent.futures import ThreadPoolExecutor
+from dataclasses import replace
+from pathlib import Path, PurePosixPath
+
+from .beside import SUFFIXES, Asked, Covered, check_beside, network_again, refused, stem_of, wrong_in_network
+from .checking import Finding, Judge
+from .faults import Fault
+from .files import read_json, shown
+from .folder import JOINED, MADE, PICTURES
+from .inventory import is_below, lying
+from .networks import part
+from .report import counts_of
+from .runcheck import findings_of_run
+from .seals import opened, why_not
+
+
+def check_folder(folder: Path, asked: Asked) -> Iterator[Finding | Covered]:
+    """The findings on a folder: on each run in it, and on reports that lie there by hand. A Fault where there is nothing to check."""
+    names = [name for name in lying(folder) if not is_below(name, asked.allowed)]
+    runs = _runs(names)
+    for run in runs:
+        own = replace(asked, allowed=tuple(_below(run, asked.allowed)))
+        yield from _of_run(folder / run, [name for name in lying(folder / run) if not is_below(name, own.allowed)], own)
+    rest = [name for name in names if not is_below(name, runs)]
+    if "." not in runs and any(name.endswith(SUFFIXES) or _is_trace(folder, name) for name in rest):
+        yield from _by_hand(folder, rest, asked)
+    elif not runs:
+        raise Fault(shown(folder), "no report is in this folder", "reports are files whose names end in .report or .report.gz")
+
+
+def _runs(names: list[str]) -> list[str]:
+    """The folders of runs among these names, without those that lie in the folder of another."""
+    runs: list[str] = []
+    for place in sorted((Path(name).parent for name in names if Path(name).name == MADE), key=lambda place: len(place.parts)):
+        if not is_below(str(place), runs):
+            runs.append(str(place))
+    return sorted(runs)
+
+
+def _below(run: str, names: Iterable[str]) -> Iterator[str]:
+    """Of these names those that lie in the folder of a run, as they are called there."""
+    return (str(PurePosixPath(name).relative_to(run)) for name in names if is_below(name, [run]))
+
+
+def _of_run(folder: Path, names: list[str], asked: Asked) -> Iterator[Finding | Covered]:
+    """The findings on the folder of a run; by its reports alone where its `made.json` cannot be relied on."""
+    try:
+        data = (folder / MADE).read_bytes() if (folder / MADE).is_file() else b""
+    except OSError as error:
+        raise Fault(shown(folder / MADE), f"cannot be read ({error.strerror})", "may you read it?") from error
+    made = opened(data)
+    if made is not None:
+        yield from findings_of_run(folder, made, asked)
+        return
+    yield Finding(shown(folder / MADE), False, why_not(data))
+    yield from _reports(folder, names, asked)
+
+
+def _by_hand(folder: Path, names: list[str], asked: Asked) -> Iterator[Finding | Covered]:
+    """The findings on a folder without a `made.json`."""
+    traces = [name for name in names if _is_trace(folder, name)]
+    if traces:
+        why = f"it is missing, and without it nobody can tell whether {_listed(traces)} and all else of the run are as they were made"
+        yield Finding(shown(folder / MADE), False, why)
+    yield from _reports(folder, names, asked)
+
+
+def _is_trace(folder: Path, name: str) -> bool:
+    """Whether a file is one that a run writes and nobody by hand: a table of all, or the record of a picture."""
+    if Path(name).name in (PICTURES, *JOINED):
+        return True
+    record = read_json(folder / name) if name.endswith(".json") and (folder / name).is_file() else None
+    return isinstance(record, dict) and "picture" in record and "files" in record
+
+
+def _listed(names: list[str]) -> str:
+    return ", ".join(names[:3]) + (", .." if len(names) > 3 else "")
+
+
+def _reports(folder: Path, names: list[str], asked: Asked) -> Iterator[Finding | Covered]:
+    """The findings on all reports among these names and on what lies beside them, without a list of what has to be there."""
+    reports = sorted((folder / name for name in names if name.endswith(SUFFIXES)), key=lambda report: (report.parent, stem_of(report).name))
+    good, beside = 0, set()
+    with ThreadPoolExecutor(asked.jobs) as pool:
+        for report, findings in zip(reports, pool.map(lambda report: _of_report(report, asked.judge), reports)):
+            good += all(finding.holds for finding in findings)
+            beside |= {str(path.relative_to(folder)) for path in _beside(report)}
+            yield from findings
+    others = [name for name in names if name not in beside]
+    more = f", and {len(others)} other file{'s' if len(others) > 1 else ''} ({_listed(others)})" if others else ""
+    yield Covered(
+        f"checked {good} of {len(reports)} reports with what lies beside them, as in a folder that was made by hand; "
+        f"not checked: whether a file is missing or was exchanged{more}"
+    )
+
+
+def _of_report(report: Path, judge: Judge) -> list[Finding]:
+    """The findings on a report and what lies beside it, with the record that may lie there."""
+    stem = stem_of(report)
+    record = read_json(stem.with_name(stem.name + ".json"))
+    record = record if isinstance(record, dict) else {}
+    beside = check_beside(report, record, judge)
+    findings = [finding for _, finding in beside.findings]
+    if not beside.holds:
+        return findings
+    if "parts" in record and (record["parts"], record.get("kept")) != counts_of(report):
+        return [Finding(shown(stem), False, f"the report holds, but its record {stem.name}.json says other counts")]
+    try:
+        if part(stem, "skeleton", ".pbm").exists():
+            findings = [finding for _, finding in wrong_in_network(stem, network_again(stem))] or findings
+    except Fault as fault:
+        findings = [refused(shown(stem), fault)]
+    return findings
+
+
+def _beside(report: Path) -> Iterator[Path]:
+    """The report, and the files beside it that it is compared with."""
+    stem = stem_of(report)
+    yield report
+    yield from report.parent.glob(glob.escape(stem.name) + ".pbm")
+    yield from report.parent.glob(glob.escape(stem.name) + ".*x*x*.raw")
+    yield from (stem.with_name(stem.name + suffix) for suffix in (".csv", ".svg"))
+    if part(stem, "skeleton", ".pbm").exists():
+        yield from (stem.with_name(f"{stem.name}.{name}.csv") for name in ("network", "branches"))

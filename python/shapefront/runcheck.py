@@ -1,0 +1,202 @@
+"""Checks the folder of a run by its `made.json` and its records: nothing may be missing, nothing may be there that the run did not
+make, and all of it has to be what the same program makes again.
+
+The proved program gives each verdict on a report, a table, a drawing or a mask; here bytes, rows and sums are compared.
+"""
+from __future__ import annotations
+
+from collections.abc import Iterable, Iterator
+from concurrent.futures import ThreadPoolExecutor
+from dataclasses import dataclass, field
+from pathlib import Path
+from typing import Any
+
+from .again import record_again, run_again
+from .beside import Asked, Beside, Covered, check_beside, network_again, refused, stem_of, wrong_in_network
+from .checking import Finding
+from .comparing import of_members, of_tables, of_texts
+from .faults import Fault
+from .files import read_json, shown
+from .folder import MADE, SUMMARY, originals
+from .inventory import Inventory
+from .making import Record, key_of
+from .networks import MADE as NETWORK_TABLES
+from .networks import PARTS, part
+from .programs import sums
+from .report import heading_of
+from .seals import SEAL
+from .tables import rows_of
+
+_UNTOLD = "not checked: what only the original images tell (names, labels, thresholds, what was done to them), and the pixel's size"
+_FOREIGN = "it, or a record that it names, is none that `shapes` wrote"
+_NOT_RECORDS = (KeyError, TypeError, ValueError, AttributeError, IndexError)
+
+Told = tuple[Path, Finding]
+
+
+def findings_of_run(folder: Path, made: dict[str, Any], asked: Asked) -> Iterator[Finding | Covered]:
+    """The findings on the folder of a run, whose `made.json` says this, and what they cover."""
+    try:
+        yield from RunCheck.of(folder, made, asked).findings()
+    except Fault as fault:
+        yield refused(shown(fault.about), fault)
+    except _NOT_RECORDS:
+        yield Finding(shown(folder / MADE), False, _FOREIGN)
+
+
+@dataclass(frozen=True)
+class Checked:
+    """What was found of a picture of a run: the findings by the file that each is about, its record as its report gives it (None
+    where its own is not as it was written), and its tables by what their names end in."""
+
+    findings: list[Told]
+    record: Record | None
+    tables: dict[str, bytes]
+
+
+@dataclass
+class RunCheck:
+    """The check of a run's folder; `wrong` are the files of which something was found, `rows` how many rows are right in tables of all."""
+
+    folder: Path
+    made: dict[str, Any]
+    asked: Asked
+    inventory: Inventory
+    wrong: set[Path] = field(default_factory=set)
+    rows: int = 0
+
+    @classmethod
+    def of(cls, folder: Path, made: dict[str, Any], asked: Asked) -> RunCheck:
+        allowed = [*asked.allowed, MADE, *originals(folder, made)]
+        return cls(folder, made, asked, Inventory.of(folder, made["files"], allowed))
+
+    def findings(self) -> Iterator[Finding | Covered]:
+        """All findings: on pictures, on files of all, and on what is missing, changed or added; and what they cover."""
+        names = sorted((name for image in self.made["images"] for name in image["pictures"]), key=lambda name: Path(name).with_suffix(""))
+        checked = {}
+        with ThreadPoolExecutor(self.asked.jobs) as pool:
+            for name, one in zip(names, pool.map(self._picture, names)):
+                checked[name] = one
+                yield from self._said(one.findings)
+        yield from self._said(self._of_all(checked))
+        yield from self._said(self._of_inventory())
+        yield Covered(self._covered(checked))
+
+    def _said(self, findings: Iterable[Told]) -> Iterator[Finding]:
+        for path, finding in findings:
+            if not finding.holds:
+                self.wrong.add(path)
+            yield finding
+
+    def _of_inventory(self) -> Iterator[Told]:
+        """What is missing, changed or added, but for files of which something else was told by their names already."""
+        reports = {path for path in self.wrong if stem_of(path) != path}
+        for name, why in self.inventory.wrong():
+            path = self.folder / name
+            if path not in self.wrong - reports:
+                yield path, Finding(shown(path), False, why)
+
+    def _picture(self, name: str) -> Checked:
+        """What is found of the picture whose record has this name."""
+        path = self.folder / name
+        stem = path.with_name(path.name.removesuffix(".json"))
+        record = read_json(path) if path.is_file() else None
+        record = record if isinstance(record, dict) else {}
+        besides = [self._report(report, record) for report in self._reports(stem)]
+        findings = [told for beside in besides for told in beside.findings]
+        if not besides:
+            return Checked([(stem, Finding(shown(stem), False, "made.json names no report of it"))], None, {})
+        again, why = self._record(record, besides[0])
+        if why:
+            findings.append((path, Finding(shown(path), False, why)))
+        tables = {".csv": besides[0].table} if besides[0].holds else {}
+        if len(besides) > 1 and all(beside.holds for beside in besides):
+            found, own = self._network(stem, besides[1:])
+            findings, tables = findings + found, tables | own
+        return Checked(findings, again if self.inventory.is_whole(name) else None, tables)
+
+    def _reports(self, stem: Path) -> list[Path]:
+        """The reports of a picture that `made.json` names: its own, and those of the parts of its network."""
+        stems = [stem, *(part(stem, name, "") for name in sorted(PARTS))]
+        names = [one.with_name(one.name + suffix) for one in stems for suffix in (".report", ".report.gz")]
+        return [path for path in names if str(path.relative_to(self.folder)) in self.made["files"]]
+
+    def _report(self, report: Path, record: Record) -> Beside:
+        if not report.is_file():
+            why = f"its report {report.name} is gone: {self.inventory.spoilt[str(report.relative_to(self.folder))]}"
+            return Beside(report, [(report, Finding(shown(stem_of(report)), False, why))])
+        beside = check_beside(report, record, self.asked.judge)
+        if beside.holds and (kind := heading_of(report)[0]) != "shape":
+            why = f"{report.name} is a report of another kind: its first word is `{kind}`"
+            return Beside(report, [(report, Finding(shown(stem_of(report)), False, why))])
+        return beside
+
+    def _record(self, record: Record, beside: Beside) -> tuple[Record | None, str | None]:
+        """The record of a picture as its report gives it, where that holds, else as it is; and where the two differ, in words."""
+        if not record or not beside.holds:
+            return record or None, None
+        try:
+            again = record_again(record, self.made, beside.report)
+            return again, of_members({**record, SEAL: again[SEAL]}, again)
+        except _NOT_RECORDS:
+            return None, "it is no record that `shapes` wrote of this report"
+
+    def _network(self, stem: Path, parts: list[Beside]) -> tuple[list[Told], dict[str, bytes]]:
+        """What is wrong in a picture's network, whose reports all hold; and the tables that these give."""
+        try:
+            again = network_again(stem, {name: beside.table.decode() for name, beside in zip(sorted(PARTS), parts)})
+        except Fault as fault:
+            return [(stem, refused(shown(stem), fault))], {}
+        tables = {f".{suffix}": again[stem.with_name(f"{stem.name}.{suffix}")] for suffix in NETWORK_TABLES}
+        return list(wrong_in_network(stem, again)), tables
+
+    def _of_all(self, checked: dict[str, Checked]) -> Iterator[Told]:
+        """The findings on the tables of all, on the summary and on `made.json`; none where a record is not as it was written."""
+        records = {name: one.record for name, one in checked.items() if one.record is not None}
+        if len(records) < len(checked):
+            return
+        try:
+            run = run_again(self.made, records)
+            files = run.of_all(lambda record, suffix: self._table(checked[key_of(record) + ".json"], record, suffix))
+        except Fault as fault:
+            yield Path(fault.about), refused(shown(fault.about), fault)
+            return
+        for name, data in files.items():
+            path = self.folder / name
+            if path.is_file():
+                yield path, self._compared(path, data)
+        why = of_members(self.made, run.made(files))
+        yield self.folder / MADE, Finding(shown(self.folder / MADE), why is None, why or "")
+
+    def _table(self, one: Checked, record: Record, suffix: str) -> str:
+        """A picture's own table as its report gives it; where that does not hold, as it was written. A Fault where it is spoilt, too."""
+        name = key_of(record) + suffix
+        if suffix in one.tables:
+            return one.tables[suffix].decode()
+        if not self.inventory.is_whole(name):
+            raise Fault(self.folder / name, self.inventory.spoilt[name], "and its report does not give it")
+        return (self.folder / name).read_text()
+
+    def _compared(self, path: Path, data: bytes) -> Finding:
+        own = path.read_bytes()
+        if own != data:
+            return Finding(shown(path), False, of_texts(own, data) if path.name == SUMMARY else of_tables(own, data))
+        if path.name != SUMMARY:
+            self.rows += len(rows_of(data.decode("utf-8", "surrogateescape"))) - 1
+        return Finding(shown(path), True)
+
+    def _covered(self, checked: dict[str, Checked]) -> str:
+        """What was checked and what was not, in words."""
+        files = len(self.made["files"]) - len(self.inventory.spoilt)
+        images = [image for image in self.made["images"] if image["pictures"] or not image["failure"]]
+        good = sum(all(self._is_good(name, checked[name]) for name in image["pictures"]) for image in images)
+        failed = sum(image["failure"] is not None for image in self.made["images"])
+        told = f" ({failed} failed when {'they were' if failed > 1 else 'it was'} measured)" if failed else ""
+        other = "" if self.made["programs"] == sums() else "; another build of the program made it, by the sum in made.json"
+        return f"checked {good} of {len(images)} images{told}, {self.rows:,} rows, {files:,} files; {_UNTOLD}{other}"
+
+    def _is_good(self, name: str, one: Checked) -> bool:
+        if one.record is None or not all(finding.holds for _, finding in one.findings):
+            return False
+        place = (self.folder / name).parent
+        return not self.wrong & {place / own for own in one.record["files"]}

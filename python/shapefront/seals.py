@@ -1,0 +1,44 @@
+"""Records that carry the sum of their own content: one changed byte is told.
+
+There is one spelling of a record, so its bytes are made again from what it says; whoever changes it has to change its sum, too.
+"""
+from __future__ import annotations
+
+from pathlib import Path
+from typing import Any
+
+from .files import parsed, spelled_json, sum_of_bytes
+
+SEAL = "own_sum"
+
+
+def sealed(value: dict[str, Any]) -> dict[str, Any]:
+    """The value with the sum of its own spelling as its last member."""
+    return {**value, SEAL: sum_of_bytes(spelled_json(value))}
+
+
+def opened(data: bytes) -> dict[str, Any] | None:
+    """The sealed value that these bytes spell to the last one, and None where they are no such spelling."""
+    value = parsed(data)
+    if not isinstance(value, dict):
+        return None
+    own = {name: member for name, member in value.items() if name != SEAL}
+    return value if spelled_json(sealed(own)) == data else None
+
+
+def is_sealed(path: Path) -> bool:
+    """Whether a file is there and is a sealed value as it was written."""
+    try:
+        return opened(path.read_bytes()) is not None
+    except OSError:
+        return False
+
+
+def why_not(data: bytes) -> str:
+    """Why these bytes are no sealed value."""
+    value = parsed(data)
+    if not isinstance(value, dict):
+        return "it is no record any more: somebody changed it, or it was cut"
+    if SEAL not in value:
+        return "it has no sum of its own: an earlier version of `shapes` wrote it, or somebody took the sum out; measure again"
+    return "it was changed since `shapes` wrote it: its sum is not that of what it says"
