@@ -1,0 +1,2 @@
+mod FormsApart
+mod Ended

@@ -1,0 +1,77 @@
+//! A run of the program, over any desk: what its words ask for is done, and what the user sees of it is answered.
+//! A further product or command changes nothing here; a further rule is one more box.
+ghost use Rattle.std.specs.Prelude.{◌≡◌, ◌≢◌, ◌∷◌, ℕ, List};
+ghost use Rattle.shape_rules.specs.Ruled.{rules_on};
+ghost use Rattle.shape_desk.specs.Desk.{DeskState};
+ghost use Rattle.shape_desk.specs.Files.{KeepsFiles, texts};
+ghost use Rattle.shape_cli.specs.Rules.{program_rules};
+ghost use Rattle.shape.specs.Products.{product_word};
+ghost use Rattle.shape.specs.Runs.{HasEnded};
+
+use crate::ending::Ending;
+use crate::product::{Product, product_of};
+use shape_cli::{Outcome, run, shelf};
+use shape_desk::Desk;
+use shape_rules::{CurveEnds, FewEnds, NoEnds, Shelf};
+use std::alloc::Global;
+
+// How a run ends for which there is no memory, before anything is done.
+fn lacking() -> Ending
+    ensures { (words : List (List ℕ)) (desk : DeskState) → HasEnded words desk desk result }
+{
+    Ending::of_command(Outcome::NoMemory)
+}
+
+// Runs the words of a command by the rules on a shelf, which are those of the program.
+fn run_by<D: Desk>(alloc: Global, words: &[Vec<u8>], desk: &mut D, shelf: Shelf) -> Ending
+    requires none { (p : Product) (rest : List (List ℕ))
+        → texts words.now ≢ product_word p ∷ rest }
+    requires rules { rules_on means shelf ≡ program_rules }
+    ensures ended { HasEnded (texts words.now) (D.state desk.old) (D.state desk.new) result }
+    ensures kept { KeepsFiles (D.state desk.old) (D.state desk.new) }
+{
+    let outcome = run(alloc, words, desk, shelf);
+    Ending::of_command(outcome)
+}
+
+// Runs the words of a command by the rules `none`, `curve` and `few`; the last marks two points at most.
+fn run_command<D: Desk>(alloc: Global, words: &[Vec<u8>], desk: &mut D) -> Ending
+    requires { (p : Product) (rest : List (List ℕ)) → texts words.now ≢ product_word p ∷ rest }
+    ensures ended { HasEnded (texts words.now) (D.state desk.old) (D.state desk.new) result }
+    ensures kept { KeepsFiles (D.state desk.old) (D.state desk.new) }
+{
+    let none = Box::new(alloc, NoEnds);
+    let curve = Box::new(alloc, CurveEnds);
+    let few = Box::new(alloc, FewEnds::new(2));
+    let (Ok(none), Ok(curve), Ok(few)) = (none, curve, few) else {
+        return lacking();
+    };
+    match shelf(alloc, none, curve, few) {
+        Ok(shelf) => run_by(alloc, words, desk, shelf),
+        Err(_) => lacking(),
+    }
+}
+
+// Makes a product by the words behind its own.
+fn run_product<D: Desk>(alloc: Global, product: Product, rest: &[Vec<u8>], desk: &mut D) -> Ending
+    ensures ended { HasEnded (product_word product ∷ texts rest.now)
+        (D.state desk.old) (D.state desk.new) result }
+    ensures kept { KeepsFiles (D.state desk.old) (D.state desk.new) }
+{
+    let outcome = product.run(alloc, rest, desk);
+    Ending::of_product(outcome, product.usage())
+}
+
+/// Does what the words of a command line say, without the program's name: those behind the word of a product by the
+/// product's own call, and all others as those of a command. What the user sees is that of its outcome.
+///
+/// The status 2 comes exactly where the words are of no form, but where there is no memory for the rules of the program.
+pub fn run_words<D: Desk>(alloc: Global, words: &[Vec<u8>], desk: &mut D) -> Ending
+    ensures ended { HasEnded (texts words.now) (D.state desk.old) (D.state desk.new) result }
+    ensures kept { KeepsFiles (D.state desk.old) (D.state desk.new) }
+{
+    match product_of(words) {
+        Some((product, rest)) => run_product(alloc, product, rest, desk),
+        None => run_command(alloc, words, desk),
+    }
+}
