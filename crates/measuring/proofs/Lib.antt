@@ -1,4 +1,3 @@
 mod PointFacts
 mod TableSteps
 mod TextSteps
-mod ThreeDigits

@@ -1,6 +1,6 @@
 //! Balls as circles with their centres.
 //! Another look is a change of the texts here and of the same texts in `specs/Circles.antt`.
-ghost use Rattle.std.specs.Prelude.{◌≡◌, ◌++◌, ◌∷◌, [], ◌/◌, IfOk, OnOk};
+ghost use Rattle.std.specs.Prelude.{◌≡◌, ◌<◌, ◌++◌, ◌∷◌, [], ◌/◌, IfOk, OnOk};
 ghost use Rattle.std.specs.List.{flat_map};
 ghost use Rattle.std.specs.Fmt.{decimal};
 ghost use Rattle.shape_terms.specs.Points.{sides_of};
@@ -58,23 +58,24 @@ fn root(square: u64) -> u128
     (whole + 1) / 2
 }
 
-// The three digits of a number below a thousand.
-fn three_digits(n: u16) -> [u8; 3]
-    ensures { result ≡ three_digits n }
-{
-    [
-        48 + (n / 100 % 10) as u8,
-        48 + (n / 10 % 10) as u8,
-        48 + (n % 10) as u8,
-    ]
-}
-
 // Puts a whole number.
 fn put_number(n: u128, svg: &mut Svg) -> Result<(), NoMemory>
     ensures { OnOk result (svg.new ≡ svg.old ++ decimal n) }
 {
     let mut digits = Buffer::new();
     svg.put(digits.format(n).as_bytes())
+}
+
+// Puts the three digits of a number below a thousand: those of one that is greater by a thousand, but the first.
+fn put_three_digits(n: u16, svg: &mut Svg) -> Result<(), NoMemory>
+    requires { n < 1000 }
+    ensures { OnOk result (svg.new ≡ svg.old ++ three_digits n) }
+{
+    let mut digits = Buffer::new();
+    match digits.format(1000 + n).as_bytes() {
+        [_, rest @ ..] => svg.put(rest),
+        [] => Ok(()),
+    }
 }
 
 // Puts a coordinate behind the name of its attribute.
@@ -92,7 +93,7 @@ fn put_thousandths(n: u128, svg: &mut Svg) -> Result<(), NoMemory>
 {
     put_number(n / 1000, svg)?;
     svg.put(b".")?;
-    svg.put(&three_digits((n % 1000) as u16))
+    put_three_digits((n % 1000) as u16, svg)
 }
 
 // Puts the coordinate x of the centre of a circle.

@@ -44,12 +44,12 @@ pub(crate) fn sense(words: &mut Words) -> Option<Sense>
 
 // Puts the number of a report behind a blank.
 pub(crate) fn put_number<P: Point>(n: u8, text: &mut Text)
-    requires room { length text.old + 2 ≤ 1024 }
+    requires room { length text.old + 21 ≤ 1024 }
     requires number { IsNumber P.DIM n }
     ensures text { text.new ≡ text.old ++ behind_blanks ((number P.DIM).words n) }
-    ensures room { length text.new ≤ length text.old + 2 }
+    ensures room { length text.new ≤ length text.old + 21 }
 {
-    text.put(&[b' ', b'0' + n])
+    text.count(u32::from(n))
 }
 
 // Puts the sign of a sense behind a blank.
