@@ -25,8 +25,8 @@ pub PutsAt-between : {text : List ℕ} {at end : ℕ} {old new : List ℕ} → e
 PutsAt-between {text} {at} {end} {old} {new} is within before from =
     let pre : List ℕ = take at old in
     let long : length (pre ++ text) ≡ end = omega (arith, length-append pre text, length-take-le at old (omega arith)) in
-    let whole : new ≡ (pre ++ text) ++ drop end old =
-    sym (take-append-drop at new) ∙ ap (λ (xs : List ℕ). xs ++ drop at new) before ∙ ap (λ (xs : List ℕ). pre ++ xs) from ∙ sym (append_assoc pre text (drop end old)) in
+    let parted : new ≡ pre ++ drop at new = sym (take-append-drop at new) ∙ ap (λ (xs : List ℕ). xs ++ drop at new) before in
+    let whole : new ≡ (pre ++ text) ++ drop end old = parted ∙ ap (λ (xs : List ℕ). pre ++ xs) from ∙ sym (append_assoc pre text (drop end old)) in
     record {
       place = is;
       front = ap (take end) whole ∙ take_at (pre ++ text) (drop end old) end long;
