@@ -7,3 +7,4 @@ mod SameTables
 mod FirstNumber
 mod SameHoles
 mod OneTable
+mod Whole

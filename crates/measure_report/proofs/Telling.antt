@@ -45,7 +45,8 @@ borders_so s X text t h i e =
     let u = holds_shows X text h in
     subst (λ ls. BordersShow (number_of ls) X.picture (borders ls)) (lines_same s X text t u i) (text_borders X text (i.picture.axes ∙ e) u)
 
-spelled_so : (s : Space) (X : Subject) (text bytes : List ℕ) (t : Tells s X text) → Holds X text → StandsIn s X.picture → IsTableText s.axes t.lines bytes → SpellsMeasures s.axes X t.lines bytes
+-- bytes that are the table of its lines spell the measures of the picture's components
+pub spelled_so : (s : Space) (X : Subject) (text bytes : List ℕ) (t : Tells s X text) → Holds X text → StandsIn s X.picture → IsTableText s.axes t.lines bytes → SpellsMeasures s.axes X t.lines bytes
 unfolding WithLabels
 spelled_so s X text bytes t holds i h =
     let said_left = (said t.lines).left in

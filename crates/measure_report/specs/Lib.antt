@@ -5,3 +5,4 @@ pub mod FurtherColumns
 pub mod TableTexts
 pub mod Holding
 pub mod Tabled
+pub mod Whole

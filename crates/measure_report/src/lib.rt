@@ -11,7 +11,7 @@ mod outlined;
 mod tables;
 mod top;
 
-pub use law::{holding_measures, tables_are_one};
+pub use law::{holding_measures, tables_are_one, tables_of_what_holds};
 pub use outlined::Outlined;
 pub use report_making::Outcome;
 pub use tables::Tables;
