@@ -1,3 +1,4 @@
 mod Words
 mod NumbersMade
 mod Deepest
+mod Drawn

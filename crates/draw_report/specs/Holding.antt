@@ -1,11 +1,12 @@
--- Where the numbers stand in the drawing of a report that holds of a flat picture.
--- Geometry alone: components and least distances.
+-- Where the numbers stand in the drawing of a report that holds of a flat picture, and that this drawing was written.
+-- Components and least distances alone; what a run adds to the output stands in `shape_desk`.
 use Rattle.std.specs.Prelude.{◌≡◌, ℕ, ◌+◌, ◌<◌, ◌≤◌, ◌==◌, Some, List, length, slice_index, slice_index_or}
 use Rattle.std.specs.List.{Contains, find}
 use Rattle.shape_terms.specs.Points.{Point, raster_number}
 use Rattle.shape_terms.specs.Pictures.{Picture}
 use Rattle.shape_terms.specs.Parts.{Object, NamesParts, LabelsObject}
 use Rattle.shape_terms.specs.Adjacency.{Near}
+use Rattle.shape_desk.specs.Desk.{DeskState, Puts}
 use Rattle.report_terms.specs.Subjects.{Subject}
 use Rattle.report_terms.specs.Lines.{Line}
 use Rattle.report_lines.specs.Reports.{flat, IsReport}
@@ -44,3 +45,11 @@ pub record NumbersTell (X : Subject) (text bytes : List ℕ) : Type 0 where
   pub lines : List Line
   pub report : IsReport flat text lines
   pub told : IsNumberedText lines bytes → NumbersComponents X.picture lines bytes
+
+-- the text is a report in order, and the drawing of its lines was written with a number at the deepest point of each component of the picture
+pub record WritesNumbered (X : Subject) (text : List ℕ) (old new : DeskState) : Type 0 where
+  pub lines : List Line
+  pub report : IsReport flat text lines
+  pub bytes : List ℕ
+  pub numbered : NumbersComponents X.picture lines bytes
+  pub puts : Puts old.written new.written bytes

@@ -11,7 +11,7 @@ mod over;
 mod top;
 
 pub use drawings::{Drawings, NumberedDrawings};
-pub use law::holding_is_numbered;
+pub use law::{holding_is_drawn, holding_is_numbered};
 pub use numbered::Numbered;
 pub use report_making::Outcome;
 pub use top::{USAGE, run};

@@ -1,4 +1,4 @@
-use Rattle.std.proofs.Common.{ℕ, List, [], ◌∷◌, length, get_or, subst, ap, sym, ◌∙◌, arith}
+use Rattle.std.proofs.Common.{subst, sym, ◌∙◌, arith}
 use Rattle.report_making.specs.Runs.{Ran}
 use Rattle.draw_report.specs.Drawings.{IsDrawing, IsNumberedDrawing}
 use Rattle.shape_desk.specs.Files.{texts}
