@@ -17,7 +17,7 @@ use Rattle.report_making.specs.Outcomes as ProductOutcomes
 use Rattle.report_making.specs.declared.outcome.Outcome.{Outcome as ProductOutcome}
 use Rattle.report_making.specs.declared.outcome.Outcome.TheVariants as made
 use Rattle.shape.specs.Products.{product_word, usage_of, AreNoWords, Ran}
-use Rattle.shape.specs.Runs.{AreNoForm, IsUsageOf, Shows, ShowsCommand, ShowsProduct, Refused, RanCommand, RanProduct, LackedMemory, HasEnded}
+use Rattle.shape.specs.Runs.{AreNoForm, IsUsageOf, Shows, ShowsCommand, ShowsProduct, Refused, RanCommand, RanProduct, HasEnded}
 use Rattle.shape.specs.declared.product.Product.{Product}
 use Rattle.shape.specs.declared.ending.Ending.{Ending}
 use Rattle.shape.proofs.FormsApart.{no_command, same_product}
@@ -25,7 +25,7 @@ use Rattle.shape.proofs.FormsApart.{no_command, same_product}
 -- ---- words of no form
 
 refused : (words : List (List ℕ)) (old new : DeskState) (e : Ending) → Refused words old new e → HasEnded words old new e
-refused words old new e r = record { did = inl r; two = λ _. r.none; usage = λ _. inl r.shown.status_is }
+refused words old new e r = record { did = inl r; two = (λ _. r.none, λ _. r.shown.status_is); usage = λ _. subst (IsUsageOf words) (sym r.shown.text_is) r.usage }
 
 -- ---- products
 
@@ -57,10 +57,11 @@ module _ (p : Product) (rest : List (List ℕ)) where
         refused (product_word p ∷ rest) old new e (record { none = no_product (usage.0 refl); untouched = untouched refl; text = usage_of p; usage = its_usage; shown = shown })
     product_ended o usage untouched ran shown =
         let taken : AreNoWords p rest → ⊥ = λ n. let u = usage.1 n in cc in
+        let other : e.status ≡ 2 → ⊥ = λ two. let s = sym shown.status_is ∙ two in omega (arith, s) in
         record {
           did = inr (inr (inl (record { product = p; rest = rest; spelled = refl; taken = taken; outcome = o; ran = ran; shown = shown })));
-          two = λ two. absurd (let s = sym shown.status_is ∙ two in omega (arith, s));
-          usage = λ none. absurd (taken_form taken none);
+          two = (λ two. absurd (other two), λ none. absurd (taken_form taken none));
+          usage = λ two. absurd (other two);
         }
 
 -- ---- commands
@@ -72,18 +73,22 @@ module _ (words : List (List ℕ)) (none : (p : Product) (rest : List (List ℕ)
   usage_of_all : IsUsageOf words CommandOutcomes.usage_text
   usage_of_all = record { product = λ p rest s. absurd (none p rest s); other = λ _. refl }
 
+  -- words of no form, where nothing was done
+  pub words_refused : IsNoForm (names_of program_rules) words → new ≡ old → ShowsCommand command.Usage e → HasEnded words old new e
+  words_refused no_form same shown = refused words old new e (record { none = no_command_words no_form; untouched = same; text = CommandOutcomes.usage_text; usage = usage_of_all; shown = shown })
+
   asked : (o : CommandOutcome) → HasRun program_rules words old new o → (o ≡ command.Usage → ⊥) → Asks (names_of program_rules) words (λ c. Command.Ran program_rules c old new o)
   asked o h other = elim h.ran [ inl a ↦ a | inr n ↦ absurd (other (h.usage.1 n)) ]
 
   pub command_ended : (o : CommandOutcome) → HasRun program_rules words old new o → ShowsCommand o e → HasEnded words old new e
-  command_ended command.Usage h shown =
-      refused words old new e (record { none = no_command_words (h.usage.0 refl); untouched = h.untouched refl; text = CommandOutcomes.usage_text; usage = usage_of_all; shown = shown })
+  command_ended command.Usage h shown = words_refused (h.usage.0 refl) (h.untouched refl) shown
   command_ended o h shown =
       let other : o ≡ command.Usage → ⊥ = λ u. cc in
+      let not_two : e.status ≡ 2 → ⊥ = λ two. let s = sym shown.status_is ∙ two in omega (arith, s) in
       record {
         did = inr (inl (record { outcome = o; ran = asked o h other; shown = shown }));
-        two = λ two. absurd (let s = sym shown.status_is ∙ two in omega (arith, s));
-        usage = λ n. absurd (other (h.usage.1 n.command));
+        two = (λ two. absurd (not_two two), λ n. absurd (other (h.usage.1 n.command)));
+        usage = λ two. absurd (not_two two);
       }
 
 -- a run of the words of a command, by rules that are those of the program
@@ -94,7 +99,11 @@ run_ended words none old new e rules o same usage untouched ran kept shown =
 
 -- ---- no memory for the rules
 
-pub memory_lacked : (words : List (List ℕ)) (old new : DeskState) (e : Ending) → new ≡ old → ShowsCommand command.NoMemory e → HasEnded words old new e
-memory_lacked words old new e same shown =
-    let l : LackedMemory old new e = record { untouched = same; shown = shown } in
-    record { did = inr (inr (inr l)); two = λ two. absurd (let s = sym shown.status_is ∙ two in omega (arith, s)); usage = λ _. inr l }
+pub memory_lacked : (words : List (List ℕ)) (old new : DeskState) (e : Ending) → (IsNoForm (names_of program_rules) words → ⊥) → new ≡ old → ShowsCommand command.NoMemory e → HasEnded words old new e
+memory_lacked words old new e form same shown =
+    let other : e.status ≡ 2 → ⊥ = λ two. let s = sym shown.status_is ∙ two in omega (arith, s) in
+    record {
+      did = inr (inr (inr (record { untouched = same; shown = shown })));
+      two = (λ two. absurd (other two), λ n. absurd (form n.command));
+      usage = λ two. absurd (other two);
+    }

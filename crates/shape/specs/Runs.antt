@@ -1,6 +1,6 @@
 -- What a run of the program did by the words of its command line, and what its user sees of that.
 -- Which commands and products there are stands elsewhere; a further one changes nothing here.
-use Rattle.std.specs.Prelude.{◌≡◌, ◌≢◌, ◌⊎◌, ℕ, List, ◌∷◌, codes, Option, None}
+use Rattle.std.specs.Prelude.{◌≡◌, ◌≢◌, ◌⊎◌, ◌↔◌, ℕ, List, ◌∷◌, codes, Option, None}
 use Rattle.shape_terms.specs.Shelves.{names_of}
 use Rattle.shape_desk.specs.Desk.{DeskState}
 use Rattle.shape_cli.specs.Rules.{program_rules}
@@ -68,7 +68,7 @@ pub record RanProduct (words : List (List ℕ)) (old new : DeskState) (e : Endin
   pub ran : Ran product rest old new outcome
   pub shown : ShowsProduct product outcome e
 
--- there was no memory for the rules of the program, so nothing was done, whatever the words are
+-- there was no memory for the rules of the program, so nothing was done
 pub record LackedMemory (old new : DeskState) (e : Ending) : Type 0 where
   pub untouched : new ≡ old
   pub shown : Shows 6 (codes "no memory") None e
@@ -77,8 +77,8 @@ pub record LackedMemory (old new : DeskState) (e : Ending) : Type 0 where
 abbrev pub RanProgram : List (List ℕ) → DeskState → DeskState → Ending → Type 0
 RanProgram words old new e = Refused words old new e ⊎ (RanCommand words old new e ⊎ (RanProduct words old new e ⊎ LackedMemory old new e))
 
--- what is known of a run of the program: what it did, and that the status 2 comes exactly where the words are of no form, but where memory lacked
+-- what is known of a run of the program: what it did; the status 2 comes exactly where the words are of no form, and then the text is that of usage
 pub record HasEnded (words : List (List ℕ)) (old new : DeskState) (e : Ending) : Type 0 where
   pub did : RanProgram words old new e
-  pub two : e.status ≡ 2 → AreNoForm words
-  pub usage : AreNoForm words → (e.status ≡ 2) ⊎ LackedMemory old new e
+  pub two : (e.status ≡ 2) ↔ AreNoForm words
+  pub usage : e.status ≡ 2 → IsUsageOf words e.text.now

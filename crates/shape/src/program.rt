@@ -1,23 +1,35 @@
 //! A run of the program, over any desk: what its words ask for is done, and what the user sees of it is answered.
 //! A further product or command changes nothing here; a further rule is one more box.
 ghost use Rattle.std.specs.Prelude.{◌≡◌, ◌≢◌, ◌∷◌, ℕ, List};
+ghost use Rattle.shape_terms.specs.Shelves.{names_of};
 ghost use Rattle.shape_rules.specs.Ruled.{rules_on};
 ghost use Rattle.shape_desk.specs.Desk.{DeskState};
 ghost use Rattle.shape_desk.specs.Files.{KeepsFiles, texts};
 ghost use Rattle.shape_cli.specs.Rules.{program_rules};
+ghost use Rattle.shape_cli.specs.Commands.{IsNoForm};
 ghost use Rattle.shape.specs.Products.{product_word};
 ghost use Rattle.shape.specs.Runs.{HasEnded};
 
 use crate::ending::Ending;
 use crate::product::{Product, product_of};
-use shape_cli::{Outcome, run, shelf};
+use shape_cli::{Outcome, is_no_form, run, shelf};
 use shape_desk::Desk;
 use shape_rules::{CurveEnds, FewEnds, NoEnds, Shelf};
 use std::alloc::Global;
 
-// How a run ends for which there is no memory, before anything is done.
+// How a run ends whose words are of no form and begin with the word of no product: nothing was done.
+fn refusing() -> Ending
+    ensures { (words : List (List ℕ)) (desk : DeskState)
+        → ((p : Product) (rest : List (List ℕ)) → words ≢ product_word p ∷ rest)
+        → IsNoForm (names_of program_rules) words → HasEnded words desk desk result }
+{
+    Ending::of_command(Outcome::Usage)
+}
+
+// How a run of words that spell a command ends for which there is no memory, before anything is done.
 fn lacking() -> Ending
-    ensures { (words : List (List ℕ)) (desk : DeskState) → HasEnded words desk desk result }
+    ensures { (words : List (List ℕ)) (desk : DeskState)
+        → (IsNoForm (names_of program_rules) words → ⊥) → HasEnded words desk desk result }
 {
     Ending::of_command(Outcome::NoMemory)
 }
@@ -34,9 +46,11 @@ fn run_by<D: Desk>(alloc: Global, words: &[Vec<u8>], desk: &mut D, shelf: Shelf)
     Ending::of_command(outcome)
 }
 
-// Runs the words of a command by the rules `none`, `curve` and `few`; the last marks two points at most.
-fn run_command<D: Desk>(alloc: Global, words: &[Vec<u8>], desk: &mut D) -> Ending
-    requires { (p : Product) (rest : List (List ℕ)) → texts words.now ≢ product_word p ∷ rest }
+// Runs words that spell a command, by the rules `none`, `curve` and `few`; the last marks two points at most.
+fn run_spelled<D: Desk>(alloc: Global, words: &[Vec<u8>], desk: &mut D) -> Ending
+    requires none { (p : Product) (rest : List (List ℕ))
+        → texts words.now ≢ product_word p ∷ rest }
+    requires form { IsNoForm (names_of program_rules) (texts words.now) → ⊥ }
     ensures ended { HasEnded (texts words.now) (D.state desk.old) (D.state desk.new) result }
     ensures kept { KeepsFiles (D.state desk.old) (D.state desk.new) }
 {
@@ -52,6 +66,18 @@ fn run_command<D: Desk>(alloc: Global, words: &[Vec<u8>], desk: &mut D) -> Endin
     }
 }
 
+// Runs the words of a command: they are judged before memory is taken.
+fn run_command<D: Desk>(alloc: Global, words: &[Vec<u8>], desk: &mut D) -> Ending
+    requires { (p : Product) (rest : List (List ℕ)) → texts words.now ≢ product_word p ∷ rest }
+    ensures ended { HasEnded (texts words.now) (D.state desk.old) (D.state desk.new) result }
+    ensures kept { KeepsFiles (D.state desk.old) (D.state desk.new) }
+{
+    if is_no_form(words) {
+        return refusing();
+    }
+    run_spelled(alloc, words, desk)
+}
+
 // Makes a product by the words behind its own.
 fn run_product<D: Desk>(alloc: Global, product: Product, rest: &[Vec<u8>], desk: &mut D) -> Ending
     ensures ended { HasEnded (product_word product ∷ texts rest.now)
@@ -65,7 +91,7 @@ fn run_product<D: Desk>(alloc: Global, product: Product, rest: &[Vec<u8>], desk:
 /// Does what the words of a command line say, without the program's name: those behind the word of a product by the
 /// product's own call, and all others as those of a command. What the user sees is that of its outcome.
 ///
-/// The status 2 comes exactly where the words are of no form, but where there is no memory for the rules of the program.
+/// The status 2 comes exactly where the words are of no form, for all words and whatever memory there is.
 pub fn run_words<D: Desk>(alloc: Global, words: &[Vec<u8>], desk: &mut D) -> Ending
     ensures ended { HasEnded (texts words.now) (D.state desk.old) (D.state desk.new) result }
     ensures kept { KeepsFiles (D.state desk.old) (D.state desk.new) }

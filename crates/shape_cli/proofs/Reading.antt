@@ -1,7 +1,8 @@
 -- What the program reads of the words: the one command that they spell, or that they spell none.
 -- Laws of words and of what is read of them, part by part.
-use Rattle.std.proofs.Common.{◌≡◌, ℕ, List, [], ◌∷◌, ◌++◌, append-nil, Option, None, Some, refl, ap, sym, subst, ◌∙◌}
-use Rattle.std.specs.Prelude.{Contains, MatchOption, slice_get}
+use Rattle.std.proofs.Common.{◌≡◌, ℕ, List, [], ◌∷◌, ◌++◌, append-nil, Option, None, Some, Bool, true, false, refl, ap, sym, subst, ◌∙◌}
+use Rattle.std.proofs.lemmas.Bool.{false≢true}
+use Rattle.std.specs.Prelude.{◌↔◌, Contains, IsTrue, MatchOption, is_some, not, slice_get}
 use Rattle.std.proofs.lemmas.Option.{slice_get_within, get_or_from_slice_get}
 use Rattle.shape_terms.specs.Thinning.{Rule}
 use Rattle.shape_terms.specs.Shelves.{Named, names_of}
@@ -54,6 +55,13 @@ in_range : (names : List (List ℕ)) (c : Command) → IsAtHand names c → IsIn
 in_range names (command.Make source wanted) h = (program_sides source, h.0, named names wanted h.1)
 in_range names (command.Check source kind report) h = (program_sides source, h)
 in_range names (command.Trial kind seed side) h = h
+
+-- nothing is read of words exactly where they are of no form
+pub judged : (names words : List (List ℕ)) (r : Option Command) (b : Bool) → is_some r ≡ not b → MatchOption r (IsNoForm names words) (λ c. (words ≡ words_of (read_command c)) × IsAtHand names c) → IsTrue b ↔ IsNoForm names words
+judged names words None true e n = (λ t. n, λ m. refl)
+judged names words None false e n = absurd (false≢true e)
+judged names words (Some c) true e h = absurd (false≢true (sym e))
+judged names words (Some c) false e h = (λ t. absurd (false≢true t), λ n. absurd (n (read_command c) (in_range names c h.1) h.0))
 
 -- the words of a command that was run
 pub asked : (shelf : List (Named Rule)) (names words : List (List ℕ)) (c : Command) (old new : DeskState) (o : Outcome) → names_of shelf ≡ names → words ≡ words_of (read_command c) → IsAtHand names c → Ran shelf (read_command c) old new o → Asks (names_of shelf) words (λ d. Ran shelf d old new o)

@@ -1,7 +1,6 @@
 //! The words of a command line.
 //! A command has one spelling: a first word, the words of a source, and a last word; or those of a trial.
-ghost use Rattle.std.specs.Prelude.{◌≡◌, ℕ, List, MatchOption, None, Some, Contains, ◌∷◌, [], slice_get};
-ghost use Rattle.shape_terms.specs.Shelves.{names_of};
+ghost use Rattle.std.specs.Prelude.{◌≡◌, ℕ, List, MatchOption, None, ◌∷◌, []};
 ghost use Rattle.shape_cli.specs.Sources.{source_words, kind_at, read_kind, read_source};
 ghost use Rattle.shape_cli.specs.Further.{read_further};
 ghost use Rattle.shape_cli.specs.Kinds.{ReportKind as AskedKind, Takes, read_report_kind};
@@ -10,9 +9,9 @@ ghost use Rattle.shape_cli.specs.Commands.{First as AskedFirst, AreTrial, IsNoFo
 
 use crate::further::{FurtherKind, beginning_further};
 use crate::kind::{ReportKind, Wanted};
+use crate::names::Names;
 use crate::numbers::number_in;
 use crate::source::{Kind, Source, kind_called, source_of};
-use shape_rules::Shelf;
 
 /// How the words of a command begin.
 #[derive(Clone, Copy)]
@@ -64,19 +63,6 @@ fn beginning(word: &[u8]) -> Option<First>
     beginning_further(word)
 }
 
-// The number of the rule that a word names.
-fn find_rule(shelf: &Shelf, word: &[u8]) -> Option<usize>
-    ensures { MatchOption result (Contains (names_of shelf.now) word.now → ⊥)
-        (λ i. slice_get (names_of shelf.now) i ≡ Some word.now) }
-{
-    for i in 0..shelf.len() {
-        if shelf.name(i).word() == word {
-            return Some(i);
-        }
-    }
-    None
-}
-
 // The source that words spell, of a picture that reports of the kind may be about.
 fn source_for<'a>(kind: ReportKind, words: &'a [Vec<u8>]) -> Option<Source<'a>>
     ensures { MatchOption result (IsNoSourceFor (read_report_kind kind) (texts words.now))
@@ -92,15 +78,15 @@ fn source_for<'a>(kind: ReportKind, words: &'a [Vec<u8>]) -> Option<Source<'a>>
 }
 
 // The analysis that the words behind the first spell: those of a source, and the name of a rule.
-fn read_analysis<'a>(rest: &'a [Vec<u8>], shelf: &Shelf) -> Option<Command<'a>>
+fn read_analysis<'a, N: Names>(rest: &'a [Vec<u8>], names: &N) -> Option<Command<'a>>
     ensures { MatchOption result
-        (IsNoRest (names_of shelf.now) (AskedFirst.Make AskedKind.Analysis) (texts rest.now))
-        (IsRead (names_of shelf.now) (AskedFirst.Make AskedKind.Analysis) (texts rest.now)) }
+        (IsNoRest (N.names names.now) (AskedFirst.Make AskedKind.Analysis) (texts rest.now))
+        (IsRead (N.names names.now) (AskedFirst.Make AskedKind.Analysis) (texts rest.now)) }
 {
     let (rule, at) = rest.split_last()?;
     let rule = rule.as_slice();
     let source = source_for(ReportKind::Analysis, at)?;
-    let which = find_rule(shelf, rule)?;
+    let which = names.number_of(rule)?;
     let wanted = Wanted::Analysis { rule, which };
     Some(Command::Make { source, wanted })
 }
@@ -117,13 +103,17 @@ fn read_further_kind<'a>(kind: FurtherKind, rest: &'a [Vec<u8>]) -> Option<Comma
 }
 
 // The making of a report of a kind that the words behind the first spell.
-fn read_making<'a>(kind: ReportKind, rest: &'a [Vec<u8>], shelf: &Shelf) -> Option<Command<'a>>
+fn read_making<'a, N: Names>(
+    kind: ReportKind,
+    rest: &'a [Vec<u8>],
+    names: &N,
+) -> Option<Command<'a>>
     ensures { MatchOption result
-        (IsNoRest (names_of shelf.now) (AskedFirst.Make (read_report_kind kind)) (texts rest.now))
-        (IsRead (names_of shelf.now) (AskedFirst.Make (read_report_kind kind)) (texts rest.now)) }
+        (IsNoRest (N.names names.now) (AskedFirst.Make (read_report_kind kind)) (texts rest.now))
+        (IsRead (N.names names.now) (AskedFirst.Make (read_report_kind kind)) (texts rest.now)) }
 {
     match kind {
-        ReportKind::Analysis => read_analysis(rest, shelf),
+        ReportKind::Analysis => read_analysis(rest, names),
         ReportKind::Further(kind) => read_further_kind(kind, rest),
     }
 }
@@ -168,14 +158,14 @@ fn read_trial<'a>(rest: &[Vec<u8>]) -> Option<Command<'a>>
     }
 }
 
-/// The command that the words spell, if they are of a form, with numbers in range and a rule on the shelf.
-pub(crate) fn read_words<'a>(words: &'a [Vec<u8>], shelf: &Shelf) -> Option<Command<'a>>
-    ensures { MatchOption result (IsNoForm (names_of shelf.now) (texts words.now))
-        (λ c. (texts words.now ≡ words_of (read_command c)) × IsAtHand (names_of shelf.now) c) }
+/// The command that the words spell, if they are of a form, with numbers in range and a rule of one of the names.
+pub(crate) fn read_words<'a, N: Names>(words: &'a [Vec<u8>], names: &N) -> Option<Command<'a>>
+    ensures { MatchOption result (IsNoForm (N.names names.now) (texts words.now))
+        (λ c. (texts words.now ≡ words_of (read_command c)) × IsAtHand (N.names names.now) c) }
 {
     let (first, rest) = words.split_first()?;
     match beginning(first.as_slice())? {
-        First::Make(kind) => read_making(kind, rest, shelf),
+        First::Make(kind) => read_making(kind, rest, names),
         First::Check(kind) => read_check(kind, rest),
         First::Trial => read_trial(rest),
     }

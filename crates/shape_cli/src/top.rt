@@ -1,20 +1,29 @@
 //! The top call: what the words ask for is done by `making`, `verdict` or `trial`.
 //! What each outcome means for the desk stands in `specs/Runs.antt`.
-ghost use Rattle.std.specs.Prelude.{◌≡◌, ◌↔◌, ◌⊎◌};
+ghost use Rattle.std.specs.Prelude.{◌≡◌, ◌↔◌, ◌⊎◌, IsTrue};
 ghost use Rattle.shape_terms.specs.Shelves.{names_of};
 ghost use Rattle.shape_rules.specs.Ruled.{rules_on};
 ghost use Rattle.shape_desk.specs.Files.{texts, KeepsFiles};
 ghost use Rattle.shape_cli.specs.Commands.{IsNoForm, Asks};
+ghost use Rattle.shape_cli.specs.Rules.{program_rules};
 ghost use Rattle.shape_cli.specs.Runs.{Ran};
 
 use crate::command::{Command, read_words};
 use crate::making::make_file;
+use crate::names::ProgramNames;
 use crate::outcome::Outcome;
 use crate::trial::try_seed;
 use crate::verdict::check_file;
 use shape_desk::Desk;
 use shape_rules::Shelf;
 use std::alloc::Global;
+
+/// Whether the words are of no form by the rules of the program. It takes no memory, so it can be asked before there is a shelf.
+pub fn is_no_form(words: &[Vec<u8>]) -> bool
+    ensures { IsTrue result ↔ IsNoForm (names_of program_rules) (texts words.now) }
+{
+    read_words(words, &ProgramNames).is_none()
+}
 
 /// Does what the words of a command line say, without the program's name.
 ///
