@@ -2,8 +2,11 @@
 ghost use Rattle.std.specs.Prelude.{◌≡◌, ◌⊎◌, ◌<◌, ◌∷◌, [], ℕ, ℤ, pos, ◌≤ℤ◌, List, length, replicate, slice_set, true};
 ghost use Rattle.std.proofs.Common.{rules, arith, inl, refl};
 ghost use Rattle.std.proofs.lemmas.Int.{ints};
+ghost use Rattle.shape_terms.specs.Limits.{most_flat, most_solid};
 ghost use Rattle.shape_terms.specs.Points.{coordinate, raster_cmp};
 ghost use Rattle.shape_space.specs.Laws.{same_flat, equal_flat};
+
+use crate::limits::MOST_FLAT;
 
 /// A point of the plane or of space. The axes are numbered 0 for x, 1 for y and 2 for z.
 ///
@@ -14,7 +17,7 @@ pub trait Point: Copy + Eq + Ord {
 
     const DIM: usize;
 
-    /// The greatest side of a box of such points: at most 2048 in the plane and 192 in space.
+    /// The greatest side of a box of such points: at most most_flat in the plane and most_solid in space.
     ghost MAX_SIDE: { ℤ };
 
     const MAX_SIDE: i32;
@@ -40,9 +43,9 @@ pub trait Point: Copy + Eq + Ord {
 
     ghost some_side: { pos 1 ≤ℤ MAX_SIDE };
 
-    ghost flat_side: { MAX_SIDE ≤ℤ pos 2048 };
+    ghost flat_side: { MAX_SIDE ≤ℤ pos most_flat };
 
-    ghost solid_side: { DIM ≡ 3 → MAX_SIDE ≤ℤ pos 192 };
+    ghost solid_side: { DIM ≡ 3 → MAX_SIDE ≤ℤ pos most_solid };
 
     ghost axes: { (p : Self) → length (coords p) ≡ DIM };
 
@@ -67,9 +70,9 @@ impl Point for P2 {
 
     const DIM: usize = 2;
 
-    ghost MAX_SIDE = { pos 2048 };
+    ghost MAX_SIDE = { pos most_flat };
 
-    const MAX_SIDE: i32 = 2048;
+    const MAX_SIDE: i32 = MOST_FLAT;
 
     ghost coords = { λ p. p.x ∷ p.y ∷ [] };
 

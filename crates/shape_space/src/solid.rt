@@ -3,8 +3,10 @@
 ghost use Rattle.std.specs.Prelude.{◌∷◌, [], pos};
 ghost use Rattle.std.proofs.Common.{rules, arith, inr, refl};
 ghost use Rattle.std.proofs.lemmas.Int.{ints};
+ghost use Rattle.shape_terms.specs.Limits.{most_solid};
 ghost use Rattle.shape_space.specs.Laws.{same_solid, equal_solid};
 
+use crate::limits::MOST_SOLID;
 use crate::point::Point;
 
 /// A point of space: x grows to the right, y downwards, and z with the layer.
@@ -22,9 +24,9 @@ impl Point for P3 {
 
     const DIM: usize = 3;
 
-    ghost MAX_SIDE = { pos 192 };
+    ghost MAX_SIDE = { pos most_solid };
 
-    const MAX_SIDE: i32 = 192;
+    const MAX_SIDE: i32 = MOST_SOLID;
 
     ghost coords = { λ p. p.x ∷ p.y ∷ p.z ∷ [] };
 

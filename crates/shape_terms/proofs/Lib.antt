@@ -38,6 +38,7 @@ pub mod FramedLines
 pub mod AxisPlaces
 pub mod AxisCounts
 pub mod ContourLists
+pub mod ContourRoom
 pub mod Senses
 pub mod FirstNumbers
 pub mod LinkTests

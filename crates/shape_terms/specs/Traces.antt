@@ -1,6 +1,7 @@
 -- Contours as they are traced: where one starts, its points, and what holds of every closed path of pixels.
 -- How the cracks of a contour are found belongs elsewhere.
-use Rattle.std.specs.Prelude.{◌≡◌, ◌≢◌, ℕ, ◌+◌, ◌<◌, ◌≤◌, ◌%◌, ◌^◌, List, [], ◌∷◌, map, length, slice_index_or, IsTrue, All}
+use Rattle.std.specs.Prelude.{◌≡◌, ◌≢◌, ℕ, ◌+◌, ◌<◌, ◌≤◌, ◌%◌, List, [], ◌∷◌, map, length, sum_by, slice_index_or, IsTrue, All}
+use Rattle.shape_terms.specs.Limits.{most_round}
 use Rattle.shape_terms.specs.Points.{Point, in_box}
 use Rattle.shape_terms.specs.Steps.{AreClose}
 use Rattle.shape_terms.specs.Pictures.{Picture}
@@ -28,10 +29,14 @@ pub record AreContours (X : Picture) (contours : List Contour) : Type 0 where
   pub are : AreCycles X cycles
   pub contours_are : contours ≡ map (contour_of X) cycles
 
+-- how many points these contours have in all
+abbrev pub points_in : List Contour → ℕ
+points_in contours = sum_by (λ k. length k.points) contours
+
 -- some points of a square box, each close to the next and the last to the first, and different from it where there are two or more
 pub record IsClosedPath (side : ℕ) (points : List Point) : Type 0 where
   pub some : 1 ≤ length points
-  pub few : length points ≤ 2 ^ 24
+  pub few : length points ≤ most_round
   pub inside : All (λ p. IsTrue (in_box (side ∷ side ∷ []) p)) points
   pub close : (i : ℕ) → i < length points → AreClose (slice_index_or points i []) (slice_index_or points ((i + 1) % length points) [])
   pub apart : 2 ≤ length points → (i : ℕ) → i < length points → slice_index_or points i [] ≢ slice_index_or points ((i + 1) % length points) []
