@@ -31,13 +31,14 @@ pub(crate) struct BallReportJudge<P: Point> {
 }
 
 impl<P: Point> BallReportJudge<P> {
+    ghost use Rattle.shape_terms.specs.Limits.{most_points};
     ghost use Rattle.judge_balls.specs.LineOf.{ball_of, line_of};
     ghost use Rattle.judge_balls.specs.Course.{StandsFor, Fits, JudgesLine, room_at};
 
     /// A judge that has taken no line. It takes all its memory here.
     pub(crate) fn new(alloc: Global, grid: &Grid<P>) -> Result<BallReportJudge<P>, NoMemory>
         ensures stands { IfOk result (λ j. StandsFor grid.now j []) }
-        ensures room { IfOk result (λ j. room_at j.state j.balls ≤ 2 ^ 23 + 3) }
+        ensures room { IfOk result (λ j. room_at j.state j.balls ≤ most_points + 3) }
     {
         let balls = BallJudge::new(alloc, grid)?;
         Ok(BallReportJudge {

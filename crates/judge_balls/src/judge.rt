@@ -40,12 +40,13 @@ fn is_same<P: Point>(p: P, q: P) -> bool
 }
 
 impl<P: Point> BallJudge<P> {
+    ghost use Rattle.shape_terms.specs.Limits.{most_points};
     ghost use Rattle.judge_balls.specs.Standing.{StandsFor, room_of};
 
     /// A judge that has taken no ball. It takes all its memory here.
     pub fn new(alloc: Global, grid: &Grid<P>) -> Result<BallJudge<P>, NoMemory>
         ensures stands { IfOk result (StandsFor grid.now []) }
-        ensures room { IfOk result (λ j. room_of j ≤ 2 ^ 23) }
+        ensures room { IfOk result (λ j. room_of j ≤ most_points) }
     {
         grid.is_picture();
         let count = grid.sides().count() as usize;

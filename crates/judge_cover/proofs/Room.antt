@@ -6,6 +6,7 @@ use Rattle.std.proofs.lemmas.Bool.{cond-true, cond-false, cases_Bool}
 use Rattle.std.proofs.lemmas.List.{length-append, length-map, get_or_default}
 use Rattle.std.proofs.lemmas.List.Sums.{sum_by-cons}
 use Rattle.std.proofs.lemmas.List.Elements.{All-head, All-tail}
+use Rattle.shape_terms.specs.Limits.{most_points}
 use native.Mathlib.Decide.{dec_lt}
 use Rattle.shape_terms.specs.Points.{box_count}
 use Rattle.shape_terms.specs.Pictures.{Picture}
@@ -66,7 +67,7 @@ first_few [] = omega arith
 first_few (k ∷ contours) = omega (arith, sum_by-cons (λ (k : Contour). length k.points) k contours)
 
 -- the lines of all contours
-pub few_lines : (number : ℕ) (X : Picture) (contours : List Contour) → AreContours X contours → box_count X.sides ≤ 2 ^ 23 → room_of (record { number = number; contours = contours; standing = record { begun = 0; points = 0; declared = 0; stretches = []; last = None; gaps = 0 } }) < 2 ^ 60
+pub few_lines : (number : ℕ) (X : Picture) (contours : List Contour) → AreContours X contours → box_count X.sides ≤ most_points → room_of (record { number = number; contours = contours; standing = record { begun = 0; points = 0; declared = 0; stretches = []; last = None; gaps = 0 } }) < 2 ^ 60
 few_lines number X contours are few =
     let cracks = few_cracks X (flat_map (λ c. c) are.cycles) (λ c i. (are.are.each c).1 i) are.are.once in
     let all = few_in_all X are.cycles are.are.cycle in

@@ -2,6 +2,7 @@
 -- Laws over what the judge is seen as and the lists that it keeps.
 use Rattle.std.proofs.Common.{◌≡◌, ℕ, ◌+◌, ◌-◌, ◌*◌, ◌<◌, ◌≤◌, ◌^◌, List, length, map, take, drop, ap, ◌∙◌, subst, arith}
 use Rattle.std.proofs.lemmas.List.{length-map}
+use Rattle.shape_terms.specs.Limits.{most_round}
 use Rattle.shape_terms.specs.Points.{Point}
 use Rattle.shape_terms.specs.Traces.{Contour}
 use Rattle.shape_terms.specs.Covers.{Stretch, arc}
@@ -35,7 +36,7 @@ module _ {A : Type 0} (f : A → Point) (n : ℕ) (cs : List Contour) (s : Stand
   arc_value items run first last e order l r =
       part_is f round run (open_contour now.contours now.standing).points first last twice_round order l (r ∙ ap (λ xs. take (last + 1 - first) (drop first xs)) e)
 
-  pub arc_few : (items run : List A) (first last : ℕ) → items ≡ round → first ≤ last → last < 2 * length (open_contour now.contours now.standing).points → run ≡ take (last + 1 - first) (drop first items) → length (open_contour now.contours now.standing).points ≤ 2 ^ 24 → length run < 2 ^ 31
+  pub arc_few : (items run : List A) (first last : ℕ) → items ≡ round → first ≤ last → last < 2 * length (open_contour now.contours now.standing).points → run ≡ take (last + 1 - first) (drop first items) → length (open_contour now.contours now.standing).points ≤ most_round → length run < 2 ^ 31
   arc_few items run first last e order l r few =
       let k = ap length (arc_value items run first last e order l r) in
       omega (arith, k, length-map run f, length-arc (open_contour now.contours now.standing).points first last)

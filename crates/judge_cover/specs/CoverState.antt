@@ -5,6 +5,7 @@ use Rattle.shape_terms.specs.Points.{Point}
 use Rattle.shape_terms.specs.Pictures.{Picture}
 use Rattle.shape_terms.specs.Traces.{Contour, AreContours}
 use Rattle.std.specs.Option.{option_map}
+use Rattle.shape_terms.specs.Limits.{most_round}
 use Rattle.shape_terms.specs.Covers.{Stretch, arc}
 use Rattle.shape_terms.specs.Naive.{IsNaiveFor}
 use Rattle.report_terms.specs.Lines.{Line}
@@ -88,7 +89,7 @@ pub record IsInStep (contours : List Contour) (s : Standing) : Type 0 where
   pub begun : 0 < s.declared → 0 < s.begun
   pub points_within : s.points ≤ length (open_contour contours s).points
   pub declared_within : s.declared ≤ length (open_contour contours s).points
-  pub declared_few : s.declared ≤ 2 ^ 24
+  pub declared_few : s.declared ≤ most_round
   pub listed_within : length s.stretches ≤ s.declared
   pub gaps_within : s.gaps ≤ 2 * s.declared
   pub around : All (IsAround (length (open_contour contours s).points)) s.stretches

@@ -1,6 +1,7 @@
 //! The points of one contour, twice round, so that each arc of it is a part of one list.
 //! Nothing here knows of lines.
 ghost use Rattle.std.specs.Prelude.{◌≡◌, ◌<◌, ◌≤◌, ◌+◌, ◌-◌, ◌*◌, ◌^◌, length, map, take, drop, vec_len, vec_capacity, All};
+ghost use Rattle.shape_terms.specs.Limits.{most_round};
 ghost use Rattle.shape_terms.specs.Covers.{arc};
 ghost use Rattle.shape_crack.specs.Terms.{point_of};
 
@@ -33,7 +34,7 @@ pub(crate) fn part(round: &[P2], first: u32, last: u32) -> &[P2]
 // The greatest number of points of a contour.
 pub(crate) fn greatest(contours: &Contours) -> u32
     ensures each { All (λ k. length k.points ≤ result) contours.now }
-    ensures few { result ≤ 2 ^ 24 }
+    ensures few { result ≤ most_round }
 {
     let mut greatest: u32 = 0;
     for k in 0..contours.len() {

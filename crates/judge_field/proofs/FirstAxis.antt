@@ -4,15 +4,16 @@ use Rattle.std.proofs.Common.{◌≡◌, ◌⊎◌, inl, inr, ℕ, zero, suc, �
 use Rattle.std.proofs.lemmas.Bool.{cases_lt}
 use Rattle.std.proofs.lemmas.Nat.{mul-le, mod-mul-add, mod_below}
 use Rattle.std.proofs.Math.Nat.{mod-le}
+use Rattle.shape_terms.specs.Limits.{most_coordinate, most_way, far}
 use Rattle.shape_terms.specs.AxisLines.{gap}
 use Rattle.judge_field.specs.Scanned.{IsLeastAlong, IsScannedAt, IsWay}
 use Rattle.shape_envelope.proofs.Fences.{gap_up, gap_down, gap_none}
 
 -- ---- one place on
 
-pub way_more : (line before : ℕ → ℕ) (k way r square : ℕ) → line 0 ≡ square → ((g : ℕ) → line (g + 1) ≡ before g) → (square ≡ 0) ⊎ (square ≡ 67108864)
+pub way_more : (line before : ℕ → ℕ) (k way r square : ℕ) → line 0 ≡ square → ((g : ℕ) → line (g + 1) ≡ before g) → (square ≡ 0) ⊎ (square ≡ far)
     → (0 < k → IsWay before (k - 1) way)
-    → (square ≡ 0 → r ≡ 0) → (0 < square → k ≡ 0 → r ≡ 8192) → (0 < square → 0 < k → way < 8192 → r ≡ way + 1) → (0 < square → 0 < k → 8192 ≤ way → r ≡ 8192)
+    → (square ≡ 0 → r ≡ 0) → (0 < square → k ≡ 0 → r ≡ most_way) → (0 < square → 0 < k → way < most_way → r ≡ way + 1) → (0 < square → 0 < k → most_way ≤ way → r ≡ most_way)
     → IsWay line k r
 way_more line before k way r square here step (inl z) prior bare first near far =
     let e = bare z in
@@ -20,7 +21,7 @@ way_more line before k way r square here step (inl z) prior bare first near far 
 way_more line before zero way r square here step (inr f) prior bare first near far =
     let e = first (omega arith) refl in
     record { free = λ g a b. ap line (let q : g ≡ 0 = omega arith in q) ∙ here ∙ f; end = inl e }
-way_more line before (suc k) way r square here step (inr f) prior bare first near far = elim (cases_lt way 8192) [
+way_more line before (suc k) way r square here step (inr f) prior bare first near far = elim (cases_lt way most_way) [
   | inl l ↦
       let e = near (omega arith) (omega arith) l in
       record { free = λ g a b. free g a (omega arith); end = end e h.end }
@@ -30,14 +31,14 @@ way_more line before (suc k) way r square here step (inr f) prior bare first nea
     h : IsWay before (suc k - 1) way
     h = prior (omega arith)
 
-    free : (g : ℕ) → g ≤ suc k → g < way + 1 → line g ≡ 67108864
+    free : (g : ℕ) → g ≤ suc k → g < way + 1 → line g ≡ far
     free zero a b = here ∙ f
     free (suc g) a b = ap line (let q : suc g ≡ g + 1 = omega arith in q) ∙ step g ∙ h.free g (omega arith) (omega arith)
 
-    end : r ≡ way + 1 → (way ≡ 8192) ⊎ ((way ≤ suc k - 1) × (before way ≡ 0)) → (r ≡ 8192) ⊎ ((r ≤ suc k) × (line r ≡ 0))
+    end : r ≡ way + 1 → (way ≡ most_way) ⊎ ((way ≤ suc k - 1) × (before way ≡ 0)) → (r ≡ most_way) ⊎ ((r ≤ suc k) × (line r ≡ 0))
     end e (inl q) = absurd (let l = near (omega arith) (omega arith) in none q)
       where
-        none : way ≡ 8192 → ⊥
+        none : way ≡ most_way → ⊥
         none q = absurd (omega arith)
     end e (inr q) = inr (omega (arith, q.0), ap line e ∙ step way ∙ q.1)
 
@@ -70,12 +71,12 @@ more_after i n rows some l h = elim (cases_lt (i + 1) (n * rows)) [
 
 -- ---- the two ways of a place
 
-module _ (line : ℕ → ℕ) (w x a b : ℕ) (inside : x < w) (short : w ≤ 4096) (back : IsWay (λ g. line (x - g)) x a) (on : IsWay (λ g. line (x + g)) (w - 1 - x) b) where
+module _ (line : ℕ → ℕ) (w x a b : ℕ) (inside : x < w) (short : w ≤ most_coordinate) (back : IsWay (λ g. line (x - g)) x a) (on : IsWay (λ g. line (x + g)) (w - 1 - x) b) where
   two_squares : (r s g : ℕ) → r ≤ s * s → s ≤ g → r ≤ g * g
   two_squares r s g h l = let m = mul-le s s g g l l in omega arith
 
   -- no place gives less than either way allows
-  least : (two : (y : ℕ) → (line y ≡ 0) ⊎ (line y ≡ 67108864)) (r : ℕ) → r ≤ 67108864 → r ≤ a * a → r ≤ b * b → (z : ℕ) → z < w → r ≤ line z + gap x z * gap x z
+  least : (two : (y : ℕ) → (line y ≡ 0) ⊎ (line y ≡ far)) (r : ℕ) → r ≤ far → r ≤ a * a → r ≤ b * b → (z : ℕ) → z < w → r ≤ line z + gap x z * gap x z
   least two r small below above z l = elim (two z) [
     | inr far ↦ omega arith
     | inl bare ↦ elim (cases_lt x z) [
@@ -94,29 +95,29 @@ module _ (line : ℕ → ℕ) (w x a b : ℕ) (inside : x < w) (short : w ≤ 40
     ]
   ]
 
-  own : line x ≡ 67108864 → (r : ℕ) → r ≡ 67108864 → r ≡ line x + gap x x * gap x x
+  own : line x ≡ far → (r : ℕ) → r ≡ far → r ≡ line x + gap x x * gap x x
   own e r f = rw (gap_none x, e) f
 
-  pub by_back : (two : (y : ℕ) → (line y ≡ 0) ⊎ (line y ≡ 67108864)) (r : ℕ) → a ≤ b → r ≡ a * a → IsLeastAlong line w x r
+  pub by_back : (two : (y : ℕ) → (line y ≡ 0) ⊎ (line y ≡ far)) (r : ℕ) → a ≤ b → r ≡ a * a → IsLeastAlong line w x r
   by_back two r le e = elim back.end [
     | inl none ↦
-        let f : r ≡ 67108864 = e ∙ ap (λ n. n * n) none in
-        let here : line x ≡ 67108864 = ap line (let q : x ≡ x - 0 = omega arith in q) ∙ back.free 0 (omega arith) (omega arith) in
+        let f : r ≡ far = e ∙ ap (λ n. n * n) none in
+        let here : line x ≡ far = ap line (let q : x ≡ x - 0 = omega arith in q) ∙ back.free 0 (omega arith) (omega arith) in
         record { y = x; inside = inside; reached = own here r f; least = least two r (omega arith) (omega arith) (let m = mul-le a a b b le le in omega arith) }
     | inr near ↦
         let g = gap_down x (x - a) a (omega (arith, near.0)) in
-        record { y = x - a; inside = omega arith; reached = rw (near.1, g) (omega (arith, e)); least = least two r (let m = mul-le a a 4096 4096 (omega (arith, near.0)) (omega (arith, near.0)) in omega arith) (omega arith) (let m = mul-le a a b b le le in omega arith) }
+        record { y = x - a; inside = omega arith; reached = rw (near.1, g) (omega (arith, e)); least = least two r (let m = mul-le a a most_coordinate most_coordinate (omega (arith, near.0)) (omega (arith, near.0)) in omega arith) (omega arith) (let m = mul-le a a b b le le in omega arith) }
   ]
 
-  pub by_on : (two : (y : ℕ) → (line y ≡ 0) ⊎ (line y ≡ 67108864)) (r : ℕ) → b < a → r ≡ b * b → IsLeastAlong line w x r
+  pub by_on : (two : (y : ℕ) → (line y ≡ 0) ⊎ (line y ≡ far)) (r : ℕ) → b < a → r ≡ b * b → IsLeastAlong line w x r
   by_on two r lt e = elim on.end [
     | inl none ↦
-        let f : r ≡ 67108864 = e ∙ ap (λ n. n * n) none in
-        let here : line x ≡ 67108864 = ap line (let q : x ≡ x + 0 = omega arith in q) ∙ on.free 0 (omega arith) (omega arith) in
+        let f : r ≡ far = e ∙ ap (λ n. n * n) none in
+        let here : line x ≡ far = ap line (let q : x ≡ x + 0 = omega arith in q) ∙ on.free 0 (omega arith) (omega arith) in
         record { y = x; inside = inside; reached = own here r f; least = least two r (omega arith) (let m = mul-le b b a a (omega arith) (omega arith) in omega arith) (omega arith) }
     | inr near ↦
         let g = gap_up x (x + b) b refl in
-        record { y = x + b; inside = omega (arith, near.0); reached = rw (near.1, g) (omega (arith, e)); least = least two r (let m = mul-le b b 4096 4096 (omega (arith, near.0)) (omega (arith, near.0)) in omega arith) (let m = mul-le b b a a (omega arith) (omega arith) in omega arith) (omega arith) }
+        record { y = x + b; inside = omega (arith, near.0); reached = rw (near.1, g) (omega (arith, e)); least = least two r (let m = mul-le b b most_coordinate most_coordinate (omega (arith, near.0)) (omega (arith, near.0)) in omega arith) (let m = mul-le b b a a (omega arith) (omega arith) in omega arith) (omega arith) }
   ]
 
 -- ---- ways along the lines of a framed box
@@ -152,7 +153,7 @@ way_before squares i n rows way r some later inside prior answer =
     let q : i ≡ i - 1 + 1 = omega arith in
     way_back_on squares (i - 1) n rows way r some (omega arith) (λ l. subst (λ (j : ℕ). IsWay (λ g. get_or squares (j + g) 0) (n - 1 - j % n) way) q (prior (omega arith))) answer
 
-pub way_small : (back : ℕ → ℕ) (k w : ℕ) → k ≤ 4096 → IsWay back k w → w ≤ 8192
+pub way_small : (back : ℕ → ℕ) (k w : ℕ) → k ≤ most_coordinate → IsWay back k w → w ≤ most_way
 way_small back k w l h = elim h.end [ inl e ↦ omega arith | inr e ↦ omega (arith, e.0) ]
 
 way_same : (f g : ℕ → ℕ) (k w : ℕ) → ((i : ℕ) → i ≤ k → f i ≡ g i) → IsWay f k w → IsWay g k w
@@ -162,7 +163,7 @@ way_same f g k w same h = record {
 }
 
 -- the shorter way gives the least that its line gives a place
-pub first_scanned : (squares : List ℕ) (j n a b r : ℕ) → 0 < n → n ≤ 4096 → ((i : ℕ) → (get_or squares i 0 ≡ 0) ⊎ (get_or squares i 0 ≡ 67108864))
+pub first_scanned : (squares : List ℕ) (j n a b r : ℕ) → 0 < n → n ≤ most_coordinate → ((i : ℕ) → (get_or squares i 0 ≡ 0) ⊎ (get_or squares i 0 ≡ far))
     → IsWay (λ g. get_or squares (j - g) 0) (j % n) a → IsWay (λ g. get_or squares (j + g) 0) (n - 1 - j % n) b → (a ≤ b → r ≡ a * a) → (b < a → r ≡ b * b) → IsScannedAt 1 n squares j r
 first_scanned squares j n a b r some short two back on first second =
     let one : j ≡ j / 1 = omega arith in
@@ -186,8 +187,8 @@ first_scanned squares j n a b r some short two back on first second =
     on_line : IsWay (λ g. line (j % n + g)) (n - 1 - j % n) b
     on_line = way_same (λ g. get_or squares (j + g) 0) (λ g. line (j % n + g)) (n - 1 - j % n) b (λ g h. ap (λ i. get_or squares i 0) (let q : j + g ≡ j - j % n * 1 + (j % n + g) * 1 = let k = m in omega arith in q)) on
 
-pub first_small : (a b r : ℕ) → a ≤ 8192 → b ≤ 8192 → (a ≤ b → r ≡ a * a) → (b < a → r ≡ b * b) → r ≤ 67108864
+pub first_small : (a b r : ℕ) → a ≤ most_way → b ≤ most_way → (a ≤ b → r ≡ a * a) → (b < a → r ≡ b * b) → r ≤ far
 first_small a b r la lb first second = elim (cases_lt b a) [
-  | inl lt ↦ (let m = mul-le b b 8192 8192 lb lb in let e = second lt in omega arith)
-  | inr le ↦ (let m = mul-le a a 8192 8192 la la in let e = first le in omega arith)
+  | inl lt ↦ (let m = mul-le b b most_way most_way lb lb in let e = second lt in omega arith)
+  | inr le ↦ (let m = mul-le a a most_way most_way la la in let e = first le in omega arith)
 ]

@@ -5,6 +5,7 @@ use Rattle.std.specs.Prelude.{IsTrue}
 use Rattle.std.proofs.lemmas.Bool.{cases_Bool, cases_lt, cases_eq}
 use Rattle.std.proofs.lemmas.List.{get_or_push, get_or_append_left, get_or_past}
 use Rattle.std.proofs.lemmas.Nat.{mod-mul-add, div-mul-add}
+use Rattle.shape_terms.specs.Limits.{far}
 use Rattle.shape_terms.specs.Points.{Point, box_count, in_box, squared_distance}
 use Rattle.shape_terms.specs.Pictures.{Picture, at}
 use Rattle.shape_terms.specs.FramedBox.{framed_sides, framed_point}
@@ -95,7 +96,7 @@ module _ (X : Picture) (c w rows : ℕ) (count : box_count (framed_sides X.sides
       let far : apart X.sides (place c w low x high) r ≡ apart X.sides j r + gap x p.x * gap x p.x = subst (λ n. apart X.sides (place c w low x high) n ≡ apart X.sides j n + gap x p.x * gap x p.x) (sym is) (splits low p.low x p.x high l p.low_below h p.x_below k) in
       omega (arith, t.least p.x p.x_below, near, far)
 
-  reached_at_place : (low x high s : ℕ) → low < c → x < w → high < rows → IsLeastAlong (λ y. get_or old (place c w low y high) 0) w x s → s < 2 ^ 26 → HasBare X (c * w) (place c w low x high) s
+  reached_at_place : (low x high s : ℕ) → low < c → x < w → high < rows → IsLeastAlong (λ y. get_or old (place c w low y high) 0) w x s → s < far → HasBare X (c * w) (place c w low x high) s
   reached_at_place low x high s l h k t small =
       let j = place c w low t.y high in
       let has = before.reached j (below low t.y high l t.inside k) (omega (arith, t.reached)) in
@@ -118,7 +119,7 @@ module _ (X : Picture) (c w rows : ℕ) (count : box_count (framed_sides X.sides
         subst (λ n. get_or new n 0 ≤ apart X.sides n r) (sym p.is) (least_at_place p.low p.x p.high (get_or new (place c w p.low p.x p.high) 0) p.low_below p.x_below p.high_below (scan p.low p.x p.high p.low_below p.x_below p.high_below) r b (e ∙ ap (λ n. n / (c * w)) p.is));
     reached = λ i l small.
         let p = place_of c w rows i (subst (λ n. i < n) count l) in
-        subst (λ n. HasBare X (c * w) n (get_or new n 0)) (sym p.is) (reached_at_place p.low p.x p.high (get_or new (place c w p.low p.x p.high) 0) p.low_below p.x_below p.high_below (scan p.low p.x p.high p.low_below p.x_below p.high_below) (subst (λ n. get_or new n 0 < 2 ^ 26) p.is small));
+        subst (λ n. HasBare X (c * w) n (get_or new n 0)) (sym p.is) (reached_at_place p.low p.x p.high (get_or new (place c w p.low p.x p.high) 0) p.low_below p.x_below p.high_below (scan p.low p.x p.high p.low_below p.x_below p.high_below) (subst (λ n. get_or new n 0 < far) p.is small));
   }
 
 -- ---- before the first axis
@@ -131,7 +132,7 @@ first_least X i r s h b e =
     let same : r ≡ i = sym (by_one r) ∙ e ∙ by_one i in
     omega (arith, h.bare (subst (λ n. at X (framed_point X.sides n) ≡ false) same b.1))
 
-first_reached : (X : Picture) (i s : ℕ) → i < box_count (framed_sides X.sides) → IsFirstSquare X i s → s < 2 ^ 26 → HasBare X 1 i s
+first_reached : (X : Picture) (i s : ℕ) → i < box_count (framed_sides X.sides) → IsFirstSquare X i s → s < far → HasBare X 1 i s
 first_reached X i s l h small = elim (cases_Bool (at X (framed_point X.sides i))) [
   | inl t ↦ absurd (omega (arith, h.object t))
   | inr f ↦ record { q = i; bare = (l, f); level = refl; distance = h.bare f ∙ sym (distance_same (framed_point X.sides i)) }
@@ -146,7 +147,7 @@ first_squares X squares h = record {
 -- ---- behind the last axis
 
 -- the square of a point of the box is the least of the whole space
-pub least_of_all : (X : Picture) (p : Point) (i : ℕ) (squares : List ℕ) → 0 < length X.sides → IsTrue (in_box X.sides p) → i ≡ framed_number X.sides p → ((j : ℕ) → apart X.sides i j < 2 ^ 26) → AreSquaresOn X (box_count (framed_sides X.sides)) squares → IsLeastSquare X p (get_or squares i 0)
+pub least_of_all : (X : Picture) (p : Point) (i : ℕ) (squares : List ℕ) → 0 < length X.sides → IsTrue (in_box X.sides p) → i ≡ framed_number X.sides p → ((j : ℕ) → apart X.sides i j < far) → AreSquaresOn X (box_count (framed_sides X.sides)) squares → IsLeastSquare X p (get_or squares i 0)
 least_of_all X p i squares d h e small t =
     let frame = in_box_in_frame X.sides p h in
     let below : i < box_count (framed_sides X.sides) = subst (λ n. n < box_count (framed_sides X.sides)) (sym e) (framed_number_below X.sides p frame) in

@@ -1,5 +1,6 @@
 -- What scans of a framed box have found: a square for each of its points, axis after axis.
 use Rattle.std.specs.Prelude.{◌≡◌, ◌⊎◌, ℕ, ◌+◌, ◌*◌, ◌/◌, ◌%◌, ◌-◌, ◌^◌, ◌<◌, ◌≤◌, true, false, List, slice_index}
+use Rattle.shape_terms.specs.Limits.{most_way, far}
 use Rattle.shape_terms.specs.Points.{Point, box_count}
 use Rattle.shape_terms.specs.Pictures.{Picture, at, Least}
 use Rattle.shape_terms.specs.FramedBox.{framed_sides, framed_point}
@@ -44,21 +45,21 @@ pub record HasBare (X : Picture) (c i s : ℕ) : Type 0 where
   pub level : q / c ≡ i / c
   pub distance : s ≡ apart X.sides i q
 
--- no square is above that of such a point, and each below 2^26 is that of one
+-- no square is above that of such a point, and each below far is that of one
 pub record AreSquaresOn (X : Picture) (c : ℕ) (squares : List ℕ) : Type 0 where
   pub least : (i r : ℕ) → i < box_count (framed_sides X.sides) → IsBare X r → r / c ≡ i / c → slice_index squares i ≤ apart X.sides i r
-  pub reached : (i : ℕ) → i < box_count (framed_sides X.sides) → slice_index squares i < 2 ^ 26 → HasBare X c i (slice_index squares i)
+  pub reached : (i : ℕ) → i < box_count (framed_sides X.sides) → slice_index squares i < far → HasBare X c i (slice_index squares i)
 
 -- a background point is at its own, and an object point as far away as no point is
 pub record IsFirstSquare (X : Picture) (i s : ℕ) : Type 0 where
-  pub object : at X (framed_point X.sides i) ≡ true → s ≡ 2 ^ 26
+  pub object : at X (framed_point X.sides i) ≡ true → s ≡ far
   pub bare : at X (framed_point X.sides i) ≡ false → s ≡ 0
 
--- each place has 0 or 2^26
+-- each place has 0 or far
 abbrev pub HasTwo : List ℕ → Type 0
-HasTwo squares = (i : ℕ) → (slice_index squares i ≡ 0) ⊎ (slice_index squares i ≡ 2 ^ 26)
+HasTwo squares = (i : ℕ) → (slice_index squares i ≡ 0) ⊎ (slice_index squares i ≡ far)
 
--- w is the way back along a line to its last place with 0, where `back g` is the square g places back and k places stand before; 8192 where there is none, and all others have 2^26
+-- w is the way back along a line to its last place with 0, where `back g` is the square g places back and k places stand before; most_way where there is none, and all others have far
 pub record IsWay (back : ℕ → ℕ) (k w : ℕ) : Type 0 where
-  pub free : (g : ℕ) → g ≤ k → g < w → back g ≡ 2 ^ 26
-  pub end : (w ≡ 8192) ⊎ ((w ≤ k) × (back w ≡ 0))
+  pub free : (g : ℕ) → g ≤ k → g < w → back g ≡ far
+  pub end : (w ≡ most_way) ⊎ ((w ≤ k) × (back w ≡ 0))

@@ -2,6 +2,7 @@
 //! A place with the square 0 keeps it, and hides the places behind it: parts end at such places.
 //! Lines that stand side by side are scanned together, in a block that holds them one after the other.
 ghost use Rattle.std.specs.Prelude.{◌≡◌, ◌+◌, ◌*◌, ◌<◌, ◌≤◌, ◌^◌, ℕ, IfOk, length, slice_index};
+ghost use Rattle.shape_terms.specs.Limits.{most_coordinate, far};
 ghost use Rattle.judge_field.specs.Scanned.{IsLeastAlong, HasScanned};
 
 use crate::part::{scan_part, square_at};
@@ -43,11 +44,11 @@ fn scan_line<L: Ledger>(
     steps: &mut Steps<L>,
 ) -> Result<(), NoMemory>
     requires some { 1 ≤ side }
-    requires near { side ≤ 4096 }
+    requires near { side ≤ most_coordinate }
     requires inside { (y : ℕ) → y < side → start + y < length squares.now }
     requires few { length squares.now < 2 ^ 32 }
     requires long { length next.old ≡ length squares.now }
-    requires small { (y : ℕ) → y < side → slice_index squares.now (start + y) ≤ 2 ^ 26 }
+    requires small { (y : ℕ) → y < side → slice_index squares.now (start + y) ≤ far }
     ensures on_line { IfOk result (λ _. (x : ℕ) → x < side
         → IsLeastAlong (λ y. slice_index squares.now (start + y)) side x
         (slice_index next.new (start + x))) }
@@ -88,12 +89,12 @@ fn scan_each<L: Ledger>(
     steps: &mut Steps<L>,
 ) -> Result<(), NoMemory>
     requires some { 1 ≤ side }
-    requires near { side ≤ 4096 }
+    requires near { side ≤ most_coordinate }
     requires room { lines * side ≤ length block.now }
     requires few { length block.now < 2 ^ 32 }
     requires long { length out.old ≡ length block.now }
     requires small { (j y : ℕ) → j < lines → y < side
-        → slice_index block.now (j * side + y) ≤ 2 ^ 26 }
+        → slice_index block.now (j * side + y) ≤ far }
     ensures { IfOk result (λ _. (j x : ℕ) → j < lines → x < side
         → IsLeastAlong (λ y. slice_index block.now (j * side + y)) side x
         (slice_index out.new (j * side + x))) }
@@ -118,7 +119,7 @@ fn scan_block<L: Ledger>(
 ) -> Result<(), NoMemory>
     requires apart { lines ≤ step }
     requires some { 1 ≤ side }
-    requires near { side ≤ 4096 }
+    requires near { side ≤ most_coordinate }
     requires beside { lines ≤ 8 }
     requires inside { (y : ℕ) → y < side → start + y * step + lines ≤ length squares.old }
     requires few { length squares.old < 2 ^ 31 }
@@ -126,7 +127,7 @@ fn scan_block<L: Ledger>(
     requires short { length block.old < 2 ^ 32 }
     requires long { length out.old ≡ length block.old }
     requires small { (j y : ℕ) → j < lines → y < side
-        → slice_index squares.old (start + y * step + j) ≤ 2 ^ 26 }
+        → slice_index squares.old (start + y * step + j) ≤ far }
     ensures on_lines { IfOk result (λ _. (j x : ℕ) → j < lines → x < side
         → IsLeastAlong (λ y. slice_index squares.old (start + y * step + j)) side x
         (slice_index squares.new (start + x * step + j))) }
@@ -152,9 +153,9 @@ pub fn scan_lines<L: Ledger>(
     requires whole { length squares.old ≡ before * (side * behind) }
     requires apart { 0 < before }
     requires some { 1 ≤ side }
-    requires near { side ≤ 4096 }
+    requires near { side ≤ most_coordinate }
     requires few { length squares.old < 2 ^ 31 }
-    requires small { (i : ℕ) → slice_index squares.old i ≤ 2 ^ 26 }
+    requires small { (i : ℕ) → slice_index squares.old i ≤ far }
     ensures { IfOk result (λ _. HasScanned before side behind squares.old squares.new) }
 {
     let mut block = vec![in alloc; 0u32; block_room(side)]?;

@@ -1,5 +1,6 @@
 //! A part of a line: the least that its places give each of them, which the lower envelope of their squares tells.
 ghost use Rattle.std.specs.Prelude.{◌≡◌, ◌+◌, ◌*◌, ◌<◌, ◌≤◌, ◌^◌, ℕ, IfOk, Some, length, slice_index};
+ghost use Rattle.shape_terms.specs.Limits.{most_coordinate, far};
 ghost use Rattle.shape_terms.specs.Rows.{cell};
 ghost use Rattle.shape_terms.specs.AxisLines.{gap};
 ghost use Rattle.judge_field.specs.Scanned.{IsLeastAlong};
@@ -22,7 +23,7 @@ pub(crate) fn square_at(squares: &[u32], start: usize, y: u32) -> u32
 // The squares of a line as a row.
 fn row_of(alloc: Global, squares: &[u32], start: usize, side: u32) -> Result<Row, NoMemory>
     requires some { 1 ≤ side }
-    requires near { side ≤ 4096 }
+    requires near { side ≤ most_coordinate }
     requires inside { (y : ℕ) → y < side → start + y < length squares.now }
     requires few { length squares.now < 2 ^ 32 }
     ensures long { IfOk result (λ r. length r ≡ side) }
@@ -38,9 +39,9 @@ fn row_of(alloc: Global, squares: &[u32], start: usize, side: u32) -> Result<Row
 
 // What the place y of a line gives its place x.
 fn given(square: u32, x: u32, y: u32) -> u32
-    requires small { square ≤ 2 ^ 26 }
-    requires x_near { x < 4096 }
-    requires y_near { y < 4096 }
+    requires small { square ≤ far }
+    requires x_near { x < most_coordinate }
+    requires y_near { y < most_coordinate }
     ensures { result ≡ square + gap x y * gap x y }
 {
     let way = x.abs_diff(y);
@@ -49,14 +50,14 @@ fn given(square: u32, x: u32, y: u32) -> u32
 
 // Gives each place of a line what its lowest place gives it.
 fn store(next: &mut [u32], squares: &[u32], start: usize, lowest: &[u32])
-    requires near { length lowest.now ≤ 4096 }
+    requires near { length lowest.now ≤ most_coordinate }
     requires inside { (y : ℕ) → y < length lowest.now → start + y < length squares.now }
     requires few { length squares.now < 2 ^ 32 }
     requires long { length next.old ≡ length squares.now }
     requires there { (x : ℕ) → x < length lowest.now
         → slice_index lowest.now x < length lowest.now }
     requires small { (y : ℕ) → y < length lowest.now
-        → slice_index squares.now (start + y) ≤ 2 ^ 26 }
+        → slice_index squares.now (start + y) ≤ far }
     ensures on_line { (x : ℕ) → x < length lowest.now → slice_index next.new (start + x)
         ≡ slice_index squares.now (start + slice_index lowest.now x)
         + gap x (slice_index lowest.now x) * gap x (slice_index lowest.now x) }
@@ -79,11 +80,11 @@ pub fn scan_part<L: Ledger>(
     steps: &mut Steps<L>,
 ) -> Result<(), NoMemory>
     requires some { 1 ≤ side }
-    requires near { side ≤ 4096 }
+    requires near { side ≤ most_coordinate }
     requires inside { (y : ℕ) → y < side → start + y < length squares.now }
     requires few { length squares.now < 2 ^ 32 }
     requires long { length next.old ≡ length squares.now }
-    requires small { (y : ℕ) → y < side → slice_index squares.now (start + y) ≤ 2 ^ 26 }
+    requires small { (y : ℕ) → y < side → slice_index squares.now (start + y) ≤ far }
     ensures on_line { IfOk result (λ _. (x : ℕ) → x < side
         → IsLeastAlong (λ y. slice_index squares.now (start + y)) side x
         (slice_index next.new (start + x))) }

@@ -1,6 +1,7 @@
 //! The squared distances of the points of a picture to the background, found along each axis in turn.
 //! On the first axes a point's square is the least over the background points that differ from it on these alone.
 ghost use Rattle.std.specs.Prelude.{◌≡◌, ◌*◌, ◌<◌, ◌≤◌, ◌^◌, ℕ, IsTrue, IfOk, length, slice_index};
+ghost use Rattle.shape_terms.specs.Limits.{most_coordinate, far};
 ghost use Rattle.shape_terms.specs.Points.{box_count};
 ghost use Rattle.shape_terms.specs.Pictures.{at};
 ghost use Rattle.shape_terms.specs.FramedBox.{framed_sides};
@@ -68,13 +69,13 @@ fn scan_axis<L: Ledger>(
     requires whole { (rows : ℕ) × (length squares.items ≡ before * (side * rows)) }
     requires apart { 0 < before }
     requires some { 1 ≤ side }
-    requires near { side ≤ 4096 }
+    requires near { side ≤ most_coordinate }
     requires few { length squares.items < 2 ^ 31 }
-    requires small { (i : ℕ) → slice_index squares.items i ≤ 2 ^ 26 }
+    requires small { (i : ℕ) → slice_index squares.items i ≤ far }
     ensures long { IfOk result (λ v. length v.items ≡ length squares.items) }
     ensures scanned { IfOk result (λ v. (i : ℕ) → i < length squares.items
         → IsScannedAt before side squares.items i (slice_index v.items i)) }
-    ensures small { IfOk result (λ v. (i : ℕ) → slice_index v.items i ≤ 2 ^ 26) }
+    ensures small { IfOk result (λ v. (i : ℕ) → slice_index v.items i ≤ far) }
 {
     let behind = squares.len() as u32 / before / side;
     scan_lines(alloc, &mut squares, before, side, behind, steps)?;
@@ -92,14 +93,14 @@ fn scan_more<L: Ledger>(
     requires whole { (rows : ℕ) × (length squares.items ≡ before * (side * rows)) }
     requires apart { 0 < before }
     requires some { 1 ≤ side }
-    requires near { side ≤ 4096 }
+    requires near { side ≤ most_coordinate }
     requires few { length squares.items < 2 ^ 31 }
-    requires small { (i : ℕ) → slice_index squares.items i ≤ 2 ^ 26 }
+    requires small { (i : ℕ) → slice_index squares.items i ≤ far }
     requires two { before ≡ 1 → HasTwo squares.items }
     ensures long { IfOk result (λ v. length v.items ≡ length squares.items) }
     ensures scanned { IfOk result (λ v. (i : ℕ) → i < length squares.items
         → IsScannedAt before side squares.items i (slice_index v.items i)) }
-    ensures small { IfOk result (λ v. (i : ℕ) → slice_index v.items i ≤ 2 ^ 26) }
+    ensures small { IfOk result (λ v. (i : ℕ) → slice_index v.items i ≤ far) }
 {
     if before == 1 {
         scan_first(alloc, &squares, side)

@@ -4,6 +4,7 @@ use Rattle.std.proofs.Common.{◌≡◌, ℕ, zero, suc, ◌<◌, Bool, true, fa
 use Rattle.std.specs.Prelude.{◌↔◌, IsTrue, not, filter, Contains, ℤ, pos, negsuc, ◌+ℤ◌}
 use Rattle.std.proofs.lemmas.Int.{ints}
 use Rattle.std.proofs.lemmas.Bool.{cond-true, cond-false, cases_Bool, and_parts}
+use Rattle.shape_terms.specs.Limits.{most_solid, most_coordinate}
 use Rattle.shape_terms.specs.Points.{Point, AreSides, sides_of, in_box, box_points, raster_number}
 use Rattle.shape_terms.specs.Adjacency.{moved, side_point}
 use Rattle.shape_terms.specs.Pictures.{Picture, at, object_points}
@@ -37,12 +38,12 @@ sides_back [] = refl
 sides_back (n ∷ sides) = ap (λ l. n ∷ l) (sides_back sides)
 
 -- a point of the box leaves room for its neighbours
-pub box_within : (lengths : Point) (p : Point) → AreSides (pos 192) lengths → IsTrue (in_box (sides_of lengths) p) → IsWithin (negsuc 1) (pos 4096) p
+pub box_within : (lengths : Point) (p : Point) → AreSides (pos most_solid) lengths → IsTrue (in_box (sides_of lengths) p) → IsWithin (negsuc 1) (pos most_coordinate) p
 box_within lengths p range inside k l =
-    let w = box_point_within (pos 192) lengths p range (omega (arith, ints)) inside k l in
+    let w = box_point_within (pos most_solid) lengths p range (omega (arith, ints)) inside k l in
     (let a = w.0 in omega (arith, ints), w.1)
 
-pub near_within : (X : Picture) (p : Point) → AreSides (pos 192) (map pos X.sides) → IsTrue (in_box X.sides p) → IsWithin (negsuc 1) (pos 4096) p
+pub near_within : (X : Picture) (p : Point) → AreSides (pos most_solid) (map pos X.sides) → IsTrue (in_box X.sides p) → IsWithin (negsuc 1) (pos most_coordinate) p
 near_within X p range inside = box_within (map pos X.sides) p range (subst (λ s. IsTrue (in_box s p)) (sym (sides_back X.sides)) inside)
 
 zero_right : (n : ℤ) → n +ℤ pos 0 ≡ n

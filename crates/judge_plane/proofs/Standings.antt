@@ -7,6 +7,7 @@ use Rattle.std.proofs.lemmas.Bool.{cond-true, cond-false, eq-eqb, ne_eqb}
 use Rattle.std.proofs.lemmas.List.{length-append}
 use Rattle.std.proofs.lemmas.Nat.{mul-le}
 use Rattle.std.proofs.Math.Nat.{suc-mul}
+use Rattle.shape_terms.specs.Limits.{most_points}
 use Rattle.shape_terms.specs.Points.{Point, box_count}
 use Rattle.shape_terms.specs.Pictures.{Picture}
 use Rattle.shape_terms.specs.Refutations.{Refutation}
@@ -115,9 +116,9 @@ off_less s s2 p why true e r l k =
     rw (e, k) (omega (arith, now, before, more))
 
 -- all lines are few
-pub few_lines : (X : Picture) → box_count X.sides ≤ 2 ^ 23 → 6 * ((box_count X.sides + 1) * (box_count X.sides + 2)) + ((length (exposed_at X 0) - 0) * (box_count X.sides + 2) + (1 + (box_count X.sides - 0))) < 2 ^ 60
+pub few_lines : (X : Picture) → box_count X.sides ≤ most_points → 6 * ((box_count X.sides + 1) * (box_count X.sides + 2)) + ((length (exposed_at X 0) - 0) * (box_count X.sides + 2) + (1 + (box_count X.sides - 0))) < 2 ^ 60
 few_lines X few =
     let count = box_count X.sides in
     let fits = face_fits count (length (exposed_at X 0) - 0) (let f = few_exposed X 0 in omega arith) in
-    let each = mul-le (count + 1) (count + 2) (2 ^ 23 + 1) (2 ^ 23 + 2) (omega arith) (omega arith) in
+    let each = mul-le (count + 1) (count + 2) (most_points + 1) (most_points + 2) (omega arith) (omega arith) in
     omega (arith, fits, each)

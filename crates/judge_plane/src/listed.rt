@@ -1,6 +1,7 @@
 //! Points of a box, each at most once, in the order in which they came.
 //! Which points these are belongs elsewhere.
 ghost use Rattle.std.specs.Prelude.{◌≡◌, ◌<◌, ◌≤◌, ◌+◌, ◌^◌, ◌↔◌, [], ◌∷◌, ◌++◌, IsTrue, IfOk, Some, Contains, length, map, drop, slice_get, vec_capacity};
+ghost use Rattle.shape_terms.specs.Limits.{most_points};
 ghost use Rattle.shape_terms.specs.Points.{Point as Where, sides_of, in_box, box_count};
 ghost use Rattle.shape_terms.specs.Refutations.{Refutes};
 ghost use Rattle.shape_refute.specs.Weights.{refutation_of};
@@ -62,7 +63,7 @@ impl Listed {
     pub(crate) fn len(&self) -> u32
         ensures value { result ≡ length self.now.points }
         ensures few { result ≤ box_count self.now.sides }
-        ensures small { box_count self.now.sides ≤ 2 ^ 23 }
+        ensures small { box_count self.now.sides ≤ most_points }
     {
         let _ = &self.sides;
         self.points.len() as u32

@@ -1,6 +1,7 @@
 //! The near neighbours of the points of a patch: whether a point touches it, and which points do.
 //! Each point has 26 of them; where all are in the box, they go by their numbers.
 ghost use Rattle.std.specs.Prelude.{◌≡◌, ◌⊎◌, ℕ, ◌<◌, ◌≤◌, ◌↔◌, [], IsTrue, length, drop, vec_capacity, pos, negsuc};
+ghost use Rattle.shape_terms.specs.Limits.{most_coordinate};
 ghost use Rattle.shape_terms.specs.Points.{Point as Where, sides_of, in_box, box_count};
 ghost use Rattle.shape_terms.specs.FramedBox.{IsWithin};
 ghost use Rattle.shape_terms.specs.Adjacency.{Near, near_point};
@@ -30,7 +31,7 @@ fn touches_inside(near: &NearNumbers<P3>, recent: &Grid<P3>, p: P3) -> bool
 
 // The same of any point that leaves room for its neighbours.
 fn touches_around(recent: &Grid<P3>, p: P3) -> bool
-    requires { IsWithin (negsuc 1) (pos 4096) (point_of p) }
+    requires { IsWithin (negsuc 1) (pos most_coordinate) (point_of p) }
     ensures { IsTrue result ↔ IsNearObject recent.now (point_of p) }
 {
     for k in 0..P3::NEAR_COUNT {

@@ -14,6 +14,7 @@ use Rattle.std.proofs.lemmas.Nat.{mul-le}
 use Rattle.std.proofs.lemmas.Int.{ints}
 use Rattle.std.proofs.lemmas.Fmt.{decimal_is_IsNumeral, digits_decimal, digits_value-decimal, length-decimal-le}
 use Rattle.std.proofs.lemmas.Str.Parse.{IsNumeralModel, IsDigitsTest, numerals_by_fold}
+use Rattle.shape_terms.specs.Limits.{most_flat}
 use Rattle.shape_terms.specs.Points.{AreSides, box_points, box_count}
 use Rattle.shape_terms.specs.Pictures.{Picture, at}
 use Rattle.shape_terms.proofs.BoxLists.{values_are}
@@ -56,7 +57,7 @@ value_back : (n : ℕ) → n < 2 ^ 64 → number_value (decimal n) ≡ n
 unfolding value_after
 value_back n l = digits_value-decimal model n l
 
-is_side : (n : ℕ) → 1 ≤ n → n ≤ 2048 → IsSide 2048 (decimal n)
+is_side : (n : ℕ) → 1 ≤ n → n ≤ most_flat → IsSide most_flat (decimal n)
 is_side n some most =
     let e = value_back n (omega arith) in
     record {
@@ -131,13 +132,13 @@ module _ (X : Picture) (w h : ℕ) (e : X.sides ≡ w ∷ h ∷ []) (filled : le
   }
 
   -- how many bytes the rows have
-  few_bytes : w ≤ 2048 → h ≤ 2048 → length (flat_map (row X) (range_with_len 0 h)) ≤ 524288
+  few_bytes : w ≤ most_flat → h ≤ most_flat → length (flat_map (row X) (range_with_len 0 h)) ≤ 524288
   unfolding rows
   few_bytes a b =
       let n = length-concat (row_bytes w) rows rows_long in
       let m = length-map-range_with_len (row X) 0 h in
       let few : row_bytes w ≤ 256 = omega arith in
-      let most = mul-le h (row_bytes w) 2048 256 b few in
+      let most = mul-le h (row_bytes w) most_flat 256 b few in
       let same = ap length (concat_map (row X) (range_with_len 0 h)) in
       let times = ap (λ k. k * row_bytes w) m in
       omega (arith, n, most, same, times)
@@ -148,7 +149,7 @@ module _ (X : Picture) (w h : ℕ) (e : X.sides ≡ w ∷ h ∷ []) (filled : le
 bytes_of : (w h : ℕ) (raster : List ℕ) → List ℕ
 bytes_of w h raster = ((magic Packed ++ 10 ∷ []) ++ decimal w ++ 32 ∷ [] ++ decimal h) ++ 10 ∷ [] ++ raster
 
-module _ (X : Picture) (w h : ℕ) (raster : List ℕ) (e : X.sides ≡ w ∷ h ∷ []) (filled : length X.values ≡ box_count X.sides) (rows : AreRows w h raster X.values) (a : 1 ≤ w) (b : w ≤ 2048) (c : 1 ≤ h) (d : h ≤ 2048) where
+module _ (X : Picture) (w h : ℕ) (raster : List ℕ) (e : X.sides ≡ w ∷ h ∷ []) (filled : length X.values ≡ box_count X.sides) (rows : AreRows w h raster X.values) (a : 1 ≤ w) (b : w ≤ most_flat) (c : 1 ≤ h) (d : h ≤ most_flat) where
   in_width : IsInWidth Packed most_side ((magic Packed ++ 10 ∷ []) ++ decimal w) (decimal w)
   in_width = record {
     gap = 10 ∷ [];
@@ -209,7 +210,7 @@ header_is : (w h : ℕ) (raster : List ℕ) → header (magic Packed) w h ++ ras
 unfolding bytes_of
 header_is w h raster = simp append_assoc
 
-header_few : (w h : ℕ) (raster : List ℕ) → w ≤ 2048 → h ≤ 2048 → length raster ≤ 524288 → length (header (magic Packed) w h ++ raster) ≤ most_bytes
+header_few : (w h : ℕ) (raster : List ℕ) → w ≤ most_flat → h ≤ most_flat → length raster ≤ 524288 → length (header (magic Packed) w h ++ raster) ≤ most_bytes
 header_few w h raster a b c =
     let u = length-decimal-le 4 w (omega arith) (omega arith) (omega arith) in
     let v = length-decimal-le 4 h (omega arith) (omega arith) (omega arith) in
@@ -232,9 +233,9 @@ picture_spelled X stands =
     let x = box 0 (omega arith) in
     let y = box 1 (omega arith) in
     let a : 1 ≤ w = omega (arith, ints, x.0) in
-    let b : w ≤ 2048 = omega (arith, ints, x.1) in
+    let b : w ≤ most_flat = omega (arith, ints, x.1) in
     let c : 1 ≤ h = omega (arith, ints, y.0) in
-    let d : h ≤ 2048 = omega (arith, ints, y.1) in
+    let d : h ≤ most_flat = omega (arith, ints, y.1) in
     let whole = header_is w h raster in
     let few = header_few w h raster b d (few_bytes X w h e filled b d) in
     let n = length (bytes_of w h raster) in

@@ -2,6 +2,7 @@
 //! The order of bits in a byte stands here and in `specs/Pictures.antt` alone.
 ghost use Rattle.std.specs.Prelude.{◌≡◌, ◌≤◌, ◌*◌, ◌++◌, map, IfOk, OnOk};
 ghost use Rattle.std.specs.List.{flat_map, range_with_len};
+ghost use Rattle.shape_terms.specs.Limits.{most_flat, most_coordinate};
 ghost use Rattle.masking.specs.Pictures.{side, weight, eight, row, pbm};
 
 use crate::header::{put_header, side_of};
@@ -11,8 +12,8 @@ use std::alloc::Global;
 
 // A weight, where the pixel is an object point.
 fn weight(grid: &Grid<P2>, y: usize, x: usize, w: u8) -> u8
-    requires y { y ≤ 4096 }
-    requires x { x ≤ 4096 }
+    requires y { y ≤ most_coordinate }
+    requires x { x ≤ most_coordinate }
     ensures value { result ≡ weight grid.now y x w }
     ensures most { result ≤ w }
 {
@@ -25,8 +26,8 @@ fn weight(grid: &Grid<P2>, y: usize, x: usize, w: u8) -> u8
 
 // The byte of eight pixels of a row.
 fn eight(grid: &Grid<P2>, y: usize, x: usize) -> u8
-    requires y { y ≤ 2048 }
-    requires x { x ≤ 2048 }
+    requires y { y ≤ most_flat }
+    requires x { x ≤ most_flat }
     ensures { result ≡ eight grid.now y x }
 {
     let low = weight(grid, y, x + 6, 2) + weight(grid, y, x + 7, 1);
@@ -37,7 +38,7 @@ fn eight(grid: &Grid<P2>, y: usize, x: usize) -> u8
 
 // Puts the bytes of a row.
 fn put_row(grid: &Grid<P2>, y: usize, out: &mut Vec<u8>) -> Result<(), NoMemory>
-    requires { y ≤ 2048 }
+    requires { y ≤ most_flat }
     ensures { OnOk result (out.new.items ≡ out.old.items ++ row grid.now y) }
 {
     let count = (side_of(grid, 0) + 7) / 8;

@@ -2,6 +2,7 @@
 //! What the front has is told in `specs/Pictures.antt`.
 ghost use Rattle.std.specs.Prelude.{◌≡◌, ◌≤◌, ◌<◌, ◌++◌, OnOk};
 ghost use Rattle.std.specs.Fmt.{decimal};
+ghost use Rattle.shape_terms.specs.Limits.{most_flat};
 ghost use Rattle.masking.specs.Pictures.{side, header};
 
 use itoa::Buffer;
@@ -12,7 +13,7 @@ use shape_space::{NoMemory, P2};
 pub(crate) fn side_of(grid: &Grid<P2>, axis: usize) -> usize
     requires { axis < 2 }
     ensures value { result ≡ side grid.now.sides axis }
-    ensures most { result ≤ 2048 }
+    ensures most { result ≤ most_flat }
 {
     grid.sides().side(axis) as usize
 }

@@ -9,13 +9,14 @@ use Rattle.std.proofs.lemmas.List.{get_or-map, map-id, length-map}
 use Rattle.std.proofs.lemmas.List.Sums.{count_by_more_yes, count_by_more_no}
 use Rattle.std.proofs.lemmas.List.Folds.{list_any-append}
 use Rattle.std.proofs.lemmas.List.FromFn.{map-range_with_len_more}
+use Rattle.shape_terms.specs.Limits.{most_flat, most_coordinate}
 use Rattle.shape_terms.specs.Points.{Point, coordinate, AreSides, sides_of, in_box}
 use Rattle.shape_terms.specs.Pictures.{Picture, at}
 use Rattle.shape_terms.specs.Adjacency.{moved, near_steps, near_point, near_points, side_steps, side_point, side_points}
 use Rattle.shape_terms.proofs.Boxes.{in_box_coordinate, abs_is}
 
 -- a coordinate of a point of the box is a small natural
-pub place_small : (greatest : ℤ) (ns p : Point) (k : ℕ) (r : ℤ) → AreSides greatest ns → greatest ≤ℤ pos 2048 → IsTrue (in_box (sides_of ns) p) → k < length ns → r ≡ coordinate p k → (pos 0 ≤ℤ r) × (nat_abs r < 4096)
+pub place_small : (greatest : ℤ) (ns p : Point) (k : ℕ) (r : ℤ) → AreSides greatest ns → greatest ≤ℤ pos most_flat → IsTrue (in_box (sides_of ns) p) → k < length ns → r ≡ coordinate p k → (pos 0 ≤ℤ r) × (nat_abs r < most_coordinate)
 place_small g ns p k r a most h l e =
     let c = in_box_coordinate ns p g a h k l in
     let low : pos 0 ≤ℤ r = rw e c.0 in

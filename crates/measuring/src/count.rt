@@ -2,6 +2,7 @@
 //! Each function here says what one point more does to one measure.
 ghost use Rattle.std.specs.Prelude.{◌≡◌, ◌<◌, ◌≤◌, ◌+◌, ◌*◌, ◌^◌, [], ℕ, List, IsTrue};
 ghost use Rattle.std.specs.Option.{option_map};
+ghost use Rattle.shape_terms.specs.Limits.{most_points};
 ghost use Rattle.shape_terms.specs.Points.{sides_of, in_box, raster_point};
 ghost use Rattle.measure_terms.specs.Measures.{is_left, is_end, is_junction, measures_of};
 ghost use Rattle.measure_terms.specs.OneMore.{counted, deepest_with, measures_with};
@@ -14,7 +15,7 @@ use shape_space::{Point, Sides};
 
 // A count, with one more where it counts.
 fn counted(counts: bool, n: u32) -> u32
-    requires { n < 2 ^ 23 }
+    requires { n < most_points }
     ensures value { result ≡ counted counts n }
     ensures few { result ≤ n + 1 }
 {
@@ -79,7 +80,7 @@ impl Measures {
 
     // The measures with one more point, of a box with these sides.
     pub(crate) fn with<P: Point>(&self, sides: Sides<P>, f: &Fact<P>) -> Measures
-        requires few { self.now.area < 2 ^ 23 }
+        requires few { self.now.area < most_points }
         requires exposed { f.now.exposed ≤ 6 }
         requires inside { IsTrue (in_box (sides_of (P.coords sides.lengths))
             (P.coords f.now.point)) }

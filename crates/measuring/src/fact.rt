@@ -1,6 +1,7 @@
 //! What is known of one point of the box.
 //! A further column may want one more field here, and its word in `Facts`.
 ghost use Rattle.std.specs.Prelude.{◌≡◌, ◌<◌, ◌≤◌, ◌^◌, IsTrue, nat_abs, pos, negsuc};
+ghost use Rattle.shape_terms.specs.Limits.{most_coordinate};
 ghost use Rattle.shape_terms.specs.Points.{coordinate, sides_of, in_box, box_count, raster_point};
 ghost use Rattle.shape_terms.specs.Pictures.{at};
 ghost use Rattle.shape_terms.specs.FramedBox.{IsWithin};
@@ -34,14 +35,14 @@ pub struct Fact<P: Point> {
 pub(crate) fn place<P: Point>(sides: Sides<P>, p: P, k: usize) -> u32
     requires { IsTrue (in_box (sides_of (P.coords sides.lengths)) (P.coords p)) }
     ensures value { result ≡ nat_abs (coordinate (P.coords p) k) }
-    ensures small { result < 2 ^ 12 }
+    ensures small { result < most_coordinate }
 {
     if k < P::DIM { p.coord(k) as u32 } else { 0 }
 }
 
 // Whether a coordinate is the first or the last of a side.
 fn at_end(side: u32, x: u32) -> bool
-    requires { x < 2 ^ 12 }
+    requires { x < most_coordinate }
     ensures { result ≡ at_end side x }
 {
     x == 0 || x + 1 == side
@@ -62,7 +63,7 @@ fn at_rim<P: Point>(sides: Sides<P>, p: P) -> bool
 
 // How many of a point's near neighbours are left.
 fn near_count<P: Pairing>(left: &Grid<P>, p: P) -> u32
-    requires { IsWithin (negsuc 1) (pos 4096) (P.coords p) }
+    requires { IsWithin (negsuc 1) (pos most_coordinate) (P.coords p) }
     ensures { result ≡ near_count left.now (P.coords p) }
 {
     let mut count = 0;
@@ -76,7 +77,7 @@ fn near_count<P: Pairing>(left: &Grid<P>, p: P) -> u32
 
 // How many of a point's side neighbours are not object.
 fn exposed<P: Pairing>(object: &Grid<P>, p: P) -> u32
-    requires { IsWithin (negsuc 1) (pos 4096) (P.coords p) }
+    requires { IsWithin (negsuc 1) (pos most_coordinate) (P.coords p) }
     ensures value { result ≡ exposed object.now (P.coords p) }
     ensures few { result ≤ 6 }
 {
@@ -91,7 +92,7 @@ fn exposed<P: Pairing>(object: &Grid<P>, p: P) -> u32
 
 // Where a point is left: how many of its near neighbours are left.
 fn neighbours<P: Pairing>(left: &Grid<P>, p: P) -> Option<u32>
-    requires { IsWithin (negsuc 1) (pos 4096) (P.coords p) }
+    requires { IsWithin (negsuc 1) (pos most_coordinate) (P.coords p) }
     ensures { result ≡ neighbours left.now (P.coords p) }
 {
     if left.has(p) {

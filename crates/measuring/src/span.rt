@@ -1,6 +1,7 @@
 //! Where an object lies along one axis.
 //! The bounds under which the sum of coordinates fits stand here.
 ghost use Rattle.std.specs.Prelude.{◌≡◌, ◌<◌, ◌≤◌, ◌+◌, ◌*◌, ◌^◌, cond, nat_eq, min};
+ghost use Rattle.shape_terms.specs.Limits.{most_points, most_coordinate};
 ghost use Rattle.measure_terms.specs.OneMore.{span_with};
 ghost use Rattle.measuring.specs.Told.{span_told};
 
@@ -25,11 +26,11 @@ fn lesser(count: u32, old: u32, x: u32) -> u32
 impl Span {
     // The span with one more point, after so many.
     pub(crate) fn with(self, count: u32, x: u32) -> Span
-        requires small { x < 2 ^ 12 }
-        requires few { count < 2 ^ 23 }
-        requires sum { self.sum ≤ 2 ^ 12 * count }
+        requires small { x < most_coordinate }
+        requires few { count < most_points }
+        requires sum { self.sum ≤ most_coordinate * count }
         ensures told { span_told result ≡ span_with count (span_told self) x }
-        ensures sum { result.sum ≤ 2 ^ 12 * (count + 1) }
+        ensures sum { result.sum ≤ most_coordinate * (count + 1) }
     {
         Span {
             least: lesser(count, self.least, x),

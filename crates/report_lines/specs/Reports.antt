@@ -1,6 +1,7 @@
 -- Which texts are reports of a picture with so many axes, as far as their lines have to come in order, and where a text that is none goes wrong.
 -- No claim is judged: lines have to be spelled right and to stand in the order of their sections, from the heading to `end`.
 use Rattle.std.specs.Prelude.{◌≡◌, ◌<◌, ◌≤◌, ℕ, ℤ, List, [], All, pos}
+use Rattle.shape_terms.specs.Limits.{most_flat, most_solid}
 use Rattle.shape_terms.specs.Points.{AreSides}
 use Rattle.text_terms.specs.Reports as Texts
 use Rattle.text_terms.specs.Reports.{Report, report_of, BeginsWith, EndsWith}
@@ -18,10 +19,10 @@ space d m = record { axes = d; greatest = m }
 
 -- the space of flat pictures, and that of volumes
 abbrev pub flat : Space
-flat = space 2 (pos 2048)
+flat = space 2 (pos most_flat)
 
 abbrev pub solid : Space
-solid = space 3 (pos 192)
+solid = space 3 (pos most_solid)
 
 -- the place of a line's section
 abbrev pub line_rank : Line → ℕ

@@ -39,6 +39,6 @@ pub enum Opening {
     Flat(Heading<P2>),
     /// A volume.
     Solid(Heading<P3>),
-    /// A volume with a side below 1 or above 192.
+    /// A volume with a side below 1 or above most_solid.
     NoBox,
 }

@@ -4,6 +4,7 @@ use Rattle.std.proofs.Common.{◌≡◌, ◌+◌, ◌<◌, ◌^◌, ℕ, zero, s
 use Rattle.std.specs.Prelude.{◌*◌, ◌≤◌, All, FitsSigned, Some, nat_abs, slice_get, slice_index_or}
 use Rattle.std.specs.Int.{w64}
 use Rattle.std.proofs.lemmas.List.{length-map, length-take-le}
+use Rattle.shape_terms.specs.Limits.{plane_weight}
 use Rattle.shape_terms.specs.Points.{Point, coordinate}
 use Rattle.shape_terms.specs.Least.{Pairs, ShowsLeast}
 use Rattle.report_terms.specs.ContourFacts.{Segment}
@@ -49,7 +50,7 @@ gap_fits t run (Evidence.Cut why) ht h s =
 pub weights_fit : (d t : ℕ) (run : List Point) (r : Refutation) → length run ≤ 2 ^ 32 → Refutes d t run r → AreSmallWeights r → (why d).InRange r
 weights_fit d t run r few h small = (shares r.low small.few_low small.low h.low_places, (shares r.high small.few_high small.high h.high_places, (small.few_steps, λ i e l. (below i e l, step_in d t (slice_index_or r.steps i e) (h.steps_of_axis i e l)))))
   where
-    shares : (ss : List Share) → length ss ≤ 4 → All (λ s. s.weight < 2 ^ 40) ss → All (λ s. s.place < length run) ss → (counted 4 share).InRange ss
+    shares : (ss : List Share) → length ss ≤ 4 → All (λ s. s.weight < plane_weight) ss → All (λ s. s.place < length run) ss → (counted 4 share).InRange ss
     shares ss n a b = (n, λ i e l. let w = a i e l in let p = b i e l in (omega (arith, w), omega (arith, p, few)))
 
     below : (i : ℕ) (e : StepShare) → i < length r.steps → (slice_index_or r.steps i e).weight < 2 ^ 63

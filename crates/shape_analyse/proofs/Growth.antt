@@ -7,6 +7,7 @@ use Rattle.std.proofs.lemmas.Int.{ints}
 use Rattle.std.proofs.lemmas.List.{append-nil, length-append}
 use Rattle.std.proofs.lemmas.Grind.{flat_map-append}
 use Rattle.std.proofs.lemmas.List.Elements.{All-nil, All-push, All-head, All-tail, All-from_get_or}
+use Rattle.shape_terms.specs.Limits.{most_flat}
 use Rattle.shape_terms.specs.Points.{Point, coordinate, AreSides, sides_of}
 use Rattle.shape_terms.specs.Pictures.{Picture, object_points, Least}
 use Rattle.shape_terms.specs.Parts.{Counts}
@@ -42,14 +43,14 @@ text_as f h = record { lines = h.lines; is = h.is; so = f h.lines h.so }
 
 -- ---- the first two lines
 
-sides_fit : (greatest : ℤ) (n : Point) → AreSides greatest n → greatest ≤ℤ pos 2048 → All (FitsSigned w32) n
+sides_fit : (greatest : ℤ) (n : Point) → AreSides greatest n → greatest ≤ℤ pos most_flat → All (FitsSigned w32) n
 sides_fit g n h m = All-from_get_or (FitsSigned w32) n (pos 0) (λ k l. let c = h k l in fits (coordinate n k) c.0 (omega (arith, ints, c.1)))
   where
-    fits : (z : ℤ) → pos 1 ≤ℤ z → z ≤ℤ pos 2048 → FitsSigned w32 z
+    fits : (z : ℤ) → pos 1 ≤ℤ z → z ≤ℤ pos most_flat → FitsSigned w32 z
     fits (pos n) l h = record { sfits = omega (arith, ints) }
     fits (negsuc n) l h = absurd (omega (arith, ints))
 
-pub heading_fits : (greatest : ℤ) (d : ℕ) (n : Point) (rule : List ℕ) → AreSides greatest n → greatest ≤ℤ pos 2048 → length n ≡ d → IsName rule → IsLineOf d (Line.Shape (record { number = last_number d; sides = n; rule = rule }))
+pub heading_fits : (greatest : ℤ) (d : ℕ) (n : Point) (rule : List ℕ) → AreSides greatest n → greatest ≤ℤ pos most_flat → length n ≡ d → IsName rule → IsLineOf d (Line.Shape (record { number = last_number d; sides = n; rule = rule }))
 heading_fits g d n rule h m e k = ((some d, omega arith), (record { axes = e; fits = sides_fit g n h m }, k))
   where
     some : (d : ℕ) → 1 ≤ last_number d

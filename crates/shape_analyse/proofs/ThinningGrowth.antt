@@ -3,6 +3,7 @@
 use Rattle.std.proofs.Common.{◌≡◌, ◌+◌, ℕ, suc, List, [], ◌∷◌, ◌++◌, length, take, refl, sym, ap, ◌∙◌, subst, arith, Some}
 use Rattle.std.specs.Prelude.{slice_get, pos, negsuc}
 use Rattle.std.proofs.lemmas.List.{append-nil, take_all, length-append}
+use Rattle.shape_terms.specs.Limits.{most_coordinate}
 use Rattle.shape_terms.specs.FramedBox.{IsWithin}
 use Rattle.shape_terms.specs.Parts.{Counts}
 use Rattle.shape_terms.specs.Thinning.{Event, Stage, ThinsTo, IsThinning, opening_stage}
@@ -104,7 +105,7 @@ kept_done X lines old new e f h =
     }
 
 -- the line of an event in the framed box
-pub event_fits : (d : ℕ) (e : Event) → length (event_point e) ≡ d → IsWithin (negsuc 0) (pos 4096) (event_point e) → IsLineOf d (event_line e)
+pub event_fits : (d : ℕ) (e : Event) → length (event_point e) ≡ d → IsWithin (negsuc 0) (pos most_coordinate) (event_point e) → IsLineOf d (event_line e)
 event_fits d (Event.Del p) axes within = within_short d p axes within
 event_fits d (Event.Tip p) axes within = within_short d p axes within
 

@@ -1,6 +1,7 @@
 //! The lines of the contours of a flat picture: each with its points, its segments, and the evidence for the gaps between these.
 //! What is found of a contour comes from `shape_crack` and `shape_cover`.
 ghost use Rattle.std.specs.Prelude.{◌≡◌, ◌≤◌, ◌<◌, ◌+◌, ◌*◌, ◌^◌, ℕ, List, [], ◌∷◌, ◌++◌, Some, slice_get, IfOk, OnOk, length, All};
+ghost use Rattle.shape_terms.specs.Limits.{most_round};
 ghost use Rattle.shape_terms.specs.Traces.{Contour as Trace};
 ghost use Rattle.shape_crack.specs.Terms.{point_of};
 ghost use Rattle.shape_cover.specs.Found.{IsCoverOf};
@@ -88,7 +89,7 @@ fn add_gaps(cover: &Cover, report: &mut Report) -> Result<(), NoMemory>
 fn add_contour(alloc: Global, contour: &Contour, report: &mut Report) -> Result<u32, NoMemory>
     requires side { contour.now.start.side < 4 }
     ensures segments { IfOk result (HasSegments contour.now) }
-    ensures few { IfOk result (λ n. n ≤ 2 ^ 24) }
+    ensures few { IfOk result (λ n. n ≤ most_round) }
     ensures text { (X : Aim) (contours : List Trace) (k : ℕ)
         → slice_get contours k ≡ Some contour.now
         → IsTextOf (HasOutlined X contours k) report.old

@@ -1,6 +1,7 @@
 //! The lines of the thinning of a picture: its events, the counts of the points left, and the end of the report.
 //! The thinning itself comes from `shape_thin`; both numbers of components are those of the picture.
 ghost use Rattle.std.specs.Prelude.{◌≡◌, ◌++◌, ℕ, IfOk, OnOk, length, pos, negsuc};
+ghost use Rattle.shape_terms.specs.Limits.{most_coordinate};
 ghost use Rattle.shape_terms.specs.Pictures.{object_points};
 ghost use Rattle.shape_terms.specs.Parts.{Counts};
 ghost use Rattle.shape_terms.specs.Distances.{IsField};
@@ -74,7 +75,7 @@ pub(crate) fn thinned<P: SimpleMask>(
 
 // Adds the line of an event.
 fn add_event<P: Point>(event: Event<P>, report: &mut Report) -> Result<(), NoMemory>
-    requires { IsWithin (negsuc 0) (pos 4096) (event_point (event_of P.coords event)) }
+    requires { IsWithin (negsuc 0) (pos most_coordinate) (event_point (event_of P.coords event)) }
     ensures text { OnOk result (report.new
         ≡ report.old ++ line_text (event_line (event_of P.coords event))) }
     ensures fields { IsLineOf P.DIM (event_line (event_of P.coords event)) }

@@ -1,6 +1,7 @@
 //! The field of a picture: a nearest background point for each object point.
 //! Another way of finding them changes nothing above `all_found`.
 ghost use Rattle.std.specs.Prelude.{◌≡◌, ◌<◌, length, IfOk, All, Some, slice_get, IsTrue, negsuc, pos};
+ghost use Rattle.shape_terms.specs.Limits.{most_coordinate};
 ghost use Rattle.shape_terms.specs.Points.{in_box, box_count};
 ghost use Rattle.shape_terms.specs.Pictures.{Least};
 ghost use Rattle.shape_terms.specs.FramedBox.{framed_sides, IsWithin};
@@ -50,8 +51,8 @@ fn near_of<P: Point>(grid: &Grid<P>, cells: &[Option<Found>], p: P) -> Near<P>
     requires near { AreNearestOn grid.now (box_count (framed_sides grid.now.sides)) cells.now }
     ensures point { result.p ≡ p }
     ensures least { Least grid.now (P.coords p) (P.coords result.q) result.s }
-    ensures p_within { IsWithin (negsuc 0) (pos 4096) (P.coords p) }
-    ensures q_within { IsWithin (negsuc 0) (pos 4096) (P.coords result.q) }
+    ensures p_within { IsWithin (negsuc 0) (pos most_coordinate) (P.coords p) }
+    ensures q_within { IsWithin (negsuc 0) (pos most_coordinate) (P.coords result.q) }
 {
     let sides = grid.sides();
     let i = sides.framed_number(p);

@@ -1,6 +1,7 @@
 -- The piece that a segment gives, and why it can't be longer.
 -- Stated of the program's segments; how they are grown belongs elsewhere.
 use Rattle.std.proofs.Common.{◌≡◌, ℕ, ◌+◌, ◌-◌, ◌<◌, ◌≤◌, ◌⊎◌, List, length, sym, subst, arith, inl, inr}
+use Rattle.shape_terms.specs.Limits.{most_round}
 use Rattle.shape_terms.specs.Points.{Point}
 use Rattle.shape_terms.specs.Naive.{IsNaiveFor}
 use Rattle.shape_terms.specs.Covers.{Evidence, arc}
@@ -22,7 +23,7 @@ use Rattle.shape_pieces.specs.declared.entry.Entry.{Entry}
 use Rattle.shape_pieces.specs.Steps.{piece_of, IsPieceFrom}
 
 -- where a segment stops, no run from its first place to there or beyond is straight
-refused_at : (points : List Point) (b e t : ℕ) (g : Grown) (why : Evidence) → length points ≤ 16777216 → e < length points → IsForward points b t g → g.place ≤ e → ((u : ℕ) (run whole : List Point) → IsClash u run g.clash → IsPart whole run 0 → IsShown u whole why) → IsRefused t (arc points b (e + 1)) why
+refused_at : (points : List Point) (b e t : ℕ) (g : Grown) (why : Evidence) → length points ≤ most_round → e < length points → IsForward points b t g → g.place ≤ e → ((u : ℕ) (run whole : List Point) → IsClash u run g.clash → IsPart whole run 0 → IsShown u whole why) → IsRefused t (arc points b (e + 1)) why
 refused_at points b e t g why few w h l shown =
     let r = h.rises in
     let n = length-arc points b (e + 1) in

@@ -7,6 +7,7 @@ use Rattle.std.proofs.lemmas.List.{take-append-drop, length-map, map-append}
 use Rattle.std.proofs.lemmas.List.Elements.{Contains-append_left, Contains-append_right, Contains-append_cases, Contains-get_or}
 use Rattle.std.proofs.lemmas.List.Sorted.{IsPermutation-sym, Contains-permutation, length_permutation}
 use Rattle.std.proofs.lemmas.Option.{slice_get-get_or, slice_get_within}
+use Rattle.shape_terms.specs.Limits.{most_points, plane_weight}
 use Rattle.shape_terms.specs.Points.{Point, box_count}
 use Rattle.shape_terms.specs.Adjacency.{Near, near_steps}
 use Rattle.shape_terms.specs.Steps.{Before}
@@ -76,9 +77,9 @@ rising_mapped {X} {Y} f n (x ∷ xs) h i j d l m =
 
 -- ---- weights told anew
 
-told_light : (from to : ℕ) (shares : List Share) → All (λ (s : Share). s.weight < 2 ^ 40) shares → All (λ (s : Share). s.weight < 2 ^ 40) (map (told_share from to) shares)
-told_light from to shares h = All-each (λ (s : Share). s.weight < 2 ^ 40) (map (told_share from to) shares)
-    (λ y c. (let r = mapped_from (told_share from to) shares y c in let k = r.1 in subst (λ (s : Share). s.weight < 2 ^ 40) r.2 (subst (λ (s : Share). s.weight < 2 ^ 40) k.2 (h k.0 r.0 k.1))))
+told_light : (from to : ℕ) (shares : List Share) → All (λ (s : Share). s.weight < plane_weight) shares → All (λ (s : Share). s.weight < plane_weight) (map (told_share from to) shares)
+told_light from to shares h = All-each (λ (s : Share). s.weight < plane_weight) (map (told_share from to) shares)
+    (λ y c. (let r = mapped_from (told_share from to) shares y c in let k = r.1 in subst (λ (s : Share). s.weight < plane_weight) r.2 (subst (λ (s : Share). s.weight < plane_weight) k.2 (h k.0 r.0 k.1))))
 
 pub told_small : (from to : ℕ) (why : Refutation) → AreSmallWeights why → AreSmallWeights (told_anew from to why)
 told_small from to why h = record {
@@ -173,7 +174,7 @@ refused_of d t first start g left tried refused sorted x told h long p up e et =
         subst (Contains (map (λ (r : RefusedPoint). r.point) (map f sorted))) a.2 (Contains-map (λ (r : RefusedPoint). r.point) (map f sorted) (f a.0) (Contains-map f sorted a.0 b))
 
 -- there are few of them, and their weights are small
-pub few_refused : (d t : ℕ) (first : Picture) (s : Spread) (sorted : List Refusal) → IsSpreading d t first s → IsPermutation s.refused sorted → box_count first.sides ≤ 2 ^ 23 → length sorted < 2 ^ 32
+pub few_refused : (d t : ℕ) (first : Picture) (s : Spread) (sorted : List Refusal) → IsSpreading d t first s → IsPermutation s.refused sorted → box_count first.sides ≤ most_points → length sorted < 2 ^ 32
 few_refused d t first s sorted h p few =
     let n = length_permutation s.refused sorted p in
     let m = length-map s.refused (λ (r : Refusal). r.point) in
@@ -186,7 +187,7 @@ pub small_refused : (d t : ℕ) (first : Picture) (s : Spread) (sorted : List Re
 small_refused d t first s sorted h p = All-each (λ (r : Refusal). AreSmallWeights r.why) sorted (λ r c. (refusal_kept d t first s sorted h p r c).weights.small)
 
 -- and few points of a patch
-pub few_taken : (d t : ℕ) (first : Picture) (s : Spread) → IsSpreading d t first s → box_count s.left.sides ≤ 2 ^ 23 → length s.points < 2 ^ 31 - 1
+pub few_taken : (d t : ℕ) (first : Picture) (s : Spread) → IsSpreading d t first s → box_count s.left.sides ≤ most_points → length s.points < 2 ^ 31 - 1
 few_taken d t first s h few =
     let l = few_points first.sides s.points h.once (λ q c. in_sides first q (h.taken q c)) in
     let e = ap box_count h.left_sides in

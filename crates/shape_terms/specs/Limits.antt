@@ -28,9 +28,13 @@ most_round = 4 * (most_flat * most_flat)
 abbrev pub most_bytes : ℕ
 most_bytes = 4 * most_points
 
--- the greatest side of a picture that a seed gives
-abbrev pub most_trial : ℕ
-most_trial = 2048
+-- the greatest side of a flat picture that a seed gives
+abbrev pub most_flat_trial : ℕ
+most_flat_trial = 2048
+
+-- the greatest side of a solid picture that a seed gives
+abbrev pub most_solid_trial : ℕ
+most_solid_trial = 192
 
 -- ---- coordinates and distances
 

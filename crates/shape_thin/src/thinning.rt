@@ -1,6 +1,7 @@
 //! The result of a thinning: its events in order, and the points left.
 //! An event is kept as the place of its point, so that a long list of them stays small.
 ghost use Rattle.std.specs.Prelude.{◌≡◌, ◌<◌, [], ◌∷◌, ◌++◌, length, Some, slice_get, OnOk, pos, negsuc};
+ghost use Rattle.shape_terms.specs.Limits.{most_coordinate};
 ghost use Rattle.shape_terms.specs.FramedBox.{IsWithin};
 ghost use Rattle.shape_thin.specs.Runs.{event_of, event_point};
 ghost use Rattle.shape_thin.specs.EventLists.{events_at, AreEvents};
@@ -64,7 +65,7 @@ impl<P: Point> Thinning<P> {
     pub fn event(&self, i: u32) -> Event<P>
         requires { i < length self.now.events }
         ensures there { slice_get self.now.events i ≡ Some (event_of P.coords result) }
-        ensures within { IsWithin (negsuc 0) (pos 4096)
+        ensures within { IsWithin (negsuc 0) (pos most_coordinate)
             (event_point (event_of P.coords result)) }
     {
         let done = self.events[i as usize];

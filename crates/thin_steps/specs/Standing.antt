@@ -1,6 +1,7 @@
 -- What a thinning between two events stands for, and how it goes on.
 -- How its parts hold that is told by the queue's own terms.
 use Rattle.std.specs.Prelude.{◌≡◌, ℕ, ◌<◌, Bool, true, false, List, [], ◌∷◌, ◌++◌, pos, negsuc}
+use Rattle.shape_terms.specs.Limits.{most_coordinate}
 use Rattle.shape_terms.specs.Points.{Point, box_count, raster_point}
 use Rattle.shape_terms.specs.Pictures.{Picture}
 use Rattle.shape_terms.specs.FramedBox.{IsWithin}
@@ -25,7 +26,7 @@ pub record IsNextIn {P : Type 0} (left : Picture) (keys : Key → Bool) (n : Nex
   pub least : IsLeastKey keys (key_of n)
   pub inside : n.place < box_count left.sides
   pub place : q ≡ raster_point left.sides n.place
-  pub within : IsWithin (negsuc 0) (pos 4096) q
+  pub within : IsWithin (negsuc 0) (pos most_coordinate) q
   pub near : n.facts.neighbours ≡ near_count left q
   pub mask : IsNearMask left q n.mask
 

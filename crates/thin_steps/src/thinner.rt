@@ -27,6 +27,7 @@ pub struct Thinner<P: SimpleMask> {
 }
 
 impl<P: SimpleMask> Thinner<P> {
+    ghost use Rattle.shape_terms.specs.Limits.{most_points};
     ghost use Rattle.thin_steps.specs.Standing.{StandsFor, room_of, ahead_of, IsAtEnd, IsNextOf, GoesOn};
 
     /// A thinning before its first event, by whatever rule. Object points are tested when they are reached: a step each.
@@ -39,7 +40,7 @@ impl<P: SimpleMask> Thinner<P> {
         requires { AreDistances grid.now distances.items }
         ensures stands { IfOk result (λ t. (by : Rule) → StandsFor by grid.now [] by.opening t) }
         ensures picture { IfOk result (λ t. IsPicture P.DIM grid.now) }
-        ensures small { IfOk result (λ t. box_count grid.now.sides ≤ 2 ^ 23) }
+        ensures small { IfOk result (λ t. box_count grid.now.sides ≤ most_points) }
         ensures room { IfOk result (λ t. room_of t ≡ length (object_points grid.now)) }
         ensures few { IfOk result
             (λ t. steps.new + ahead_of t ≤ steps.old + length (object_points grid.now)) }

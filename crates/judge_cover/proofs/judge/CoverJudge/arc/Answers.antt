@@ -1,5 +1,6 @@
 use Rattle.std.proofs.Common.{◌≤◌, ◌^◌, [], ◌∷◌, length, subst, sym}
 use Rattle.std.specs.Prelude.{All, IsTrue, vec_capacity}
+use Rattle.shape_terms.specs.Limits.{most_flat, most_round}
 use Rattle.shape_terms.specs.Points.{in_box}
 use Rattle.report_terms.specs.ContourLines.{open_contour}
 use Rattle.shape_crack.specs.Terms.{point_of}
@@ -26,7 +27,7 @@ returns-clause-few c =
     let i = c.self.inside in
     let s = standing_of i.begun i.points i.declared i.segments.items i.last i.gaps in
     let now = c.args.self.now in
-    let few : length (open_contour now.contours now.standing).points ≤ 2 ^ 24 = rw c.open.ensures at c.is_closed_path.ensures.few in
+    let few : length (open_contour now.contours now.standing).points ≤ most_round = rw c.open.ensures at c.is_closed_path.ensures.few in
     arc_few point_of i.number i.contours s now c.self.view_is i.round.items (vec_capacity i.round) (vec_capacity i.segments) c.self.invariant.1 c.requires.begun c.as_slice.result.now c.part.result.now c.args.first c.args.last c.as_slice.ensures.value c.requires.order c.requires.within c.part.ensures few
 
 pub returns-clause-small : goal.returns-clause-small
@@ -36,5 +37,5 @@ returns-clause-small c =
     let now = c.args.self.now in
     let path = rw c.open.ensures at c.is_closed_path.ensures in
     let value = arc_value point_of i.number i.contours s now c.self.view_is i.round.items (vec_capacity i.round) (vec_capacity i.segments) c.self.invariant.1 c.requires.begun c.as_slice.result.now c.part.result.now c.args.first c.args.last c.as_slice.ensures.value c.requires.order c.requires.within c.part.ensures in
-    let inside = in_arc (λ q. IsTrue (in_box (2048 ∷ 2048 ∷ []) q)) (open_contour now.contours now.standing).points c.args.first c.args.last path.some path.inside in
-    all_small c.part.result.now (subst (All (λ q. IsTrue (in_box (2048 ∷ 2048 ∷ []) q))) (sym value) inside)
+    let inside = in_arc (λ q. IsTrue (in_box (most_flat ∷ most_flat ∷ []) q)) (open_contour now.contours now.standing).points c.args.first c.args.last path.some path.inside in
+    all_small c.part.result.now (subst (All (λ q. IsTrue (in_box (most_flat ∷ most_flat ∷ []) q))) (sym value) inside)

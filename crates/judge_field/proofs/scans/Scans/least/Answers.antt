@@ -2,6 +2,7 @@ use Rattle.std.proofs.Common.{◌≡◌, ◌<◌, ◌^◌, ℕ, ◌∙◌, inl, 
 use Rattle.std.proofs.lemmas.Bool.{and_parts}
 use Rattle.std.proofs.lemmas.List.{get_or_read_under}
 use Rattle.std.specs.Prelude.{IsTrue}
+use Rattle.shape_terms.specs.Limits.{far}
 use Rattle.shape_terms.specs.Pictures.{at}
 use Rattle.shape_terms.specs.Places.{framed_number}
 use Rattle.shape_terms.proofs.FramedNumbers.{framed_number_below}
@@ -39,7 +40,7 @@ returns g c =
     let a = g.met.P.Point.axes s.lengths in
     let picture = c.sides-sides.ensures.picture in
     let d : 0 < length X.sides = elim g.met.P.Point.two_or_three [ inl d ↦ omega (arith, picture.axes, d) | inr d ↦ omega (arith, picture.axes, d) ] in
-    let small : (j : ℕ) → apart X.sides c.framed_number.result j < 2 ^ 26 = λ j. apart_small X.sides (g.P.Point.coords s.lengths) g.P.Point.MAX_SIDE c.framed_number.result j (sym c.sides-sides.ensures.value) s.in_range g.met.P.Point.flat_side (rw a g.met.P.Point.two_or_three) in
+    let small : (j : ℕ) → apart X.sides c.framed_number.result j < far = λ j. apart_small X.sides (g.P.Point.coords s.lengths) g.P.Point.MAX_SIDE c.framed_number.result j (sym c.sides-sides.ensures.value) s.in_range g.met.P.Point.flat_side (rw a g.met.P.Point.two_or_three) in
     let t = least_of_all X p c.framed_number.result c.self.inside.squares.items d inside i small c.self.invariant.1 in
     let read : c.index.result.now ≡ get_or c.self.inside.squares.items c.framed_number.result 0 = get_or_read_under c.self.inside.squares.items c.framed_number.result c.self.inside.squares.len c.index.result.now 0 c.index.ensures (omega (arith, i, below, c.self.invariant.0)) (search rules) in
     rw read (subst (λ Y. IsLeastSquare Y p (get_or c.self.inside.squares.items c.framed_number.result 0)) c.self.view_is t)
