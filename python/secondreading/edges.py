@@ -6,7 +6,6 @@ from secondreading.digital import refutes
 from secondreading.geometry import minus
 from secondreading.texts import COORDINATE, COUNT, LENGTH, LONG, SIDE, WEIGHT, Form, need, word
 
-GREATEST_SIDE = 1000
 SIGNS = {"+": 1, "-": -1}
 SIGN = word("+", "-")
 HEADING = Form("edges", word("1"), LENGTH, LENGTH)

@@ -3,9 +3,9 @@ import re
 
 import numpy as np
 
+from secondreading.limits import MOST_BYTES, MOST_FLAT, MOST_SOLID
 from secondreading.picture import Picture
 
-GREATEST_FLAT, GREATEST_SOLID, GREATEST_FILE = 2048, 192, 2**26
 GAP = rb"(?:[ \t\r\n]|#[^\r\n]*[\r\n])+"
 PLAIN = re.compile(rb"P1" + GAP + rb"([0-9]+)" + GAP + rb"([0-9]+)" + GAP)
 RAW = re.compile(rb"P4" + GAP + rb"([0-9]+)" + GAP + rb"([0-9]+)(?:#[^\r\n]*[\r\n])*[ \t\r\n]")
@@ -17,7 +17,7 @@ class NoPicture(Exception):
 
 def picture_in(data, sides=()):
     """The picture in the bytes of a PBM, or where three sides are given the volume in raw bytes. NoPicture where there is none."""
-    return volume_in(data, sides) if sides else flat_in(data[:GREATEST_FILE])
+    return volume_in(data, sides) if sides else flat_in(data[:MOST_BYTES])
 
 
 def checked(sides, most):
@@ -33,7 +33,7 @@ def flat_in(data):
     if not plain and not raw:
         raise NoPicture("not a PBM")
     head = plain or raw
-    width, height = checked(tuple(map(int, head.groups())), GREATEST_FLAT)
+    width, height = checked(tuple(map(int, head.groups())), MOST_FLAT)
     return Picture((plain_pixels if plain else raw_pixels)(data[head.end() :], width, height))
 
 
@@ -55,7 +55,7 @@ def raw_pixels(data, width, height):
 
 def volume_in(data, sides):
     """The volume in as many bytes as it has voxels, x fastest: 0 is background, every other byte object."""
-    x, y, z = checked(sides, GREATEST_SOLID)
+    x, y, z = checked(sides, MOST_SOLID)
     if len(data) != x * y * z:
         raise NoPicture("the volume has %d bytes, and its sides want %d" % (len(data), x * y * z))
     return Picture(np.frombuffer(data, np.uint8).reshape(z, y, x) != 0)

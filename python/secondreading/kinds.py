@@ -1,6 +1,5 @@
 """The kinds of reports, by the word that each begins with, and the answer on a report of a picture."""
 from secondreading import analysis, balls, edges, pieces
-from secondreading.files import NoPicture
 from secondreading.texts import first_bad
 
 readings = {"shape": analysis, "edges": edges, "pieces": pieces, "balls": balls}
@@ -9,7 +8,7 @@ readings = {"shape": analysis, "edges": edges, "pieces": pieces, "balls": balls}
 def first_bad_line(picture, text):
     """The number of the first bad line of the text of a report, and None where it holds of the picture.
 
-    A text that begins with no word of a kind is read as an analysis. NoPicture where reports of its kind are about smaller pictures alone.
+    A text that begins with no word of a kind is read as an analysis.
     """
     return read(picture, text)[0]
 
@@ -19,6 +18,4 @@ def read(picture, text):
     word = text[:200].split(b"\n", 1)[0].split(b" ")[0].decode("latin-1")
     if word in ("edges", "pieces") and picture.axes == 3:
         return 1, None
-    if word == "edges" and max(picture.sides) > edges.GREATEST_SIDE:
-        raise NoPicture("a side is too large for edges: %d" % max(picture.sides))
     return first_bad(readings.get(word, analysis).read, picture, text)

@@ -8,10 +8,11 @@ from pathlib import Path
 
 import numpy as np
 
+from secondreading.limits import MOST_FLAT, MOST_SOLID
+
 from .faults import Fault
 from .images import Grey, array_of, load, load_stack
 from .pictures import sides_of, told_sides
-from .programs import SIDE_FLAT, SIDE_SOLID
 from .thresholds import Cut, Settings, cut_of, looks_like_labels
 
 
@@ -38,12 +39,12 @@ class Picture:
 
 def pictures_of(path: Path, name: str, settings: Settings) -> Iterator[Picture]:
     """The pictures that an image's file gives: one, or one for each of its labels. A Fault where it gives none."""
-    yield from _made(load(path, bool(settings.labels)), name, settings, SIDE_FLAT)
+    yield from _made(load(path, bool(settings.labels)), name, settings, MOST_FLAT)
 
 
 def volumes_of(path: Path, name: str, settings: Settings) -> Iterator[Picture]:
     """The volumes that a folder of slices, a stack or an array gives. A Fault where it gives none."""
-    yield from _made(volume(path, bool(settings.labels)), name, settings, SIDE_SOLID)
+    yield from _made(volume(path, bool(settings.labels)), name, settings, MOST_SOLID)
 
 
 def volume(path: Path, labels: bool = False) -> Grey:
@@ -84,12 +85,13 @@ def _stacked(path: Path, slices: list[tuple[str, Grey]]) -> Grey:
 
 def _made(image: Grey, name: str, settings: Settings, limit: int) -> Iterator[Picture]:
     sides, most = sides_of(image.values), max(image.values.shape)
-    fit, notes = -(-most // limit), list(image.notes)
-    if fit > 1 and not settings.fit:
+    least, notes = -(-most // limit), list(image.notes)
+    fit = least if settings.fit is None else settings.fit
+    if fit < least:
         raise Fault(
             image.name,
             f"too large: {told_sides(sides)}, and a side goes up to {limit}",
-            f"cut it into parts, or give --fit: 1 pixel for {fit}",
+            f"cut it into parts, or give --fit: 1 pixel for {least}",
         )
     if settings.labels:
         yield from _labelled(image, name, settings.labels, fit)

@@ -2,6 +2,7 @@
 from __future__ import annotations
 
 import sys
+from dataclasses import replace
 from pathlib import Path
 
 from .arrays import as_file, verdict
@@ -36,6 +37,8 @@ def _picture_of(image: Path, report: Path, settings: Settings, is_volume: bool) 
     if settings == Settings() and record:
         print(f"{shown(image)}: {'; '.join(record['notes'])}, as {stem}.json says", file=sys.stderr)
         settings = _recorded(record)
+    elif settings.fit is None:
+        settings = replace(settings, fit=record.get("fit"))
     pictures = (volumes_of if is_volume else pictures_of)(image, image.name, settings)
     for picture in pictures:
         if picture.label == record.get("label", picture.label):
@@ -47,5 +50,5 @@ def _recorded(record: dict) -> Settings:
     """The settings that a record tells: with them the same image gives the same picture."""
     cut = record["cut"]
     if cut is None:
-        return Settings(labels="all" if record["label"] is None else "each", fit=record["fit"] > 1)
-    return Settings(repr(cut["threshold"]), cut["objects"], None, record["fit"] > 1)
+        return Settings(labels="all" if record["label"] is None else "each", fit=record["fit"])
+    return Settings(repr(cut["threshold"]), cut["objects"], None, record["fit"])

@@ -8,8 +8,9 @@ from pathlib import Path
 
 import numpy as np
 
+from secondreading.limits import MOST_FLAT, MOST_SOLID
+
 from .faults import Fault
-from .programs import SIDE_FLAT, SIDE_SOLID
 
 _PBM = re.compile(rb"P4\s(\d+)\s(\d+)\s")
 _SIDES_IN_NAME = re.compile(r"\.(\d+)x(\d+)x(\d+)\.raw$")
@@ -59,7 +60,7 @@ def checked_mask(mask: np.ndarray, name: str = "the array") -> np.ndarray:
         raise Fault(name, f"an array of {mask.dtype}, not of booleans", "compare it with a threshold: `image > t`")
     if mask.ndim not in (2, 3):
         raise Fault(name, f"an array of {mask.ndim} axes", "give one of two (y, x) or three (z, y, x)")
-    limit = SIDE_FLAT if mask.ndim == 2 else SIDE_SOLID
+    limit = MOST_FLAT if mask.ndim == 2 else MOST_SOLID
     if min(mask.shape) < 1 or max(mask.shape) > limit:
         raise Fault(name, f"sides of {told_sides(sides_of(mask))}", f"each has to be from 1 to {limit}")
     return mask

@@ -13,16 +13,17 @@ from functools import lru_cache
 from pathlib import Path
 from typing import IO
 
+from secondreading.limits import MOST_FLAT, MOST_SOLID
+
 from .faults import Fault, Missing
 from .files import sum_of
 
 NAME = "shape"
-SIDE_FLAT, SIDE_SOLID = 2048, 192
 
 # What the program's words mean for one who gave images, by their beginnings: the reason, and what to do.
 _WORDS = (
     ("not a PBM", "not a PBM", "its first two bytes are not P1 or P4"),
-    ("a side is too large", f"a side is above {SIDE_FLAT} pixels, or {SIDE_SOLID} voxels", "give --fit, which makes it smaller"),
+    ("a side is too large", f"a side is above {MOST_FLAT} pixels, or {MOST_SOLID} voxels", "give --fit, which makes it smaller"),
     ("bytes after the volume", "the volume has more bytes than its sides say", "are the sides right?"),
     ("picture ends early", "the file ends before its last pixel", "was it cut on the way, or are the sides others?"),
     ("read failed", "a file could not be read", "is it there, and may you read it?"),

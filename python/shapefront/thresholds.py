@@ -12,12 +12,13 @@ from .images import Grey
 @dataclass(frozen=True)
 class Settings:
     """What a user asked for: a threshold (`107`, `50%` or None: chosen), the object's side of it (`dark`, `light` or None: chosen),
-    how labels are taken (`each`, `all`, or None: no labels), and whether images that are too large are made smaller."""
+    how labels are taken (`each`, `all`, or None: no labels), and how many pixels of an image one pixel of its picture is wide (or
+    None: as few as the greatest side lets)."""
 
     threshold: str | None = None
     objects: str | None = None
     labels: str | None = None
-    fit: bool = False
+    fit: int | None = 1
 
 
 @dataclass(frozen=True)

@@ -4,6 +4,8 @@ from __future__ import annotations
 import argparse
 from pathlib import Path
 
+from secondreading.limits import MOST_FLAT, MOST_SOLID
+
 from . import __version__
 from .arrays import RULES
 from .thresholds import Settings
@@ -61,7 +63,7 @@ def _conversion(parser: argparse.ArgumentParser) -> None:
         const="all",
         help="the same, all labels as one picture: those that touch are one object",
     )
-    parser.add_argument("--fit", action="store_true", help="make images that are too large smaller, by whole numbers of pixels")
+    parser.add_argument("--fit", action="store_true", help=f"make images that are too large smaller, by whole numbers of pixels: sides go up to {MOST_FLAT} pixels, or {MOST_SOLID} voxels")
 
 
 def _making(parser: argparse.ArgumentParser) -> None:
@@ -140,7 +142,7 @@ def parser() -> argparse.ArgumentParser:
 
 
 def settings_of(words: argparse.Namespace) -> Settings:
-    return Settings(words.threshold, words.objects, words.labels, words.fit)
+    return Settings(words.threshold, words.objects, words.labels, None if words.fit else 1)
 
 
 def options_of(words: argparse.Namespace) -> dict[str, object]:

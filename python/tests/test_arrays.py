@@ -6,6 +6,7 @@ import numpy as np
 from .common import STORED, installed, needs_shape, random_mask
 
 import shapefront
+from secondreading.limits import MOST_FLAT, MOST_SOLID
 from shapefront import Fault
 
 if installed("scipy"):
@@ -72,10 +73,16 @@ class Checks(unittest.TestCase):
         mask = shapefront.read(STORED / "word.report").mask
         self.assertTrue(shapefront.check(mask, STORED / "word.report"))
 
+    def test_the_greatest_sides(self):
+        for mask in (np.ones((1, MOST_FLAT), bool), np.ones((MOST_FLAT, 1), bool), np.ones((1, 1, MOST_SOLID), bool), np.ones((MOST_SOLID, 1, 1), bool)):
+            report = shapefront.analyse(mask, "curve")
+            self.assertEqual(report.parts.points, mask.size)
+            self.assertTrue(shapefront.check(mask, report))
+
     def test_arrays_that_are_none(self):
         for array, reason in (
-            (np.ones((3, 3)), "not of booleans"), (np.ones(3, bool), "of 1 axes"), (np.ones((0, 3), bool), "from 1 to 2048"),
-            (np.ones((3, 2049), bool), "x 2049, y 3"), (np.ones((2, 2, 193), bool), "from 1 to 192"),
+            (np.ones((3, 3)), "not of booleans"), (np.ones(3, bool), "of 1 axes"), (np.ones((0, 3), bool), f"from 1 to {MOST_FLAT}"),
+            (np.ones((3, MOST_FLAT + 1), bool), f"x {MOST_FLAT + 1}, y 3"), (np.ones((2, 2, MOST_SOLID + 1), bool), f"from 1 to {MOST_SOLID}"),
         ):  # fmt: skip
             with self.assertRaisesRegex(Fault, reason):
                 shapefront.analyse(array)

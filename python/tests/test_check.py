@@ -3,9 +3,17 @@ import shutil
 import subprocess
 from pathlib import Path
 
-from .common import STORED, InFolder, needs_pillow, needs_shape
+import numpy as np
+
+from .common import STORED, InFolder, installed, needs_pillow, needs_shape, random_mask
 
 from shapefront import programs
+from shapefront.convert import pictures_of
+from shapefront.making import Plan, make
+from shapefront.thresholds import Settings
+
+if installed("PIL"):
+    from PIL import Image
 
 
 @needs_shape
@@ -121,3 +129,10 @@ class CheckingAFolder(InFolder):
         self.assertEqual(self.shapes("check", "word.pbm", "out/word.pbm.report")[:2], (0, ["out/word.pbm.report: yes"]))
         status, out, _ = self.shapes("check", "cross.pbm", "out/word.pbm.report")
         self.assertTrue(status == 1 and "the report is of another one" in out[0], out)
+
+    def test_the_original_image_is_made_as_small_as_its_record_tells(self):
+        Image.fromarray(random_mask(4, 30, 40).astype(np.uint8) * 255).save("half.png")
+        (picture,) = pictures_of(Path("half.png"), "half.png", Settings(fit=2))
+        make(picture, Plan(Path("half"), "curve"))
+        for words in ((), ("--fit", "--threshold", repr(picture.cut.threshold), f"--{picture.cut.objects}")):
+            self.assertEqual(self.shapes("check", "half.png", "half/half.png.report", *words)[:2], (0, ["half/half.png.report: yes"]))

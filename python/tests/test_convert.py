@@ -5,6 +5,7 @@ import numpy as np
 
 from .common import STORED, InFolder, installed, needs_pillow
 
+from secondreading.limits import MOST_FLAT, MOST_SOLID
 from shapefront import Fault
 from shapefront.convert import pictures_of, volume, volumes_of
 from shapefront.pictures import spelled, told_sides
@@ -87,13 +88,16 @@ class Pictures(InFolder):
         self.assertIn("if these are labels, give --labels", one("cells.png").notes[-1])
 
     def test_too_large_and_made_smaller(self):
-        large = np.full((30, 5000), 255, np.uint8)
-        large[9:21, 300:4500] = 0
+        wide = 2 * MOST_FLAT + 6
+        large = np.full((30, wide), 255, np.uint8)
+        large[9:21, 300:12300] = 0
         Image.fromarray(large).save("large.png")
-        with self.assertRaisesRegex(Fault, r"too large: x 5000, y 30, and a side goes up to 2048; .* --fit: 1 pixel for 3"):
+        with self.assertRaisesRegex(Fault, rf"too large: x {wide}, y 30, and a side goes up to {MOST_FLAT}; .* --fit: 1 pixel for 3"):
             one("large.png")
-        picture = one("large.png", fit=True)
-        self.assertEqual((picture.fit, picture.mask.shape, picture.mask.sum()), (3, (10, 1667), 4 * 1400))
+        picture = one("large.png", fit=None)
+        self.assertEqual((picture.fit, picture.mask.shape, picture.mask.sum()), (3, (10, wide // 3 + 1), 4 * 4000))
+        Image.fromarray(large[:, :MOST_FLAT]).save("widest.png")
+        self.assertEqual([one("widest.png", fit=fit).fit for fit in (1, None, 2)], [1, 1, 2])
 
     def test_refusals_name_the_file(self):
         Path("text.png").write_text("no image")
@@ -138,10 +142,10 @@ class Volumes(InFolder):
         Image.fromarray(np.zeros((3, 5), np.uint8)).save("mixed/a2.png")
         Image.fromarray(np.zeros((3, 5), np.uint8)).save("one.png")
         np.save("flat.npy", np.zeros((3, 3)))
-        np.save("large.npy", np.zeros((200, 3, 4), np.uint8))
+        np.save("large.npy", np.zeros((MOST_SOLID + 1, 3, 4), np.uint8))
         for name, reason in (
             ("mixed", r"slices of different sizes: a2.png has x 5, y 3, a1.png has x 4, y 3"), ("empty", "an empty folder"), ("one.png", "not a stack"),
-            ("flat.npy", "2 axes"), ("nowhere", "no such file"), ("large.npy", "too large: x 4, y 3, z 200, and a side goes up to 192"),
+            ("flat.npy", "2 axes"), ("nowhere", "no such file"), ("large.npy", f"too large: x 4, y 3, z {MOST_SOLID + 1}, and a side goes up to {MOST_SOLID}"),
         ):  # fmt: skip
             with self.assertRaisesRegex(Fault, f"^{name}: .*{reason}"):
                 list(volumes_of(Path(name), name, Settings()))

@@ -16,6 +16,7 @@ import numpy as np
 
 from .common import HERE, InFolder, installed, needs_pillow, needs_shape, random_mask
 
+from secondreading.limits import MOST_SOLID
 from shapefront import programs, read
 
 if installed("PIL"):
@@ -178,13 +179,13 @@ class Measuring(InFolder):
 
     def test_volumes_that_are_none_are_named(self):
         np.save("good.npy", random_mask(7, 5, 6, 7))
-        np.save("large.npy", np.zeros((3, 3, 193), np.uint8))
+        np.save("large.npy", np.zeros((3, 3, MOST_SOLID + 1), np.uint8))
         Path("mixed").mkdir()
         for name, side in (("a1.png", 4), ("a2.png", 5)):
             Image.fromarray(np.zeros((3, side), np.uint8)).save(f"mixed/{name}")
         status, out, error = self.shapes("volume", "good.npy", "large.npy", "mixed", "nowhere", "-o", "out")
         self.assertEqual((status, out, len(error)), (1, ["1 of 4 measured, in out: summary.txt tells how"], 3))
-        for line, begin in zip(error, ("large.npy: too large: x 193, y 3, z 3", "mixed: slices of different sizes", "nowhere: no such file")):
+        for line, begin in zip(error, (f"large.npy: too large: x {MOST_SOLID + 1}, y 3, z 3", "mixed: slices of different sizes", "nowhere: no such file")):
             self.assertTrue(line.startswith(begin), error)
 
     def test_nothing_can_be_done(self):

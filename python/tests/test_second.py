@@ -1,6 +1,7 @@
 """The second reading beside the proved program: the same verdicts on reports as they are made and on changed ones, the same tables and masks."""
 import contextlib
 import io
+import math
 import random
 import shutil
 import subprocess
@@ -17,6 +18,7 @@ from .common import STORED, InFolder, needs_shape, slow
 from secondreading import NoPicture, first_bad_line, picture_in
 from secondreading.__main__ import main
 from secondreading.kinds import read
+from secondreading.limits import MOST_FLAT, MOST_SOLID
 from secondreading.masks import MASKS, mask
 from secondreading.tables import has_further, table
 from shapefront import programs
@@ -141,12 +143,23 @@ class Pictures(unittest.TestCase):
         self.assertEqual(picture_in(bytes([0, 9, 0, 0]), (2, 1, 2)).order, [(1, 0, 0)])
 
     def test_files_that_hold_none(self):
-        for data in (b"", b"P5 1 1 255\n0", b"P1 2 2 101", b"P1 2 2 1021", b"P1 0 1 ", b"P1 2049 1 1", b"P4 9 1\n\xff", b"P12 2 1111", b"P1 2 2#1111"):
+        for data in (b"", b"P5 1 1 255\n0", b"P1 2 2 101", b"P1 2 2 1021", b"P1 0 1 ", b"P4 9 1\n\xff", b"P12 2 1111", b"P1 2 2#1111"):
             with self.assertRaises(NoPicture, msg=data):
                 picture_in(data)
-        for data, sides in ((b"000", (2, 1, 1)), (b"0", (2, 1, 1)), (b"", (0, 1, 1)), (bytes(193), (193, 1, 1))):
+        for data, sides in ((b"000", (2, 1, 1)), (b"0", (2, 1, 1)), (b"", (0, 1, 1))):
             with self.assertRaises(NoPicture):
                 picture_in(data, sides)
+
+    def test_the_greatest_sides(self):
+        for sides, most in (((MOST_FLAT, 1), MOST_FLAT), ((1, MOST_FLAT), MOST_FLAT), ((1, MOST_SOLID, 1), MOST_SOLID)):
+            above = tuple(side + (side == most) for side in sides)
+            self.assertEqual(picture_in(*self.of_object_points(sides)).sides, sides)
+            with self.assertRaisesRegex(NoPicture, "too large"):
+                picture_in(*self.of_object_points(above))
+
+    def of_object_points(self, sides):
+        """The file of a picture without background, and what has to be told of its sides."""
+        return (b"P1 %d %d " % sides + b"1" * math.prod(sides),) if len(sides) == 2 else (b"\1" * math.prod(sides), sides)
 
 
 class Command(InFolder):

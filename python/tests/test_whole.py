@@ -19,6 +19,7 @@ import numpy as np
 from .common import HERE, InFolder, installed, needs_pillow, needs_shape, random_mask, slow
 
 import shapefront
+from secondreading.limits import MOST_FLAT
 
 if installed("PIL"):
     from PIL import Image
@@ -26,6 +27,7 @@ if installed("skimage", "scipy"):
     import skimage
     from scipy import ndimage
 
+LARGE = MOST_FLAT + 2048
 COMMAND = [sys.executable, str(HERE.parent / "shapes")]
 
 
@@ -57,7 +59,7 @@ class TwelveImages(InFolder):
         "camera.pgm": ["chosen by Otsu"],
     }
     FAILED = {
-        "large.png": "large.png: too large: x 2304, y 909, and a side goes up to 2048; cut it into parts, or give --fit: 1 pixel for 2",
+        "large.png": f"large.png: too large: x {LARGE}, y 909, and a side goes up to {MOST_FLAT}; cut it into parts, or give --fit: 1 pixel for 2",
         "notes.png": "notes.png: not an image that can be read; open it in another program and save it as PNG or TIFF",
     }
 
@@ -72,7 +74,7 @@ class TwelveImages(InFolder):
         coins = np.array(Image.open("coins.png"))
         labels = ndimage.label(ndimage.binary_opening(ndimage.binary_fill_holes(coins > 107), iterations=3))[0]
         Image.fromarray(labels.astype(np.uint16)).save("labels.tif")
-        Image.open("coins.png").resize((2304, 909)).save("large.png")
+        Image.open("coins.png").resize((LARGE, 909)).save("large.png")
         Image.open(data / "camera.png").save("camera.pgm")
         ink = np.zeros((60, 90, 4), np.uint8)
         ink[20:40, 10:70, 3] = 255
