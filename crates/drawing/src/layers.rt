@@ -1,6 +1,7 @@
 //! The layers of a drawing, one function each.
 //! Another look is a change of the texts here and of the same texts in `specs/Svg.antt`.
 ghost use Rattle.std.specs.Prelude.{◌≡◌, ◌<◌, ◌≤◌, ◌++◌, true, false, not, if◌then◌else◌, OnOk, nat_abs};
+ghost use Rattle.shape_terms.specs.Limits.{most_flat};
 ghost use Rattle.shape_terms.specs.Points.{coordinate, sides_of};
 ghost use Rattle.drawing.specs.Seen.{flat, flats, stroke, all_pixels, all_strokes};
 ghost use Rattle.drawing.specs.Svg.{layers, scale, size_text, view_text, head, stroke_text, ends_text, of_parity, depth_opening, depth_path, object_layer, contour_layer, stroke_path, ends_path, skeleton_layer};
@@ -29,8 +30,8 @@ fn scale(width: usize, height: usize) -> usize
 // Puts the sides of the drawing on a screen.
 fn put_size(width: usize, height: usize, svg: &mut Svg) -> Result<(), NoMemory>
     requires some { 1 ≤ width }
-    requires width { width ≤ 2048 }
-    requires height { height ≤ 2048 }
+    requires width { width ≤ most_flat }
+    requires height { height ≤ most_flat }
     ensures { OnOk result (svg.new ≡ svg.old ++ size_text width height) }
 {
     let scale = scale(width, height);
@@ -56,7 +57,7 @@ pub fn side(sides: Sides<P2>, axis: usize) -> usize
     requires { axis < 2 }
     ensures value { result ≡ nat_abs (coordinate (flat sides.lengths) axis) }
     ensures some { 1 ≤ result }
-    ensures most { result ≤ 2048 }
+    ensures most { result ≤ most_flat }
 {
     sides.side(axis) as usize
 }

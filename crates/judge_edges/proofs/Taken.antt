@@ -1,16 +1,21 @@
 -- What a judge of an edge report finds of a line, as the claim of the line after those that the judge stands for.
 -- Laws over pictures, lines and what a judge is seen as.
 use Rattle.std.proofs.Common.{◌≡◌, ℕ, zero, suc, ◌+◌, ◌-◌, ◌*◌, ◌<◌, ◌≤◌, ◌^◌, Bool, true, false, List, [], ◌∷◌, ◌++◌, length, drop, refl, ap, sym, ◌∙◌, subst, arith}
-use Rattle.std.specs.Prelude.{◌↔◌, IsTrue, Some, slice_get, All}
+use Rattle.std.specs.Prelude.{◌↔◌, IsTrue, Some, slice_get, map, flat_map}
 use Rattle.std.specs.Bool.{OnTrue}
+use Rattle.std.proofs.lemmas.List.{length-append, length-map}
 use Rattle.std.proofs.lemmas.List.Sums.{sum_by-cons}
-use Rattle.std.proofs.lemmas.List.Elements.{All-head, All-tail}
 use Rattle.std.proofs.lemmas.Option.{slice_get_within}
+use Rattle.shape_terms.specs.Limits.{most_points}
+use Rattle.shape_terms.specs.Points.{box_count}
 use Rattle.shape_terms.specs.Pictures.{Picture}
 use Rattle.shape_terms.specs.Contours.{Crack}
+use Rattle.shape_terms.specs.Traces.{contour_of}
+use Rattle.shape_terms.proofs.ContourRoom.{few_cracks, few_in_all}
 use Rattle.text_terms.specs.Courses.{reached}
 use Rattle.text_terms.proofs.CourseLaws.{reached_push}
-use Rattle.edge_terms.specs.EdgeCycles.{EdgeCycle, AreEdgeCycles}
+use Rattle.edge_terms.specs.Corners.{corner}
+use Rattle.edge_terms.specs.EdgeCycles.{EdgeCycle, edge_cycle_of, AreEdgeCycles}
 use Rattle.edge_terms.specs.CycleLines.{Standing, IsCycleHead, with_cycle, nothing_taken}
 use Rattle.edge_terms.specs.Lines.{Line}
 use Rattle.edge_terms.specs.EdgeReports.{State, next, CycleClaim, Claim, HasEnded, course}
@@ -37,16 +42,22 @@ less_to_come cycles n m k left e few =
     ap corners_in (drop_here cycles n k e ∙ ap (λ j. k ∷ drop j cycles) q) ∙ sum_by-cons (λ (c : EdgeCycle). length c.path) k (drop (n + 1) cycles) in
     omega (arith, l, s, few)
 
-corners_few : (cycles : List EdgeCycle) (g : ℕ) → All (λ (k : EdgeCycle). length k.path ≤ g) cycles → g ≤ 33554432 → corners_in cycles ≤ length cycles * 33554432
-corners_few [] g a few = omega arith
-corners_few (k ∷ cycles) g a few =
-    let h = All-head (λ (k : EdgeCycle). length k.path ≤ g) k cycles a in
-    let r = corners_few cycles g (All-tail (λ (k : EdgeCycle). length k.path ≤ g) k cycles a) few in
-    omega (arith, sum_by-cons (λ (c : EdgeCycle). length c.path) k cycles, h, r, few)
+-- the cycles have as many corners as cracks
+corners_of : (cracks : List (List Crack)) → corners_in (map edge_cycle_of cracks) ≡ length (flat_map (λ c. c) cracks)
+corners_of [] = refl
+corners_of (c ∷ cracks) =
+    let s = sum_by-cons (λ (k : EdgeCycle). length k.path) (edge_cycle_of c) (map edge_cycle_of cracks) in
+    let n = length-append c (flat_map (λ c. c) cracks) in
+    omega (arith, s, n, length-map c corner, corners_of cracks)
 
 -- the lines of all cycles
-pub few_lines : (cycles : List EdgeCycle) (g : ℕ) → All (λ (k : EdgeCycle). length k.path ≤ g) cycles → g ≤ 2 ^ 25 → length cycles < 2 ^ 32 → room_of (record { cycles = cycles; standing = nothing_taken }) < 2 ^ 60
-few_lines cycles g a few count = let c = corners_few cycles g a (omega (arith, few)) in omega (arith, c, count)
+pub few_lines : (X : Picture) (cycles : List EdgeCycle) → AreEdgeCycles X cycles → box_count X.sides ≤ most_points → room_of (record { cycles = cycles; standing = nothing_taken }) < 2 ^ 60
+few_lines X cycles are few =
+    let contours = few_in_all X (map (contour_of X) are.cracks) (record { cycles = are.cracks; are = are.are; contours_are = refl }) in
+    let cracks = few_cracks X (flat_map (λ c. c) are.cracks) (λ c i. (are.are.each c).1 i) are.are.once in
+    let n : length cycles ≡ length are.cracks = ap length are.cycles_are ∙ length-map are.cracks edge_cycle_of in
+    let p : corners_in cycles ≡ length (flat_map (λ c. c) are.cracks) = ap corners_in are.cycles_are ∙ corners_of are.cracks in
+    omega (arith, few, contours.0, length-map are.cracks (contour_of X), cracks, n, p)
 
 -- ---- lines of cycles
 

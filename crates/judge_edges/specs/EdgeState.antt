@@ -1,6 +1,7 @@
 -- What a judge of the lines of corner paths is seen as.
 -- It holds no line: it stands for each list of lines that stands where it does.
-use Rattle.std.specs.Prelude.{ℕ, ◌*◌, ◌<◌, ◌≤◌, ◌^◌, List, map, length, All}
+use Rattle.std.specs.Prelude.{ℕ, ◌*◌, ◌<◌, ◌≤◌, List, map, length, All}
+use Rattle.shape_terms.specs.Limits.{most_round}
 use Rattle.shape_refute.specs.declared.places.Places.{Places}
 use Rattle.shape_refute.specs.Places.{stretch_of, IsAround}
 use Rattle.edge_terms.specs.EdgeCycles.{EdgeCycle}
@@ -20,7 +21,7 @@ pub record IsInStep (cycles : List EdgeCycle) (s : Standing) : Type 0 where
   pub few : s.begun ≤ length cycles
   pub begun : 0 < s.declared → 0 < s.begun
   pub declared_within : s.declared ≤ length (open_path cycles s)
-  pub declared_few : s.declared ≤ 2 ^ 25
+  pub declared_few : s.declared ≤ most_round
   pub listed_within : length s.stretches ≤ s.declared
   pub gaps_within : s.gaps ≤ s.declared
   pub around : All (IsAround (length (open_path cycles s))) s.stretches

@@ -4,7 +4,6 @@ ghost use Rattle.std.specs.Prelude.{◌≡◌, true};
 ghost use Rattle.shape_desk.specs.Desk.{OnlyReadsAt};
 ghost use Rattle.shape_desk.specs.declared.desk.Place.TheVariants.{Report};
 ghost use Rattle.report_text.specs.Checks.{HasChecked};
-ghost use Rattle.edge_terms.specs.Corners.{HasSmallSides};
 ghost use Rattle.edge_terms.specs.EdgeReports.{edge_report};
 
 use crate::whole::WholeJudge;
@@ -14,7 +13,7 @@ use shape_grid::Grid;
 use shape_space::P2;
 use std::alloc::Global;
 
-/// Checks the edge report of a flat picture that was begun at `Place::Report`, whose sides are at most 1000 (`has_small_sides`).
+/// Checks the edge report of a flat picture that was begun at `Place::Report`.
 ///
 /// The file is read line by line and never whole: the bytes of its good lines are taken, and at most 2048 more. `Yes` exactly where the
 /// report holds of the picture, and `No` exactly where its line is the first bad one, where the desk tells the file. `ReadFault` comes only
@@ -24,8 +23,7 @@ pub fn check_edges<D: Desk>(
     grid: &Grid<P2>,
     desk: &mut D,
 ) -> Result<Judgement, CheckFault>
-    requires begun { (D.state desk.old).begun Report ≡ true }
-    requires small { HasSmallSides grid.now }
+    requires { (D.state desk.old).begun Report ≡ true }
     ensures checked { HasChecked (edge_report grid.now) ((D.state desk.old).left Report)
         (D.state desk.old) (D.state desk.new) result }
     ensures reads { OnlyReadsAt Report (D.state desk.old) (D.state desk.new) }

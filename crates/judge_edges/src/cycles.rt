@@ -1,9 +1,10 @@
 //! The corner paths of all cycles of cracks of a picture, each from its least crack, in the order of these.
 //! Another way of keeping the paths changes nothing outside this file.
-ghost use Rattle.std.specs.Prelude.{◌≡◌, ◌<◌, ◌≤◌, ◌^◌, Some, slice_get, IfOk, All, length};
+ghost use Rattle.std.specs.Prelude.{◌≡◌, ◌<◌, ◌≤◌, Some, slice_get, IfOk, All, length};
+ghost use Rattle.shape_terms.specs.Limits.{most_round};
 ghost use Rattle.shape_terms.specs.Contours.{IsCrack};
 ghost use Rattle.shape_terms.specs.Traces.{AreContours};
-ghost use Rattle.edge_terms.specs.Corners.{HasSmallSides, IsCornerPathFrom};
+ghost use Rattle.edge_terms.specs.Corners.{IsCornerPathFrom};
 ghost use Rattle.shape_crack.specs.Terms.{crack_of};
 ghost use Rattle.edge_terms.specs.EdgeCycles.{AreEdgeCycles};
 
@@ -82,8 +83,7 @@ impl Cycles {
     /// The greatest number of corners of a cycle.
     pub fn greatest(&self) -> u32
         ensures each { All (λ k. length k.path ≤ result) self.now }
-        ensures few { result ≤ 2 ^ 25 }
-        ensures count { length self.now < 2 ^ 32 }
+        ensures few { result ≤ most_round }
     {
         let mut greatest: u32 = 0;
         for k in 0..self.len() {
@@ -95,8 +95,7 @@ impl Cycles {
 
 // The cycle that begins with a crack.
 fn cycle_from(alloc: Global, grid: &Grid<P2>, start: Crack) -> Result<Cycle, NoMemory>
-    requires crack { IsCrack grid.now (crack_of start) }
-    requires small { HasSmallSides grid.now }
+    requires { IsCrack grid.now (crack_of start) }
     ensures path { IfOk result (λ k. IsCornerPathFrom grid.now (crack_of start) k.path) }
     ensures start { IfOk result (λ k. k.start ≡ crack_of start) }
 {
@@ -106,8 +105,7 @@ fn cycle_from(alloc: Global, grid: &Grid<P2>, start: Crack) -> Result<Cycle, NoM
 
 // The cycles of the contours of a picture.
 fn cycles_of(alloc: Global, grid: &Grid<P2>, contours: &Contours) -> Result<Vec<Cycle>, NoMemory>
-    requires are { AreContours grid.now contours.now }
-    requires small { HasSmallSides grid.now }
+    requires { AreContours grid.now contours.now }
     ensures cycles { IfOk result (λ v. AreEdgeCycles grid.now v.items) }
     ensures few { IfOk result (λ v. length v.items ≡ length contours.now) }
 {
@@ -125,7 +123,6 @@ fn cycles_of(alloc: Global, grid: &Grid<P2>, contours: &Contours) -> Result<Vec<
 ///
 /// `NoMemory` where there is none for the corners.
 pub fn all_cycles(alloc: Global, grid: &Grid<P2>) -> Result<Cycles, NoMemory>
-    requires { HasSmallSides grid.now }
     ensures { IfOk result (AreEdgeCycles grid.now) }
 {
     let contours = contours(alloc, grid)?;

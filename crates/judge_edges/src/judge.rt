@@ -2,8 +2,8 @@
 //! What a line says of its arc or its gap is tested in `line`, `places`, `bend` and `fold`.
 ghost use Rattle.std.specs.Prelude.{◌≡◌, ◌+◌, ◌-◌, ◌*◌, ◌<◌, ◌≤◌, ◌^◌, ◌↔◌, length, slice_index_or, IsTrue, IfOk, vec_capacity};
 ghost use Rattle.std.specs.Bool.{OnTrue};
+ghost use Rattle.shape_terms.specs.Limits.{most_round};
 ghost use Rattle.shape_terms.specs.Covers.{arc, next_first, gap_run};
-ghost use Rattle.edge_terms.specs.Corners.{HasSmallSides};
 ghost use Rattle.shape_crack.specs.Terms.{crack_of};
 ghost use Rattle.shape_corner.specs.Lines.{standard_of};
 ghost use Rattle.shape_corner.specs.Arcs.{stretch_of as arc_stretch};
@@ -63,11 +63,11 @@ impl EdgeJudge {
     ///
     /// `NoMemory` where there is none for the corners.
     pub fn new(alloc: Global, grid: &Grid<P2>) -> Result<EdgeJudge, NoMemory>
-        requires { HasSmallSides grid.now }
         ensures cycles { IfOk result (λ j. AreEdgeCycles grid.now j.cycles) }
         ensures standing { IfOk result (λ j. j.standing ≡ nothing_taken) }
         ensures room { IfOk result (λ j. room_of j < 2 ^ 60) }
     {
+        grid.is_picture();
         let cycles = all_cycles(alloc, grid)?;
         let greatest = cycles.greatest() as usize;
         let arcs = Vec::with_capacity(alloc, greatest)?;
@@ -169,7 +169,7 @@ impl EdgeJudge {
             ≡ (slice_index_or self.now.standing.stretches k
             (record { first = 0; last = 0 })).last + 1 }
         ensures within { result < 2 * length (open_path self.now.cycles self.now.standing) }
-        ensures low { result < 2 ^ 27 }
+        ensures low { result < 2 * most_round }
     {
         self.open().is_corner_path();
         self.arcs[k].last + 1
@@ -183,7 +183,7 @@ impl EdgeJudge {
             ≡ gap_run (open_path self.now.cycles self.now.standing) self.now.standing.stretches
             self.now.standing.gaps }
         ensures within { result.last < 2 * length (open_path self.now.cycles self.now.standing) }
-        ensures low { result.last < 2 ^ 27 }
+        ensures low { result.last < 2 * most_round }
     {
         let k = self.gaps as usize;
         Places {

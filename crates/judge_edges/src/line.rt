@@ -1,6 +1,7 @@
 //! Whether a standard line holds a run of a corner path.
 //! Products are taken in 128 bits, so that no coefficient is too great.
-ghost use Rattle.std.specs.Prelude.{◌≡◌, ◌⊎◌, ◌+◌, ◌<◌, ◌≤◌, ◌^◌, ◌↔◌, ◌*ℤ◌, ◌+ℤ◌, ◌-ℤ◌, ◌≤ℤ◌, ◌<ℤ◌, ℕ, IsTrue, pos, nat_abs, unsigned_abs};
+ghost use Rattle.std.specs.Prelude.{◌≡◌, ◌⊎◌, ◌+◌, ◌*◌, ◌<◌, ◌≤◌, ◌^◌, ◌↔◌, ◌*ℤ◌, ◌+ℤ◌, ◌-ℤ◌, ◌≤ℤ◌, ◌<ℤ◌, ℕ, IsTrue, pos, nat_abs, unsigned_abs};
+ghost use Rattle.shape_terms.specs.Limits.{most_flat, most_round};
 ghost use Rattle.shape_terms.specs.Covers.{arc};
 ghost use Rattle.edge_terms.specs.Corners.{IsSign, place_of, IsCorner, across_by, down_by};
 ghost use Rattle.edge_terms.specs.EdgeStraight.{HoldsCorner, IsStandardFor};
@@ -14,11 +15,11 @@ use shape_space::P2;
 // A difference of two coordinates.
 fn minus(a: i32, b: i32) -> i32
     requires a_low { pos 0 ≤ℤ a }
-    requires a_high { a ≤ℤ pos 1000 }
+    requires a_high { a ≤ℤ pos most_flat }
     requires b_low { pos 0 ≤ℤ b }
-    requires b_high { b ≤ℤ pos 1000 }
+    requires b_high { b ≤ℤ pos most_flat }
     ensures value { result ≡ a -ℤ b }
-    ensures small { unsigned_abs result ≤ 1000 }
+    ensures small { unsigned_abs result ≤ most_flat }
 {
     a - b
 }
@@ -29,8 +30,8 @@ fn difference(q: P2, p: P2) -> P2
     requires p_corner { IsCorner (point_of p) }
     ensures x { result.x ≡ q.x -ℤ p.x }
     ensures y { result.y ≡ q.y -ℤ p.y }
-    ensures x_small { unsigned_abs result.x ≤ 1000 }
-    ensures y_small { unsigned_abs result.y ≤ 1000 }
+    ensures x_small { unsigned_abs result.x ≤ most_flat }
+    ensures y_small { unsigned_abs result.y ≤ most_flat }
 {
     P2 {
         x: minus(q.x, p.x),
@@ -40,10 +41,10 @@ fn difference(q: P2, p: P2) -> P2
 
 /// The step from a place of a path to the next.
 pub(crate) fn step_on(path: &Corners, i: u32) -> P2
-    requires { i < 2 ^ 28 }
+    requires { i < 2 * most_round }
     ensures value { point_of result ≡ step_from path.now i }
-    ensures x_small { unsigned_abs result.x ≤ 1000 }
-    ensures y_small { unsigned_abs result.y ≤ 1000 }
+    ensures x_small { unsigned_abs result.x ≤ most_flat }
+    ensures y_small { unsigned_abs result.y ≤ most_flat }
 {
     let p = path.corner_on(i);
     difference(path.corner_on(i + 1), p)
@@ -68,16 +69,16 @@ fn is_proper(line: &Standard) -> bool
 fn signed(sign: i8, x: i32) -> i64
     requires sign { IsSign sign }
     requires low { pos 0 ≤ℤ x }
-    requires high { x ≤ℤ pos 1000 }
+    requires high { x ≤ℤ pos most_flat }
     ensures value { result ≡ sign *ℤ x }
-    ensures small { unsigned_abs result ≤ 1000 }
+    ensures small { unsigned_abs result ≤ most_flat }
 {
     if sign == 1 { x as i64 } else { -(x as i64) }
 }
 
 // A number, taken as often as a coefficient says.
 fn weighed(weight: u64, x: i64) -> i128
-    requires { unsigned_abs x ≤ 1000 }
+    requires { unsigned_abs x ≤ most_flat }
     ensures value { result ≡ pos weight *ℤ x }
     ensures small { unsigned_abs result ≤ 2 ^ 97 }
 {
@@ -126,7 +127,7 @@ fn goes(step: P2, h: i8, v: i8) -> bool
 // Whether a proper line holds each corner from place to place.
 fn holds_all(path: &Corners, first: u32, last: u32, line: &Standard) -> bool
     requires proper { IsProper line.now }
-    requires low { last < 2 ^ 27 }
+    requires low { last < 2 * most_round }
     ensures { IsTrue result ↔ ((i : ℕ) → first ≤ i → i ≤ last
         → HoldsCorner (standard_of line.now) (place_of path.now i)) }
 {
@@ -140,7 +141,7 @@ fn holds_all(path: &Corners, first: u32, last: u32, line: &Standard) -> bool
 
 // Whether each step from place to place goes by the signs of a line.
 fn goes_all(path: &Corners, first: u32, last: u32, line: &Standard) -> bool
-    requires low { last < 2 ^ 27 }
+    requires low { last < 2 * most_round }
     ensures { IsTrue result ↔ ((i : ℕ) → first ≤ i → i < last
         → (step_from path.now i ≡ across_by line.now.h)
         ⊎ (step_from path.now i ≡ down_by line.now.v)) }
@@ -156,7 +157,7 @@ fn goes_all(path: &Corners, first: u32, last: u32, line: &Standard) -> bool
 /// Whether the line of an arc is a standard line that holds the run from its first place to its last.
 pub(crate) fn holds_arc(path: &Corners, next: &Arc) -> bool
     requires order { next.now.first ≤ next.now.last }
-    requires low { next.now.last < 2 ^ 27 }
+    requires low { next.now.last < 2 * most_round }
     ensures { IsTrue result ↔ IsStandardFor (arc path.now next.now.first next.now.last)
         (standard_of next.now.line) }
 {

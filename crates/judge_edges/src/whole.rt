@@ -1,7 +1,6 @@
 //! The judge of a whole edge report: the sides of the picture, then the lines of its cycles, and the end.
 //! What a line of a cycle says is tested in `judge`; a further kind of line is an arm of `follow`.
 ghost use Rattle.std.specs.Prelude.{◌≡◌, ◌<◌, ◌^◌, ◌↔◌, ◌∷◌, [], IsTrue, IfOk};
-ghost use Rattle.edge_terms.specs.Corners.{HasSmallSides};
 ghost use Rattle.edge_terms.specs.EdgeReports.{HasEnded};
 ghost use Rattle.edge_terms.specs.CycleLines.{nothing_taken};
 ghost use Rattle.edge_text.specs.LineOf.{line_of};
@@ -49,7 +48,6 @@ pub(crate) struct WholeJudge {
 impl WholeJudge {
     // A judge that has taken no line. It takes all its memory here.
     pub(crate) fn new(alloc: Global, grid: &Grid<P2>) -> Result<WholeJudge, NoMemory>
-        requires { HasSmallSides grid.now }
         ensures stands { IfOk result (λ j.
             StandsFor grid.now j.sides.width j.sides.height j.stage j.cycles []) }
         ensures room { IfOk result (λ j. room_at j.stage (room_of j.cycles) < 2 ^ 61) }

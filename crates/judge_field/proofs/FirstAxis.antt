@@ -15,17 +15,17 @@ pub way_more : (line before : ℕ → ℕ) (k way r square : ℕ) → line 0 ≡
     → (0 < k → IsWay before (k - 1) way)
     → (square ≡ 0 → r ≡ 0) → (0 < square → k ≡ 0 → r ≡ most_way) → (0 < square → 0 < k → way < most_way → r ≡ way + 1) → (0 < square → 0 < k → most_way ≤ way → r ≡ most_way)
     → IsWay line k r
-way_more line before k way r square here step (inl z) prior bare first near far =
+way_more line before k way r square here step (inl z) prior bare first near past =
     let e = bare z in
     record { free = λ g a b. absurd (omega arith); end = inr (omega arith, ap line e ∙ here ∙ z) }
-way_more line before zero way r square here step (inr f) prior bare first near far =
+way_more line before zero way r square here step (inr f) prior bare first near past =
     let e = first (omega arith) refl in
     record { free = λ g a b. ap line (let q : g ≡ 0 = omega arith in q) ∙ here ∙ f; end = inl e }
-way_more line before (suc k) way r square here step (inr f) prior bare first near far = elim (cases_lt way most_way) [
+way_more line before (suc k) way r square here step (inr f) prior bare first near past = elim (cases_lt way most_way) [
   | inl l ↦
       let e = near (omega arith) (omega arith) l in
       record { free = λ g a b. free g a (omega arith); end = end e h.end }
-  | inr l ↦ record { free = λ g a b. free g a (let q = far (omega arith) (omega arith) l in omega arith); end = inl (far (omega arith) (omega arith) l) }
+  | inr l ↦ record { free = λ g a b. free g a (let q = past (omega arith) (omega arith) l in omega arith); end = inl (past (omega arith) (omega arith) l) }
 ]
   where
     h : IsWay before (suc k - 1) way
@@ -78,7 +78,7 @@ module _ (line : ℕ → ℕ) (w x a b : ℕ) (inside : x < w) (short : w ≤ mo
   -- no place gives less than either way allows
   least : (two : (y : ℕ) → (line y ≡ 0) ⊎ (line y ≡ far)) (r : ℕ) → r ≤ far → r ≤ a * a → r ≤ b * b → (z : ℕ) → z < w → r ≤ line z + gap x z * gap x z
   least two r small below above z l = elim (two z) [
-    | inr far ↦ omega arith
+    | inr f ↦ omega arith
     | inl bare ↦ elim (cases_lt x z) [
       | inl m ↦
           let g = gap_up x z (z - x) (omega arith) in

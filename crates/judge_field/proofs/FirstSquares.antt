@@ -1,6 +1,6 @@
 -- The squares before the first axis while object points are found one after another: far at each found, 0 at all others.
 -- Laws over pictures, squares and numbers alone.
-use Rattle.std.proofs.Common.{◌≡◌, inl, inr, ℕ, ◌+◌, ◌<◌, ◌^◌, true, false, List, length, get_or, replicate, sym, ap, ◌∙◌, arith}
+use Rattle.std.proofs.Common.{◌≡◌, inl, inr, ℕ, ◌+◌, ◌<◌, true, false, List, length, get_or, replicate, sym, ap, ◌∙◌, arith}
 use Rattle.std.proofs.Math.ListN.{set, length-set}
 use Rattle.std.proofs.lemmas.Bool.{false≢true, cases_lt, cases_eq, and_parts}
 use Rattle.std.proofs.lemmas.List.{length-replicate, get_or-replicate, get_or_past, get_or-set_same, get_or-set_other}
@@ -41,17 +41,17 @@ begun X = record { long = long; two = λ j. inl (none j); object = λ i l. absur
     none j = elim (cases_lt j n) [ inl l ↦ get_or-replicate n j 0 0 l | inr l ↦ get_or_past zeros j 0 (omega (arith, long)) ]
 
 module _ (X : Picture) where
-  pub one_more : (n i : ℕ) (squares : List ℕ) → i < box_count X.sides → IsNext X n i → HasFound X n squares → HasFound X (i + 1) (set squares (framed_number X.sides (raster_point X.sides i)) (far))
+  pub one_more : (n i : ℕ) (squares : List ℕ) → i < box_count X.sides → IsNext X n i → HasFound X n squares → HasFound X (i + 1) (set squares (framed_number X.sides (raster_point X.sides i)) far)
   one_more n i squares l next found = record {
-    long = length-set squares k (far) ∙ found.long;
+    long = length-set squares k far ∙ found.long;
     two = λ j. elim (cases_eq j k) [
       | inl same ↦ inr (here j same)
-      | inr other ↦ rw (get_or-set_other squares k j (far) 0 other) (found.two j)
+      | inr other ↦ rw (get_or-set_other squares k j far 0 other) (found.two j)
     ];
     object = λ m a b t. put m (λ c. found.object m c b t) a t;
     bare = λ j a f. elim (cases_eq j k) [
       | inl same ↦ absurd (false≢true (sym f ∙ ap (λ m. at X (framed_point X.sides m)) same ∙ ap (at X) (framed_point-framed_number X.sides p (in_box_in_frame X.sides p (raster_point_in X.sides i l))) ∙ next.object))
-      | inr other ↦ get_or-set_other squares k j (far) 0 other ∙ found.bare j a f
+      | inr other ↦ get_or-set_other squares k j far 0 other ∙ found.bare j a f
     ];
   }
     where
@@ -61,16 +61,16 @@ module _ (X : Picture) where
       k : ℕ
       k = framed_number X.sides p
 
-      here : (j : ℕ) → j ≡ k → get_or (set squares k (far)) j 0 ≡ far
-      here j same = ap (λ m. get_or (set squares k (far)) m 0) same ∙ get_or-set_same squares k (far) 0 (omega (arith, found.long, found_below X i l))
+      here : (j : ℕ) → j ≡ k → get_or (set squares k far) j 0 ≡ far
+      here j same = ap (λ m. get_or (set squares k far) m 0) same ∙ get_or-set_same squares k far 0 (omega (arith, found.long, found_below X i l))
 
-      kept : (j : ℕ) → get_or squares j 0 ≡ far → get_or (set squares k (far)) j 0 ≡ far
+      kept : (j : ℕ) → get_or squares j 0 ≡ far → get_or (set squares k far) j 0 ≡ far
       kept j e = elim (cases_eq j k) [
         | inl same ↦ here j same
-        | inr other ↦ get_or-set_other squares k j (far) 0 other ∙ e
+        | inr other ↦ get_or-set_other squares k j far 0 other ∙ e
       ]
 
-      put : (m : ℕ) → (m < n → get_or squares (framed_number X.sides (raster_point X.sides m)) 0 ≡ far) → m < i + 1 → at X (raster_point X.sides m) ≡ true → get_or (set squares k (far)) (framed_number X.sides (raster_point X.sides m)) 0 ≡ far
+      put : (m : ℕ) → (m < n → get_or squares (framed_number X.sides (raster_point X.sides m)) 0 ≡ far) → m < i + 1 → at X (raster_point X.sides m) ≡ true → get_or (set squares k far) (framed_number X.sides (raster_point X.sides m)) 0 ≡ far
       put m before a t = elim (cases_eq m i) [
         | inl same ↦ here (framed_number X.sides (raster_point X.sides m)) (ap (λ j. framed_number X.sides (raster_point X.sides j)) same)
         | inr other ↦ elim (cases_lt m n) [

@@ -1,6 +1,6 @@
 -- Squares on one axis more, before the first axis and behind the last.
 -- Laws over pictures, squares and numbers alone.
-use Rattle.std.proofs.Common.{◌≡◌, inl, inr, ℕ, ◌+◌, ◌*◌, ◌-◌, ◌/◌, ◌<◌, ◌≤◌, ◌^◌, false, List, [], ◌∷◌, ◌++◌, length, get_or, refl, sym, ap, ◌∙◌, subst, arith, mul_comm}
+use Rattle.std.proofs.Common.{◌≡◌, inl, inr, ℕ, ◌+◌, ◌*◌, ◌-◌, ◌/◌, ◌<◌, ◌≤◌, false, List, [], ◌∷◌, ◌++◌, length, get_or, refl, sym, ap, ◌∙◌, subst, arith, mul_comm}
 use Rattle.std.specs.Prelude.{IsTrue}
 use Rattle.std.proofs.lemmas.Bool.{cases_Bool, cases_lt, cases_eq}
 use Rattle.std.proofs.lemmas.List.{get_or_push, get_or_append_left, get_or_past}
@@ -93,8 +93,8 @@ module _ (X : Picture) (c w rows : ℕ) (count : box_count (framed_sides X.sides
       let is : r ≡ place c w p.low p.x high = p.is ∙ ap (λ n. place c w p.low p.x n) q in
       let j = place c w low p.x high in
       let near = before.least j r (below low p.x high l p.x_below k) b (ap (λ n. n / c) is ∙ same_line low p.low p.x high l p.low_below) in
-      let far : apart X.sides (place c w low x high) r ≡ apart X.sides j r + gap x p.x * gap x p.x = subst (λ n. apart X.sides (place c w low x high) n ≡ apart X.sides j n + gap x p.x * gap x p.x) (sym is) (splits low p.low x p.x high l p.low_below h p.x_below k) in
-      omega (arith, t.least p.x p.x_below, near, far)
+      let wider : apart X.sides (place c w low x high) r ≡ apart X.sides j r + gap x p.x * gap x p.x = subst (λ n. apart X.sides (place c w low x high) n ≡ apart X.sides j n + gap x p.x * gap x p.x) (sym is) (splits low p.low x p.x high l p.low_below h p.x_below k) in
+      omega (arith, t.least p.x p.x_below, near, wider)
 
   reached_at_place : (low x high s : ℕ) → low < c → x < w → high < rows → IsLeastAlong (λ y. get_or old (place c w low y high) 0) w x s → s < far → HasBare X (c * w) (place c w low x high) s
   reached_at_place low x high s l h k t small =
@@ -104,12 +104,12 @@ module _ (X : Picture) (c w rows : ℕ) (count : box_count (framed_sides X.sides
       let e : p.x + w * p.high ≡ t.y + w * high = sym (place_line c w p.low p.x p.high p.low_below) ∙ ap (λ n. n / c) (sym p.is) ∙ has.level ∙ place_line c w low t.y high l in
       let d = same_digits w p.x t.y p.high high p.x_below t.inside e in
       let is : has.q ≡ place c w p.low t.y high = p.is ∙ ap (λ n. place c w p.low n p.high) d.1 ∙ ap (λ n. place c w p.low t.y n) d.0 in
-      let far : apart X.sides (place c w low x high) has.q ≡ apart X.sides j has.q + gap x t.y * gap x t.y = subst (λ n. apart X.sides (place c w low x high) n ≡ apart X.sides j n + gap x t.y * gap x t.y) (sym is) (splits low p.low x t.y high l p.low_below h t.inside k) in
+      let wider : apart X.sides (place c w low x high) has.q ≡ apart X.sides j has.q + gap x t.y * gap x t.y = subst (λ n. apart X.sides (place c w low x high) n ≡ apart X.sides j n + gap x t.y * gap x t.y) (sym is) (splits low p.low x t.y high l p.low_below h t.inside k) in
       record {
         q = has.q;
         bare = has.bare;
         level = ap (λ n. n / (c * w)) p.is ∙ place_high c w p.low p.x p.high p.low_below p.x_below ∙ d.0 ∙ sym (place_high c w low x high l h);
-        distance = omega (arith, t.reached, has.distance, far);
+        distance = omega (arith, t.reached, has.distance, wider);
       }
 
   pub scan_more : (new : List ℕ) → HasScanned c w rows old new → AreSquaresOn X (c * w) new

@@ -4,18 +4,15 @@ ghost use Rattle.std.specs.Prelude.{◌≡◌, ◌⊎◌, ◌+◌, ◌*◌, ◌-
 ghost use Rattle.shape_terms.specs.Limits.{most_coordinate, most_way, far};
 ghost use Rattle.judge_field.specs.Scanned.{HasTwo, IsScannedAt, IsWay};
 
-use shape_space::NoMemory;
+use shape_space::{MOST_WAY, NoMemory};
 use std::alloc::Global;
-
-// A way that is longer than every line: its square is that of a place that has nothing.
-const NONE: u32 = 8192;
 
 // The way that is known one place before: none at the first place of a line.
 fn known(k: u32, way: u32) -> u32
     ensures first { k ≡ 0 → result ≡ most_way }
     ensures later { 0 < k → result ≡ way }
 {
-    if k == 0 { NONE } else { way }
+    if k == 0 { MOST_WAY } else { way }
 }
 
 // The way to the last place with 0, one place on.
@@ -26,10 +23,10 @@ fn next_way(square: u32, way: u32) -> u32
 {
     if square == 0 {
         0
-    } else if way < NONE {
+    } else if way < MOST_WAY {
         way + 1
     } else {
-        NONE
+        MOST_WAY
     }
 }
 
@@ -63,7 +60,7 @@ fn ways_back(alloc: Global, squares: &[u32], side: u32) -> Result<Vec<u32>, NoMe
 {
     let n = squares.len() as u32;
     let mut ways = Vec::with_capacity(alloc, n as usize)?;
-    let mut way = NONE;
+    let mut way = MOST_WAY;
     for i in 0..n {
         way = way_at(squares[i as usize], i % side, way);
         ways.push(way)?;
@@ -87,7 +84,7 @@ fn both_ways(ways: &mut [u32], squares: &[u32], side: u32)
     ensures small { (i : ℕ) → i < length squares.now → slice_index ways.new i ≤ far }
 {
     let n = squares.len() as u32;
-    let mut way = NONE;
+    let mut way = MOST_WAY;
     for i in (0..n).rev() {
         way = way_at(squares[i as usize], side - 1 - i % side, way);
         ways[i as usize] = nearer(ways[i as usize], way);

@@ -10,13 +10,10 @@ ghost use Rattle.judge_field.specs.Scanned.{IsLeastSquare, IsScannedAt, AreSquar
 use crate::first::scan_first;
 use crate::line::scan_lines;
 use shape_grid::Grid;
-use shape_space::{NoMemory, Point, Steps};
+use shape_space::{FAR, NoMemory, Point, Steps};
 use std::alloc::Global;
 use std::marker::{Brand, Model};
 use std::sync::ledger::{Blank, Ledger};
-
-// A square that no two points of a framed box are apart.
-const FAR: u32 = 67108864;
 
 /// The squared distance of each object point of a picture to its nearest background points, found beforehand.
 ///

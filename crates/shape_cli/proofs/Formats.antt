@@ -2,7 +2,8 @@
 -- This is so for every bound of the sides.
 use Rattle.std.proofs.Common.{◌≡◌, ◌⊎◌, inl, inr, ℕ, List, [], ◌∷◌, ap, sym, subst, ◌∙◌}
 use Rattle.shape_terms.specs.Pictures.{Picture}
-use Rattle.shape_picture.specs.Answers.{Format, most_side, most_bytes}
+use Rattle.shape_terms.specs.Limits.{most_flat, most_bytes}
+use Rattle.shape_picture.specs.Answers.{Format}
 use Rattle.shape_picture.specs.declared.fault.PictureFault.{PictureFault}
 use Rattle.shape_picture.specs.declared.fault.PictureFault.TheVariants.{SideTooLarge}
 use Rattle.shape_picture.proofs.AtMostOne as pbm
@@ -19,9 +20,9 @@ pub record IsFormat (F : Format) : Type 0 where
 
 format_of_source : (source : Source) → IsFormat (format_of source)
 format_of_source (Source.Pbm file) = record {
-  not_both = λ X f bytes s h. pbm.not_both most_side most_bytes bytes X s.0 f s.1 h;
-  one_fault = λ f g bytes p q. pbm.one_fault most_side most_bytes bytes g f q p;
-  one_picture = λ X Y bytes p q. pbm.one_picture most_side most_bytes bytes X Y p.0 q.0 p.1 q.1;
+  not_both = λ X f bytes s h. pbm.not_both most_flat most_bytes bytes X s.0 f s.1 h;
+  one_fault = λ f g bytes p q. pbm.one_fault most_flat most_bytes bytes g f q p;
+  one_picture = λ X Y bytes p q. pbm.one_picture most_flat most_bytes bytes X Y p.0 q.0 p.1 q.1;
 }
 format_of_source (Source.Raw x y z file) = record {
   not_both = λ X f bytes s h. not_both_volume (x ∷ y ∷ z ∷ []) bytes X f s h;

@@ -7,7 +7,7 @@ use Rattle.std.proofs.lemmas.Fmt.{decimal_injective}
 use Rattle.shape_terms.specs.Thinning.{Rule}
 use Rattle.shape_terms.specs.Shelves.{Named, names_of}
 use Rattle.shape_desk.specs.Desk.{DeskState}
-use Rattle.shape_cli.specs.Sources.{Kind, Source, HasSides, source_words, kind_word, most_side_of}
+use Rattle.shape_cli.specs.Sources.{Kind, Source, HasSides, source_words, kind_word, most_trial_side}
 use Rattle.shape_cli.specs.Kinds.{ReportKind, Wanted, kind_of, last_words}
 use Rattle.shape_cli.specs.Commands.{Asked, First, first_of, first_word, words_of, begin_with, HasNumbers, AreTrial, IsInRange, IsNoForm, Asks, trial_words}
 use Rattle.shape_cli.specs.Runs.{Ran}
@@ -52,7 +52,7 @@ same_kind Kind.Solid Kind.Solid e = refl
 same_kind Kind.Flat Kind.Solid e = absurd (let n = ap (λ (l : List ℕ). get_or l 0 0) e in omega arith)
 same_kind Kind.Solid Kind.Flat e = absurd (let n = ap (λ (l : List ℕ). get_or l 0 0) e in omega arith)
 
-few_sides : (kind : Kind) (side : ℕ) → side ≤ most_side_of kind → side < 2 ^ 64
+few_sides : (kind : Kind) (side : ℕ) → side ≤ most_trial_side kind → side < 2 ^ 64
 few_sides Kind.Flat side l = omega arith
 few_sides Kind.Solid side l = omega arith
 

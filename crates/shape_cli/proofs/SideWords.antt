@@ -8,9 +8,10 @@ use Rattle.std.specs.Int.{w32, w64}
 use Rattle.std.specs.Fmt.{decimal, signed_decimal}
 use Rattle.std.proofs.lemmas.Fmt.{decimal_injective, signed_decimal_injective}
 use Rattle.std.proofs.lemmas.Int.{ints}
+use Rattle.shape_terms.specs.Limits.{most_solid}
 use Rattle.shape_terms.specs.Points.{AreSides}
 use Rattle.shape_cli.specs.Numbers.{ReadsCoordinate}
-use Rattle.shape_cli.specs.Sources.{Source, HasSides, IsNoSides, most_volume_side, side_words, source_words, read_source}
+use Rattle.shape_cli.specs.Sources.{Source, HasSides, IsNoSides, side_words, source_words, read_source}
 use Rattle.report_text.specs.Reading.{ReadsField}
 use Rattle.report_text.proofs.Numbers.{read_short}
 use Rattle.shape_cli.specs.declared.source.Source.{Source as ProgramSource}
@@ -18,14 +19,14 @@ use Rattle.shape_cli.specs.declared.source.Source.TheVariants as source
 
 -- each of three sides is from 1 to the greatest
 record ThreeSides (x y z : ℤ) : Type 0 where
-  first : (pos 1 ≤ℤ x) × (x ≤ℤ pos most_volume_side)
-  second : (pos 1 ≤ℤ y) × (y ≤ℤ pos most_volume_side)
-  third : (pos 1 ≤ℤ z) × (z ≤ℤ pos most_volume_side)
+  first : (pos 1 ≤ℤ x) × (x ≤ℤ pos most_solid)
+  second : (pos 1 ≤ℤ y) × (y ≤ℤ pos most_solid)
+  third : (pos 1 ≤ℤ z) × (z ≤ℤ pos most_solid)
 
-three : (x y z : ℤ) → AreSides (pos most_volume_side) (x ∷ y ∷ z ∷ []) → ThreeSides x y z
+three : (x y z : ℤ) → AreSides (pos most_solid) (x ∷ y ∷ z ∷ []) → ThreeSides x y z
 three x y z h = record { first = h 0 (omega arith); second = h 1 (omega arith); third = h 2 (omega arith) }
 
-small : (n : ℕ) → pos n ≤ℤ pos most_volume_side → n < 2 ^ 64
+small : (n : ℕ) → pos n ≤ℤ pos most_solid → n < 2 ^ 64
 small n l = omega (arith, ints)
 
 -- words spell one triple
@@ -34,7 +35,7 @@ pub record SameSides (a b c x y z : ℕ) : Type 0 where
   pub second : b ≡ y
   pub third : c ≡ z
 
-pub same_sides : (a b c x y z : ℕ) → AreSides (pos most_volume_side) (pos a ∷ pos b ∷ pos c ∷ []) → AreSides (pos most_volume_side) (pos x ∷ pos y ∷ pos z ∷ []) → decimal a ≡ decimal x → decimal b ≡ decimal y → decimal c ≡ decimal z → SameSides a b c x y z
+pub same_sides : (a b c x y z : ℕ) → AreSides (pos most_solid) (pos a ∷ pos b ∷ pos c ∷ []) → AreSides (pos most_solid) (pos x ∷ pos y ∷ pos z ∷ []) → decimal a ≡ decimal x → decimal b ≡ decimal y → decimal c ≡ decimal z → SameSides a b c x y z
 same_sides a b c x y z h k f g i =
     let p = three (pos a) (pos b) (pos c) h in
     let q = three (pos x) (pos y) (pos z) k in
@@ -49,7 +50,7 @@ positive : (x : ℤ) → pos 1 ≤ℤ x → pos (nat_abs x) ≡ x
 positive (pos n) l = refl
 positive (negsuc n) l = absurd (omega (arith, ints))
 
-pub natural_sides : (x y z : ℤ) → AreSides (pos most_volume_side) (x ∷ y ∷ z ∷ []) → AreSides (pos most_volume_side) (pos (nat_abs x) ∷ pos (nat_abs y) ∷ pos (nat_abs z) ∷ [])
+pub natural_sides : (x y z : ℤ) → AreSides (pos most_solid) (x ∷ y ∷ z ∷ []) → AreSides (pos most_solid) (pos (nat_abs x) ∷ pos (nat_abs y) ∷ pos (nat_abs z) ∷ [])
 natural_sides x y z h =
     let p = three x y z h in
     rw (positive x p.first.0, positive y p.second.0, positive z p.third.0) h
@@ -68,7 +69,7 @@ from_field word (Some z) h = let e = h.split in (h.range, cc)
 pub read_coordinate : {E : Type 0} (word : List ℕ) (z v : ℤ) (t : Result ℤ E) → FitsSigned w64 z → word ≡ signed_decimal z → v ≡ z → OkIff t (FitsSigned w32 v) v → ReadsCoordinate word (result_ok t)
 read_coordinate word z v t f s e o = from_field word (result_ok t) (read_short (word ∷ []) [] word z v t refl f s e o)
 
-fits : (n : ℕ) → pos n ≤ℤ pos most_volume_side → FitsSigned w32 (pos n)
+fits : (n : ℕ) → pos n ≤ℤ pos most_solid → FitsSigned w32 (pos n)
 fits n l = record { sfits = omega (arith, ints, l) }
 
 module _ (x y z : List ℕ) where
@@ -92,7 +93,7 @@ same_number y z f g e = signed_decimal_injective y z (near y f) (near z g) e
 spelled_by : (x : List ℕ) (u : ℤ) → pos 1 ≤ℤ u → x ≡ signed_decimal u → x ≡ decimal (nat_abs u)
 spelled_by x u l e = e ∙ ap signed_decimal (sym (positive u l))
 
-pub three_read : {S P : Type 0} (lengths : S → P) (cx cy cz : P → ℤ) (p : P) (r : Option S) (x y z : List ℕ) (u v w : ℤ) → IfSome r (λ s. lengths s ≡ p) → IsSome r ↔ AreSides (pos most_volume_side) (cx p ∷ cy p ∷ cz p ∷ []) → cx p ≡ u → cy p ≡ v → cz p ≡ w
+pub three_read : {S P : Type 0} (lengths : S → P) (cx cy cz : P → ℤ) (p : P) (r : Option S) (x y z : List ℕ) (u v w : ℤ) → IfSome r (λ s. lengths s ≡ p) → IsSome r ↔ AreSides (pos most_solid) (cx p ∷ cy p ∷ cz p ∷ []) → cx p ≡ u → cy p ≡ v → cz p ≡ w
     → ReadsCoordinate x (Some u) → ReadsCoordinate y (Some v) → ReadsCoordinate z (Some w)
     → MatchOption r (IsNoSides (x ∷ y ∷ z ∷ [])) (λ s. x ∷ y ∷ z ∷ [] ≡ side_words (nat_abs (cx (lengths s))) (nat_abs (cy (lengths s))) (nat_abs (cz (lengths s))))
 three_read {S = S} lengths cx cy cz p None x y z u v w g e ex ey ez f h i = λ a b c k l.
@@ -103,7 +104,7 @@ three_read {S = S} lengths cx cy cz p None x y z u v w g e ex ey ez f h i = λ a
     let nx : pos a ≡ cx p = same_number (pos a) u (fits a t.first.1) f.0 (sym mx ∙ f.1) ∙ sym ex in
     let ny : pos b ≡ cy p = same_number (pos b) v (fits b t.second.1) h.0 (sym my ∙ h.1) ∙ sym ey in
     let nz : pos c ≡ cz p = same_number (pos c) w (fits c t.third.1) i.0 (sym mz ∙ i.1) ∙ sym ez in
-    let sides : AreSides (pos most_volume_side) (cx p ∷ cy p ∷ cz p ∷ []) = rw (← nx, ← ny, ← nz) k in
+    let sides : AreSides (pos most_solid) (cx p ∷ cy p ∷ cz p ∷ []) = rw (← nx, ← ny, ← nz) k in
     let q : IsSome {T = S} None = e.1 sides in cc
 three_read lengths cx cy cz p (Some s) x y z u v w g e ex ey ez f h i =
     let t = three (cx p) (cy p) (cz p) (e.0 (search rules)) in

@@ -3,7 +3,7 @@
 use Rattle.std.specs.Prelude.{◌≡◌, ◌++◌, ◌<◌, ◌≤◌, ◌^◌, ℕ, List, [], ◌∷◌, codes, flat_map, Option, ⊤}
 use Rattle.std.specs.Fmt.{decimal}
 use Rattle.text_terms.specs.Tables.{kind_among}
-use Rattle.shape_cli.specs.Sources.{Kind, Source, kind_at, kind_word, HasSides, source_words, most_side_of, read_kind, read_source}
+use Rattle.shape_cli.specs.Sources.{Kind, Source, kind_at, kind_word, HasSides, source_words, most_trial_side, read_kind, read_source}
 use Rattle.shape_cli.specs.Further.{further_kinds}
 use Rattle.shape_cli.specs.Kinds.{ReportKind, Wanted, kind_of, make_word, check_word, last_words, IsNamed, Takes, read_report_kind, read_wanted, IsFound}
 use Rattle.shape_cli.specs.declared.command.First.{First as ProgramFirst}
@@ -68,7 +68,7 @@ words_of c = first_word (first_of c) ∷ rest_of c
 pub record AreTrial (kind : Kind) (seed side : ℕ) : Type 0 where
   pub seed_fits : seed < 2 ^ 32
   pub some : 1 ≤ side
-  pub most : side ≤ most_side_of kind
+  pub most : side ≤ most_trial_side kind
 
 -- the numbers of a command are in range
 abbrev pub HasNumbers : Asked → Type 0

@@ -3,7 +3,8 @@
 use Rattle.std.specs.Prelude.{◌≡◌, ◌++◌, ℕ, List, [], ◌∷◌, codes, ⊤, pos, nat_abs}
 use Rattle.std.specs.Fmt.{decimal}
 use Rattle.shape_terms.specs.Points.{AreSides}
-use Rattle.shape_picture.specs.Answers.{Format, most_side, most_bytes, pbm, raw}
+use Rattle.shape_terms.specs.Limits.{most_flat, most_solid, most_bytes, most_flat_trial, most_solid_trial}
+use Rattle.shape_picture.specs.Answers.{Format, pbm, raw}
 use Rattle.shape_cli.specs.declared.source.Kind.{Kind as ProgramKind}
 use Rattle.shape_cli.specs.declared.source.Kind.TheVariants as kind
 use Rattle.shape_cli.specs.declared.source.Source.{Source as ProgramSource}
@@ -35,24 +36,20 @@ file_of (Source.Raw x y z file) = file
 
 -- the format of a source's file
 abbrev pub format_of : Source → Format
-format_of (Source.Pbm file) = pbm most_side most_bytes
+format_of (Source.Pbm file) = pbm most_flat most_bytes
 format_of (Source.Raw x y z file) = raw (x ∷ y ∷ z ∷ [])
 
 -- ---- sides
 
--- the greatest side of a volume
-abbrev pub most_volume_side : ℕ
-most_volume_side = 192
-
--- the greatest side of a picture of a kind
-abbrev pub most_side_of : Kind → ℕ
-most_side_of Kind.Flat = most_side
-most_side_of Kind.Solid = most_volume_side
+-- the greatest side of a picture of a kind that a seed gives
+abbrev pub most_trial_side : Kind → ℕ
+most_trial_side Kind.Flat = most_flat_trial
+most_trial_side Kind.Solid = most_solid_trial
 
 -- the sides that the words of a source give are those of a volume
 abbrev pub HasSides : Source → Type 0
 HasSides (Source.Pbm file) = ⊤
-HasSides (Source.Raw x y z file) = AreSides (pos most_volume_side) (pos x ∷ pos y ∷ pos z ∷ [])
+HasSides (Source.Raw x y z file) = AreSides (pos most_solid) (pos x ∷ pos y ∷ pos z ∷ [])
 
 -- ---- words
 
@@ -72,7 +69,7 @@ source_words (Source.Raw x y z file) = codes "raw" ∷ (side_words x y z ++ file
 
 -- the words are those of no sides of a volume
 abbrev pub IsNoSides : List (List ℕ) → Type 0
-IsNoSides words = (x y z : ℕ) → AreSides (pos most_volume_side) (pos x ∷ pos y ∷ pos z ∷ []) → words ≡ side_words x y z → ⊥
+IsNoSides words = (x y z : ℕ) → AreSides (pos most_solid) (pos x ∷ pos y ∷ pos z ∷ []) → words ≡ side_words x y z → ⊥
 
 -- the words are those of no source
 abbrev pub IsNoSource : List (List ℕ) → Type 0

@@ -142,7 +142,7 @@ fn trial_of<'a>(kind: &Vec<u8>, seed: &Vec<u8>, side: &Vec<u8>) -> Option<Comman
 {
     let kind = kind_called(kind)?;
     let seed = number_in(seed, 0, u32::MAX)?;
-    let side = number_in(side, 1, kind.most_side())?;
+    let side = number_in(side, 1, kind.most_trial_side())?;
     Some(Command::Trial { kind, seed, side })
 }
 

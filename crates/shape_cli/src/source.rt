@@ -1,11 +1,11 @@
 //! The sources of pictures: where a picture is read, and the words that say so.
 //! A further source is a variant, and an arm of each `match`.
 ghost use Rattle.std.specs.Prelude.{◌≡◌, ◌≢◌, ◌↔◌, ◌∷◌, [], MatchOption, IsTrue, nat_abs};
-ghost use Rattle.shape_cli.specs.Sources.{Kind as AskedKind, IsFlat, IsNoSides, IsNoSource, most_side_of, kind_word, kind_at, file_of, side_words, source_words, read_kind, read_source};
+ghost use Rattle.shape_cli.specs.Sources.{Kind as AskedKind, IsFlat, IsNoSides, IsNoSource, most_trial_side, kind_word, kind_at, file_of, side_words, source_words, read_kind, read_source};
 ghost use Rattle.shape_desk.specs.Files.{texts};
 
 use crate::numbers::coordinate;
-use shape_space::{P2, P3, Point, Sides};
+use shape_space::{MOST_FLAT_TRIAL, MOST_SOLID_TRIAL, P3, Sides};
 
 /// A kind of picture.
 #[derive(Clone, Copy, Debug, PartialEq, Eq)]
@@ -27,13 +27,13 @@ impl Kind {
         }
     }
 
-    /// The greatest side of its pictures.
-    pub(crate) fn most_side(self) -> u32
-        ensures { result ≡ most_side_of (read_kind self) }
+    /// The greatest side of those of its pictures that a seed gives.
+    pub(crate) fn most_trial_side(self) -> u32
+        ensures { result ≡ most_trial_side (read_kind self) }
     {
         match self {
-            Kind::Flat => P2::MAX_SIDE as u32,
-            Kind::Solid => P3::MAX_SIDE as u32,
+            Kind::Flat => MOST_FLAT_TRIAL as u32,
+            Kind::Solid => MOST_SOLID_TRIAL as u32,
         }
     }
 }

@@ -8,7 +8,6 @@ mod corners;
 mod gap;
 mod shear;
 mod sides;
-mod small;
 mod standard;
 mod ways;
 
@@ -18,6 +17,5 @@ pub use corners::{Corners, corner_path};
 pub use gap::EdgeGap;
 pub use shear::sheared;
 pub use sides::{FlatSides, flat_sides};
-pub use small::has_small_sides;
 pub use standard::Standard;
 pub use ways::{Step, Way, Ways, sign, step_between};

@@ -1,6 +1,6 @@
 -- What a reader of pictures answers, and what it leaves of the desk: all that its callers have to read beside its format.
 -- The words of the readers' parts stand in `Bytes`, `Header`, `Raster` and `Parts`.
-use Rattle.std.specs.Prelude.{ℕ, ◌+◌, ◌≤◌, ◌^◌, List, length, Option, Result, Ok, Err, ⊤}
+use Rattle.std.specs.Prelude.{ℕ, ◌+◌, ◌≤◌, List, length, Option, Result, Ok, Err, ⊤}
 use Rattle.shape_terms.specs.Points.{box_count}
 use Rattle.shape_terms.specs.Pictures.{Picture}
 use Rattle.shape_desk.specs.Desk.{Rose, Takes}
@@ -27,19 +27,11 @@ SpellsSome F bytes = (X : Picture) × F.spells X bytes
 abbrev pub HasFault : Format → List ℕ → Type 0
 HasFault F bytes = (f : PictureFault) × F.has_fault f bytes
 
--- the greatest side of a PBM
-abbrev pub most_side : ℕ
-most_side = 2048
-
--- how many bytes a PBM has at most, up to and with its last pixel or the last byte of its last row
-abbrev pub most_bytes : ℕ
-most_bytes = 2 ^ 26
-
 -- some front of the bytes spells the picture
 abbrev pub SpellsPicture : ℕ → ℕ → Picture → List ℕ → Type 0
 SpellsPicture limit longest X bytes = (m : ℕ) × Pbm limit longest bytes X m
 
--- PBM with these limits
+-- PBM with sides up to a limit, and with no more bytes than the longest has, up to and with its last pixel or the last byte of its last row
 abbrev pub pbm : ℕ → ℕ → Format
 pbm limit longest = record { spells = SpellsPicture limit longest; has_fault = λ f bytes. PbmFault limit longest bytes f; most = longest }
 

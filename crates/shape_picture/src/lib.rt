@@ -13,5 +13,5 @@ mod volume;
 
 pub use fault::{PictureError, PictureFault};
 pub use laws::{one_answer, one_volume};
-pub use pbm::{MOST_BYTES, MOST_SIDE, read_pbm};
+pub use pbm::{MOST_SIDE, read_pbm};
 pub use volume::read_raw;

@@ -4,7 +4,8 @@ ghost use Rattle.std.specs.Prelude.{◌≡◌, ◌+◌, ◌≤◌, ◌<◌, [], 
 ghost use Rattle.shape_terms.specs.Points.{sides_of};
 ghost use Rattle.shape_desk.specs.Desk.{OnlyReadsAt};
 ghost use Rattle.shape_desk.specs.declared.desk.Place.TheVariants.{Picture};
-ghost use Rattle.shape_picture.specs.Answers.{most_side, most_bytes, pbm, PictureAnswer};
+ghost use Rattle.shape_terms.specs.Limits.{most_flat, most_bytes};
+ghost use Rattle.shape_picture.specs.Answers.{pbm, PictureAnswer};
 ghost use Rattle.shape_picture.specs.Pbm.{IsUnfinished};
 ghost use Rattle.shape_picture.specs.Raster.{PictureSoFar, RowsSoFar};
 ghost use Rattle.shape_picture.specs.Parts.{BytesTaken, FrontTaken, NextByteAnswer, HeaderAnswer};
@@ -16,14 +17,11 @@ use crate::raster::{Piece, piece_at, put};
 use crate::rows::{pixels_ahead, put_bits};
 use shape_desk::{Desk, Place};
 use shape_grid::Grid;
-use shape_space::{P2, Point, Sides};
+use shape_space::{MOST_BYTES, P2, Point, Sides};
 use std::alloc::Global;
 
 /// The greatest side of a PBM.
 pub const MOST_SIDE: u32 = P2::MAX_SIDE as u32;
-
-/// How many bytes a PBM has at most, up to and with its last pixel or the last byte of its last row.
-pub const MOST_BYTES: u64 = 1 << 26;
 
 // Takes the next byte of a picture that is not complete.
 fn next_byte<D: Desk>(at: u64, bytes: &mut ByteReader, desk: &mut D) -> Result<u8, PictureError>
@@ -31,8 +29,8 @@ fn next_byte<D: Desk>(at: u64, bytes: &mut ByteReader, desk: &mut D) -> Result<u
     requires begun { (D.state desk.old).begun Picture ≡ true }
     ensures answer { (all : Option (List ℕ)) (front : List ℕ)
         → BytesTaken most_bytes at all ((D.state desk.old).left Picture) bytes.old front
-        → IsUnfinished most_side front
-        → NextByteAnswer most_side most_bytes at all ((D.state desk.new).left Picture) bytes.new
+        → IsUnfinished most_flat front
+        → NextByteAnswer most_flat most_bytes at all ((D.state desk.new).left Picture) bytes.new
         front (D.state desk.old).read_faults (D.state desk.new).read_faults result }
     ensures reads { OnlyReadsAt Picture (D.state desk.old) (D.state desk.new) }
 {
@@ -55,7 +53,7 @@ struct Heading {
 fn read_header<D: Desk>(bytes: &mut ByteReader, desk: &mut D) -> Result<Heading, PictureError>
     requires begun { (D.state desk.old).begun Picture ≡ true }
     requires none_ahead { bytes.old ≡ [] }
-    ensures answer { HeaderAnswer most_side most_bytes
+    ensures answer { HeaderAnswer most_flat most_bytes
         ((D.state desk.old).left Picture) ((D.state desk.new).left Picture) bytes.new
         (D.state desk.old).read_faults (D.state desk.new).read_faults result }
     ensures reads { OnlyReadsAt Picture (D.state desk.old) (D.state desk.new) }
@@ -84,9 +82,9 @@ fn read_header<D: Desk>(bytes: &mut ByteReader, desk: &mut D) -> Result<Heading,
 // The box of these sides.
 fn box_of(width: u32, height: u32) -> Sides<P2>
     requires some_width { 1 ≤ width }
-    requires width { width ≤ most_side }
+    requires width { width ≤ most_flat }
     requires some_height { 1 ≤ height }
-    requires height { height ≤ most_side }
+    requires height { height ≤ most_flat }
     ensures { sides_of (result.lengths.x ∷ result.lengths.y ∷ []) ≡ width ∷ height ∷ [] }
 {
     match Sides::try_new(P2 {
@@ -107,9 +105,9 @@ fn read_raster<D: Desk>(
 ) -> Result<Grid<P2>, PictureError>
     requires begun { (D.state desk.old).begun Picture ≡ true }
     ensures answer { (all : Option (List ℕ))
-        → FrontTaken (PictureSoFar most_side grid false 0) most_bytes from all
+        → FrontTaken (PictureSoFar most_flat grid false 0) most_bytes from all
         ((D.state desk.old).left Picture) bytes.old
-        → PictureAnswer (pbm most_side most_bytes) all ((D.state desk.new).left Picture)
+        → PictureAnswer (pbm most_flat most_bytes) all ((D.state desk.new).left Picture)
         (D.state desk.old).read_faults (D.state desk.new).read_faults result }
     ensures reads { OnlyReadsAt Picture (D.state desk.old) (D.state desk.new) }
 {
@@ -150,9 +148,9 @@ fn read_rows<D: Desk>(
     requires sides { grid.sides ≡ heading.width ∷ heading.height ∷ [] }
     requires some_width { 1 ≤ heading.width }
     ensures answer { (all : Option (List ℕ))
-        → FrontTaken (RowsSoFar most_side grid 0) most_bytes heading.at all
+        → FrontTaken (RowsSoFar most_flat grid 0) most_bytes heading.at all
         ((D.state desk.old).left Picture) bytes.old
-        → PictureAnswer (pbm most_side most_bytes) all ((D.state desk.new).left Picture)
+        → PictureAnswer (pbm most_flat most_bytes) all ((D.state desk.new).left Picture)
         (D.state desk.old).read_faults (D.state desk.new).read_faults result }
     ensures reads { OnlyReadsAt Picture (D.state desk.old) (D.state desk.new) }
 {
@@ -178,7 +176,7 @@ fn read_rows<D: Desk>(
 /// It takes memory for 512 bytes and the grid.
 pub fn read_pbm<D: Desk>(alloc: Global, desk: &mut D) -> Result<Grid<P2>, PictureError>
     requires { (D.state desk.old).begun Picture ≡ true }
-    ensures answer { PictureAnswer (pbm most_side most_bytes)
+    ensures answer { PictureAnswer (pbm most_flat most_bytes)
         ((D.state desk.old).left Picture) ((D.state desk.new).left Picture)
         (D.state desk.old).read_faults (D.state desk.new).read_faults result }
     ensures reads { OnlyReadsAt Picture (D.state desk.old) (D.state desk.new) }

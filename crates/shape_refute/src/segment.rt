@@ -26,7 +26,7 @@ fn holds_all(run: &[P2], line: &Naive) -> bool
 // Whether the other coordinate changes by 1 at each place, or by -1 at each: no place makes a turn with the first.
 fn keeps_sense(run: &[P2], axis: usize) -> bool
     requires axis { axis < 2 }
-    requires few { length run.now < 2 ^ 31 }
+    requires few { length run.now < 2 ^ 32 }
     ensures { IsTrue result ↔ KeepsSense axis (map flat_point run.now) }
 {
     for j in 1..run.len() as u32 {
@@ -40,7 +40,7 @@ fn keeps_sense(run: &[P2], axis: usize) -> bool
 
 /// Whether a line is a proper one of an axis of the plane that holds the run, along which the other coordinate keeps its sense.
 pub fn holds_segment(run: &[P2], line: &Naive) -> bool
-    requires few { length run.now < 2 ^ 31 }
+    requires few { length run.now < 2 ^ 32 }
     ensures held { IsTrue result ↔ (IsNaiveFor line.now.axis (map flat_point run.now)
         (naive_of 2 line.now) × KeepsSense line.now.axis (map flat_point run.now)) }
     ensures axis { OnTrue result (line.now.axis < 2) }

@@ -1,6 +1,7 @@
 //! A ball of the picture, drawn.
 //! In which order its parts are drawn is said here and in `specs/Balls.antt`.
-ghost use Rattle.std.specs.Prelude.{◌≡◌, ◌+◌, ◌≤◌, pos};
+ghost use Rattle.std.specs.Prelude.{◌≡◌, ◌+◌, ◌-◌, ◌/◌, ◌≤◌, pos};
+ghost use Rattle.shape_terms.specs.Limits.{most_flat};
 ghost use Rattle.shape_terms.specs.FramedBox.{IsWithin};
 ghost use Rattle.trial_picture.specs.Balls.{drawn_state, ball_centre, ball_radius};
 
@@ -16,14 +17,14 @@ pub struct Ball<P: Point> {
     pub radius: u32,
     /// Whether the points that it covers become object.
     pub object: bool,
-    pub ghost near: { IsWithin (pos 0) (pos 2047) (P.coords centre) },
-    pub ghost small: { radius ≤ 513 },
+    pub ghost near: { IsWithin (pos 0) (pos (most_flat - 1)) (P.coords centre) },
+    pub ghost small: { radius ≤ most_flat / 4 + 1 },
 }
 
 // The next centre: one draw for each axis, x first.
 fn drawn_centre<P: Point>(draws: &mut Draws, side: u32) -> P
     requires some { 1 ≤ side }
-    requires most { side ≤ 2048 }
+    requires most { side ≤ most_flat }
     ensures centre { P.coords result ≡ ball_centre P.DIM side draws.old.state 0 }
     ensures state { draws.new.state ≡ drawn_state draws.old.state P.DIM }
 {
@@ -37,7 +38,7 @@ fn drawn_centre<P: Point>(draws: &mut Draws, side: u32) -> P
 /// The next ball of a picture whose sides are all `side`: first its centre is drawn, then its radius.
 pub fn drawn_ball<P: Point>(draws: &mut Draws, side: u32, object: bool) -> Ball<P>
     requires some { 1 ≤ side }
-    requires most { side ≤ 2048 }
+    requires most { side ≤ most_flat }
     ensures centre { P.coords result.centre ≡ ball_centre P.DIM side draws.old.state 0 }
     ensures radius { result.radius ≡ ball_radius P.DIM side draws.old.state 0 }
     ensures object { result.object ≡ object }

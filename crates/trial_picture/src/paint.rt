@@ -1,6 +1,7 @@
 //! Painting a ball on a picture.
 //! How the points that it covers are found is a matter of this file alone.
-ghost use Rattle.std.specs.Prelude.{◌≡◌, ◌<◌, ◌≤◌, ◌+◌, ◌*◌, ◌-ℤ◌, ◌≤ℤ◌, ℕ, if◌then◌else◌, IsTrue, negsuc, pos, nat_abs, slice_index};
+ghost use Rattle.std.specs.Prelude.{◌≡◌, ◌<◌, ◌≤◌, ◌+◌, ◌*◌, ◌-◌, ◌/◌, ◌-ℤ◌, ◌≤ℤ◌, ℕ, if◌then◌else◌, IsTrue, negsuc, pos, nat_abs, slice_index};
+ghost use Rattle.shape_terms.specs.Limits.{most_flat, most_coordinate};
 ghost use Rattle.shape_terms.specs.Points.{in_box, box_count};
 ghost use Rattle.shape_terms.specs.Pictures.{with_value};
 ghost use Rattle.shape_terms.specs.FramedBox.{IsWithin};
@@ -13,7 +14,7 @@ use shape_space::{Point, squared_distance};
 
 // Whether the ball covers a point.
 fn covers<P: Point>(ball: &Ball<P>, p: P) -> bool
-    requires { IsWithin (negsuc 0) (pos 4096) (P.coords p) }
+    requires { IsWithin (negsuc 0) (pos most_coordinate) (P.coords p) }
     ensures { result ≡ covers (P.coords ball.now.centre) ball.now.radius (P.coords p) }
 {
     let radius = ball.radius as u64;
@@ -23,7 +24,7 @@ fn covers<P: Point>(ball: &Ball<P>, p: P) -> bool
 // Gives a point of the box the ball's value, if the ball covers it.
 fn paint_point<P: Point>(grid: &mut Grid<P>, ball: &Ball<P>, p: P)
     requires inside { IsTrue (in_box grid.old.sides (P.coords p)) }
-    requires near { IsWithin (negsuc 0) (pos 4096) (P.coords p) }
+    requires near { IsWithin (negsuc 0) (pos most_coordinate) (P.coords p) }
     ensures { grid.new
         ≡ (if covers (P.coords ball.now.centre) ball.now.radius (P.coords p)
         then with_value grid.old (P.coords p) ball.now.object else grid.old) }
@@ -40,8 +41,8 @@ fn paint_point<P: Point>(grid: &mut Grid<P>, ball: &Ball<P>, p: P)
 // The first place of a row that a ball may cover, and the first behind all of them. Its centre is at a place along the row.
 fn reach(at: i32, radius: u32, width: u32) -> (u32, u32)
     requires low { pos 0 ≤ℤ at }
-    requires high { at ≤ℤ pos 2047 }
-    requires small { radius ≤ 513 }
+    requires high { at ≤ℤ pos (most_flat - 1) }
+    requires small { radius ≤ most_flat / 4 + 1 }
     ensures ordered { result.0 ≤ result.1 }
     ensures within { result.1 ≤ width }
     ensures all { (x : ℕ) → x < width → nat_abs (pos x -ℤ at) ≤ radius
@@ -57,7 +58,7 @@ fn reach(at: i32, radius: u32, width: u32) -> (u32, u32)
 fn width<P: Point>(grid: &Grid<P>) -> u32
     ensures value { result ≡ slice_index grid.now.sides 0 }
     ensures some { 1 ≤ result }
-    ensures most { result ≤ 2048 }
+    ensures most { result ≤ most_flat }
 {
     grid.sides().side(0) as u32
 }

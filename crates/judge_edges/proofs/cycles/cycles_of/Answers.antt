@@ -3,11 +3,11 @@ use Rattle.shape_terms.specs.Contours.{IsCrack}
 use Rattle.edge_terms.proofs.EdgeCycles.{AreFrom, from_more, start_crack, are_cycles, start_is, is_from}
 use Rattle.judge_edges.proofs.cycles.cycles_of.Goals as goal
 
-pub cycle_from-requires-clause-crack : goal.cycle_from-requires-clause-crack
-cycle_from-requires-clause-crack c =
+pub cycle_from-requires : goal.cycle_from-requires
+cycle_from-requires c =
     let n = c.len-k-end.ensures in
     let t = c.loop-k-test.true in
-    subst (IsCrack c.args.grid.now) (start_is c.args.contours.now c.loop-k.k _ _ c.contour.ensures c.start.ensures) (start_crack c.args.grid.now c.args.contours.now c.requires.are c.loop-k.k (omega arith))
+    subst (IsCrack c.args.grid.now) (start_is c.args.contours.now c.loop-k.k _ _ c.contour.ensures c.start.ensures) (start_crack c.args.grid.now c.args.contours.now c.requires c.loop-k.k (omega arith))
 
 pub loop-k-preserved : goal.loop-k-preserved
 loop-k-preserved c =
@@ -26,4 +26,4 @@ returns-clause-cycles c =
     let e = c.loop-k-test.false in
     let a = c.loop-k.auto.k-end in
     let q : c.loop-k.k ≡ length c.args.contours.now = omega arith in
-    are_cycles c.args.grid.now c.args.contours.now c.requires.are c.loop-k.list.items (v.count ∙ q) (subst (AreFrom c.args.grid.now c.args.contours.now c.loop-k.list.items) q v.each)
+    are_cycles c.args.grid.now c.args.contours.now c.requires c.loop-k.list.items (v.count ∙ q) (subst (AreFrom c.args.grid.now c.args.contours.now c.loop-k.list.items) q v.each)

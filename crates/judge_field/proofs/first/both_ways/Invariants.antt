@@ -1,4 +1,4 @@
-use Rattle.std.proofs.Common.{◌≡◌, ℕ, ◌+◌, ◌-◌, ◌%◌, ◌<◌, ◌≤◌, ◌^◌, length, get_or}
+use Rattle.std.proofs.Common.{◌≡◌, ℕ, ◌+◌, ◌-◌, ◌%◌, ◌<◌, ◌≤◌, length, get_or}
 use Rattle.shape_terms.specs.Limits.{far}
 use Rattle.judge_field.specs.Scanned.{IsScannedAt, IsWay}
 use Rattle.judge_field.proofs.first.both_ways.Given as goal

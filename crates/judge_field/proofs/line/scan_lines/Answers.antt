@@ -1,4 +1,4 @@
-use Rattle.std.proofs.Common.{◌*◌, ◌<◌, ◌^◌, arith, rules}
+use Rattle.std.proofs.Common.{◌*◌, ◌<◌, arith, rules}
 use Rattle.std.proofs.lemmas.Nat.{mul-le}
 use Rattle.shape_terms.specs.Limits.{far}
 use Rattle.shape_envelope.proofs.LinesDone.{lines_within, lines_inside, none_done}
@@ -28,7 +28,7 @@ scan_block-requires-clause-room g c =
 pub scan_block-requires-clause-small : goal.scan_block-requires-clause-small
 scan_block-requires-clause-small g c =
     let t : c.loop-t.t < c.args.before * c.args.behind = omega (arith, c.line_count-count.ensures) in
-    rw (c.line_start-start.ensures) (left_small c.args.before c.args.side c.args.behind c.loop-t.t c.lines_beside-lines.result (far) c.args.squares.now c.loop-t.squares t c.lines_beside-lines.ensures.beside c.requires.small c.loop-t.invariant.scanned)
+    rw (c.line_start-start.ensures) (left_small c.args.before c.args.side c.args.behind c.loop-t.t c.lines_beside-lines.result far c.args.squares.now c.loop-t.squares t c.lines_beside-lines.ensures.beside c.requires.small c.loop-t.invariant.scanned)
 
 pub loop-t-preserved : goal.loop-t-preserved
 loop-t-preserved g c =

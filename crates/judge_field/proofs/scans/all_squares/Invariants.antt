@@ -1,4 +1,4 @@
-use Rattle.std.proofs.Common.{◌≡◌, ℕ, ◌≤◌, ◌^◌, length, get_or, take}
+use Rattle.std.proofs.Common.{◌≡◌, ℕ, ◌≤◌, length, get_or, take}
 use Rattle.shape_terms.specs.Limits.{far}
 use Rattle.shape_terms.specs.Points.{sides_of, box_count}
 use Rattle.shape_terms.specs.FramedBox.{framed_sides}

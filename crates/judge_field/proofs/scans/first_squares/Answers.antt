@@ -1,4 +1,4 @@
-use Rattle.std.proofs.Common.{◌≡◌, ◌<◌, ◌+◌, ◌^◌, ◌∙◌, ap, sym, subst, refl, replicate, arith}
+use Rattle.std.proofs.Common.{◌≡◌, ◌<◌, ◌+◌, ◌∙◌, ap, sym, subst, refl, replicate, arith}
 use Rattle.std.proofs.Math.ListN.{set}
 use Rattle.shape_terms.specs.Limits.{far}
 use Rattle.shape_terms.specs.Points.{sides_of, box_count, raster_point}
@@ -43,7 +43,7 @@ loop-i-preserved g c =
     let k : c.framed_number.result ≡ framed_number X.sides (raster_point X.sides i) = c.framed_number.ensures ∙ rw (c.unraster.ensures.value, c.sides-sides.ensures.value) refl in
     let n = next_object X c.loop-i.next i c.loop-i.invariant.low l c.in-Some.ensures.next in
     record {
-      found = subst (λ k. HasFound X (i + 1) (set squares k (far))) (sym k) (one_more X c.loop-i.next i squares l n c.loop-i.invariant.found);
+      found = subst (λ k. HasFound X (i + 1) (set squares k far)) (sym k) (one_more X c.loop-i.next i squares l n c.loop-i.invariant.found);
       low = omega arith;
     }
 

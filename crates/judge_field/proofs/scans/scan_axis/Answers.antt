@@ -1,4 +1,4 @@
-use Rattle.std.proofs.Common.{◌≡◌, ◌∙◌, length, ◌^◌, ◌/◌, arith}
+use Rattle.std.proofs.Common.{◌≡◌, ◌∙◌, length, ◌/◌, arith}
 use Rattle.std.proofs.lemmas.List.{take_at}
 use Rattle.shape_terms.specs.Limits.{far}
 use Rattle.judge_field.proofs.ScanAxes.{rows_of, scanned_each, scanned_small}
@@ -26,4 +26,4 @@ returns-clause-small g c =
     let long : length c.scan_lines.new.squares ≡ c.args.squares.len = omega (arith, c.scan_lines.auto.squares, c.deref_mut.ensures.len) in
     let whole = rows_of c.args.before c.args.side c.requires.whole.0 n c.requires.apart c.requires.some c.requires.whole.1 in
     rw (take_at c.scan_lines.new.squares _ c.args.squares.len long)
-    (scanned_small c.args.before c.args.side (n / c.args.before / c.args.side) n (far) c.args.squares.items c.scan_lines.new.squares whole (omega arith) (rw (is, c.deref_mut.ensures.value) at c.in_ok-scan_lines.ensures) c.requires.small)
+    (scanned_small c.args.before c.args.side (n / c.args.before / c.args.side) n far c.args.squares.items c.scan_lines.new.squares whole (omega arith) (rw (is, c.deref_mut.ensures.value) at c.in_ok-scan_lines.ensures) c.requires.small)

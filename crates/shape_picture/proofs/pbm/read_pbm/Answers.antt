@@ -1,7 +1,8 @@
 use Rattle.std.proofs.Common.{subst}
 use Rattle.std.proofs.lemmas.Result.{err_from_is_err_and}
 use Rattle.shape_desk.specs.declared.desk.Place.TheVariants.{Picture}
-use Rattle.shape_picture.specs.Answers.{most_side, most_bytes, pbm}
+use Rattle.shape_terms.specs.Limits.{most_flat, most_bytes}
+use Rattle.shape_picture.specs.Answers.{pbm}
 use Rattle.shape_picture.specs.declared.header.Coming.TheVariants as coming
 use Rattle.shape_picture.specs.Header.{IsInGap}
 use Rattle.shape_picture.proofs.RasterSteps.{pixels_start}
@@ -14,18 +15,18 @@ returns-in-Plain-clause-answer g c =
     let h = c.in_ok-heading.ensures.answer in
     let s = c.in_ok-heading.heading in
     let all = (g.D.Desk.state c.args.desk.now).left Picture in
-    let in_gap = subst (λ form. IsInGap form most_side (coming.Raster s.width s.height) h.front) c.in-Plain.is h.known in
-    answer_earlier (pbm most_side most_bytes) all ((g.D.Desk.state c.read_raster.new.desk).left Picture) (g.D.Desk.state c.args.desk.now).read_faults (g.D.Desk.state c.read_header.new.desk).read_faults (g.D.Desk.state c.read_raster.new.desk).read_faults c.read_raster.result c.in_ok-heading.ensures.reads.only.later
-    (c.read_raster.ensures.answer all (record { front = h.front; known = pixels_start most_side s.width s.height c.in_ok-grid.grid _ h.front in_gap c.in_ok-grid.ensures c.box_of.ensures; taken = h.taken }))
+    let in_gap = subst (λ form. IsInGap form most_flat (coming.Raster s.width s.height) h.front) c.in-Plain.is h.known in
+    answer_earlier (pbm most_flat most_bytes) all ((g.D.Desk.state c.read_raster.new.desk).left Picture) (g.D.Desk.state c.args.desk.now).read_faults (g.D.Desk.state c.read_header.new.desk).read_faults (g.D.Desk.state c.read_raster.new.desk).read_faults c.read_raster.result c.in_ok-heading.ensures.reads.only.later
+    (c.read_raster.ensures.answer all (record { front = h.front; known = pixels_start most_flat s.width s.height c.in_ok-grid.grid _ h.front in_gap c.in_ok-grid.ensures c.box_of.ensures; taken = h.taken }))
 
 pub returns-clause-answer : goal.returns-clause-answer
 returns-clause-answer g c =
     let h = c.in_ok-heading.ensures.answer in
     let s = c.in_ok-heading.heading in
     let all = (g.D.Desk.state c.args.desk.now).left Picture in
-    let in_gap = subst (λ form. IsInGap form most_side (coming.Raster s.width s.height) h.front) c.in-Packed.is h.known in
-    answer_earlier (pbm most_side most_bytes) all ((g.D.Desk.state c.read_rows.new.desk).left Picture) (g.D.Desk.state c.args.desk.now).read_faults (g.D.Desk.state c.read_header.new.desk).read_faults (g.D.Desk.state c.read_rows.new.desk).read_faults c.read_rows.result c.in_ok-heading.ensures.reads.only.later
-    (c.read_rows.ensures.answer all (record { front = h.front; known = rows_start most_side s.width s.height c.in_ok-grid.grid _ h.front in_gap c.in_ok-grid.ensures c.box_of.ensures; taken = h.taken }))
+    let in_gap = subst (λ form. IsInGap form most_flat (coming.Raster s.width s.height) h.front) c.in-Packed.is h.known in
+    answer_earlier (pbm most_flat most_bytes) all ((g.D.Desk.state c.read_rows.new.desk).left Picture) (g.D.Desk.state c.args.desk.now).read_faults (g.D.Desk.state c.read_header.new.desk).read_faults (g.D.Desk.state c.read_rows.new.desk).read_faults c.read_rows.result c.in_ok-heading.ensures.reads.only.later
+    (c.read_rows.ensures.answer all (record { front = h.front; known = rows_start most_flat s.width s.height c.in_ok-grid.grid _ h.front in_gap c.in_ok-grid.ensures c.box_of.ensures; taken = h.taken }))
 
 pub returns-in_err-grid-clause-answer : goal.returns-in_err-grid-clause-answer
 returns-in_err-grid-clause-answer g c =

@@ -4,7 +4,8 @@ use Rattle.std.proofs.lemmas.List.{length_push}
 use Rattle.shape_terms.specs.Points.{box_count}
 use Rattle.shape_desk.specs.declared.desk.Place.TheVariants.{Picture}
 use Rattle.shape_desk.proofs.Writes.{OnlyReadsAt-more}
-use Rattle.shape_picture.specs.Answers.{most_side, most_bytes, pbm}
+use Rattle.shape_terms.specs.Limits.{most_flat, most_bytes}
+use Rattle.shape_picture.specs.Answers.{pbm}
 use Rattle.shape_picture.specs.Pbm.{number_value, bits_of, row_pixels}
 use Rattle.shape_picture.specs.Raster.{byte_pixels}
 use Rattle.shape_picture.proofs.Grammar.{times_one}
@@ -17,8 +18,8 @@ pub returns-in_err-c-clause-answer : goal.returns-in_err-c-clause-answer
 returns-in_err-c-clause-answer g c = λ all h.
     let r = c.loop-at.invariant.0 all h in
     let p = err_from_is_err_and c.from_residual.result c.from_residual.ensures.1 in
-    rw (p.1, p.2) (stops_earlier (pbm most_side most_bytes) all _ _ _ _ _ c.loop-at.invariant.4.only.later
-    (c.in_err-c.ensures.answer all r.front r.taken (rows_unfinished most_side r.known)))
+    rw (p.1, p.2) (stops_earlier (pbm most_flat most_bytes) all _ _ _ _ _ c.loop-at.invariant.4.only.later
+    (c.in_err-c.ensures.answer all r.front r.taken (rows_unfinished most_flat r.known)))
 
 pub put_bits-requires-clause-room : goal.put_bits-requires-clause-room
 put_bits-requires-clause-room g c =
@@ -32,15 +33,15 @@ pub returns-then-count-total-clause-answer : goal.returns-then-count-total-claus
 returns-then-count-total-clause-answer g c = λ all h.
     let r = c.loop-at.invariant.0 all h in
     let p = r.known in
-    let t = c.in_ok-c.ensures.answer all r.front r.taken (rows_unfinished most_side p) in
+    let t = c.in_ok-c.ensures.answer all r.front r.taken (rows_unfinished most_flat p) in
     let s = same_sides p (c.loop-at.invariant.1 ∙ c.requires.sides) in
     let count = c.pixels_ahead-pixels.ensures ∙ ap (λ (w : ℕ). byte_pixels w c.loop-at.count) (sym s.0) in
     let n : c.loop-at.count + c.pixels_ahead-pixels.result ≡ number_value p.width * number_value p.height = c.if-count-total.true ∙ c.loop-at.invariant.2 ∙ sym s.1 in
     let few : length r.front < most_bytes = omega (arith, r.taken.many, c.loop-at-test.true) in
     let known = flat_map (row_pixels (number_value p.width)) p.rows ++ flat_map bits_of p.row in
     let v = c.put_bits.ensures.values known (number_value p.width * number_value p.height) p.first.count (omega (arith, n)) p.first.values in
-    picture_last most_side most_bytes (c.loop-at.at + 1) all ((g.D.Desk.state c.next_byte.new.desk).left Picture) c.next_byte.new.bytes (r.front ++ c.in_ok-c.c ∷ []) c.put_bits.new.grid
-    (λ rest. rw (length_push r.front c.in_ok-c.c) (rows_spelled most_side c.loop-at.grid c.put_bits.new.grid c.loop-at.count c.pixels_ahead-pixels.result r.front c.in_ok-c.c p count most_bytes rest c.put_bits.ensures.sides v n few)) t
+    picture_last most_flat most_bytes (c.loop-at.at + 1) all ((g.D.Desk.state c.next_byte.new.desk).left Picture) c.next_byte.new.bytes (r.front ++ c.in_ok-c.c ∷ []) c.put_bits.new.grid
+    (λ rest. rw (length_push r.front c.in_ok-c.c) (rows_spelled most_flat c.loop-at.grid c.put_bits.new.grid c.loop-at.count c.pixels_ahead-pixels.result r.front c.in_ok-c.c p count most_bytes rest c.put_bits.ensures.sides v n few)) t
 
 pub loop-at-preserved : goal.loop-at-preserved
 loop-at-preserved g c =
@@ -53,13 +54,13 @@ loop-at-preserved g c =
       λ all h.
           let r = c.loop-at.invariant.0 all h in
           let p = r.known in
-          let t = c.in_ok-c.ensures.answer all r.front r.taken (rows_unfinished most_side p) in
+          let t = c.in_ok-c.ensures.answer all r.front r.taken (rows_unfinished most_flat p) in
           let s = same_sides p (c.loop-at.invariant.1 ∙ c.requires.sides) in
           let count = c.pixels_ahead-pixels.ensures ∙ ap (λ (w : ℕ). byte_pixels w c.loop-at.count) (sym s.0) in
           let n : c.loop-at.count + c.pixels_ahead-pixels.result < number_value p.width * number_value p.height = omega (arith, s.1, total, less) in
           let known = flat_map (row_pixels (number_value p.width)) p.rows ++ flat_map bits_of p.row in
           let v = c.put_bits.ensures.values known (number_value p.width * number_value p.height) p.first.count (omega (arith, n)) p.first.values in
-          record { front = _; known = rows_next most_side c.loop-at.grid c.put_bits.new.grid c.loop-at.count c.pixels_ahead-pixels.result r.front c.in_ok-c.c p count c.put_bits.ensures.sides v n; taken = t },
+          record { front = _; known = rows_next most_flat c.loop-at.grid c.put_bits.new.grid c.loop-at.count c.pixels_ahead-pixels.result r.front c.in_ok-c.c p count c.put_bits.ensures.sides v n; taken = t },
       c.put_bits.ensures.sides ∙ c.loop-at.invariant.1,
       c.loop-at.invariant.2,
       less,
@@ -69,4 +70,4 @@ loop-at-preserved g c =
 pub returns-clause-answer : goal.returns-clause-answer
 returns-clause-answer g c = λ all h.
     let r = c.loop-at.invariant.0 all h in
-    stops_long most_side most_bytes c.loop-at.at all ((g.D.Desk.state c.loop-at.desk).left Picture) c.loop-at.bytes r.front (g.D.Desk.state c.args.desk.now).read_faults (g.D.Desk.state c.loop-at.desk).read_faults r.taken c.loop-at-test.false (rows_unfinished most_side r.known)
+    stops_long most_flat most_bytes c.loop-at.at all ((g.D.Desk.state c.loop-at.desk).left Picture) c.loop-at.bytes r.front (g.D.Desk.state c.args.desk.now).read_faults (g.D.Desk.state c.loop-at.desk).read_faults r.taken c.loop-at-test.false (rows_unfinished most_flat r.known)

@@ -1,15 +1,15 @@
 use Rattle.std.proofs.Common.{◌≡◌, ◌-◌, ◌*◌, ◌<◌, ℕ, List, Option}
 use Rattle.shape_desk.specs.declared.desk.Place.TheVariants.{Picture}
 use Rattle.shape_desk.specs.Desk.{OnlyReadsAt}
-use Rattle.shape_picture.specs.Answers.{most_side, most_bytes}
+use Rattle.shape_terms.specs.Limits.{most_flat, most_bytes}
 use Rattle.shape_picture.specs.Raster.{RowsSoFar}
 use Rattle.shape_picture.specs.Parts.{FrontTaken}
 use Rattle.shape_picture.proofs.pbm.read_rows.Given as goal
 
 abbrev pub invariant-loop-at : goal.invariant-loop-at
 invariant-loop-at g l =
-    ((all : Option (List ℕ)) → FrontTaken (RowsSoFar most_side l.fn.grid 0) most_bytes l.fn.heading.at all ((g.D.Desk.state l.initial.desk).left Picture) l.initial.bytes
-    → FrontTaken (RowsSoFar most_side l.grid l.count) most_bytes l.at all ((g.D.Desk.state l.desk).left Picture) l.bytes)
+    ((all : Option (List ℕ)) → FrontTaken (RowsSoFar most_flat l.fn.grid 0) most_bytes l.fn.heading.at all ((g.D.Desk.state l.initial.desk).left Picture) l.initial.bytes
+    → FrontTaken (RowsSoFar most_flat l.grid l.count) most_bytes l.at all ((g.D.Desk.state l.desk).left Picture) l.bytes)
     × (l.grid.sides ≡ l.fn.grid.sides)
     × (l.total ≡ l.fn.heading.width * l.fn.heading.height)
     × (l.count < l.total)

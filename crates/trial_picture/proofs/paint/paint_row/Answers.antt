@@ -1,6 +1,7 @@
 use Rattle.std.proofs.Common.{◌≡◌, ◌+◌, ◌*◌, ◌-ℤ◌, ◌<◌, ◌≤◌, ℤ, pos, negsuc, get_or, set, sym, ap, subst, ◌∙◌, arith, rules, to_z, of_z, w32, FitsSigned}
 use Rattle.std.specs.Prelude.{nat_abs}
 use Rattle.std.proofs.lemmas.Int.{ints, to_z-of_z}
+use Rattle.shape_terms.specs.Limits.{most_coordinate}
 use Rattle.shape_terms.specs.Points.{coordinate, sides_of}
 use Rattle.shape_terms.specs.FramedBox.{IsWithin}
 use Rattle.shape_terms.proofs.FramedBoxes.{box_point_within}
@@ -17,7 +18,7 @@ covers-requires g c =
     let one = some_axis g.P.Point.DIM g.met.P.Point.two_or_three in
     let near = b.near 0 (omega (arith, one, g.met.P.Point.axes b.centre)) in
     let first = box_point_within g.P.Point.MAX_SIDE (g.P.Point.coords s.lengths) (g.P.Point.coords c.unraster-first.result) s.in_range g.met.P.Point.flat_side c.unraster-first.ensures.inside in
-    subst (IsWithin (negsuc 0) (pos 4096)) (sym c.with.ensures) (set_within (negsuc 0) (pos 4096) (g.P.Point.coords c.unraster-first.result) (to_z w32 (of_z w32 c.coord-at.result)) first (omega (arith, ints, near.0, c.coord-at.ensures)) (omega (arith, ints, near.1, c.coord-at.ensures)))
+    subst (IsWithin (negsuc 0) (pos most_coordinate)) (sym c.with.ensures) (set_within (negsuc 0) (pos most_coordinate) (g.P.Point.coords c.unraster-first.result) (to_z w32 (of_z w32 c.coord-at.result)) first (omega (arith, ints, near.0, c.coord-at.ensures)) (omega (arith, ints, near.1, c.coord-at.ensures)))
 
 pub returns-then-not-covers : goal.returns-then-not-covers
 returns-then-not-covers g c =
@@ -60,7 +61,7 @@ pub paint_point-requires-clause-near : goal.paint_point-requires-clause-near
 paint_point-requires-clause-near g c =
     let s = c.sides.result in
     let first = box_point_within g.P.Point.MAX_SIDE (g.P.Point.coords s.lengths) (g.P.Point.coords c.unraster-first.result) s.in_range g.met.P.Point.flat_side c.unraster-first.ensures.inside in
-    subst (IsWithin (negsuc 0) (pos 4096)) (sym c.with-in-loop-x.ensures) (set_within (negsuc 0) (pos 4096) (g.P.Point.coords c.unraster-first.result) (to_z w32 c.loop-x.x) first (omega (arith, ints, c.width-width.ensures.most)) (omega (arith, ints, c.width-width.ensures.most)))
+    subst (IsWithin (negsuc 0) (pos most_coordinate)) (sym c.with-in-loop-x.ensures) (set_within (negsuc 0) (pos most_coordinate) (g.P.Point.coords c.unraster-first.result) (to_z w32 c.loop-x.x) first (omega (arith, ints, c.width-width.ensures.most)) (omega (arith, ints, c.width-width.ensures.most)))
 
 pub returns : goal.returns
 returns g c =

@@ -1,5 +1,6 @@
-use Rattle.std.proofs.Common.{◌≡◌, ◌+◌, ◌≤◌, ◌<◌, ◌^◌, length, map, ap, ◌∙◌, arith}
+use Rattle.std.proofs.Common.{◌≡◌, ◌+◌, ◌≤◌, ◌<◌, length, map, ap, ◌∙◌, arith}
 use Rattle.std.proofs.lemmas.List.{length-map}
+use Rattle.shape_terms.specs.Limits.{most_round}
 use Rattle.shape_terms.specs.Covers.{Stretch, next_first}
 use Rattle.edge_terms.specs.CycleLines.{Standing, open_path}
 use Rattle.judge_edges.specs.EdgeState.{EdgeState}
@@ -17,7 +18,7 @@ overflow_add-result c =
     let s : Standing = record { begun = i.begun; declared = i.declared; stretches = map stretch_of i.arcs.items; gaps = i.gaps } in
     let now = c.args.self.now in
     let same = same_open i.cycles s now c.self.view_is in
-    let few : length (open_path now.cycles now.standing) ≤ 2 ^ 25 = rw c.open.ensures at c.len.ensures.path.few in
+    let few : length (open_path now.cycles now.standing) ≤ most_round = rw c.open.ensures at c.len.ensures.path.few in
     let n : c.len.result ≡ length (open_path now.cycles now.standing) = rw c.open.ensures at c.len.ensures.value in
     let listed : 0 < length i.arcs.items = omega (arith, c.requires.place, ap (λ (t : EdgeState). length t.standing.stretches) c.self.view_is, length-map i.arcs.items stretch_of) in
     let a = around_at stretch_of i.arcs.items 0 c.index-else-k-count.result.now (length (open_path i.cycles s)) c.self.invariant.0.around listed c.index-else-k-count.ensures in
