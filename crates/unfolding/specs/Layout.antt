@@ -2,6 +2,7 @@
 -- The box is cut open and folded flat round its face z -, seen from outside: x - at its left, x + at its right and z + right of that, y - above and y + below. So faces
 -- that are neighbours on the sheet meet along their common edge. Below the faces stand the views along x, y and z, as one sees the box from the faces x -, y - and z -.
 use Rattle.std.specs.Prelude.{ℕ, zero, suc, ◌+◌, ◌-◌, ◌*◌, ◌/◌, ◌<◌, ◌≤◌, max, nat_le, count_by, if◌then◌else◌, List, [], ◌∷◌, slice_index, nat_abs, pos, Option, Some, None}
+use Rattle.shape_terms.specs.Limits.{most_solid}
 use Rattle.shape_terms.specs.Points.{Point, coordinate, in_box}
 use Rattle.unfolding.specs.declared.layout.Triple.{Triple}
 use Rattle.unfolding.specs.declared.layout.Panel.{Panel}
@@ -22,9 +23,9 @@ pub record IsBox (s : Triple) : Type 0 where
   pub some_x : 1 ≤ s.x
   pub some_y : 1 ≤ s.y
   pub some_z : 1 ≤ s.z
-  pub most_x : s.x ≤ 192
-  pub most_y : s.y ≤ 192
-  pub most_z : s.z ≤ 192
+  pub most_x : s.x ≤ most_solid
+  pub most_y : s.y ≤ most_solid
+  pub most_z : s.z ≤ most_solid
 
 -- the voxel is one of the box
 pub record IsIn (s v : Triple) : Type 0 where
@@ -37,6 +38,10 @@ pub record IsIn (s v : Triple) : Type 0 where
 -- between two parts so many columns or rows are empty
 abbrev pub gap : Triple → ℕ
 gap s = 1 + max s.x (max s.y s.z) / 16
+
+-- and so many at most
+abbrev pub widest_gap : ℕ
+widest_gap = 1 + most_solid / 16
 
 -- where the columns of parts begin: as wide as the box is deep, as wide as it is wide, and so again
 abbrev pub column : Triple → ℕ → ℕ

@@ -6,7 +6,7 @@ ghost use Rattle.unfolding.specs.Canvas.{nearer};
 #[derive(Clone, Copy)]
 pub struct Cell {
     /// How many voxels it lies behind the face of the box.
-    pub depth: u8,
+    pub depth: u16,
     /// The number of its colour.
     pub colour: u8,
     /// The quarter of the box in which it lies, from 0, the nearest one, to 3.

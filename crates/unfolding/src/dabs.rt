@@ -24,7 +24,7 @@ fn face_cell(s: Triple, panel: Panel, colour: u8, v: Triple) -> Cell
     ensures { result ≡ (face_dab s panel colour v).cell }
 {
     Cell {
-        depth: depth(s, panel, v) as u8,
+        depth: depth(s, panel, v) as u16,
         colour,
         shade: quarter(s, panel, v),
     }

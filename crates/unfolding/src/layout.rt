@@ -1,10 +1,11 @@
 //! Where each face of the box, and each view, stands on the sheet.
 //! Another layout is a change of the tables here and of the same tables in `specs/Layout.antt`.
-ghost use Rattle.std.specs.Prelude.{◌≡◌, ◌<◌, ◌≤◌, IfSome, IsTrue};
+ghost use Rattle.std.specs.Prelude.{◌≡◌, ◌<◌, ◌≤◌, ◌+◌, ◌*◌, IfSome, IsTrue};
+ghost use Rattle.shape_terms.specs.Limits.{most_solid};
 ghost use Rattle.shape_terms.specs.Points.{sides_of};
 ghost use Rattle.drawing.specs.Seen.{flat};
 ghost use Rattle.unfolding.specs.Seen.{solid};
-ghost use Rattle.unfolding.specs.Layout.{IsBox, IsIn, extent, voxel_in, gap, column, row, left, top, wide, high, across, down, place, depth, far, quarter, sheet_width, sheet_height, sheet_sides};
+ghost use Rattle.unfolding.specs.Layout.{IsBox, IsIn, extent, voxel_in, gap, widest_gap, column, row, left, top, wide, high, across, down, place, depth, far, quarter, sheet_width, sheet_height, sheet_sides};
 
 use shape_space::{P2, P3, Sides};
 
@@ -70,7 +71,7 @@ pub(crate) fn voxel_in(sides: Sides<P3>, p: P3) -> Option<Triple>
 fn gap(s: Triple) -> usize
     requires { IsBox s }
     ensures value { result ≡ gap s }
-    ensures most { result ≤ 13 }
+    ensures most { result ≤ widest_gap }
 {
     1 + s.x.max(s.y.max(s.z)) / 16
 }
@@ -79,7 +80,7 @@ fn gap(s: Triple) -> usize
 fn column(s: Triple, k: usize) -> usize
     requires { IsBox s }
     ensures value { result ≡ column s k }
-    ensures most { result ≤ 650 }
+    ensures most { result ≤ 3 * (most_solid + widest_gap) }
 {
     let gap = gap(s);
     match k {
@@ -94,7 +95,7 @@ fn column(s: Triple, k: usize) -> usize
 fn row(s: Triple, k: usize) -> usize
     requires { IsBox s }
     ensures value { result ≡ row s k }
-    ensures most { result ≤ 650 }
+    ensures most { result ≤ 3 * (most_solid + widest_gap) }
 {
     let gap = gap(s);
     match k {
@@ -109,7 +110,7 @@ fn row(s: Triple, k: usize) -> usize
 pub(crate) fn left(s: Triple, panel: Panel) -> usize
     requires { IsBox s }
     ensures value { result ≡ left s panel }
-    ensures most { result ≤ 650 }
+    ensures most { result ≤ 3 * (most_solid + widest_gap) }
 {
     match panel {
         Panel::Left => column(s, 0),
@@ -128,7 +129,7 @@ pub(crate) fn left(s: Triple, panel: Panel) -> usize
 pub(crate) fn top(s: Triple, panel: Panel) -> usize
     requires { IsBox s }
     ensures value { result ≡ top s panel }
-    ensures most { result ≤ 650 }
+    ensures most { result ≤ 3 * (most_solid + widest_gap) }
 {
     match panel {
         Panel::Left => row(s, 1),
@@ -168,7 +169,7 @@ fn across(s: Triple, panel: Panel, v: Triple) -> usize
     requires small { IsBox s }
     requires inside { IsIn s v }
     ensures value { result ≡ across s panel v }
-    ensures most { result < 192 }
+    ensures most { result < most_solid }
 {
     match panel {
         Panel::Left => s.z - 1 - v.z,
@@ -184,7 +185,7 @@ fn down(s: Triple, panel: Panel, v: Triple) -> usize
     requires small { IsBox s }
     requires inside { IsIn s v }
     ensures value { result ≡ down s panel v }
-    ensures most { result < 192 }
+    ensures most { result < most_solid }
 {
     match panel {
         Panel::Top => s.z - 1 - v.z,
@@ -211,7 +212,7 @@ pub(crate) fn depth(s: Triple, panel: Panel, v: Triple) -> usize
     requires small { IsBox s }
     requires inside { IsIn s v }
     ensures value { result ≡ depth s panel v }
-    ensures most { result < 192 }
+    ensures most { result < most_solid }
 {
     match panel {
         Panel::Right => s.x - 1 - v.x,
@@ -261,7 +262,7 @@ fn sheet_width(s: Triple) -> usize
     requires { IsBox s }
     ensures value { result ≡ sheet_width s }
     ensures some { 1 ≤ result }
-    ensures most { result ≤ 900 }
+    ensures most { result ≤ 4 * most_solid + 3 * widest_gap }
 {
     column(s, 3) + s.x
 }
@@ -271,7 +272,7 @@ fn sheet_height(s: Triple) -> usize
     requires { IsBox s }
     ensures value { result ≡ sheet_height s }
     ensures some { 1 ≤ result }
-    ensures most { result ≤ 900 }
+    ensures most { result ≤ 4 * most_solid + 3 * widest_gap }
 {
     row(s, 3) + s.y.max(s.z)
 }
