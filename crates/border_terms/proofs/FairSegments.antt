@@ -1,12 +1,13 @@
 -- The runs of segments that are shown to have least lines are within the limits, so none is left out of a length.
 -- How long a run is, and how great its coefficients are, is told in `ShortRuns`.
-use Rattle.std.proofs.Common.{◌≡◌, ℕ, zero, suc, ◌+◌, ◌<◌, ◌≤◌, ◌^◌, refl, sym, ap, ◌∙◌, subst, arith, List, [], ◌∷◌, length, get_or, map}
+use Rattle.std.proofs.Common.{◌≡◌, ℕ, zero, suc, ◌+◌, ◌*◌, ◌<◌, ◌≤◌, refl, sym, ap, ◌∙◌, subst, arith, List, [], ◌∷◌, length, get_or, map}
 use Rattle.std.specs.Prelude.{ℤ, pos, nat_abs, ◌≤ℤ◌, ◌<ℤ◌, Option, Some, None, All, filter_map, IsTrue}
 use Rattle.std.specs.List.{cons_option}
 use Rattle.std.specs.Cmp.Derive.{both_true}
 use Rattle.std.proofs.lemmas.Int.{ints}
 use Rattle.std.proofs.lemmas.Bool.{le-leb, cond-true}
 use Rattle.std.proofs.lemmas.List.{length-map}
+use Rattle.shape_terms.specs.Limits.{most_flat, line_gap}
 use Rattle.shape_terms.specs.Points.{Point, coordinate, in_box, sides_of}
 use Rattle.shape_terms.specs.Pictures.{Picture}
 use Rattle.shape_terms.specs.Turns.{other_axis}
@@ -19,7 +20,7 @@ use Rattle.report_terms.specs.ContourFacts.{Segment, SegmentShows, SegmentHasEvi
 use Rattle.report_terms.proofs.Zips.{zip_at}
 use Rattle.report_terms.proofs.ContourPoints.{IsInside, arc_at}
 use Rattle.report_terms.proofs.LeastShown.{segment_begins, arc_flat}
-use Rattle.border_terms.specs.Runs.{Run, is_fair, fair}
+use Rattle.border_terms.specs.Runs.{Run, most_coefficient, is_fair, fair}
 use Rattle.border_terms.specs.Shown.{IsFlat, run_shown}
 use Rattle.border_terms.proofs.ShortRuns.{IsWithinSide, few_points, small_coefficients}
 
@@ -34,20 +35,20 @@ naturals_kept [] = refl
 naturals_kept (n ∷ ns) = ap (λ ms. n ∷ ms) (naturals_kept ns)
 
 -- the coordinates of a point of the box
-in_side : (X : Picture) (p : Point) (k : ℕ) → IsFlat X → k < 2 → IsInside X p → (pos 0 ≤ℤ coordinate p k) × (coordinate p k <ℤ pos 2048)
+in_side : (X : Picture) (p : Point) (k : ℕ) → IsFlat X → k < 2 → IsInside X p → (pos 0 ≤ℤ coordinate p k) × (coordinate p k <ℤ pos most_flat)
 in_side X p k flat l inside =
     let n = map pos X.sides in
     let two : length n ≡ 2 = length-map X.sides pos ∙ flat.axes in
-    let a = in_box_coordinate n p (pos 2048) flat.box (subst (λ ss. IsTrue (in_box ss p)) (sym (naturals_kept X.sides)) inside) k (omega arith) in
+    let a = in_box_coordinate n p (pos most_flat) flat.box (subst (λ ss. IsTrue (in_box ss p)) (sym (naturals_kept X.sides)) inside) k (omega arith) in
     let b = flat.box k (omega arith) in
     (a.0, within (coordinate p k) (coordinate n k) a.1 b.1)
   where
-    within : (x n : ℤ) → x <ℤ n → n ≤ℤ pos 2048 → x <ℤ pos 2048
+    within : (x n : ℤ) → x <ℤ n → n ≤ℤ pos most_flat → x <ℤ pos most_flat
     within x n h k = omega (arith, ints, h, k)
 
 -- ---- one segment
 
-small_both : (t : ℕ) (a : List ℤ) → t < 2 → nat_abs (coordinate a t) ≤ 16384 → nat_abs (coordinate a (other_axis t)) ≤ 16384 → (nat_abs (coordinate a 0) ≤ 16384) × (nat_abs (coordinate a 1) ≤ 16384)
+small_both : (t : ℕ) (a : List ℤ) → t < 2 → nat_abs (coordinate a t) ≤ 2 * line_gap → nat_abs (coordinate a (other_axis t)) ≤ 2 * line_gap → (nat_abs (coordinate a 0) ≤ 2 * line_gap) × (nat_abs (coordinate a 1) ≤ 2 * line_gap)
 small_both zero a l h k = (h, k)
 small_both (suc zero) a l h k = (k, h)
 small_both (suc (suc t)) a l h k = absurd (omega arith)
@@ -56,20 +57,20 @@ module _ (X : Picture) (points : List Point) (s : Segment) (flat : IsFlat X) (in
   abbrev own : List Point
   own = arc points s.stretch.first s.stretch.last
 
-  within : (k : ℕ) → k < 2 → IsWithinSide 2048 k own
+  within : (k : ℕ) → k < 2 → IsWithinSide most_flat k own
   within k l = λ i m. in_side X (point_at own i) k flat l (arc_at (IsInside X) points s.stretch.first s.stretch.last i inside begins m)
 
-  short : s.stretch.last ≤ s.stretch.first + 2048
+  short : s.stretch.last ≤ s.stretch.first + most_flat
   short =
-      let few = few_points s.axis 2048 own line.sense (within (other_axis s.axis) (omega arith)) in
+      let few = few_points s.axis most_flat own line.sense (within (other_axis s.axis) (omega arith)) in
       let n = length-arc points s.stretch.first s.stretch.last in
       omega arith
 
   fair_segment : (pairs : Pairs) → SegmentHasEvidence points s pairs → IsTrue (is_fair (run_shown s))
   fair_segment pairs shown =
-      let small = small_coefficients s.axis own line.axis (arc_flat X flat.axes points s.stretch.first s.stretch.last inside begins) 2048 s.line pairs (within (other_axis s.axis) (omega arith)) (omega arith) line.line shown in
+      let small = small_coefficients s.axis own line.axis (arc_flat X flat.axes points s.stretch.first s.stretch.last inside begins) most_flat s.line pairs (within (other_axis s.axis) (omega arith)) (omega arith) line.line shown in
       let both = small_both s.axis s.line.a line.axis small.0 small.1 in
-      both_true (both_true (le-leb s.stretch.last (s.stretch.first + 2048) short) (le-leb (nat_abs (coordinate s.line.a 0)) (2 ^ 23) (omega (arith, both)))) (le-leb (nat_abs (coordinate s.line.a 1)) (2 ^ 23) (omega (arith, both)))
+      both_true (both_true (le-leb s.stretch.last (s.stretch.first + most_flat) short) (le-leb (nat_abs (coordinate s.line.a 0)) most_coefficient (omega (arith, both)))) (le-leb (nat_abs (coordinate s.line.a 1)) most_coefficient (omega (arith, both)))
 
 -- ---- all segments
 

@@ -1,6 +1,7 @@
 -- The segments of a contour as runs of its steps along a line, as the lines of a report give them.
 -- Which segments are right does not matter here; lines need not hold, and those beyond the limits count for nothing, so that no number overflows and no run takes long.
 use Rattle.std.specs.Prelude.{ℕ, ℤ, ◌+◌, ◌^◌, nat_le, nat_abs, Bool, ◌&&◌, if◌then◌else◌, List, Option, Some, None}
+use Rattle.shape_terms.specs.Limits.{most_flat}
 use Rattle.shape_terms.specs.Points.{coordinate}
 use Rattle.report_terms.specs.Lines.{Line}
 
@@ -11,9 +12,13 @@ pub record Run : Type 0 where
   pub a : ℤ
   pub b : ℤ
 
--- the run has at most 2048 steps, and no coefficient greater in size than 2^23. In a report with the number 2 that holds of a picture with sides up to 2048 each run is such
+-- the coefficients of a run within the limits are no greater in size
+abbrev pub most_coefficient : ℕ
+most_coefficient = 2 ^ 23
+
+-- the run has no more steps than the greatest side of a flat picture has pixels, and no greater coefficient. In a report with the number 2 that holds of a flat picture each run is such
 abbrev pub is_fair : Run → Bool
-is_fair r = nat_le r.last (r.first + 2048) && nat_le (nat_abs r.a) (2 ^ 23) && nat_le (nat_abs r.b) (2 ^ 23)
+is_fair r = nat_le r.last (r.first + most_flat) && nat_le (nat_abs r.a) most_coefficient && nat_le (nat_abs r.b) most_coefficient
 
 -- the run, where it is within the limits
 abbrev pub fair : Run → Option Run

@@ -1,6 +1,7 @@
 -- What the borders of a report that holds are, in geometry: the contours of the picture, and where the report shows least lines, each measured along its tangential cover.
 -- No line stands here.
 use Rattle.std.specs.Prelude.{◌≡◌, ℕ, List, length, map, pos}
+use Rattle.shape_terms.specs.Limits.{most_flat}
 use Rattle.shape_terms.specs.Points.{AreSides}
 use Rattle.shape_terms.specs.Pictures.{Picture}
 use Rattle.report_terms.specs.ContourFacts.{Segment, ContourFact, ContoursShow}
@@ -9,10 +10,10 @@ use Rattle.border_terms.specs.Lengths.{contour_length}
 use Rattle.border_terms.specs.Borders.{Border}
 use Rattle.border_terms.specs.Begins.{BeginAsContours}
 
--- the picture is flat, with sides from 1 to 2048
+-- the picture is flat, with sides from 1 to the greatest of a flat picture
 pub record IsFlat (X : Picture) : Type 0 where
   pub axes : length X.sides ≡ 2
-  pub box : AreSides (pos 2048) (map pos X.sides)
+  pub box : AreSides (pos most_flat) (map pos X.sides)
 
 -- the run of a segment
 abbrev pub run_shown : Segment → Run
@@ -28,7 +29,7 @@ pub record HaveLengths (X : Picture) (bs : List Border) : Type 0 where
   pub contours : ContoursShow 2 X facts
   pub are : bs ≡ map border_shown facts
 
--- the borders begin where the contours of the picture do, in their order; those of a report with the number 2 of a picture with sides up to 2048 have their lengths too
+-- the borders begin where the contours of the picture do, in their order; those of a report with the number 2 of a picture with such sides have their lengths too
 pub record BordersShow (number : ℕ) (X : Picture) (bs : List Border) : Type 0 where
   pub begin : BeginAsContours X bs
   pub lengths : number ≡ 2 → IsFlat X → HaveLengths X bs

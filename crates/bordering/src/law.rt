@@ -24,8 +24,8 @@ pub fn shares_are_rounded_down()
 {}
 
 /// The borders that a report of a flat picture tells, where it holds, begin where the picture's contours do, in their order.
-/// Where its first line gives the number 2, and no side is longer than 2048, each has the length of its contour along the least
-/// lines of its tangential cover: no segment is left out.
+/// Where its first line gives the number 2, and no side is longer than those of flat pictures may be, each has the length of its
+/// contour along the least lines of its tangential cover: no segment is left out.
 pub fn holding_tells_borders()
     ensures lines { (number : ℕ) (X : Picture) (lines : List Line)
         → ContoursShow number X (content_of lines).contours → BordersShow number X (borders lines) }

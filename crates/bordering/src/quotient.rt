@@ -2,13 +2,14 @@
 //! The sizes for which nothing overflows stand here.
 ghost use Rattle.std.specs.Prelude.{◌≡◌, ◌*◌, ◌^◌, ◌≤◌};
 ghost use Rattle.border_terms.specs.Quotients.{root_quotient};
+ghost use Rattle.border_terms.specs.Runs.{most_coefficient};
 
 // The side of a pixel in units.
 const PIXEL: u128 = 1_000_000_000_000;
 
 /// The length, in units, of a step with a weight along a line whose direction has a squared length; 0 where that is 0.
 pub(crate) fn quotient(weight: u64, norm: u64) -> u64
-    requires { weight ≤ 2 ^ 24 }
+    requires { weight ≤ 2 * most_coefficient }
     ensures { result ≡ root_quotient (weight * 10 ^ 12) norm }
 {
     if norm == 0 {

@@ -1,6 +1,7 @@
 //! A run of a contour's steps along a line, as the program keeps it.
 //! Which runs are kept, and what steps weigh along them, is told in `runs`.
-ghost use Rattle.std.specs.Prelude.{◌≤◌, ◌^◌, nat_abs};
+ghost use Rattle.std.specs.Prelude.{◌≤◌, nat_abs};
+ghost use Rattle.border_terms.specs.Runs.{most_coefficient};
 
 /// A run of steps along a line: the places of its first and last points, and the coefficients of x and y.
 #[derive(Clone, Copy)]
@@ -13,6 +14,6 @@ pub(crate) struct Run {
     pub(crate) a: i32,
     /// The coefficient of y.
     pub(crate) b: i32,
-    pub(crate) ghost small_a: { nat_abs a ≤ 2 ^ 23 },
-    pub(crate) ghost small_b: { nat_abs b ≤ 2 ^ 23 },
+    pub(crate) ghost small_a: { nat_abs a ≤ most_coefficient },
+    pub(crate) ghost small_b: { nat_abs b ≤ most_coefficient },
 }

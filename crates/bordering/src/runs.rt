@@ -1,25 +1,26 @@
 //! Runs of a contour's steps along a line, as segments give them.
-//! Other limits are a change here and of the definition.
-ghost use Rattle.std.specs.Prelude.{◌≡◌, ◌≤◌, ◌^◌, ◌*ℤ◌, ◌-ℤ◌, ◌<◌, nat_abs, take};
+//! Another limit of coefficients is a change here and of the definition.
+ghost use Rattle.std.specs.Prelude.{◌≡◌, ◌≤◌, ◌*◌, ◌*ℤ◌, ◌-ℤ◌, ◌<◌, nat_abs, take};
 ghost use Rattle.std.specs.Option.{option_map};
 ghost use Rattle.shape_terms.specs.Points.{coordinate};
-ghost use Rattle.border_terms.specs.Runs.{fair, run};
+ghost use Rattle.border_terms.specs.Runs.{most_coefficient, fair, run};
 ghost use Rattle.border_terms.specs.Lengths.{weight, norm};
 ghost use Rattle.bordering.specs.Told.{run_told, step_told};
 
 use crate::run::Run;
 use crate::step::Step;
 use shape_refute::Naive;
+use shape_space::MOST_FLAT;
 
 // A run has no more steps.
-const MOST_STEPS: u64 = 2048;
+const MOST_STEPS: u64 = MOST_FLAT as u64;
 
 // No coefficient of a run is greater in size.
 const MOST: u64 = 1 << 23;
 
 // A number that is no greater in size than the coefficients of a run may be.
 fn coefficient(x: i64) -> i32
-    requires { nat_abs x ≤ 2 ^ 23 }
+    requires { nat_abs x ≤ most_coefficient }
     ensures { result ≡ x }
 {
     x as i32
@@ -68,19 +69,19 @@ pub(crate) fn run_along(first: u32, last: u32, line: &Naive) -> Option<Run>
 // The product of a change of a coordinate with a coefficient.
 fn product(x: i64, c: i32) -> i64
     requires x { nat_abs x ≤ 1 }
-    requires c { nat_abs c ≤ 2 ^ 23 }
+    requires c { nat_abs c ≤ most_coefficient }
     ensures value { result ≡ x *ℤ c }
-    ensures small { nat_abs result ≤ 2 ^ 23 }
+    ensures small { nat_abs result ≤ most_coefficient }
 {
     x * c as i64
 }
 
 // How far two such products are apart.
 fn distance(u: i64, v: i64) -> u64
-    requires u { nat_abs u ≤ 2 ^ 23 }
-    requires v { nat_abs v ≤ 2 ^ 23 }
+    requires u { nat_abs u ≤ most_coefficient }
+    requires v { nat_abs v ≤ most_coefficient }
     ensures value { result ≡ nat_abs (u -ℤ v) }
-    ensures small { result ≤ 2 ^ 24 }
+    ensures small { result ≤ 2 * most_coefficient }
 {
     (u - v).unsigned_abs()
 }
@@ -89,7 +90,7 @@ impl Run {
     /// What a step weighs along the run.
     pub(crate) fn weight(self, s: Step) -> u64
         ensures value { result ≡ weight (run_told self) (step_told s) }
-        ensures small { result ≤ 2 ^ 24 }
+        ensures small { result ≤ 2 * most_coefficient }
     {
         distance(product(s.x, self.b), product(s.y, self.a))
     }

@@ -5,13 +5,13 @@ ghost use Rattle.shape_terms.specs.Steps.{AreClose};
 ghost use Rattle.shape_refute.specs.Terms.{flat_point};
 ghost use Rattle.shape_refute.specs.PairTerms.{IsSmall};
 
-use shape_space::P2;
+use shape_space::{MOST_COORDINATE, P2};
 
 /// Whether the coordinates are small.
 pub fn is_small(p: P2) -> bool
     ensures { IsTrue result → IsSmall p }
 {
-    p.x.unsigned_abs() <= 4096 && p.y.unsigned_abs() <= 4096
+    p.x.unsigned_abs() <= MOST_COORDINATE && p.y.unsigned_abs() <= MOST_COORDINATE
 }
 
 // Whether two numbers are at most 1 apart.

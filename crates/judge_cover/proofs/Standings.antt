@@ -1,11 +1,10 @@
 -- What a judge finds of a line, as the claim of the line after those that the judge stands for.
 -- Laws over pictures, lines and what a judge is seen as.
-use Rattle.std.proofs.Common.{◌≡◌, ℕ, zero, suc, ◌+◌, ◌-◌, ◌*◌, ◌<◌, ◌≤◌, Bool, true, false, List, [], ◌∷◌, ◌++◌, length, drop, refl, ap, sym, ◌∙◌, subst, arith}
+use Rattle.std.proofs.Common.{◌≡◌, ℕ, ◌+◌, ◌-◌, ◌*◌, ◌<◌, ◌≤◌, Bool, true, false, List, [], ◌∷◌, ◌++◌, length, drop, refl, ap, sym, ◌∙◌, subst, arith}
 use Rattle.std.proofs.lemmas.Bool.{eqb-true}
 use Rattle.std.proofs.lemmas.Bool.Decides.{nat_tests}
 use Rattle.std.specs.Prelude.{ℤ, nat_eq, ◌↔◌, IsTrue, Some, slice_get, slice_index_or}
 use Rattle.std.specs.Bool.{OnTrue}
-use Rattle.std.proofs.lemmas.List.Sums.{sum_by-cons}
 use Rattle.std.proofs.lemmas.Option.{get_or_from_slice_get, slice_get_within}
 use Rattle.shape_terms.specs.Points.{Point}
 use Rattle.shape_terms.specs.Pictures.{Picture}
@@ -14,13 +13,14 @@ use Rattle.shape_terms.specs.Naive.{Naive}
 use Rattle.shape_terms.specs.Covers.{Evidence}
 use Rattle.shape_terms.specs.Least.{Pairs}
 use Rattle.std.proofs.lemmas.List.{length-append}
-use Rattle.shape_terms.specs.Traces.{Contour, AreContours}
+use Rattle.shape_terms.specs.Traces.{Contour, AreContours, points_in}
 use Rattle.report_terms.specs.Lines.{Line}
 use Rattle.report_terms.specs.ContourLines.{Standing, standing, no_contour, open_contour, IsFull, IsContourHead, IsNextPoint, IsNextSegment, IsNextLeast, IsNextGap, OutlineClaim}
 use Rattle.report_terms.specs.Sections.{FlatClaim, AllContours}
 use Rattle.report_terms.proofs.ContourGroups.{declared_begun, standing_begun, standing_point, standing_segment, standing_least, standing_gap}
 use Rattle.shape_terms.proofs.ContourLists.{contours_same}
-use Rattle.judge_cover.specs.CoverState.{CoverState, StandsFor, IsTaken, LastIsTaken, points_in, owed, room_of, with_contour, with_point, with_segment, with_least, with_gap}
+use Rattle.shape_terms.proofs.ContourRoom.{points_from}
+use Rattle.judge_cover.specs.CoverState.{CoverState, StandsFor, IsTaken, LastIsTaken, owed, room_of, with_contour, with_point, with_segment, with_least, with_gap}
 
 -- a line is good where its claim is true of the judge's contours
 pub claim_test : (X : Picture) (s : CoverState) (lines : List Line) (l : Line) (b : Bool) → StandsFor X s lines → (IsTrue b ↔ OutlineClaim s.number s.contours s.standing l) → (IsTrue b ↔ FlatClaim s.number X lines l)
@@ -126,19 +126,12 @@ done_short X s lines begun n f here len other =
 
 -- ---- how many lines are left
 
-drop_here : (xs : List Contour) (n : ℕ) (k : Contour) → slice_get xs n ≡ Some k → drop n xs ≡ k ∷ drop (suc n) xs
-drop_here [] n k e = cc
-drop_here (x ∷ xs) zero k e = let h : x ≡ k = cc in ap (λ y. y ∷ xs) h
-drop_here (x ∷ xs) (suc n) k e = drop_here xs n k e
-
 -- the next contour is one of those to come no more
 less_to_come : (contours : List Contour) (n m : ℕ) (k : Contour) (left : ℕ) → slice_get contours n ≡ Some k → m ≤ length k.points
     → (length k.points - 0) + 2 * (m - 0) + 0 + (2 * m - 0) + (length contours - (n + 1)) + 5 * points_in (drop (n + 1) contours) < left + (length contours - n) + 5 * points_in (drop n contours)
 less_to_come contours n m k left e few =
     let l = slice_get_within contours n k e in
-    let q : suc n ≡ n + 1 = omega arith in
-    let s : points_in (drop n contours) ≡ length k.points + points_in (drop (n + 1) contours) =
-    ap points_in (drop_here contours n k e ∙ ap (λ j. k ∷ drop j contours) q) ∙ sum_by-cons (λ (c : Contour). length c.points) k (drop (n + 1) contours) in
+    let s = points_from contours n k e in
     omega (arith, l, s, few)
 
 pub begun_room : (s s2 : CoverState) (c : Crack) (n m : ℕ) (b : Bool) → s2.contours ≡ s.contours → (IsTrue b ↔ IsContourHead s.contours s.standing c n m) → OnTrue b (s2.standing ≡ with_contour s.standing m) → OnTrue b (room_of s2 < room_of s)

@@ -36,7 +36,7 @@ module _ {A : Type 0} (f : A → Point) (n : ℕ) (cs : List Contour) (s : Stand
   arc_value items run first last e order l r =
       part_is f round run (open_contour now.contours now.standing).points first last twice_round order l (r ∙ ap (λ xs. take (last + 1 - first) (drop first xs)) e)
 
-  pub arc_few : (items run : List A) (first last : ℕ) → items ≡ round → first ≤ last → last < 2 * length (open_contour now.contours now.standing).points → run ≡ take (last + 1 - first) (drop first items) → length (open_contour now.contours now.standing).points ≤ most_round → length run < 2 ^ 31
+  pub arc_few : (items run : List A) (first last : ℕ) → items ≡ round → first ≤ last → last < 2 * length (open_contour now.contours now.standing).points → run ≡ take (last + 1 - first) (drop first items) → length (open_contour now.contours now.standing).points ≤ most_round → length run < 2 ^ 32
   arc_few items run first last e order l r few =
       let k = ap length (arc_value items run first last e order l r) in
       omega (arith, k, length-map run f, length-arc (open_contour now.contours now.standing).points first last)

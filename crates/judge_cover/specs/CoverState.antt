@@ -1,9 +1,9 @@
 -- What a judge of the lines of contours is seen as, and which lines it stands for.
 -- It holds no line: it stands for each list of lines that stands where it does.
-use Rattle.std.specs.Prelude.{◌≡◌, ⊤, ℕ, Option, None, Some, ◌+◌, ◌-◌, ◌*◌, ◌<◌, ◌≤◌, ◌^◌, List, [], ◌∷◌, ◌++◌, length, map, drop, sum_by, All}
+use Rattle.std.specs.Prelude.{◌≡◌, ⊤, ℕ, Option, None, Some, ◌+◌, ◌-◌, ◌*◌, ◌<◌, ◌≤◌, List, [], ◌∷◌, ◌++◌, length, map, drop, All}
 use Rattle.shape_terms.specs.Points.{Point}
 use Rattle.shape_terms.specs.Pictures.{Picture}
-use Rattle.shape_terms.specs.Traces.{Contour, AreContours}
+use Rattle.shape_terms.specs.Traces.{Contour, AreContours, points_in}
 use Rattle.std.specs.Option.{option_map}
 use Rattle.shape_terms.specs.Limits.{most_round}
 use Rattle.shape_terms.specs.Covers.{Stretch, arc}
@@ -49,10 +49,6 @@ with_least s = record s { last = None }
 
 abbrev pub with_gap : Standing → Standing
 with_gap s = record s { last = None; gaps = s.gaps + 1 }
-
--- how many points these contours have in all
-abbrev pub points_in : List Contour → ℕ
-points_in contours = sum_by (λ k. length k.points) contours
 
 -- after a `seg` line one `least` line may come
 abbrev pub owed : Option Segment → ℕ

@@ -181,7 +181,7 @@ impl CoverJudge {
         requires order { first ≤ last }
         requires within { last < 2 * length (open_points self.now) }
         ensures value { map point_of result.now ≡ arc (open_points self.now) first last }
-        ensures few { length result.now < 2 ^ 31 }
+        ensures few { length result.now < 2 ^ 32 }
         ensures small { All IsSmall result.now }
     {
         self.open().is_closed_path();

@@ -1,6 +1,6 @@
 //! The points of one contour, twice round, so that each arc of it is a part of one list.
 //! Nothing here knows of lines.
-ghost use Rattle.std.specs.Prelude.{◌≡◌, ◌<◌, ◌≤◌, ◌+◌, ◌-◌, ◌*◌, ◌^◌, length, map, take, drop, vec_len, vec_capacity, All};
+ghost use Rattle.std.specs.Prelude.{◌≡◌, ◌<◌, ◌≤◌, ◌+◌, ◌-◌, ◌*◌, length, map, take, drop, vec_len, vec_capacity, All};
 ghost use Rattle.shape_terms.specs.Limits.{most_round};
 ghost use Rattle.shape_terms.specs.Covers.{arc};
 ghost use Rattle.shape_crack.specs.Terms.{point_of};

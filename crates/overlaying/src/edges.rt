@@ -1,5 +1,5 @@
 //! Arcs of borders as strokes from corner to corner, over the corner paths of the object.
-//! A picture with a side above 1000 has no edge report, and no arcs are drawn of it.
+//! The paths are found anew; which of their corners an arc joins, its mark tells.
 ghost use Rattle.std.specs.Prelude.{◌≡◌, IfOk, OnOk};
 ghost use Rattle.drawing.specs.Seen.{flats};
 ghost use Rattle.overlaying.specs.Corners.{paths_of, AreCornerPaths};
@@ -10,7 +10,7 @@ use crate::borders::strokes_over;
 use crate::part::Mark;
 use drawing::{Svg, put_contours};
 use judge_edges::{Cycles, all_cycles};
-use shape_corner::{Corners, has_small_sides};
+use shape_corner::Corners;
 use shape_grid::Grid;
 use shape_space::{NoMemory, P2};
 use std::alloc::Global;
@@ -42,9 +42,6 @@ fn paths_of(alloc: Global, cycles: &Cycles) -> Result<Vec<Vec<P2>>, NoMemory>
 fn corner_paths(alloc: Global, object: &Grid<P2>) -> Result<Vec<Vec<P2>>, NoMemory>
     ensures { IfOk result (λ v. AreCornerPaths object.now (all_paths v.items)) }
 {
-    if !has_small_sides(object) {
-        return Ok(Vec::new(alloc));
-    }
     let cycles = all_cycles(alloc, object)?;
     paths_of(alloc, &cycles)
 }

@@ -5,6 +5,7 @@ use Rattle.std.specs.Prelude.{IsTrue, All}
 use Rattle.std.proofs.lemmas.Int.{ints}
 use Rattle.std.proofs.lemmas.List.{get_or-map, length-map}
 use Rattle.std.proofs.lemmas.List.Elements.{All-nil, All-cons, All-append, All-map, All-get_or}
+use Rattle.shape_terms.specs.Limits.{most_flat, most_solid, most_coordinate}
 use Rattle.shape_terms.specs.Points.{Point, AreSides, sides_of, in_box, box_count}
 use Rattle.shape_terms.specs.Pictures.{Picture, IsPicture, at, object_points}
 use Rattle.shape_terms.specs.FramedBox.{framed_point, IsWithin}
@@ -35,14 +36,14 @@ sides_back (n ∷ sides) = ap (λ l. n ∷ l) (sides_back sides)
 
 -- ---- the fields of the lines
 
-module _ (d greatest : ℕ) (X : Picture) (picture : IsPicture d X) (range : HasSidesTo greatest X) (axes : (d ≡ 2) ⊎ (d ≡ 3)) (flat : greatest ≤ 2048) (solid : d ≡ 3 → greatest ≤ 192) where
+module _ (d greatest : ℕ) (X : Picture) (picture : IsPicture d X) (range : HasSidesTo greatest X) (axes : (d ≡ 2) ⊎ (d ≡ 3)) (flat : greatest ≤ most_flat) (solid : d ≡ 3 → greatest ≤ most_solid) where
   abbrev n : Point
   n = map pos X.sides
 
   back : sides_of n ≡ X.sides
   back = sides_back X.sides
 
-  flat_side : pos greatest ≤ℤ pos 2048
+  flat_side : pos greatest ≤ℤ pos most_flat
   flat_side = omega (arith, ints)
 
   long : length X.sides ≡ d
@@ -54,10 +55,10 @@ module _ (d greatest : ℕ) (X : Picture) (picture : IsPicture d X) (range : Has
   some : 0 < length X.sides
   some = let e = long in elim axes [ inl q ↦ omega arith | inr q ↦ omega arith ]
 
-  framed_within : (i : ℕ) → IsWithin (negsuc 0) (pos 4096) (framed_point X.sides i)
-  framed_within i = subst (λ s. IsWithin (negsuc 0) (pos 4096) (framed_point s i)) back (framed_point_within (pos greatest) n i range flat_side)
+  framed_within : (i : ℕ) → IsWithin (negsuc 0) (pos most_coordinate) (framed_point X.sides i)
+  framed_within i = subst (λ s. IsWithin (negsuc 0) (pos most_coordinate) (framed_point s i)) back (framed_point_within (pos greatest) n i range flat_side)
 
-  object_within : (p : Point) → IsTrue (at X p) → IsWithin (negsuc 0) (pos 4096) p
+  object_within : (p : Point) → IsTrue (at X p) → IsWithin (negsuc 0) (pos most_coordinate) p
   object_within p o =
       let inside : IsTrue (in_box (sides_of n) p) = subst (λ s. IsTrue (in_box s p)) (sym back) (object_in_box X p o) in
       box_point_within (pos greatest) n p range flat_side inside

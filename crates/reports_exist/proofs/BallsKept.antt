@@ -7,6 +7,7 @@ use Rattle.std.proofs.lemmas.Bool.{cases_Bool, and_parts, or_parts, or_cases, no
 use Rattle.std.proofs.lemmas.List.{get_or-map, length-map}
 use Rattle.std.proofs.lemmas.List.Elements.{All-nil, All-head, All-tail, All-push, All-weaker}
 use Rattle.std.proofs.lemmas.List.Folds.{list_any-append}
+use Rattle.shape_terms.specs.Limits.{most_coordinate}
 use Rattle.shape_terms.specs.Points.{Point, raster_number, raster_point, box_count, box_points, squared_distance}
 use Rattle.shape_terms.specs.Pictures.{Picture, at, object_points}
 use Rattle.shape_terms.specs.Steps.{Before}
@@ -121,7 +122,7 @@ left_out_or_none X kept rest = elim (some_or_none (λ i. is_left_out X kept rest
 
 -- the nearest background point of the ball lies in a framed box
 abbrev pub IsNear : Ball → Type 0
-IsNear b = IsWithin (negsuc 0) (pos 4096) b.near
+IsNear b = IsWithin (negsuc 0) (pos most_coordinate) b.near
 
 -- the first point stands before the second one, and the centre of the ball before the points of the facts
 abbrev pub Rises : NearFact → NearFact → Type 0

@@ -7,6 +7,7 @@ use Rattle.std.proofs.lemmas.Int.{ints}
 use Rattle.std.proofs.lemmas.Nat.{mul-le}
 use Rattle.std.proofs.lemmas.List.Elements.{All-nil, All-cons, All-head, All-tail}
 use native.Mathlib.Decide.{dec_lt}
+use Rattle.shape_terms.specs.Limits.{most_coordinate}
 use Rattle.shape_terms.specs.Points.{Point, box_count, squared_distance}
 use Rattle.shape_terms.specs.Pictures.{Picture, at, IsBackground, Least}
 use Rattle.shape_terms.specs.FramedBox.{framed_sides, framed_point, IsWithin}
@@ -75,13 +76,13 @@ some_framed (n ∷ sides) =
 pub record IsFound (X : Picture) (f : NearFact) : Type 0 where
   pub object : IsTrue (at X f.p)
   pub least : Least X f.p f.q f.s
-  pub near : IsWithin (negsuc 0) (pos 4096) f.q
+  pub near : IsWithin (negsuc 0) (pos most_coordinate) f.q
 
 -- the points of facts, in order
 abbrev pub points_of : List NearFact → List Point
 points_of facts = map (λ f. f.p) facts
 
-module _ (X : Picture) (axes : 0 < length X.sides) (within : (i : ℕ) → IsWithin (negsuc 0) (pos 4096) (framed_point X.sides i)) where
+module _ (X : Picture) (axes : 0 < length X.sides) (within : (i : ℕ) → IsWithin (negsuc 0) (pos most_coordinate) (framed_point X.sides i)) where
   abbrev distance : Point → ℕ → ℕ
   distance p i = squared_distance p (framed_point X.sides i)
 

@@ -2,6 +2,7 @@
 -- Each run is decided for both axes as in `RunsDecided`; that the walk finds all stands in the terms.
 use Rattle.std.proofs.Common.{◌≡◌, ◌⊎◌, inl, inr, ℕ, zero, suc, ◌+◌, ◌-◌, ◌<◌, ◌≤◌, refl, sym, subst, arith, List, [], ◌∷◌, ◌++◌, length, map}
 use native.Mathlib.Decide.{dec_lt}
+use Rattle.shape_terms.specs.Limits.{most_flat}
 use Rattle.shape_terms.specs.Points.{Point}
 use Rattle.shape_terms.specs.Pictures.{Picture, IsPicture}
 use Rattle.shape_terms.specs.Contours.{contour_points}
@@ -58,7 +59,7 @@ not_straight : (run : List Point) (h : HasReasons run) → IsStraight run → �
 not_straight run h (inl s) = evidence_shows 0 run h.x h.bent.x.shows s
 not_straight run h (inr s) = evidence_shows 1 run h.y h.bent.y.shows s
 
-module _ (side : ℕ) (low : side ≤ 2048) (points : List Point) (path : IsClosedPath side points) where
+module _ (side : ℕ) (low : side ≤ most_flat) (points : List Point) (path : IsClosedPath side points) where
   decided_of : (b e : ℕ) → b ≤ e → e ≤ b + length points → HasLine (arc points b e) ⊎ HasReasons (arc points b e)
   decided_of b e l h = elim (arc_decided side low points path 0 b e (omega arith) l) [
     | inl (line, f) ↦ inl (record { axis = 0; low = omega arith; line = line; is = f })
@@ -227,11 +228,11 @@ module _ (side : ℕ) (low : side ≤ 2048) (points : List Point) (path : IsClos
 
 -- ---- of each contour of a picture
 
-pub covers_had : (X : Picture) → IsPicture 2 X → HasSidesTo 2048 X → HasCovers X
+pub covers_had : (X : Picture) → IsPicture 2 X → HasSidesTo most_flat X → HasCovers X
 covers_had X is given =
-    let sides = flat_sides 2048 X.sides is.axes given in
+    let sides = flat_sides most_flat X.sides is.axes given in
     let (contours, are, covers) = contours_exist X is.axes (λ c. (found : List Found) × IsCoverOf c.points found) (λ start end steps k r e.
-    let path = closed_path X sides.width sides.height 2048 (sym sides.are) sides.width_low sides.height_low (omega arith) start end steps k r e in
-    let c = covers_exist 2048 (omega arith) (contour_points X (walk X start steps)) path in
+    let path = closed_path X sides.width sides.height most_flat (sym sides.are) sides.width_low sides.height_low (omega arith) start end steps k r e in
+    let c = covers_exist most_flat (omega arith) (contour_points X (walk X start steps)) path in
     (c.found, c.cover)) in
     record { contours = contours; are = are; covers = covers }

@@ -1,9 +1,10 @@
 -- Each flat picture within the sides of the command has a text that holds as its report of edges.
 -- The cover of a corner path stands in `EdgesExist`; one line more at a time, as the maker grows its text.
-use Rattle.std.proofs.Common.{◌≡◌, ℕ, zero, suc, ◌+◌, ◌*◌, ◌<◌, ◌≤◌, ◌^◌, List, [], ◌∷◌, length, refl, sym, subst, arith, Some}
+use Rattle.std.proofs.Common.{◌≡◌, ℕ, zero, suc, ◌+◌, ◌*◌, ◌<◌, ◌≤◌, List, [], ◌∷◌, length, refl, sym, subst, arith, Some}
 use Rattle.std.specs.Prelude.{slice_get, slice_index_or, All}
 use Rattle.std.proofs.lemmas.Nat.{mul-le}
 use Rattle.std.proofs.lemmas.Option.{slice_get-get_or}
+use Rattle.shape_terms.specs.Limits.{most_flat, most_round}
 use Rattle.shape_terms.specs.Points.{Point, box_count}
 use Rattle.shape_terms.specs.Pictures.{Picture, IsPicture}
 use Rattle.shape_terms.specs.Contours.{Crack, IsCrack, successor}
@@ -26,7 +27,7 @@ use Rattle.reports_exist.proofs.EdgesExist.{edges_exist}
 
 -- ---- the lines of a cycle
 
-module _ (X : Picture) (k : ℕ) (start : Crack) (f : EdgeFound) (at : IsFoundAt X k start f) (few : f.steps ≤ 2 ^ 25) where
+module _ (X : Picture) (k : ℕ) (start : Crack) (f : EdgeFound) (at : IsFoundAt X k start f) (few : f.steps ≤ most_round) where
   put_arc : (j : ℕ) → j < length f.arcs → (text : List ℕ) → Tells X (State.Open (with_arcs k f j)) text
       → (new : List ℕ) × Tells X (State.Open (with_arcs k f (j + 1))) new
   put_arc j l text h =
@@ -73,20 +74,15 @@ record IsKnown (X : Picture) (c : Contour) : Type 0 where
   crack : IsCrack X c.start
   found : EdgeFound
   from : IsEdgeCoverFrom X c.start found
-  few : found.steps ≤ 2 ^ 25
+  few : found.steps ≤ most_round
 
-module _ (X : Picture) (axes : length X.sides ≡ 2) (sides : AreFlatSides 1000 X.sides) where
-  small : All (λ m. m ≤ 1000) X.sides
-  small = subst (All (λ m. m ≤ 1000)) sides.are each
-    where
-      each : All (λ m. m ≤ 1000) (sides.width ∷ sides.height ∷ [])
-      each zero d l = sides.width_low
-      each (suc zero) d l = sides.height_low
-      each (suc (suc i)) d l = absurd (omega arith)
+module _ (X : Picture) (axes : length X.sides ≡ 2) (range : HasSidesTo most_flat X) where
+  sides : AreFlatSides most_flat X.sides
+  sides = flat_sides most_flat X.sides axes range
 
-  few_places : box_count X.sides ≤ 1000000
-  few_places = subst (λ (s : List ℕ). box_count s ≤ 1000000) sides.are
-      (let h = sides.height_low in mul-le sides.width (sides.height * 1) 1000 1000 sides.width_low (omega arith))
+  few_places : box_count X.sides ≤ most_flat * most_flat
+  few_places = subst (λ (s : List ℕ). box_count s ≤ most_flat * most_flat) sides.are
+      (let h = sides.height_low in mul-le sides.width (sides.height * 1) most_flat most_flat sides.width_low (omega arith))
 
   known : (start end : Crack) (steps : ℕ) → IsCrack X start → Reached X start end steps → end ≡ start → (points : List Point)
       → IsKnown X (record { start = start; points = points })
@@ -96,7 +92,7 @@ module _ (X : Picture) (axes : length X.sides ≡ 2) (sides : AreFlatSides 1000 
       let most = reached_most X axes start end (suc steps) k r in
       let places = few_places in
       let n = length-walk X (suc steps) start in
-      let path : IsCornerPath (corner_path (walk X start (suc steps))) = cycle_path X axes small start (walk X (successor X start) steps) k cycle.1
+      let path : IsCornerPath (corner_path (walk X start (suc steps))) = cycle_path X axes range start (walk X (successor X start) steps) k cycle.1
       (omega arith) in
       let (arcs, cover) = edges_exist (corner_path (walk X start (suc steps))) path in
       record {
@@ -117,7 +113,7 @@ module _ (X : Picture) (axes : length X.sides ≡ 2) (sides : AreFlatSides 1000 
       let arcs = at.cover.claims.few in
       let steps = at.steps in
       let fields : spelled.IsLine (Line.Cycle c.start is.found.steps (length is.found.arcs)) =
-      (pixel_fits X 1000 (omega arith) sides c.start is.crack, (is.crack.side, (omega arith, omega arith))) in
+      (pixel_fits X most_flat (omega arith) sides c.start is.crack, (is.crack.side, (omega arith, omega arith))) in
       put_cycle X k c.start is.found at few text fields h
 
   put_all : (contours : List Contour) → AreContours X contours → All (IsKnown X) contours → (k : ℕ) → k ≤ length contours → (text : List ℕ)
@@ -141,6 +137,6 @@ module _ (X : Picture) (axes : length X.sides ≡ 2) (sides : AreFlatSides 1000 
       let (contours, are, each) = contours_exist X axes (IsKnown X) (λ start end steps k r e. known start end steps k r e _) in
       met_by contours are each
 
--- each flat picture with sides to 1000 has such a text
-pub edges_met : (X : Picture) → IsPicture 2 X → HasSidesTo 1000 X → IsMet (edge_report X)
-edges_met X is sides = met X is.axes (flat_sides 1000 X.sides is.axes sides)
+-- each flat picture with sides to `most_flat` has such a text
+pub edges_met : (X : Picture) → IsPicture 2 X → HasSidesTo most_flat X → IsMet (edge_report X)
+edges_met X is range = met X is.axes range

@@ -1,9 +1,10 @@
 -- Each run of corners one unit step apart is decided: a standard line holds it, or evidence shows that it is not straight.
 -- Its sheared run is decided for the axis y as in `RunsDecided`.
-use Rattle.std.proofs.Common.{◌≡◌, ◌⊎◌, inl, inr, ℕ, ◌+◌, ◌-◌, ◌<◌, ◌≤◌, ◌^◌, refl, sym, subst, arith, List, [], length}
+use Rattle.std.proofs.Common.{◌≡◌, ◌⊎◌, inl, inr, ℕ, ◌+◌, ◌-◌, ◌*◌, ◌<◌, ◌≤◌, ◌^◌, refl, sym, subst, arith, List, [], length}
 use Rattle.std.specs.Prelude.{ℤ, pos, negsuc, ◌+ℤ◌, ◌-ℤ◌, ◌*ℤ◌, ◌≤ℤ◌, nat_abs}
 use Rattle.std.proofs.lemmas.Int.{ints, by_lt_z}
 use Rattle.std.proofs.lemmas.List.{length-map, get_or-map}
+use Rattle.shape_terms.specs.Limits.{most_flat, line_coordinate, line_gap, line_area}
 use Rattle.shape_terms.specs.Points.{Point, coordinate}
 use Rattle.shape_terms.specs.Steps.{AreClose}
 use Rattle.shape_terms.specs.Naive.{Naive}
@@ -35,9 +36,9 @@ IsEdgeDecided run = ((l : Standard) × IsHeld run l) ⊎ ((e : EdgeEvidence) × 
 
 -- ---- sizes
 
-signed_within : (s x : ℤ) → IsSign s → pos 0 ≤ℤ x → x ≤ℤ pos 1000 → IsWithin (pos 1000) (s *ℤ x)
-signed_within s x (inl e) l h = subst (λ (w : ℤ). IsWithin (pos 1000) (w *ℤ x)) (sym e) (record { low = omega (arith, ints); high = omega (arith, ints) })
-signed_within s x (inr e) l h = subst (λ (w : ℤ). IsWithin (pos 1000) (w *ℤ x)) (sym e) (record { low = omega (arith, ints); high = omega (arith, ints) })
+signed_within : (s x : ℤ) → IsSign s → pos 0 ≤ℤ x → x ≤ℤ pos most_flat → IsWithin (pos most_flat) (s *ℤ x)
+signed_within s x (inl e) l h = subst (λ (w : ℤ). IsWithin (pos most_flat) (w *ℤ x)) (sym e) (record { low = omega (arith, ints); high = omega (arith, ints) })
+signed_within s x (inr e) l h = subst (λ (w : ℤ). IsWithin (pos most_flat) (w *ℤ x)) (sym e) (record { low = omega (arith, ints); high = omega (arith, ints) })
 
 small_sheared : (h v : ℤ) (o p : Point) → IsSign h → IsSign v → IsCorner o → IsCorner p → IsSmallPoint (from_origin h v o p)
 small_sheared h v o p hs vs co cp =
@@ -47,8 +48,8 @@ small_sheared h v o p hs vs co cp =
     let d = signed_within v (coordinate o 1) vs co.y_low co.y_high in
     record { flat = refl; x = four _ _ _ _ a b c d; y = two _ _ b d }
   where
-    four : (a b c d : ℤ) → IsWithin (pos 1000) a → IsWithin (pos 1000) b → IsWithin (pos 1000) c → IsWithin (pos 1000) d
-        → nat_abs ((a +ℤ b) +ℤ negsuc 0 *ℤ (c +ℤ d)) ≤ 4096
+    four : (a b c d : ℤ) → IsWithin (pos most_flat) a → IsWithin (pos most_flat) b → IsWithin (pos most_flat) c → IsWithin (pos most_flat) d
+        → nat_abs ((a +ℤ b) +ℤ negsuc 0 *ℤ (c +ℤ d)) ≤ line_coordinate
     four a b c d h k l m =
         let hl = h.low in
         let hh = h.high in
@@ -60,7 +61,7 @@ small_sheared h v o p hs vs co cp =
         let mh = m.high in
         omega (arith, ints)
 
-    two : (b d : ℤ) → IsWithin (pos 1000) b → IsWithin (pos 1000) d → nat_abs (b +ℤ negsuc 0 *ℤ d) ≤ 4096
+    two : (b d : ℤ) → IsWithin (pos most_flat) b → IsWithin (pos most_flat) d → nat_abs (b +ℤ negsuc 0 *ℤ d) ≤ line_coordinate
     two b d k m =
         let kl = k.low in
         let kh = k.high in
@@ -116,7 +117,7 @@ module _ (run : List Point) (r : IsCornerRun run) (n : ℕ) (all : n + 1 ≡ len
       };
     }
       where
-        bound : (z : ℤ) → IsWithin (pos 1000) z → nat_abs (pos 0 -ℤ z) < 2 ^ 63
+        bound : (z : ℤ) → IsWithin (pos most_flat) z → nat_abs (pos 0 -ℤ z) < 2 ^ 63
         bound z w = let l = w.low in let u = w.high in omega (arith, ints)
 
     slant : (a c : ℕ) → coordinate line.a 0 ≡ pos 0 -ℤ pos a → coordinate line.a 1 ≡ pos a +ℤ pos c → (l : Standard) × IsHeld run l
@@ -136,13 +137,13 @@ module _ (run : List Point) (r : IsCornerRun run) (n : ℕ) (all : n + 1 ≡ len
           },
         )
       where
-        sizes : (a c : ℕ) → coordinate line.a 1 ≡ pos a +ℤ pos c → coordinate line.a 1 ≤ℤ pos 8193 → (a ≤ 8193) × (c ≤ 8193)
+        sizes : (a c : ℕ) → coordinate line.a 1 ≡ pos a +ℤ pos c → coordinate line.a 1 ≤ℤ pos (line_gap + 1) → (a ≤ line_gap + 1) × (c ≤ line_gap + 1)
         sizes a c k l = (omega (arith, ints), omega (arith, ints))
 
-        wide : (m z : ℤ) → m ≤ℤ pos 8193 → IsWithin m z → IsWithin (pos 8193) z
+        wide : (m z : ℤ) → m ≤ℤ pos (line_gap + 1) → IsWithin m z → IsWithin (pos (line_gap + 1)) z
         wide m z l w = let a = w.low in let b = w.high in record { low = omega (arith, ints); high = omega (arith, ints) }
 
-        sum : (u w m : ℤ) (a c : ℕ) → a ≤ 8193 → c ≤ 8193 → IsWithin (pos 67125249) u → IsWithin (pos 67125249) w → IsWithin (pos 200000000) m
+        sum : (u w m : ℤ) (a c : ℕ) → a ≤ line_gap + 1 → c ≤ line_gap + 1 → IsWithin (pos ((line_gap + 1) * (line_gap + 1))) u → IsWithin (pos ((line_gap + 1) * (line_gap + 1))) w → IsWithin (pos (3 * line_area)) m
             → nat_abs ((u -ℤ w) -ℤ m -ℤ (pos a +ℤ pos c) +ℤ pos 1) < 2 ^ 63
         sum u w m a c la lc hu hw hm =
             let ul = hu.low in
@@ -153,14 +154,14 @@ module _ (run : List Point) (r : IsCornerRun run) (n : ℕ) (all : n + 1 ≡ len
             let mh = hm.high in
             omega (arith, ints)
 
-        natural : (a : ℕ) → a ≤ 8193 → IsWithin (pos 8193) (pos a)
+        natural : (a : ℕ) → a ≤ line_gap + 1 → IsWithin (pos (line_gap + 1)) (pos a)
         natural a l = record { low = omega (arith, ints); high = omega (arith, ints) }
 
-        bound : (a c : ℕ) (x y m : ℤ) → a ≤ 8193 → c ≤ 8193 → IsWithin (pos 1000) x → IsWithin (pos 1000) y → IsWithin (pos 200000000) m
+        bound : (a c : ℕ) (x y m : ℤ) → a ≤ line_gap + 1 → c ≤ line_gap + 1 → IsWithin (pos most_flat) x → IsWithin (pos most_flat) y → IsWithin (pos (3 * line_area)) m
             → nat_abs ((pos a *ℤ x -ℤ pos c *ℤ y) -ℤ m -ℤ (pos a +ℤ pos c) +ℤ pos 1) < 2 ^ 63
         bound a c x y m la lc hx hy hm =
-            let p = product_within (pos 8193) (pos a) x (natural a la) (wide (pos 1000) x (omega (arith, ints)) hx) in
-            let q = product_within (pos 8193) (pos c) y (natural c lc) (wide (pos 1000) y (omega (arith, ints)) hy) in
+            let p = product_within (pos (line_gap + 1)) (pos a) x (natural a la) (wide (pos most_flat) x (omega (arith, ints)) hx) in
+            let q = product_within (pos (line_gap + 1)) (pos c) y (natural c lc) (wide (pos most_flat) y (omega (arith, ints)) hy) in
             sum (pos a *ℤ x) (pos c *ℤ y) m a c la lc p q hm
 
     standard_found : (l : Standard) × IsHeld run l

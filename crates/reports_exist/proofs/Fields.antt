@@ -4,6 +4,7 @@ use Rattle.std.proofs.Common.{◌≡◌, ℕ, zero, suc, ◌<◌, ◌≤◌, Lis
 use Rattle.std.specs.Prelude.{ℤ, pos, negsuc, ◌≤ℤ◌, nat_abs, IsTrue, FitsSigned, All}
 use Rattle.std.specs.Int.{w32}
 use Rattle.std.proofs.lemmas.Int.{ints}
+use Rattle.shape_terms.specs.Limits.{most_flat}
 use Rattle.shape_terms.specs.Points.{Point, in_box, AreSides}
 use Rattle.shape_terms.specs.Pictures.{Picture}
 use Rattle.shape_terms.specs.Contours.{Crack, IsCrack}
@@ -57,13 +58,13 @@ two_fit x y h k = record { axes = refl; fits = each }
     each (suc zero) d l = fits y k
     each (suc (suc i)) d l = absurd (omega arith)
 
-pub sides_fit : (greatest : ℕ) (sides : List ℕ) → greatest ≤ 2048 → AreFlatSides greatest sides → AreSoMany 2 (FitsSigned w32) (map pos sides)
+pub sides_fit : (greatest : ℕ) (sides : List ℕ) → greatest ≤ most_flat → AreFlatSides greatest sides → AreSoMany 2 (FitsSigned w32) (map pos sides)
 sides_fit greatest sides low f =
     let w = f.width_low in
     let h = f.height_low in
     subst (λ (l : List ℕ). AreSoMany 2 (FitsSigned w32) (map pos l)) f.are (two_fit (pos f.width) (pos f.height) (omega arith) (omega arith))
 
-point_fits : (w h : ℕ) → w ≤ 2048 → h ≤ 2048 → (p : Point) → IsTrue (in_box (w ∷ h ∷ []) p) → AreSoMany 2 (FitsSigned w32) p
+point_fits : (w h : ℕ) → w ≤ most_flat → h ≤ most_flat → (p : Point) → IsTrue (in_box (w ∷ h ∷ []) p) → AreSoMany 2 (FitsSigned w32) p
 point_fits w h wl hl [] i = absurd (let e = in_box_length (w ∷ h ∷ []) [] i in omega arith)
 point_fits w h wl hl (x ∷ []) i = absurd (let e = in_box_length (w ∷ h ∷ []) (x ∷ []) i in omega arith)
 point_fits w h wl hl (x ∷ y ∷ []) i =
@@ -74,7 +75,7 @@ point_fits w h wl hl (x ∷ y ∷ []) i =
     two_fit x y (omega arith) (omega arith)
 point_fits w h wl hl (x ∷ y ∷ z ∷ p) i = absurd (let e = in_box_length (w ∷ h ∷ []) (x ∷ y ∷ z ∷ p) i in omega arith)
 
-pub pixel_fits : (X : Picture) (greatest : ℕ) → greatest ≤ 2048 → AreFlatSides greatest X.sides → (c : Crack) → IsCrack X c
+pub pixel_fits : (X : Picture) (greatest : ℕ) → greatest ≤ most_flat → AreFlatSides greatest X.sides → (c : Crack) → IsCrack X c
     → AreSoMany 2 (FitsSigned w32) c.pixel
 pixel_fits X greatest low f c k =
     let w = f.width_low in

@@ -4,6 +4,7 @@ use Rattle.std.proofs.Common.{◌≡◌, ℕ, zero, suc, ◌+◌, ◌<◌, ◌�
 use Rattle.std.specs.Prelude.{pos, slice_get, slice_index_or, All}
 use native.Mathlib.Decide.{dec_lt}
 use Rattle.std.proofs.lemmas.Option.{slice_get-get_or}
+use Rattle.shape_terms.specs.Limits.{most_flat, most_round}
 use Rattle.shape_terms.specs.Pictures.{Picture, IsPicture}
 use Rattle.shape_terms.specs.Contours.{IsCrack}
 use Rattle.shape_terms.specs.Covers.{arc}
@@ -25,7 +26,7 @@ use Rattle.reports_exist.proofs.PiecesExist.{pieces_exist}
 -- ---- the lines of a contour
 
 module _ (X : Picture) (k : ℕ) (contour : Contour) (at : IsContourAt X k contour) (pieces : List Piece) (are : ArePieces contour.points pieces)
-    (shorts : AreShortPieces pieces) (few : length contour.points ≤ 2 ^ 24) where
+    (shorts : AreShortPieces pieces) (few : length contour.points ≤ most_round) where
   piece_is_line : (j : ℕ) → j < length pieces
       → spelled.IsLine (Line.Listed (SplitLine.Piece (piece_at pieces j).first (piece_at pieces j).last (piece_at pieces j).axis (piece_at pieces j).line))
   piece_is_line j l =
@@ -67,7 +68,7 @@ pub record IsKnown (X : Picture) (greatest : ℕ) (c : Contour) : Type 0 where
   pub crack : IsCrack X c.start
   pub path : IsClosedPath greatest c.points
 
-module _ (X : Picture) (greatest : ℕ) (low : greatest ≤ 2048) (sides : AreFlatSides greatest X.sides) where
+module _ (X : Picture) (greatest : ℕ) (low : greatest ≤ most_flat) (sides : AreFlatSides greatest X.sides) where
   put_contour : (contours : List Contour) → AreContours X contours → All (IsKnown X greatest) contours → (k : ℕ) → k < length contours
       → (text : List ℕ) → HasSplits X k text → (new : List ℕ) × HasSplits X (k + 1) new
   put_contour contours are known k l text h =
@@ -103,6 +104,6 @@ module _ (X : Picture) (greatest : ℕ) (low : greatest ≤ 2048) (sides : AreFl
       }) in
       met_by contours are known
 
--- each flat picture with sides to 2048 has such a text
-pub pieces_met : (X : Picture) → IsPicture 2 X → HasSidesTo 2048 X → IsMet (piece_report X)
-pieces_met X is sides = met X 2048 (omega arith) (flat_sides 2048 X.sides is.axes sides) is.axes
+-- each flat picture with sides to `most_flat` has such a text
+pub pieces_met : (X : Picture) → IsPicture 2 X → HasSidesTo most_flat X → IsMet (piece_report X)
+pieces_met X is sides = met X most_flat (omega arith) (flat_sides most_flat X.sides is.axes sides) is.axes

@@ -3,6 +3,7 @@
 use Rattle.std.proofs.Common.{◌≡◌, ℕ, zero, suc, ◌+◌, ◌-◌, ◌<◌, ◌≤◌, ◌%◌, List, [], ◌∷◌, ◌++◌, length, refl, ap, sym, subst, ◌∙◌, arith, inl, inr}
 use Rattle.std.specs.Prelude.{IsTrue}
 use native.Mathlib.Decide.{dec_lt}
+use Rattle.shape_terms.specs.Limits.{most_flat}
 use Rattle.shape_terms.specs.Points.{Point, in_box}
 use Rattle.shape_terms.specs.Steps.{AreClose}
 use Rattle.shape_terms.specs.Naive.{Naive}
@@ -21,7 +22,7 @@ use Rattle.runs_exist.proofs.SmallRuns.{IsSmallPoint}
 use Rattle.runs_exist.proofs.RunsDecided.{IsLineFor, IsDecided, IsNearRun, decided, one_decided}
 
 -- a point of a box of these sides is small
-small_in : (side : ℕ) → side ≤ 2048 → (p : Point) → IsTrue (in_box (side ∷ side ∷ []) p) → IsSmallPoint p
+small_in : (side : ℕ) → side ≤ most_flat → (p : Point) → IsTrue (in_box (side ∷ side ∷ []) p) → IsSmallPoint p
 small_in side l [] h = absurd (let e = in_box_length (side ∷ side ∷ []) [] h in omega arith)
 small_in side l (x ∷ []) h = absurd (let e = in_box_length (side ∷ side ∷ []) (x ∷ []) h in omega arith)
 small_in side l (x ∷ y ∷ p) h =
@@ -31,7 +32,7 @@ small_in side l (x ∷ y ∷ p) h =
     let v = b.1 in
     record { flat = in_box_length (side ∷ side ∷ []) (x ∷ y ∷ p) h; x = omega arith; y = omega arith }
 
-module _ (side : ℕ) (low : side ≤ 2048) (points : List Point) (path : IsClosedPath side points) where
+module _ (side : ℕ) (low : side ≤ most_flat) (points : List Point) (path : IsClosedPath side points) where
   -- the runs of the path are small and near
   pub arc_near : (b e : ℕ) → IsNearRun (arc points b e)
   arc_near b e = record {

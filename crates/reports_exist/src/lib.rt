@@ -2,6 +2,7 @@
 //! So no maker's contract is met by giving up alone. What counts are the clauses; each function has an empty body.
 #![tactic(auto)]
 
+ghost use Rattle.shape_terms.specs.Limits.{most_flat, most_solid};
 ghost use Rattle.shape_terms.specs.Pictures.{Picture, IsPicture};
 ghost use Rattle.shape_terms.specs.Thinning.{Rule};
 ghost use Rattle.edge_terms.specs.EdgeReports.{edge_report};
@@ -9,26 +10,26 @@ ghost use Rattle.piece_terms.specs.PieceReports.{piece_report};
 ghost use Rattle.ball_terms.specs.Reports.{ball_report};
 ghost use Rattle.reports_exist.specs.Met.{IsMet, HasCounts, HasCovers, HasSidesTo, HasThinning};
 
-/// Each flat picture with sides from 1 to 2048 has a report of the fewest straight pieces of its contours.
+/// Each flat picture with sides from 1 to `most_flat` has a report of the fewest straight pieces of its contours.
 pub fn piece_reports_exist()
-    ensures { (X : Picture) → IsPicture 2 X → HasSidesTo 2048 X → IsMet (piece_report X) }
+    ensures { (X : Picture) → IsPicture 2 X → HasSidesTo most_flat X → IsMet (piece_report X) }
 {}
 
-/// Each flat picture with sides from 1 to 1000 has a report of the standard segments of its cracks.
+/// Each flat picture with sides from 1 to `most_flat` has a report of the standard segments of its cracks.
 pub fn edge_reports_exist()
-    ensures { (X : Picture) → IsPicture 2 X → HasSidesTo 1000 X → IsMet (edge_report X) }
+    ensures { (X : Picture) → IsPicture 2 X → HasSidesTo most_flat X → IsMet (edge_report X) }
 {}
 
-/// Each flat picture with sides from 1 to 2048, and each volume with sides from 1 to 192, has a report of balls that make up its
-/// object.
+/// Each flat picture with sides from 1 to `most_flat`, and each volume with sides from 1 to `most_solid`, has a report of balls that make
+/// up its object.
 pub fn ball_reports_exist()
-    ensures flat { (X : Picture) → IsPicture 2 X → HasSidesTo 2048 X → IsMet (ball_report X) }
-    ensures solid { (X : Picture) → IsPicture 3 X → HasSidesTo 192 X → IsMet (ball_report X) }
+    ensures flat { (X : Picture) → IsPicture 2 X → HasSidesTo most_flat X → IsMet (ball_report X) }
+    ensures solid { (X : Picture) → IsPicture 3 X → HasSidesTo most_solid X → IsMet (ball_report X) }
 {}
 
-/// Each flat picture with sides from 1 to 2048 has contours, and each of these has its cover.
+/// Each flat picture with sides from 1 to `most_flat` has contours, and each of these has its cover.
 pub fn covers_exist()
-    ensures { (X : Picture) → IsPicture 2 X → HasSidesTo 2048 X → HasCovers X }
+    ensures { (X : Picture) → IsPicture 2 X → HasSidesTo most_flat X → HasCovers X }
 {}
 
 /// Each picture, of any number of axes, has its counts.

@@ -1,6 +1,7 @@
 //! What is told of boxes and their points, of neighbours, masks and labels.
 ghost use Rattle.std.specs.Prelude.{pos, negsuc, ◌<◌, ◌^◌};
 ghost use Rattle.shape_terms.specs.FramedBox.{IsWithin};
+ghost use Rattle.shape_terms.specs.Limits.{most_coordinate};
 
 use crate::case::wanting;
 use crate::numbers::{count, picture, point};
@@ -55,7 +56,7 @@ pub(crate) fn tell_place<P: Point>(alloc: Global, numbers: &[i64]) -> io::Result
 
 /// The near neighbours of a point, its side neighbours, and which near neighbours are round it.
 pub(crate) fn tell_near<P: Pairing>(alloc: Global, p: P) -> io::Result<String>
-    requires { IsWithin (negsuc 1) (pos 4096) (P.coords p) }
+    requires { IsWithin (negsuc 1) (pos most_coordinate) (P.coords p) }
 {
     let mut text = String::new(alloc);
     for k in 0..P::NEAR_COUNT {

@@ -1,5 +1,6 @@
 //! What is told of the verdict on a run of points: each verdict is judged by `shape_refute`, which knows nothing of how it is found.
 ghost use Rattle.std.specs.Prelude.{◌<◌, ◌≤◌, ◌∷◌, [], All, IsTrue, IsSome, IfSome, length, map};
+ghost use Rattle.shape_terms.specs.Limits.{most_flat};
 ghost use Rattle.shape_terms.specs.Points.{in_box};
 ghost use Rattle.shape_refute.specs.Terms.{flat_point};
 ghost use Rattle.shape_refute.specs.PairTerms.{IsSmall};
@@ -10,15 +11,15 @@ use crate::numbers::{number, points};
 use finder_tests::close::is_close;
 use shape_line::{RunVerdict, bounds_of, decide_run};
 use shape_refute::{Bounds, Naive, Refutation, holds, is_least, is_proper, refutes, turns};
-use shape_space::{P2, Sides};
+use shape_space::{MOST_FLAT, P2, Sides};
 use std::alloc::Global;
 use std::io;
 
 // Whether a point lies in the box of the greatest flat sides.
 fn is_inside(p: P2) -> bool
-    ensures { IsTrue result → IsTrue (in_box (2048 ∷ 2048 ∷ []) (flat_point p)) }
+    ensures { IsTrue result → IsTrue (in_box (most_flat ∷ most_flat ∷ []) (flat_point p)) }
 {
-    match Sides::try_new(P2 { x: 2048, y: 2048 }) {
+    match Sides::try_new(P2 { x: MOST_FLAT, y: MOST_FLAT }) {
         Some(sides) => sides.inside(p),
         None => false,
     }

@@ -1,11 +1,12 @@
 -- Each run of small near points is decided for an axis: a line holds it and the other coordinate goes one way, or evidence shows that it is not straight.
 -- The run is gone through from its first point on; one step stands in `SegmentsGrow`.
-use Rattle.std.proofs.Common.{◌≡◌, ℕ, zero, suc, ◌+◌, ◌-◌, ◌<◌, ◌≤◌, ◌^◌, ◌⊎◌, inl, inr, List, [], ◌∷◌, ◌++◌, length, refl, ap, sym, subst, ◌∙◌, arith, append_assoc, append-nil}
+use Rattle.std.proofs.Common.{◌≡◌, ℕ, zero, suc, ◌+◌, ◌-◌, ◌*◌, ◌<◌, ◌≤◌, ◌^◌, ◌⊎◌, inl, inr, List, [], ◌∷◌, ◌++◌, length, refl, ap, sym, subst, ◌∙◌, arith, append_assoc, append-nil}
 use Rattle.std.specs.Prelude.{ℤ, pos, negsuc, ◌+ℤ◌, ◌-ℤ◌, ◌*ℤ◌, neg_ℤ, ◌≤ℤ◌, ◌<ℤ◌, nat_abs, All}
 use Rattle.std.proofs.lemmas.Int.{ints}
 use Rattle.std.proofs.lemmas.List.{length-append}
 use Rattle.std.proofs.Math.ListN.{get_or-append}
 use Rattle.std.proofs.Math.Seq.{get_or-append_seam}
+use Rattle.shape_terms.specs.Limits.{line_coordinate, line_gap, line_area}
 use Rattle.shape_terms.specs.Points.{Point, coordinate}
 use Rattle.shape_terms.specs.Steps.{AreClose}
 use Rattle.shape_terms.specs.Naive.{Naive, IsNaiveFor}
@@ -34,8 +35,8 @@ pub record IsLineFor (t : ℕ) (run : List Point) (line : Naive) : Type 0 where
   pub naive : IsNaiveFor t run line
   pub sense : KeepsSense t run
   pub short : IsShortLine line
-  pub main : coordinate line.a t ≤ℤ pos 8193
-  pub mu : IsWithin (pos 200000000) line.mu
+  pub main : coordinate line.a t ≤ℤ pos (line_gap + 1)
+  pub mu : IsWithin (pos (3 * line_area)) line.mu
   pub pairs : Pairs
   pub shows : ShowsLeast t run (coordinate line.a t) pairs
 
@@ -74,7 +75,7 @@ line_of zero s seg l sense = record { two = refl; side = twice s seg.a sense; ma
 line_of (suc zero) s seg l sense = record { two = refl; side = twice s seg.a sense; main = refl; mu = refl }
 line_of (suc (suc t)) s seg l sense = absurd (omega arith)
 
-short_abs : (m z : ℤ) → m ≤ℤ pos 1000000000000 → IsWithin m z → nat_abs z < 2 ^ 63
+short_abs : (m z : ℤ) → m <ℤ pos (2 ^ 63) → IsWithin m z → nat_abs z < 2 ^ 63
 short_abs m z l h = let a = h.low in let b = h.high in omega (arith, ints)
 
 short_row : (t : ℕ) (r q : ℤ) → nat_abs r < 2 ^ 63 → nat_abs q < 2 ^ 63 → All (λ c. nat_abs c < 2 ^ 63) (row t r q)
@@ -91,7 +92,7 @@ row_two (suc t) r q = refl
 
 -- a segment with small numbers gives a line
 module _ (t : ℕ) (l : t < 2) (s : ℤ) (sense : IsSense s) (seg : Seg) (run : List Point) (some : pos 0 <ℤ seg.b) (steep : IsWithin seg.b seg.a)
-    (small : seg.b ≤ℤ pos 8193) (mu : IsWithin (pos 200000000) seg.mu) (r : IsRunOf t s seg run)
+    (small : seg.b ≤ℤ pos (line_gap + 1)) (mu : IsWithin (pos (3 * line_area)) seg.mu) (r : IsRunOf t s seg run)
     (pairs : Pairs) (least : ShowsLeast t run seg.b pairs) where
   line_found : (line : Naive) × IsLineFor t run line
   line_found = (
@@ -103,16 +104,16 @@ module _ (t : ℕ) (l : t < 2) (s : ℤ) (sense : IsSense s) (seg : Seg) (run : 
         two = row_two t (s *ℤ seg.a) seg.b;
         coefficients = short_row t (s *ℤ seg.a) seg.b
             (short_abs seg.b (s *ℤ seg.a) (omega (arith, ints, small)) (signed_within s seg.a seg.b sense steep)) (main_short seg.b some small);
-        mu = short_abs (pos 200000000) seg.mu (omega (arith, ints)) mu;
+        mu = short_abs (pos (3 * line_area)) seg.mu (omega (arith, ints)) mu;
       };
-      main = subst (λ (z : ℤ). z ≤ℤ pos 8193) (line_of t s seg l sense).main small;
+      main = subst (λ (z : ℤ). z ≤ℤ pos (line_gap + 1)) (line_of t s seg l sense).main small;
       mu = mu;
       pairs = pairs;
       shows = subst (λ (z : ℤ). ShowsLeast t run z pairs) (line_of t s seg l sense).main least;
     },
   )
     where
-      main_short : (b : ℤ) → pos 0 <ℤ b → b ≤ℤ pos 8193 → nat_abs b < 2 ^ 63
+      main_short : (b : ℤ) → pos 0 <ℤ b → b ≤ℤ pos (line_gap + 1) → nat_abs b < 2 ^ 63
       main_short b h k = omega (arith, ints)
 
 -- ---- one point
@@ -159,7 +160,7 @@ line_of_one t l p h = line_found t l (pos 1) refl (one_seg x y) (p ∷ []) (omeg
     less : (x : ℤ) → x <ℤ (x +ℤ pos 1)
     less x = omega (arith, ints)
 
-    bound : (x y : ℤ) → IsWithin (pos 4096) y → IsWithin (pos 200000000) (rest (pos 0) (pos 1) x y)
+    bound : (x y : ℤ) → IsWithin (pos line_coordinate) y → IsWithin (pos (3 * line_area)) (rest (pos 0) (pos 1) x y)
     bound x y h = let e = flat_rest x y in let a = h.low in let b = h.high in record { low = omega (arith, ints, e); high = omega (arith, ints, e) }
 
 -- ---- two points and more
@@ -169,39 +170,44 @@ line_of_grown t l run near g =
     let u = u_taken g.seg g.is in
     let a = stands t g.sense l g.is_sense g.seg run g.is.b_pos g.points g.seg.ux g.seg.uy u in
     let q = point_at run (place_from g.seg.x0 g.seg.ux) in
-    let wx = subst (IsWithin (pos 4096)) a.far (along_within t l q (near.small _ a.inside) g.sense g.is_sense) in
-    let wy = subst (IsWithin (pos 4096)) a.high (height_within t l q (near.small _ a.inside)) in
+    let wx = subst (IsWithin (pos line_coordinate)) a.far (along_within t l q (near.small _ a.inside) g.sense g.is_sense) in
+    let wy = subst (IsWithin (pos line_coordinate)) a.high (height_within t l q (near.small _ a.inside)) in
     let steep : IsWithin g.seg.b g.seg.a = record { low = g.is.a_low; high = g.is.a_high } in
-    let small : g.seg.b ≤ℤ pos 8193 = short_main in
-    let mu : IsWithin (pos 200000000) g.seg.mu = subst (IsWithin (pos 200000000)) g.is.u_is (bound g.seg.a g.seg.b g.seg.ux g.seg.uy steep small wx wy) in
+    let small : g.seg.b ≤ℤ pos (line_gap + 1) = short_main in
+    let mu : IsWithin (pos (3 * line_area)) g.seg.mu = subst (IsWithin (pos (3 * line_area))) g.is.u_is
+    (bound g.seg.a g.seg.b g.seg.ux g.seg.uy steep small wx wy) in
     line_found t l g.sense g.is_sense g.seg run g.is.b_pos steep small mu g.points (pairs_in g.seg)
     (segment_shows t g.sense l g.is_sense g.seg g.is run g.points)
   where
     wide : (m n z : ℤ) → m ≤ℤ n → IsWithin m z → IsWithin n z
     wide m n z l h = let a = h.low in let b = h.high in record { low = omega (arith, ints); high = omega (arith, ints) }
 
-    bound : (a b x y : ℤ) → IsWithin b a → b ≤ℤ pos 8193 → IsWithin (pos 4096) x → IsWithin (pos 4096) y → IsWithin (pos 200000000) (rest a b x y)
+    bound : (a b x y : ℤ) → IsWithin b a → b ≤ℤ pos (line_gap + 1) → IsWithin (pos line_coordinate) x → IsWithin (pos line_coordinate) y
+        → IsWithin (pos (3 * line_area)) (rest a b x y)
     bound a b x y h k hx hy =
         let al = h.low in
         let ah = h.high in
-        let p = product_within (pos 8193) a x (wide b (pos 8193) a k h) (wide (pos 4096) (pos 8193) x (omega (arith, ints)) hx) in
-        let q = product_within (pos 8193) b y (record { low = omega (arith, ints); high = k }) (wide (pos 4096) (pos 8193) y (omega (arith, ints)) hy) in
+        let p = product_within (pos (line_gap + 1)) a x (wide b (pos (line_gap + 1)) a k h)
+        (wide (pos line_coordinate) (pos (line_gap + 1)) x (omega (arith, ints)) hx) in
+        let q = product_within (pos (line_gap + 1)) b y (record { low = omega (arith, ints); high = k })
+        (wide (pos line_coordinate) (pos (line_gap + 1)) y (omega (arith, ints)) hy) in
         sum (a *ℤ x) (b *ℤ y) p q
       where
-        sum : (v w : ℤ) → IsWithin (pos 67125249) v → IsWithin (pos 67125249) w → IsWithin (pos 200000000) (v -ℤ w)
+        sum : (v w : ℤ) → IsWithin (pos ((line_gap + 1) * (line_gap + 1))) v → IsWithin (pos ((line_gap + 1) * (line_gap + 1))) w
+            → IsWithin (pos (3 * line_area)) (v -ℤ w)
         sum v w h k = let a = h.low in let b = h.high in let c = k.low in let d = k.high in record { low = omega (arith, ints); high = omega (arith, ints) }
 
     two : (n : ℕ) (x0 x1 b : ℤ) → pos n ≡ x1 -ℤ x0 +ℤ pos 1 → pos 0 <ℤ b → b ≤ℤ (x1 -ℤ x0) → 2 ≤ n
     two n x0 x1 b e h k = omega (arith, ints)
 
-    main : (n : ℕ) (x0 x1 b z : ℤ) → pos n ≡ x1 -ℤ x0 +ℤ pos 1 → b ≤ℤ (x1 -ℤ x0) → z ≡ x0 +ℤ pos (n - 1) → 2 ≤ n → IsWithin (pos 4096) (x0 +ℤ pos 0)
-        → IsWithin (pos 4096) z → b ≤ℤ pos 8193
+    main : (n : ℕ) (x0 x1 b z : ℤ) → pos n ≡ x1 -ℤ x0 +ℤ pos 1 → b ≤ℤ (x1 -ℤ x0) → z ≡ x0 +ℤ pos (n - 1) → 2 ≤ n
+        → IsWithin (pos line_coordinate) (x0 +ℤ pos 0) → IsWithin (pos line_coordinate) z → b ≤ℤ pos (line_gap + 1)
     main n x0 x1 b z e k f m h i = let a = h.low in let c = i.high in omega (arith, ints)
 
-    short_main : g.seg.b ≤ℤ pos 8193
+    short_main : g.seg.b ≤ℤ pos (line_gap + 1)
     short_main =
         let m = two (length run) g.seg.x0 g.seg.x1 g.seg.b g.points.count g.is.b_pos g.is.b_short in
-        let first = subst (IsWithin (pos 4096)) (g.points.place 0 (omega arith))
+        let first = subst (IsWithin (pos line_coordinate)) (g.points.place 0 (omega arith))
         (along_within t l (point_at run 0) (near.small 0 (omega arith)) g.sense g.is_sense) in
         let last = along_within t l (point_at run (length run - 1)) (near.small (length run - 1) (omega arith)) g.sense g.is_sense in
         main (length run) g.seg.x0 g.seg.x1 g.seg.b _ g.points.count g.is.b_short (g.points.place (length run - 1) (omega arith)) m first last

@@ -1,11 +1,12 @@
 -- A segment and the next point of a run: a longer segment, or a reason why the run with the point is not straight for the axis.
 -- Plain values alone stand here; the arithmetic is that by which segments grow.
-use Rattle.std.proofs.Common.{◌≡◌, ℕ, ◌+◌, ◌-◌, ◌<◌, ◌≤◌, ◌⊎◌, inl, inr, List, [], ◌∷◌, ◌++◌, length, refl, ap, sym, subst, ◌∙◌, arith}
+use Rattle.std.proofs.Common.{◌≡◌, ℕ, ◌+◌, ◌-◌, ◌*◌, ◌<◌, ◌≤◌, ◌⊎◌, inl, inr, List, [], ◌∷◌, ◌++◌, length, refl, ap, sym, subst, ◌∙◌, arith}
 use Rattle.std.specs.Prelude.{ℤ, pos, ◌+ℤ◌, ◌-ℤ◌, ◌*ℤ◌, neg_ℤ, ◌≤ℤ◌, ◌<ℤ◌, nat_abs}
 use Rattle.std.proofs.lemmas.Int.{ints, by_lt_z}
 use Rattle.std.proofs.lemmas.List.{length-append}
 use Rattle.std.proofs.Math.ListN.{get_or-append}
 use Rattle.std.proofs.Math.Seq.{get_or-append_seam}
+use Rattle.shape_terms.specs.Limits.{line_coordinate, line_gap, line_weight}
 use Rattle.shape_terms.specs.Points.{Point, coordinate}
 use Rattle.shape_terms.specs.Steps.{AreClose}
 use Rattle.shape_terms.specs.Refutations.{point_at}
@@ -115,17 +116,19 @@ fate s is y1 mx my last next up down =
 -- ---- two pairs of points of a small run as a crossing
 
 -- by how much the one bound exceeds the other
-excess : (ya xb xa yb xc yc xd yd : ℤ) → IsWithin (pos 4096) xa → IsWithin (pos 4096) ya → IsWithin (pos 4096) xb → IsWithin (pos 4096) yb
-    → IsWithin (pos 4096) xc → IsWithin (pos 4096) yc → IsWithin (pos 4096) xd → IsWithin (pos 4096) yd
+excess : (ya xb xa yb xc yc xd yd : ℤ) → IsWithin (pos line_coordinate) xa → IsWithin (pos line_coordinate) ya → IsWithin (pos line_coordinate) xb
+    → IsWithin (pos line_coordinate) yb → IsWithin (pos line_coordinate) xc → IsWithin (pos line_coordinate) yc → IsWithin (pos line_coordinate) xd
+    → IsWithin (pos line_coordinate) yd
     → (((yb -ℤ ya) +ℤ pos 1) *ℤ (xd -ℤ xc)) ≤ℤ (((yd -ℤ yc) -ℤ pos 1) *ℤ (xb -ℤ xa))
-    → (n : ℕ) × (pos n ≡ ((yd -ℤ yc) -ℤ pos 1) *ℤ (xb -ℤ xa) -ℤ ((yb -ℤ ya) +ℤ pos 1) *ℤ (xd -ℤ xc)) × (n ≤ 268435456)
+    → (n : ℕ) × (pos n ≡ ((yd -ℤ yc) -ℤ pos 1) *ℤ (xb -ℤ xa) -ℤ ((yb -ℤ ya) +ℤ pos 1) *ℤ (xd -ℤ xc)) × (n ≤ line_weight)
 excess ya xb xa yb xc yc xd yd hxa hya hxb hyb hxc hyc hxd hyd order =
-    let p = product_within (pos 8193) ((yd -ℤ yc) -ℤ pos 1) (xb -ℤ xa) (apart yd yc hyd hyc).0 (apart xb xa hxb hxa).1 in
-    let q = product_within (pos 8193) ((yb -ℤ ya) +ℤ pos 1) (xd -ℤ xc) (apart yb ya hyb hya).2 (apart xd xc hxd hxc).1 in
+    let p = product_within (pos (line_gap + 1)) ((yd -ℤ yc) -ℤ pos 1) (xb -ℤ xa) (apart yd yc hyd hyc).0 (apart xb xa hxb hxa).1 in
+    let q = product_within (pos (line_gap + 1)) ((yb -ℤ ya) +ℤ pos 1) (xd -ℤ xc) (apart yb ya hyb hya).2 (apart xd xc hxd hxc).1 in
     by (((yd -ℤ yc) -ℤ pos 1) *ℤ (xb -ℤ xa)) (((yb -ℤ ya) +ℤ pos 1) *ℤ (xd -ℤ xc)) p q order
   where
-    apart : (a b : ℤ) → IsWithin (pos 4096) a → IsWithin (pos 4096) b
-        → IsWithin (pos 8193) ((a -ℤ b) -ℤ pos 1) × IsWithin (pos 8193) (a -ℤ b) × IsWithin (pos 8193) ((a -ℤ b) +ℤ pos 1)
+    apart : (a b : ℤ) → IsWithin (pos line_coordinate) a → IsWithin (pos line_coordinate) b
+        → IsWithin (pos (line_gap + 1)) ((a -ℤ b) -ℤ pos 1) × IsWithin (pos (line_gap + 1)) (a -ℤ b)
+        × IsWithin (pos (line_gap + 1)) ((a -ℤ b) +ℤ pos 1)
     apart a b h k =
         let hl = h.low in
         let hh = h.high in
@@ -137,7 +140,8 @@ excess ya xb xa yb xc yc xd yd hxa hya hxb hyb hxc hyc hxd hyd order =
               { low = omega (arith, ints); high = omega (arith, ints) },
         )
 
-    by : (x y : ℤ) → IsWithin (pos 67125249) x → IsWithin (pos 67125249) y → y ≤ℤ x → (n : ℕ) × (pos n ≡ x -ℤ y) × (n ≤ 268435456)
+    by : (x y : ℤ) → IsWithin (pos ((line_gap + 1) * (line_gap + 1))) x → IsWithin (pos ((line_gap + 1) * (line_gap + 1))) y → y ≤ℤ x
+        → (n : ℕ) × (pos n ≡ x -ℤ y) × (n ≤ line_weight)
     by x y h k o =
         let hh = h.high in
         let kl = k.low in
@@ -214,22 +218,23 @@ module _ (t : ℕ) (l : t < 2) (run : List Point) (g : IsGrownTo t run) (p : Poi
         by : (n : ℕ) (x0 z : ℤ) → z ≡ x0 +ℤ pos n → n ≡ nat_abs (z -ℤ x0)
         by n x0 z e = omega (arith, ints)
 
-    within_x : (x y : ℤ) → In x y → IsWithin (pos 4096) x
-    within_x x y k = subst (IsWithin (pos 4096)) k.far
+    within_x : (x y : ℤ) → In x y → IsWithin (pos line_coordinate) x
+    within_x x y k = subst (IsWithin (pos line_coordinate)) k.far
         (along_within t l (point_at (run ++ p ∷ []) (place_from g.seg.x0 x)) (small _ k.inside) g.sense g.is_sense)
 
-    within_y : (x y : ℤ) → In x y → IsWithin (pos 4096) y
-    within_y x y k = subst (IsWithin (pos 4096)) k.high (height_within t l (point_at (run ++ p ∷ []) (place_from g.seg.x0 x)) (small _ k.inside))
+    within_y : (x y : ℤ) → In x y → IsWithin (pos line_coordinate) y
+    within_y x y k = subst (IsWithin (pos line_coordinate)) k.high (height_within t l (point_at (run ++ p ∷ []) (place_from g.seg.x0 x)) (small _ k.inside))
 
-    few : length (run ++ p ∷ []) ≤ 8194
+    few : length (run ++ p ∷ []) ≤ line_gap + 2
     few =
         let c = count in
         let a = along_within t l (point_at (run ++ p ∷ []) 0) (small 0 (omega arith)) g.sense g.is_sense in
         let b = along_within t l p small_p g.sense g.is_sense in
-        let z = subst (IsWithin (pos 4096)) (place_all 0 (omega arith)) a in
+        let z = subst (IsWithin (pos line_coordinate)) (place_all 0 (omega arith)) a in
         by (length run) (length (run ++ p ∷ [])) g.seg.x0 (along t g.sense p) at_end c z b
       where
-        by : (n m : ℕ) (x0 z : ℤ) → z ≡ x0 +ℤ pos n → m ≡ n + 1 → IsWithin (pos 4096) (x0 +ℤ pos 0) → IsWithin (pos 4096) z → m ≤ 8194
+        by : (n m : ℕ) (x0 z : ℤ) → z ≡ x0 +ℤ pos n → m ≡ n + 1 → IsWithin (pos line_coordinate) (x0 +ℤ pos 0)
+            → IsWithin (pos line_coordinate) z → m ≤ line_gap + 2
         by n m x0 z e f h k = let hl = h.low in let kh = k.high in omega (arith, ints)
 
     crossing : (xa ya xb yb xc yc xd yd : ℤ) → In xa ya → In xb yb → In xc yc → In xd yd → xa <ℤ xb → xc <ℤ xd

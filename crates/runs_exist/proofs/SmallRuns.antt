@@ -3,6 +3,7 @@
 use Rattle.std.proofs.Common.{◌≡◌, ℕ, zero, suc, ◌<◌, ◌≤◌, ◌⊎◌, inl, inr, length, sym, subst, arith}
 use Rattle.std.specs.Prelude.{ℤ, pos, negsuc, ◌+ℤ◌, ◌-ℤ◌, ◌*ℤ◌, neg_ℤ, ◌≤ℤ◌, ◌<ℤ◌, nat_abs}
 use Rattle.std.proofs.lemmas.Int.{ints, by_lt_z}
+use Rattle.shape_terms.specs.Limits.{line_coordinate}
 use Rattle.shape_terms.specs.Points.{Point, coordinate}
 use Rattle.shape_terms.specs.Turns.{other_axis}
 use Rattle.shape_terms.proofs.Products.{rings}
@@ -10,11 +11,11 @@ use Rattle.shape_terms.proofs.Order.{mul-nonneg}
 use Rattle.shape_line.specs.Frames.{IsSense, along, height}
 use Rattle.shape_line.proofs.Frames.{which}
 
--- a point of the plane, no coordinate of which is greater in size than 4096
+-- a point of the plane, no coordinate of which is greater in size than a line may hold
 pub record IsSmallPoint (p : Point) : Type 0 where
   pub flat : length p ≡ 2
-  pub x : nat_abs (coordinate p 0) ≤ 4096
-  pub y : nat_abs (coordinate p 1) ≤ 4096
+  pub x : nat_abs (coordinate p 0) ≤ line_coordinate
+  pub y : nat_abs (coordinate p 1) ≤ line_coordinate
 
 -- the number is not greater in size than m
 pub record IsWithin (m z : ℤ) : Type 0 where
@@ -56,38 +57,38 @@ product_within m a b h k =
 
 -- ---- in a frame
 
-abs_within : (z : ℤ) → nat_abs z ≤ 4096 → IsWithin (pos 4096) z
+abs_within : (z : ℤ) → nat_abs z ≤ line_coordinate → IsWithin (pos line_coordinate) z
 abs_within z h = record { low = omega (arith, ints); high = omega (arith, ints) }
 
-flipped : (s z : ℤ) → IsSense s → nat_abs z ≤ 4096 → nat_abs (s *ℤ z) ≤ 4096
+flipped : (s z : ℤ) → IsSense s → nat_abs z ≤ line_coordinate → nat_abs (s *ℤ z) ≤ line_coordinate
 flipped s z sense h = by (which s sense)
   where
-    by : (s ≡ pos 1) ⊎ (s ≡ negsuc 0) → nat_abs (s *ℤ z) ≤ 4096
-    by (inl e) = subst (λ (w : ℤ). nat_abs (w *ℤ z) ≤ 4096) (sym e) (omega (arith, ints, h))
-    by (inr e) = subst (λ (w : ℤ). nat_abs (w *ℤ z) ≤ 4096) (sym e) (omega (arith, ints, h))
+    by : (s ≡ pos 1) ⊎ (s ≡ negsuc 0) → nat_abs (s *ℤ z) ≤ line_coordinate
+    by (inl e) = subst (λ (w : ℤ). nat_abs (w *ℤ z) ≤ line_coordinate) (sym e) (omega (arith, ints, h))
+    by (inr e) = subst (λ (w : ℤ). nat_abs (w *ℤ z) ≤ line_coordinate) (sym e) (omega (arith, ints, h))
 
 module _ (t : ℕ) (l : t < 2) (p : Point) (h : IsSmallPoint p) where
-  axis_small : nat_abs (coordinate p t) ≤ 4096
+  axis_small : nat_abs (coordinate p t) ≤ line_coordinate
   axis_small = by t l
     where
-      by : (t : ℕ) → t < 2 → nat_abs (coordinate p t) ≤ 4096
+      by : (t : ℕ) → t < 2 → nat_abs (coordinate p t) ≤ line_coordinate
       by zero l = h.x
       by (suc zero) l = h.y
       by (suc (suc t)) l = absurd (omega arith)
 
-  other_small : nat_abs (coordinate p (other_axis t)) ≤ 4096
+  other_small : nat_abs (coordinate p (other_axis t)) ≤ line_coordinate
   other_small = by t l
     where
-      by : (t : ℕ) → t < 2 → nat_abs (coordinate p (other_axis t)) ≤ 4096
+      by : (t : ℕ) → t < 2 → nat_abs (coordinate p (other_axis t)) ≤ line_coordinate
       by zero l = h.y
       by (suc zero) l = h.x
       by (suc (suc t)) l = absurd (omega arith)
 
-  pub height_within : IsWithin (pos 4096) (height t p)
+  pub height_within : IsWithin (pos line_coordinate) (height t p)
   height_within = by (coordinate p t) axis_small
     where
-      by : (z : ℤ) → nat_abs z ≤ 4096 → IsWithin (pos 4096) (neg_ℤ z)
+      by : (z : ℤ) → nat_abs z ≤ line_coordinate → IsWithin (pos line_coordinate) (neg_ℤ z)
       by z h = record { low = omega (arith, ints); high = omega (arith, ints) }
 
-  pub along_within : (s : ℤ) → IsSense s → IsWithin (pos 4096) (along t s p)
+  pub along_within : (s : ℤ) → IsSense s → IsWithin (pos line_coordinate) (along t s p)
   along_within s sense = abs_within (along t s p) (flipped s (coordinate p (other_axis t)) sense other_small)

@@ -4,6 +4,7 @@ use Rattle.std.proofs.Common.{◌≡◌, ◌⊎◌, ℕ, ◌<◌, ◌≤◌, ◌
 use Rattle.std.specs.Prelude.{All, Bool}
 use Rattle.std.proofs.lemmas.Int.{ints}
 use Rattle.std.proofs.lemmas.List.Elements.{All-get_or}
+use Rattle.shape_terms.specs.Limits.{most_flat, most_coordinate}
 use Rattle.shape_terms.specs.Points.{Point, AreSides}
 use Rattle.shape_terms.specs.Pictures.{Picture}
 use Rattle.shape_terms.specs.FramedBox.{IsWithin}
@@ -22,10 +23,10 @@ use Rattle.shape_balls.proofs.Facts.{fact_object, fact_least}
 pub few_axes : (d : ℕ) → (d ≡ 2) ⊎ (d ≡ 3) → d ≤ 3
 few_axes d h = grind arith
 
-sides_within : (greatest : ℤ) (n : Point) → AreSides greatest n → greatest ≤ℤ pos 2048 → IsWithin (negsuc 0) (pos 4096) n
+sides_within : (greatest : ℤ) (n : Point) → AreSides greatest n → greatest ≤ℤ pos most_flat → IsWithin (negsuc 0) (pos most_coordinate) n
 sides_within greatest n h flat k l = let a = h k l in (omega (arith, ints, a.0), omega (arith, ints, a.1, flat))
 
-pub sides_fit : (d : ℕ) (greatest : ℤ) (n : Point) → length n ≡ d → AreSides greatest n → greatest ≤ℤ pos 2048 → (point d).InRange n
+pub sides_fit : (d : ℕ) (greatest : ℤ) (n : Point) → length n ≡ d → AreSides greatest n → greatest ≤ℤ pos most_flat → (point d).InRange n
 sides_fit d greatest n e h flat = within_short d n e (sides_within greatest n h flat)
 
 module _ (X : Picture) (facts : List NearFact) (field : IsField X facts) (framed : All IsFramed facts) (d : ℕ) (axes : length X.sides ≡ d) (three : d ≤ 3) where

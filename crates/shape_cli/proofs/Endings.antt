@@ -11,7 +11,7 @@ use Rattle.text_terms.specs.Going.{TakesFew}
 use Rattle.report_text.specs.declared.answer.Judgement.{Judgement}
 use Rattle.report_text.specs.declared.answer.Judgement.TheVariants as judgement
 use Rattle.shape_cli.specs.Sources.{Source}
-use Rattle.shape_cli.specs.Kinds.{ReportKind, Wanted, kind_of, report_of, Makes}
+use Rattle.shape_cli.specs.Kinds.{ReportKind, Wanted, report_of, Makes}
 use Rattle.shape_cli.specs.Commands.{Asked}
 use Rattle.shape_cli.specs.Outcomes.{outcome_of}
 use Rattle.shape_cli.specs.Parts.{IsRight, verdict_text}
@@ -30,7 +30,7 @@ cut_short shelf c old mid new o text h r p f t = record {
   taken = t;
 }
 
-pub verdict_answers : (shelf : List (Named Rule)) (source : Source) (kind : ReportKind) (report : List ℕ) (files : Option Files) (X : Picture) (v : Judgement) → IsPictureOf files kind source X → OfFile files report (IsRight shelf kind X v) → Answers shelf (Asked.Check source kind report) files (outcome_of v) (verdict_text v)
+pub verdict_answers : (shelf : List (Named Rule)) (source : Source) (kind : ReportKind) (report : List ℕ) (files : Option Files) (X : Picture) (v : Judgement) → IsPictureOf files source X → OfFile files report (IsRight shelf kind X v) → Answers shelf (Asked.Check source kind report) files (outcome_of v) (verdict_text v)
 verdict_answers shelf source kind report files X judgement.Yes p r = (refl, (X, p, r))
 verdict_answers shelf source kind report files X (judgement.No k) p r = (refl, (X, p, r))
 
@@ -44,10 +44,10 @@ pub kept_right : (shelf : List (Named Rule)) (kind : ReportKind) (X : Picture) (
 kept_right shelf kind X report v f g e h = subst (λ files. OfFile files report (IsRight shelf kind X v)) e h
 
 -- what a checker took of the report is taken at the end of the run
-pub took : (shelf : List (Named Rule)) (source : Source) (kind : ReportKind) (report : List ℕ) (old mid judged new : DeskState) (X : Picture) → mid.files ≡ old.files → new.left Report ≡ judged.left Report → IsPictureOf old.files kind source X → OfFile mid.files report (λ bytes. TakesFew (report_of shelf kind X) bytes (judged.left Report)) → TookFew shelf (Asked.Check source kind report) old new
+pub took : (shelf : List (Named Rule)) (source : Source) (kind : ReportKind) (report : List ℕ) (old mid judged new : DeskState) (X : Picture) → mid.files ≡ old.files → new.left Report ≡ judged.left Report → IsPictureOf old.files source X → OfFile mid.files report (λ bytes. TakesFew (report_of shelf kind X) bytes (judged.left Report)) → TookFew shelf (Asked.Check source kind report) old new
 took shelf source kind report old mid judged new X f l p t = (X, p, subst (λ n. OfFile old.files report (λ bytes. TakesFew (report_of shelf kind X) bytes n)) (sym l) (subst (λ s. OfFile s report (λ bytes. TakesFew (report_of shelf kind X) bytes (judged.left Report))) f t))
 
 -- a whole report that was written is the answer of its making
-pub made : (shelf : List (Named Rule)) (source : Source) (wanted : Wanted) (old mid new : DeskState) (X : Picture) (text : List ℕ) → OnlyReads old mid → IsPictureOf old.files (kind_of wanted) source X → Makes shelf wanted X text → Puts mid.written new.written text
+pub made : (shelf : List (Named Rule)) (source : Source) (wanted : Wanted) (old mid new : DeskState) (X : Picture) (text : List ℕ) → OnlyReads old mid → IsPictureOf old.files source X → Makes shelf wanted X text → Puts mid.written new.written text
     → Answered shelf (Asked.Make source wanted) old new outcome.Done
 made shelf source wanted old mid new X text r p h w = record { text = text; right = (X, p, h); puts = subst (λ b. Puts b new.written text) r.same_written w; taken = tt }

@@ -1,6 +1,5 @@
 pub mod Files
 pub mod Formats
-pub mod LargeSides
 pub mod Endings
 pub mod Sources
 pub mod WordLists

@@ -6,7 +6,6 @@ use Rattle.shape_terms.specs.Pictures.{Picture}
 use Rattle.shape_desk.specs.Desk.{Files, IsMissing}
 use Rattle.shape_picture.specs.declared.fault.PictureFault.{PictureFault}
 use Rattle.shape_cli.specs.Sources.{Source, file_of}
-use Rattle.shape_cli.specs.Kinds.{ReportKind}
 use Rattle.shape_desk.specs.Files.{OfFile}
 use Rattle.shape_cli.specs.Runs.{Spells, HasFault, IsPictureOf, IsFaultOf}
 use Rattle.shape_cli.specs.Complete.{FileIs, FindsPicture, FindsSome, FindsFault}
@@ -38,33 +37,33 @@ is_told (Some files) name P p = p
 
 -- ---- sources
 
-pub not_faulty : (files : Option Files) (kind : ReportKind) (source : Source) (f : PictureFault) → FindsSome files kind source → IsFaultOf files kind source f → ⊥
-not_faulty files kind source f p q =
-    let m = meet files (file_of source) (λ bytes. (X : Picture) × Spells kind source X bytes) (HasFault kind source f) p q in
-    (format_is kind source).not_both m.1.0 f m.0 m.1.1 m.2
+pub not_faulty : (files : Option Files) (source : Source) (f : PictureFault) → FindsSome files source → IsFaultOf files source f → ⊥
+not_faulty files source f p q =
+    let m = meet files (file_of source) (λ bytes. (X : Picture) × Spells source X bytes) (HasFault source f) p q in
+    (format_is source).not_both m.1.0 f m.0 m.1.1 m.2
 
-pub not_picture : (files : Option Files) (kind : ReportKind) (source : Source) (f : PictureFault) (X : Picture) → FindsFault files kind source f → IsPictureOf files kind source X → ⊥
-not_picture files kind source f X p q =
-    let m = meet files (file_of source) (HasFault kind source f) (Spells kind source X) p q in
-    (format_is kind source).not_both X f m.0 m.2 m.1
+pub not_picture : (files : Option Files) (source : Source) (f : PictureFault) (X : Picture) → FindsFault files source f → IsPictureOf files source X → ⊥
+not_picture files source f X p q =
+    let m = meet files (file_of source) (HasFault source f) (Spells source X) p q in
+    (format_is source).not_both X f m.0 m.2 m.1
 
-pub its_fault : (files : Option Files) (kind : ReportKind) (source : Source) (f g : PictureFault) → FindsFault files kind source f → IsFaultOf files kind source g → g ≡ f
-its_fault files kind source f g p q =
-    let m = meet files (file_of source) (HasFault kind source f) (HasFault kind source g) p q in
-    (format_is kind source).one_fault f g m.0 m.1 m.2
+pub its_fault : (files : Option Files) (source : Source) (f g : PictureFault) → FindsFault files source f → IsFaultOf files source g → g ≡ f
+its_fault files source f g p q =
+    let m = meet files (file_of source) (HasFault source f) (HasFault source g) p q in
+    (format_is source).one_fault f g m.0 m.1 m.2
 
-pub its_picture : (files : Option Files) (kind : ReportKind) (source : Source) (X Y : Picture) → FindsPicture files kind source X → IsPictureOf files kind source Y → X ≡ Y
-its_picture files kind source X Y p q =
-    let m = meet files (file_of source) (Spells kind source X) (Spells kind source Y) p q in
-    (format_is kind source).one_picture X Y m.0 m.1 m.2
+pub its_picture : (files : Option Files) (source : Source) (X Y : Picture) → FindsPicture files source X → IsPictureOf files source Y → X ≡ Y
+its_picture files source X Y p q =
+    let m = meet files (file_of source) (Spells source X) (Spells source Y) p q in
+    (format_is source).one_picture X Y m.0 m.1 m.2
 
-some_bytes : (kind : ReportKind) (source : Source) (X : Picture) (o : Option (List ℕ)) → MatchOption o ⊥ (Spells kind source X) → MatchOption o ⊥ (λ bytes. (Y : Picture) × Spells kind source Y bytes)
-some_bytes kind source X None p = p
-some_bytes kind source X (Some bytes) p = (X, p)
+some_bytes : (source : Source) (X : Picture) (o : Option (List ℕ)) → MatchOption o ⊥ (Spells source X) → MatchOption o ⊥ (λ bytes. (Y : Picture) × Spells source Y bytes)
+some_bytes source X None p = p
+some_bytes source X (Some bytes) p = (X, p)
 
-pub finds_some : (files : Option Files) (kind : ReportKind) (source : Source) (X : Picture) → FindsPicture files kind source X → FindsSome files kind source
-finds_some None kind source X p = p
-finds_some (Some files) kind source X p = some_bytes kind source X (files (file_of source)) p
+pub finds_some : (files : Option Files) (source : Source) (X : Picture) → FindsPicture files source X → FindsSome files source
+finds_some None source X p = p
+finds_some (Some files) source X p = some_bytes source X (files (file_of source)) p
 
 there : (P : List ℕ → Type 0) (o : Option (List ℕ)) → MatchOption o ⊥ P → MatchOption o ⊥ (λ _. ⊤)
 there P None p = p

@@ -17,16 +17,16 @@ pub data Asked : Type 0 where
   Check : (source : Source) → (kind : ReportKind) → (report : List ℕ) → Asked
   Trial : (kind : Kind) → (seed side : ℕ) → Asked
 
--- the command reads a picture at a source, for a report of a kind, that are so
-abbrev pub OfSource : Asked → (ReportKind → Source → Type 0) → Type 0
-OfSource (Asked.Make source wanted) P = P (kind_of wanted) source
-OfSource (Asked.Check source kind report) P = P kind source
+-- the command reads a picture at a source that is so
+abbrev pub OfSource : Asked → (Source → Type 0) → Type 0
+OfSource (Asked.Make source wanted) P = P source
+OfSource (Asked.Check source kind report) P = P source
 OfSource (Asked.Trial kind seed side) P = ⊥
 
--- the source of the command and its kind of report are so, where it reads its picture
-abbrev pub IfSource : Asked → (ReportKind → Source → Type 0) → Type 0
-IfSource (Asked.Make source wanted) P = P (kind_of wanted) source
-IfSource (Asked.Check source kind report) P = P kind source
+-- the source of the command is so, where it reads its picture
+abbrev pub IfSource : Asked → (Source → Type 0) → Type 0
+IfSource (Asked.Make source wanted) P = P source
+IfSource (Asked.Check source kind report) P = P source
 IfSource (Asked.Trial kind seed side) P = ⊤
 
 -- ---- words

@@ -7,7 +7,6 @@ use Rattle.shape_terms.specs.Shelves.{Named, names_of}
 use Rattle.shape_desk.specs.Desk.{Files, DeskState, Rose}
 use Rattle.shape_picture.specs.declared.fault.PictureFault.{PictureFault}
 use Rattle.shape_cli.specs.Sources.{Source, file_of}
-use Rattle.shape_cli.specs.Kinds.{ReportKind}
 use Rattle.shape_cli.specs.Commands.{Asked, IsNoForm, Asks}
 use Rattle.shape_desk.specs.Files.{KeepsFiles}
 use Rattle.shape_cli.specs.Runs.{Spells, HasFault, Ran}
@@ -19,17 +18,17 @@ abbrev pub FileIs : Option Files → List ℕ → (List ℕ → Type 0) → Type
 FileIs None name P = ⊥
 FileIs (Some files) name P = MatchOption (files name) ⊥ P
 
--- the source is there, and it is the picture, for a report of the kind
-abbrev pub FindsPicture : Option Files → ReportKind → Source → Picture → Type 0
-FindsPicture files kind source X = FileIs files (file_of source) (Spells kind source X)
+-- the source is there, and it is the picture
+abbrev pub FindsPicture : Option Files → Source → Picture → Type 0
+FindsPicture files source X = FileIs files (file_of source) (Spells source X)
 
 -- the source is there, and it is some picture
-abbrev pub FindsSome : Option Files → ReportKind → Source → Type 0
-FindsSome files kind source = FileIs files (file_of source) (λ bytes. (X : Picture) × Spells kind source X bytes)
+abbrev pub FindsSome : Option Files → Source → Type 0
+FindsSome files source = FileIs files (file_of source) (λ bytes. (X : Picture) × Spells source X bytes)
 
 -- the source is there, and has this fault
-abbrev pub FindsFault : Option Files → ReportKind → Source → PictureFault → Type 0
-FindsFault files kind source f = FileIs files (file_of source) (HasFault kind source f)
+abbrev pub FindsFault : Option Files → Source → PictureFault → Type 0
+FindsFault files source f = FileIs files (file_of source) (HasFault source f)
 
 -- the files beside the source's that the command reads are there
 abbrev pub FindsRest : Asked → Option Files → Type 0

@@ -11,7 +11,7 @@ use Rattle.piece_terms.specs.PieceReports.{piece_report}
 use Rattle.piece_terms.specs.Shown.{PiecesShow}
 use Rattle.ball_terms.specs.Reports.{ball_report}
 use Rattle.ball_terms.specs.Shows.{BallsShow}
-use Rattle.shape_cli.specs.Formats.{About}
+use Rattle.shape_cli.specs.Abouts.{About}
 use Rattle.shape_cli.specs.declared.further.FurtherKind.{FurtherKind as ProgramFurtherKind}
 use Rattle.shape_cli.specs.declared.further.FurtherKind.TheVariants as further
 
@@ -62,7 +62,7 @@ row_with word about R Shows = record {
 
 -- the table of the kinds
 abbrev pub row_of : FurtherKind → Row
-row_of FurtherKind.Edges = row_with (codes "edges") (About.FlatUpTo 1000) edge_report EdgesShow
+row_of FurtherKind.Edges = row_with (codes "edges") About.Flat edge_report EdgesShow
 row_of FurtherKind.Pieces = row_with (codes "pieces") About.Flat piece_report PiecesShow
 row_of FurtherKind.Balls = row_with (codes "balls") About.Every ball_report BallsShow
 

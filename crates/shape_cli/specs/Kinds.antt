@@ -10,9 +10,8 @@ use Rattle.report_terms.specs.Lines.{Line}
 use Rattle.report_terms.specs.Sections.{analysis}
 use Rattle.report_terms.specs.Shows.{TextShows}
 use Rattle.shape_analyse.specs.Analyses.{IsReportBy}
-use Rattle.shape_picture.specs.Answers.{Format}
-use Rattle.shape_cli.specs.Sources.{Kind, Source, format_of}
-use Rattle.shape_cli.specs.Formats.{About, IsAbout, format_about}
+use Rattle.shape_cli.specs.Sources.{Kind}
+use Rattle.shape_cli.specs.Abouts.{About, IsAbout}
 use Rattle.shape_cli.specs.Further.{FurtherKind, row_of, read_further}
 use Rattle.shape_cli.specs.declared.kind.About.{About as ProgramAbout}
 use Rattle.shape_cli.specs.declared.kind.About.TheVariants as about
@@ -69,10 +68,6 @@ about_of (ReportKind.Further kind) = (row_of kind).about
 abbrev pub Takes : ReportKind → Kind → Type 0
 Takes kind = IsAbout (about_of kind)
 
--- the format of the pictures at a source that a report of the kind may be about
-abbrev pub format_for : ReportKind → Source → Format
-format_for kind source = format_about (about_of kind) (format_of source)
-
 -- ---- meanings, where these rules are on the shelf
 
 -- the lines of a report of the kind
@@ -101,7 +96,6 @@ Makes shelf (Wanted.Further kind) X text = Holds ((row_of kind).report X) text
 abbrev pub read_about : ProgramAbout → About
 read_about about.Every = About.Every
 read_about about.Flat = About.Flat
-read_about (about.FlatUpTo most) = About.FlatUpTo most
 
 -- the kind that the program reads
 abbrev pub read_report_kind : ProgramReportKind → ReportKind

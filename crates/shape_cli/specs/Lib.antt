@@ -1,7 +1,7 @@
 pub mod Rules
 pub mod Numbers
 pub mod Sources
-pub mod Formats
+pub mod Abouts
 pub mod Further
 pub mod Outcomes
 pub mod Kinds

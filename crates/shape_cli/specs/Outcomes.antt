@@ -7,7 +7,7 @@ use Rattle.shape_picture.specs.declared.fault.PictureError.{PictureError}
 use Rattle.shape_picture.specs.declared.fault.PictureError.TheVariants as error
 use Rattle.report_text.specs.declared.answer.Judgement.{Judgement}
 use Rattle.report_text.specs.declared.answer.Judgement.TheVariants as judgement
-use Rattle.shape_cli.specs.Formats.{About}
+use Rattle.shape_cli.specs.Abouts.{About}
 use Rattle.shape_cli.specs.Further.{FurtherKind, further_kinds, row_of}
 use Rattle.shape_cli.specs.declared.outcome.Outcome.{Outcome}
 use Rattle.shape_cli.specs.declared.outcome.Outcome.TheVariants as outcome
@@ -37,7 +37,6 @@ fault_message fault.Trailing = codes "bytes after the volume"
 abbrev pub source_forms : About → List (List ℕ)
 source_forms About.Every = codes " pbm FILE" ∷ codes " raw X Y Z FILE" ∷ []
 source_forms About.Flat = codes " pbm FILE" ∷ []
-source_forms (About.FlatUpTo most) = codes " pbm FILE" ∷ []
 
 -- the forms of the words that begin so, for each of these sources, with these words last
 abbrev pub forms_of : (first last : List ℕ) → About → List ℕ

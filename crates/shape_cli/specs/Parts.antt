@@ -9,7 +9,6 @@ use Rattle.text_terms.specs.Going.{TakesFew}
 use Rattle.shape_desk.specs.Desk.{DeskState, Rose, IsMissing}
 use Rattle.shape_desk.specs.declared.desk.Place.TheVariants.{Report}
 use Rattle.shape_picture.specs.Answers.{Format}
-use Rattle.shape_picture.specs.declared.fault.PictureFault.{PictureFault}
 use Rattle.shape_picture.specs.declared.fault.PictureError.{PictureError}
 use Rattle.shape_picture.specs.declared.fault.PictureError.TheVariants as error
 use Rattle.report_text.specs.Checks.{IsLineNumber}
@@ -20,7 +19,7 @@ use Rattle.report_text.specs.declared.answer.CheckFault.TheVariants as check
 use Rattle.shape_cli.specs.declared.picture.Image.{Image}
 use Rattle.shape_cli.specs.declared.picture.Image.TheVariants as image
 use Rattle.shape_cli.specs.Sources.{Kind}
-use Rattle.shape_cli.specs.Formats.{About, IsSuch}
+use Rattle.shape_cli.specs.Abouts.{About, IsAbout}
 use Rattle.shape_cli.specs.Kinds.{ReportKind, about_of, report_of}
 use Rattle.shape_desk.specs.Files.{OfFile}
 use Rattle.shape_cli.specs.Runs.{IsRightReport, yes_text, no_text}
@@ -42,7 +41,7 @@ image_kind (image.Solid X) = Kind.Solid
 
 -- the picture that was read is one of these
 abbrev pub IsFit : About → Image → Type 0
-IsFit about image = IsSuch about (image_kind image) (picture_of image)
+IsFit about image = IsAbout about (image_kind image)
 
 -- what is asked of a picture of which a report of the kind is made or checked
 abbrev pub Suits : ReportKind → Image → Type 0
@@ -54,11 +53,6 @@ Opened F file old new (Ok X) = OfFile old.files file (F.spells X)
 Opened F file old new (Err (error.Bad f)) = OfFile old.files file (F.has_fault f)
 Opened F file old new (Err error.ReadFault) = Rose old.read_faults new.read_faults ⊎ IsMissing old.files file
 Opened F file old new (Err error.NoMemory) = ⊤
-
--- what a format says of bytes: the picture that they spell, or a fault
-abbrev pub TellsOf : Format → List ℕ → Result Image PictureFault → Type 0
-TellsOf F bytes (Ok v) = F.spells (picture_of v) bytes
-TellsOf F bytes (Err f) = F.has_fault f bytes
 
 -- the verdict line
 abbrev pub verdict_text : Judgement → List ℕ

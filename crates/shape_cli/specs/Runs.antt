@@ -12,8 +12,8 @@ use Rattle.shape_desk.specs.Files.{OfFile, IsSilent}
 use Rattle.shape_desk.specs.declared.desk.Place.{Place}
 use Rattle.shape_desk.specs.declared.desk.Place.TheVariants.{Report}
 use Rattle.shape_picture.specs.declared.fault.PictureFault.{PictureFault}
-use Rattle.shape_cli.specs.Sources.{Source, file_of}
-use Rattle.shape_cli.specs.Kinds.{ReportKind, kind_of, format_for, report_of, ShowsOf, Makes}
+use Rattle.shape_cli.specs.Sources.{Source, file_of, format_of}
+use Rattle.shape_cli.specs.Kinds.{ReportKind, report_of, ShowsOf, Makes}
 use Rattle.shape_cli.specs.Commands.{Asked, OfSource}
 use Rattle.shape_cli.specs.Trials.{IsTrialLine}
 use Rattle.shape_cli.specs.declared.outcome.Outcome.{Outcome}
@@ -21,21 +21,21 @@ use Rattle.shape_cli.specs.declared.outcome.Outcome.TheVariants as outcome
 
 -- ---- files
 
--- the bytes of a source's file spell the picture, for a report of the kind
-abbrev pub Spells : ReportKind → Source → Picture → List ℕ → Type 0
-Spells kind source X bytes = (format_for kind source).spells X bytes
+-- the bytes of a source's file spell the picture
+abbrev pub Spells : Source → Picture → List ℕ → Type 0
+Spells source X bytes = (format_of source).spells X bytes
 
--- the bytes of a source's file have the fault, for a report of the kind
-abbrev pub HasFault : ReportKind → Source → PictureFault → List ℕ → Type 0
-HasFault kind source f bytes = (format_for kind source).has_fault f bytes
+-- the bytes of a source's file have the fault
+abbrev pub HasFault : Source → PictureFault → List ℕ → Type 0
+HasFault source f bytes = (format_of source).has_fault f bytes
 
 -- the source is this picture
-abbrev pub IsPictureOf : Option Files → ReportKind → Source → Picture → Type 0
-IsPictureOf files kind source X = OfFile files (file_of source) (Spells kind source X)
+abbrev pub IsPictureOf : Option Files → Source → Picture → Type 0
+IsPictureOf files source X = OfFile files (file_of source) (Spells source X)
 
 -- the source has this fault
-abbrev pub IsFaultOf : Option Files → ReportKind → Source → PictureFault → Type 0
-IsFaultOf files kind source f = OfFile files (file_of source) (HasFault kind source f)
+abbrev pub IsFaultOf : Option Files → Source → PictureFault → Type 0
+IsFaultOf files source f = OfFile files (file_of source) (HasFault source f)
 
 -- ---- answers
 
@@ -47,8 +47,8 @@ abbrev pub no_text : ℕ → List ℕ
 no_text k = codes "no " ++ decimal k ++ codes "\n"
 
 -- the source is a picture of which this holds
-abbrev pub OfPicture : Option Files → ReportKind → Source → (Picture → Type 0) → Type 0
-OfPicture files kind source P = (X : Picture) × IsPictureOf files kind source X × P X
+abbrev pub OfPicture : Option Files → Source → (Picture → Type 0) → Type 0
+OfPicture files source P = (X : Picture) × IsPictureOf files source X × P X
 
 -- the report of the kind holds of the picture, and shows what it says
 abbrev pub IsRightReport : List (Named Rule) → ReportKind → Picture → List ℕ → Type 0
@@ -56,28 +56,28 @@ IsRightReport shelf kind X bytes = Holds (report_of shelf kind X) bytes × Shows
 
 -- the answer of a command, where these rules are on the shelf: this text, with this outcome, is right; no other outcome has one
 abbrev pub Answers : List (Named Rule) → Asked → Option Files → Outcome → List ℕ → Type 0
-Answers shelf (Asked.Make source wanted) files outcome.Done text = OfPicture files (kind_of wanted) source (λ X. Makes shelf wanted X text)
-Answers shelf (Asked.Check source kind report) files outcome.Yes text = (text ≡ yes_text) × OfPicture files kind source (λ X. OfFile files report (IsRightReport shelf kind X))
-Answers shelf (Asked.Check source kind report) files (outcome.No k) text = (text ≡ no_text k) × OfPicture files kind source (λ X. OfFile files report (λ bytes. FirstBad (report_of shelf kind X) bytes k))
+Answers shelf (Asked.Make source wanted) files outcome.Done text = OfPicture files source (λ X. Makes shelf wanted X text)
+Answers shelf (Asked.Check source kind report) files outcome.Yes text = (text ≡ yes_text) × OfPicture files source (λ X. OfFile files report (IsRightReport shelf kind X))
+Answers shelf (Asked.Check source kind report) files (outcome.No k) text = (text ≡ no_text k) × OfPicture files source (λ X. OfFile files report (λ bytes. FirstBad (report_of shelf kind X) bytes k))
 Answers shelf (Asked.Trial kind seed side) files outcome.Done text = IsTrialLine shelf kind seed side text
 Answers shelf _ files _ text = ⊥
 
 -- a file that the command reads is missing; that of the report is read where there is a picture
 abbrev pub Lacks : Asked → Option Files → Type 0
 Lacks (Asked.Make source wanted) files = IsMissing files (file_of source)
-Lacks (Asked.Check source kind report) files = IsMissing files (file_of source) ⊎ (IsMissing files report × OfPicture files kind source (λ X. ⊤))
+Lacks (Asked.Check source kind report) files = IsMissing files (file_of source) ⊎ (IsMissing files report × OfPicture files source (λ X. ⊤))
 Lacks (Asked.Trial kind seed side) files = ⊥
 
 -- the command reads files
 abbrev pub ReadsFiles : Asked → Type 0
-ReadsFiles c = OfSource c (λ kind source. ⊤)
+ReadsFiles c = OfSource c (λ source. ⊤)
 
 -- ---- runs
 
 -- of a report, good lines for the picture and at most 2048 bytes more were taken, and the rest is left at its place; a trial took nothing
 abbrev pub TookFew : List (Named Rule) → Asked → DeskState → DeskState → Type 0
 TookFew shelf (Asked.Make source wanted) old new = ⊤
-TookFew shelf (Asked.Check source kind report) old new = OfPicture old.files kind source (λ X. OfFile old.files report (λ bytes. TakesFew (report_of shelf kind X) bytes (new.left Report)))
+TookFew shelf (Asked.Check source kind report) old new = OfPicture old.files source (λ X. OfFile old.files report (λ bytes. TakesFew (report_of shelf kind X) bytes (new.left Report)))
 TookFew shelf (Asked.Trial kind seed side) old new = (p : Place) → new.left p ≡ old.left p
 
 -- the whole answer was written
@@ -99,7 +99,7 @@ pub record CutShort (shelf : List (Named Rule)) (c : Asked) (old new : DeskState
 -- what a run of the command did, outcome by outcome, where these rules are on the shelf
 abbrev pub Ran : List (Named Rule) → Asked → DeskState → DeskState → Outcome → Type 0
 Ran shelf c old new outcome.Usage = ⊥
-Ran shelf c old new (outcome.Picture f) = OfSource c (λ kind source. IsFaultOf old.files kind source f) × IsSilent old new
+Ran shelf c old new (outcome.Picture f) = OfSource c (λ source. IsFaultOf old.files source f) × IsSilent old new
 Ran shelf c old new outcome.ReadFault = ReadsFiles c × (Rose old.read_faults new.read_faults ⊎ Lacks c old.files) × IsSilent old new
 Ran shelf c old new outcome.NoMemory = IsSilent old new
 Ran shelf c old new outcome.WriteFault = CutShort shelf c old new

@@ -79,7 +79,7 @@ impl FurtherKind {
         ensures { read_about result ≡ (row_of (read_further self)).about }
     {
         match self {
-            FurtherKind::Edges => About::FlatUpTo(1000),
+            FurtherKind::Edges => About::Flat,
             FurtherKind::Pieces => About::Flat,
             FurtherKind::Balls => About::Every,
         }

@@ -2,7 +2,7 @@
 //! The further kinds stand in `further`; nothing here names one.
 ghost use Rattle.std.specs.Prelude.{◌≡◌, ◌↔◌, IsTrue};
 ghost use Rattle.shape_cli.specs.Sources.{read_kind};
-ghost use Rattle.shape_cli.specs.Kinds.{Takes, about_of, kind_of, read_about, read_report_kind, read_wanted};
+ghost use Rattle.shape_cli.specs.Kinds.{Takes, about_of, read_about, read_report_kind};
 
 use crate::further::FurtherKind;
 use crate::source::Kind;
@@ -14,8 +14,6 @@ pub enum About {
     Every,
     /// Flat pictures.
     Flat,
-    /// Flat pictures whose sides are at most this.
-    FlatUpTo(u32),
 }
 
 /// A kind of report.
@@ -45,7 +43,6 @@ impl ReportKind {
         match self.about() {
             About::Every => true,
             About::Flat => kind.is_flat(),
-            About::FlatUpTo(_) => kind.is_flat(),
         }
     }
 }
@@ -57,16 +54,4 @@ pub enum Wanted<'a> {
     Analysis { rule: &'a [u8], which: usize },
     /// One of a further kind.
     Further(FurtherKind),
-}
-
-impl Wanted<'_> {
-    /// Its kind.
-    pub(crate) fn kind(self) -> ReportKind
-        ensures { read_report_kind result ≡ kind_of (read_wanted self.entry) }
-    {
-        match self {
-            Wanted::Analysis { .. } => ReportKind::Analysis,
-            Wanted::Further(kind) => ReportKind::Further(kind),
-        }
-    }
 }

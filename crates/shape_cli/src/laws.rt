@@ -34,7 +34,7 @@ pub fn runs_are_complete()
         → HasNoFault old new → IsAnswer c o ⊎ (o ≡ Outcome.NoMemory) }
     ensures refuses { (shelf : List (Named Rule)) (c : Asked) (old new : DeskState)
         (o : Outcome) (f : PictureFault)
-        → Ran shelf c old new o → OfSource c (λ kind source. FindsFault old.files kind source f)
+        → Ran shelf c old new o → OfSource c (λ source. FindsFault old.files source f)
         → (Rose old.read_faults new.read_faults → ⊥)
         → (o ≡ Outcome.Picture f) ⊎ (o ≡ Outcome.NoMemory) }
     ensures lacks { (shelf : List (Named Rule)) (c : Asked) (old new : DeskState) (o : Outcome)
@@ -47,13 +47,13 @@ pub fn verdicts_are_right()
     ensures yes { (shelf : List (Named Rule)) (source : Source) (kind : ReportKind)
         (report : List ℕ) (X : Picture) (old new : DeskState) (o : Outcome)
         → Ran shelf (Asked.Check source kind report) old new o
-        → FindsPicture old.files kind source X
+        → FindsPicture old.files source X
         → FileIs old.files report (Holds (report_of shelf kind X)) → HasNoFault old new
         → (o ≡ Outcome.Yes) ⊎ (o ≡ Outcome.NoMemory) }
     ensures no { (shelf : List (Named Rule)) (source : Source) (kind : ReportKind)
         (report : List ℕ) (X : Picture) (old new : DeskState) (o : Outcome)
         → Ran shelf (Asked.Check source kind report) old new o
-        → FindsPicture old.files kind source X
+        → FindsPicture old.files source X
         → FileIs old.files report (λ bytes. Holds (report_of shelf kind X) bytes → ⊥)
         → HasNoFault old new
         → ((k : ℕ) × (o ≡ Outcome.No k)) ⊎ (o ≡ Outcome.NoMemory) }

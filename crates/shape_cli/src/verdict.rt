@@ -152,7 +152,7 @@ pub(crate) fn check_file<D: Desk>(
         (D.state desk.old) (D.state desk.new) result }
     ensures kept { KeepsFiles (D.state desk.old) (D.state desk.new) }
 {
-    let image = match open_picture(alloc, kind, source, desk) {
+    let image = match open_picture(alloc, source, desk) {
         Ok(image) => image,
         Err(error) => return refused(error),
     };

@@ -5,7 +5,6 @@ ghost use Rattle.shape_terms.specs.Pictures.{Picture};
 ghost use Rattle.shape_terms.specs.Contours.{Crack as Term};
 ghost use Rattle.shape_terms.specs.Traces.{AreContours};
 ghost use Rattle.text_terms.specs.Reports.{Holds};
-ghost use Rattle.edge_terms.specs.Corners.{HasSmallSides};
 ghost use Rattle.edge_terms.specs.EdgeReports.{edge_report, State};
 ghost use Rattle.shape_crack.specs.Terms.{crack_of};
 ghost use Rattle.shape_edges.specs.Growing.{Tells, HasTold, IsFoundAt, IsSomeCover, with_arcs, with_gaps};
@@ -92,7 +91,6 @@ fn add_cycles(
     report: &mut Report,
 ) -> Result<(), NoMemory>
     requires are { AreContours grid.now contours.now }
-    requires small { HasSmallSides grid.now }
     requires sides { HasTold grid.now 0 report.old }
     ensures { OnOk result (HasTold grid.now (length contours.now) report.new) }
 {
@@ -104,8 +102,8 @@ fn add_cycles(
     Ok(())
 }
 
-/// The edge report of a flat picture whose sides are at most 1000 (`has_small_sides`): for each cycle of its cracks, in the order of their least
-/// cracks, exactly the maximal straight runs of its corner path, each with a standard line that holds it, and the evidence for each gap.
+/// The edge report of a flat picture: for each cycle of its cracks, in the order of their least cracks, exactly the maximal straight runs of
+/// its corner path, each with a standard line that holds it, and the evidence for each gap.
 ///
 /// It takes time and memory by the numbers of pixels and cracks.
 ///
@@ -113,7 +111,6 @@ fn add_cycles(
 ///
 /// `NoMemory` where there is none for the corners, the arcs or the text.
 pub fn edges(alloc: Global, grid: &Grid<P2>) -> Result<Report, NoMemory>
-    requires { HasSmallSides grid.now }
     ensures { IfOk result (Holds (edge_report grid.now)) }
 {
     let contours = contours(alloc, grid)?;

@@ -1,6 +1,7 @@
 //! Where the next maximal run begins: at the least place from which a straight run passes the end of the present one.
 //! A run is grown backward from that end, and from where it stops one is grown on, whose end is the evidence for the gap.
-ghost use Rattle.std.specs.Prelude.{◌<◌, ◌^◌};
+ghost use Rattle.std.specs.Prelude.{◌<◌, ◌*◌};
+ghost use Rattle.shape_terms.specs.Limits.{most_round};
 ghost use Rattle.shape_edges.specs.Searches.{IsReach, IsNextStart};
 
 use crate::back::backward;
@@ -18,7 +19,7 @@ pub struct NextStart {
 
 /// The least place from which the run to the place after an arc is straight.
 pub fn next_start(path: &Corners, reach: &Arc) -> NextStart
-    requires low { reach.now.first < 2 ^ 27 }
+    requires low { reach.now.first < 2 * most_round }
     requires reach { IsReach path.now reach.now }
     ensures { IsNextStart path.now reach.now result }
 {

@@ -1,9 +1,9 @@
 //! The walk round a corner path from maximal run to maximal run, which is its cover.
 //! That the runs are all follows from the evidence for the gaps between them.
-ghost use Rattle.std.specs.Prelude.{◌<◌, ◌^◌, IfOk, length, map};
+ghost use Rattle.std.specs.Prelude.{◌<◌, ◌*◌, ◌^◌, IfOk, length, map};
+ghost use Rattle.shape_terms.specs.Limits.{most_round};
 ghost use Rattle.shape_terms.specs.Contours.{IsCrack};
 ghost use Rattle.shape_terms.specs.RunWalks.{IsStart};
-ghost use Rattle.edge_terms.specs.Corners.{HasSmallSides};
 ghost use Rattle.edge_terms.specs.EdgeCovers.{IsEdgeCover, IsEdgeCoverFrom};
 ghost use Rattle.edge_terms.specs.EdgeStraight.{IsEdgeStraight};
 ghost use Rattle.shape_crack.specs.Terms.{crack_of};
@@ -33,7 +33,7 @@ pub struct Passed {
 
 // Goes from an arc to the next one.
 fn pass(path: &Corners, reach: Arc) -> Passed
-    requires low { reach.first < 2 ^ 27 }
+    requires low { reach.first < 2 * most_round }
     requires reach { IsReach path.now reach }
     ensures { IsPassed path.now reach result }
 {
@@ -66,7 +66,7 @@ fn first_reach(path: &Corners) -> Arc
 
 // Goes on to the next arc, and puts the one that is left last.
 fn go_on(path: &Corners, entries: &mut Vec<Entry>, reach: Arc) -> Result<Arc, NoMemory>
-    requires low { reach.first < 2 ^ 27 }
+    requires low { reach.first < 2 * most_round }
     requires reach { IsReach path.now reach }
     ensures { IfOk result (HasPassed path.now reach entries.old.items entries.new.items) }
 {
@@ -103,8 +103,7 @@ fn go_round(alloc: Global, path: &Corners, first: Arc) -> Result<Vec<Entry>, NoM
 ///
 /// `NoMemory` where there is none for the corners or the arcs.
 pub fn edge_cover(alloc: Global, grid: &Grid<P2>, start: Crack) -> Result<EdgeCover, NoMemory>
-    requires crack { IsCrack grid.now (crack_of start) }
-    requires small { HasSmallSides grid.now }
+    requires { IsCrack grid.now (crack_of start) }
     ensures { IfOk result (IsEdgeCoverFrom grid.now (crack_of start)) }
 {
     let path = corner_path(alloc, grid, start)?;

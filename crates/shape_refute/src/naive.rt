@@ -1,6 +1,6 @@
 //! Naive lines and planes: when their parameters are proper, and which points they hold.
 //! A further dimension adds an entry to `Naive::a` and to the product.
-ghost use Rattle.std.specs.Prelude.{◌≡◌, ◌≤◌, ◌<◌, ◌^◌, ◌↔◌, ℕ, pos, unsigned_abs, nat_abs, ◌+ℤ◌, ◌*ℤ◌, ◌≤ℤ◌, ◌<ℤ◌, IsTrue, take};
+ghost use Rattle.std.specs.Prelude.{◌≡◌, ◌≤◌, ◌<◌, ◌↔◌, ℕ, pos, unsigned_abs, nat_abs, ◌+ℤ◌, ◌*ℤ◌, ◌≤ℤ◌, ◌<ℤ◌, IsTrue, take};
 ghost use Rattle.shape_terms.specs.Points.{coordinate};
 ghost use Rattle.shape_terms.specs.Naive.{IsProper, HoldsPoint};
 ghost use Rattle.shape_refute.specs.Terms.{naive_of};

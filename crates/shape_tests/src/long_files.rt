@@ -1,14 +1,14 @@
-//! Files that no test could hold: pictures of line ends up to the most bytes that a file may have, and a volume without end.
+//! Files that no test could hold: a comment up to the most bytes that a picture may have, and a volume without end.
 //! What other files are read as stands in `pbm.cases` and `raw.cases` of `run_cases`.
 ghost use Rattle.std.specs.Prelude.{◌<◌, ◌^◌, true, None};
 
 use shape_desk::{Desk, Failed, Place};
-use shape_picture::{MOST_BYTES, PictureError, PictureFault, read_pbm, read_raw};
-use shape_space::{P3, Sides};
+use shape_picture::{PictureError, PictureFault, read_pbm, read_raw};
+use shape_space::{MOST_BYTES, P3, Sides};
 use std::alloc::{AllocError, Global};
 use std::test::Fail;
 
-// A file of some bytes and then so many line ends, which are not held. The desk tells nothing.
+// A file of some bytes and then so many blanks, which are not held. The desk tells nothing.
 #[derive(Drop)]
 struct Blanks {
     head: &'static [u8],
@@ -45,7 +45,7 @@ impl Desk for Blanks {
             return Ok(1);
         }
         let count = buf.len().min(self.blanks as usize);
-        buf[..count].fill(b'\n');
+        buf[..count].fill(b' ');
         self.blanks -= count as u64;
         Ok(count)
     }
@@ -55,12 +55,12 @@ impl Desk for Blanks {
     }
 }
 
-// The fault of a file with so many bytes, `P1` and then line ends.
+// The fault of a file with so many bytes, `P1` and then a comment, whose bytes are read fastest.
 fn long_fault(alloc: Global, length: u64) -> Option<PictureError> {
     let mut desk = Blanks {
-        head: b"P1",
+        head: b"P1#",
         at: 0,
-        blanks: length.saturating_sub(2),
+        blanks: length.saturating_sub(3),
     };
     match read_pbm(alloc, &mut desk) {
         Ok(_) => None,

@@ -1,4 +1,4 @@
-use Rattle.std.proofs.Common.{ℕ, ◌<◌, ◌≤◌, ◌^◌, length}
+use Rattle.std.proofs.Common.{ℕ, ◌<◌, ◌≤◌, length}
 use Rattle.std.specs.Prelude.{slice_index_or}
 use Rattle.shape_terms.specs.Limits.{most_round}
 use Rattle.shape_terms.specs.Traces.{Contour}

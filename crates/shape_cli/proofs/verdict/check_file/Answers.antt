@@ -1,12 +1,17 @@
+use Rattle.std.proofs.Common.{subst, sym}
 use Rattle.shape_desk.proofs.Writes.{OnlyReads-more}
 use Rattle.shape_desk.specs.declared.desk.Place.TheVariants.{Report}
 use Rattle.shape_cli.specs.Sources.{read_source}
-use Rattle.shape_cli.specs.Kinds.{read_report_kind}
+use Rattle.shape_cli.specs.Kinds.{about_of, read_report_kind}
+use Rattle.shape_cli.specs.Abouts.{IsAbout}
 use Rattle.shape_cli.specs.Outcomes.{outcome_of}
 use Rattle.shape_cli.specs.Parts.{picture_of, verdict_text}
 use Rattle.shape_cli.specs.Commands.{Asked}
 use Rattle.shape_cli.proofs.Endings.{answered, cut_short, kept_right, verdict_answers, took}
 use Rattle.shape_cli.proofs.verdict.check_file.Goals as goal
+
+pub judge-requires-clause-suits : goal.judge-requires-clause-suits
+judge-requires-clause-suits g c = subst (IsAbout (about_of (read_report_kind c.args.kind))) (sym c.in-Ok.ensures.kind) c.requires.takes
 
 pub returns-clause-ran : goal.returns-clause-ran
 returns-clause-ran g c =

@@ -5,8 +5,8 @@ use Rattle.shape_edges.specs.Growing.{HasTold}
 use Rattle.shape_edges.proofs.Growing.{found_at, crack_there}
 use Rattle.shape_edges.proofs.report.add_cycles.Goals as goal
 
-pub edge_cover-requires-clause-crack : goal.edge_cover-requires-clause-crack
-edge_cover-requires-clause-crack c = crack_there c.args.grid.now c.args.contours.now c.requires.are c.loop-k.k c.contour.result.now (crack_of c.start-start.result) c.contour.ensures c.start-start.ensures
+pub edge_cover-requires : goal.edge_cover-requires
+edge_cover-requires c = crack_there c.args.grid.now c.args.contours.now c.requires.are c.loop-k.k c.contour.result.now (crack_of c.start-start.result) c.contour.ensures c.start-start.ensures
 
 pub add_cycle-requires-clause-side : goal.add_cycle-requires-clause-side
 add_cycle-requires-clause-side c = (crack_there c.args.grid.now c.args.contours.now c.requires.are c.loop-k.k c.contour.result.now (crack_of c.start-start.result) c.contour.ensures c.start-start.ensures).side

@@ -1,4 +1,4 @@
-use Rattle.std.proofs.Common.{◌≤◌, ◌^◌, [], ◌∷◌, length, subst, sym}
+use Rattle.std.proofs.Common.{◌≤◌, [], ◌∷◌, length, subst, sym}
 use Rattle.std.specs.Prelude.{All, IsTrue, vec_capacity}
 use Rattle.shape_terms.specs.Limits.{most_flat, most_round}
 use Rattle.shape_terms.specs.Points.{in_box}

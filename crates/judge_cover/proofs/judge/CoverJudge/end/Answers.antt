@@ -1,4 +1,4 @@
-use Rattle.std.proofs.Common.{◌≤◌, ◌<◌, ◌^◌, length, ap, arith}
+use Rattle.std.proofs.Common.{◌≤◌, ◌<◌, length, ap, arith}
 use Rattle.std.proofs.lemmas.List.{length-map}
 use Rattle.shape_terms.specs.Limits.{most_round}
 use Rattle.report_terms.specs.ContourLines.{open_contour}
