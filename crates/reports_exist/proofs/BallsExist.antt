@@ -1,12 +1,12 @@
 -- Each picture whose sides are in range has a ball report.
 -- Which balls it lists stands in `BallsKept`; here they are spelled.
-use Rattle.std.proofs.Common.{◌≡◌, ◌⊎◌, inl, inr, ℕ, ◌+◌, ◌^◌, ◌<◌, ◌≤◌, refl, ap, sym, ◌∙◌, subst, arith, List, [], ◌∷◌, length, map, take, ℤ, pos, negsuc, ◌≤ℤ◌}
+use Rattle.std.proofs.Common.{◌≡◌, ◌⊎◌, inl, inr, ℕ, ◌+◌, ◌^◌, ◌<◌, ◌≤◌, refl, ap, sym, ◌∙◌, subst, arith, List, [], ◌∷◌, length, map, take, pos, negsuc, ◌≤ℤ◌}
 use Rattle.std.specs.Prelude.{IsTrue, All}
 use Rattle.std.proofs.lemmas.Int.{ints}
-use Rattle.std.proofs.lemmas.List.{get_or-map, length-map}
-use Rattle.std.proofs.lemmas.List.Elements.{All-nil, All-cons, All-append, All-map, All-get_or}
+use Rattle.std.proofs.lemmas.List.{length-map}
+use Rattle.std.proofs.lemmas.List.Elements.{All-nil, All-cons, All-append, All-map}
 use Rattle.shape_terms.specs.Limits.{most_flat, most_solid, most_coordinate}
-use Rattle.shape_terms.specs.Points.{Point, AreSides, sides_of, in_box, box_count}
+use Rattle.shape_terms.specs.Points.{Point, sides_of, in_box, box_count}
 use Rattle.shape_terms.specs.Pictures.{Picture, IsPicture, at, object_points}
 use Rattle.shape_terms.specs.FramedBox.{framed_point, IsWithin}
 use Rattle.shape_terms.specs.Distances.{NearFact}

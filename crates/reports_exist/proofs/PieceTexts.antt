@@ -1,6 +1,6 @@
 -- Each flat picture within the sides of the command has a text that holds as its report of pieces.
 -- The pieces of a contour stand in `PiecesExist`; one line more at a time, as the maker grows its text.
-use Rattle.std.proofs.Common.{◌≡◌, ℕ, zero, suc, ◌+◌, ◌<◌, ◌≤◌, ◌^◌, List, length, map, refl, sym, subst, arith, Some}
+use Rattle.std.proofs.Common.{◌≡◌, ℕ, zero, suc, ◌+◌, ◌<◌, ◌≤◌, List, length, map, refl, sym, subst, arith, Some}
 use Rattle.std.specs.Prelude.{pos, slice_get, slice_index_or, All}
 use native.Mathlib.Decide.{dec_lt}
 use Rattle.std.proofs.lemmas.Option.{slice_get-get_or}
