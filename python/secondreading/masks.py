@@ -1,15 +1,17 @@
-"""The files of `shape mask` by plain code, word for word from docs/USING.md: the object, the points left, and the distances."""
+"""The files of `shape mask` by plain code, word for word from docs/USING.md: the object, the points left, the distances, and their squares."""
 from math import isqrt
 
 import numpy as np
 
-MASKS = ("skeleton", "object", "distances")
+MASKS = ("skeleton", "object", "distances", "squares")
 
 
 def mask(picture, rule, name):
     """The bytes of a mask of a report by a rule."""
     if name == "distances":
         return distances_mask(picture)
+    if name == "squares":
+        return squares_mask(picture)
     return points_mask(picture, picture.thinning(rule)[1] if name == "skeleton" else picture.framed)
 
 
@@ -31,3 +33,8 @@ def distances_mask(picture):
     if picture.axes == 3:
         return levels.astype("<u2").tobytes()
     return b"P5\n%d %d\n65535\n" % picture.sides + levels.astype(">u2").tobytes()
+
+
+def squares_mask(picture):
+    """Four bytes for each point with the lowest first, of a picture and of a volume alike: the squared distances."""
+    return unframed(picture.squares).astype("<u4").tobytes()

@@ -54,13 +54,15 @@ def _drawn(report: Path, drawing: Path) -> Answer:
 
 
 def write_mask(kind: str, report: Path, stem: Path, picture: Picture) -> None:
-    """Writes a picture of what a report says: a PBM or a PGM, or of a volume raw bytes, whose sides its name tells."""
+    """Writes a picture of what a report says: a PBM or a PGM, or of a volume and of squares raw bytes, whose sides its name tells."""
     with open(stem.with_name(stem.name + mask_suffix(kind, sides_of(picture.mask))), "wb") as out:
         made("mask", kind, report, out=out, about=picture.key)
 
 
 def mask_suffix(kind: str, sides: Sequence[int]) -> str:
     """What the name of a mask of a picture with these sides ends in."""
+    if kind == "squares":
+        return f".{kind}.{'x'.join(map(str, sides))}.32bit.raw"
     if len(sides) == 2:
         return f".{kind}" + (".pgm" if kind == "distances" else ".pbm")
     return f".{kind}" + (told_suffix(sides).removesuffix("raw") + "16bit.raw" if kind == "distances" else told_suffix(sides))

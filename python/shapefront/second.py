@@ -83,7 +83,7 @@ class Second:
 
     def _masks(self, stem: Path) -> list[Path]:
         """The pictures that are named as masks of the picture."""
-        suffixes = (".pbm", ".pgm") if self.picture.axes == 2 else (".raw",)
+        suffixes = (".pbm", ".pgm", ".raw") if self.picture.axes == 2 else (".raw",)
         beside = (path for path in stem.parent.iterdir() if path.name.startswith(f"{stem.name}.") and path.suffix in suffixes)
         return sorted(path for path in beside if path.name.removeprefix(f"{stem.name}.").split(".")[0] in MASKS)
 

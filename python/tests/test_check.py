@@ -7,6 +7,7 @@ import numpy as np
 
 from .common import STORED, InFolder, installed, needs_pillow, needs_shape, random_mask
 
+from secondreading.limits import MOST_FLAT
 from shapefront import programs
 from shapefront.convert import pictures_of
 from shapefront.making import Plan, make
@@ -89,6 +90,13 @@ class Checking(InFolder):
         Path("word.pbm").write_bytes(b"P5 3 3 255\n123456789")
         status, out = self.found(".")
         self.assertEqual((status, out[1]), (1, "word: no, not a PBM; its first two bytes are not P1 or P4"))
+
+    def test_a_picture_that_is_too_large_is_told_by_its_name(self):
+        wide = MOST_FLAT + 1
+        Path("word.pbm").write_bytes(b"P4 %d 1 " % wide + bytes(wide // 8 + 1))
+        status, out = self.found(".")
+        told = f"word: no, a side is above {MOST_FLAT} pixels, or 512 voxels (a side is too large: {wide}); give --fit, which makes it smaller"
+        self.assertEqual((status, out[1]), (1, told))
 
 
 @needs_shape

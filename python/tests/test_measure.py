@@ -149,7 +149,7 @@ class Measuring(InFolder):
 
     def test_masks(self):
         self.save(1)
-        words = ("--masks", "skeleton", "--masks", "distances", "--masks", "object", "-o", "out")
+        words = ("--masks", "skeleton", "--masks", "distances", "--masks", "object", "--masks", "squares", "-o", "out")
         self.assertEqual(self.shapes("measure", "in", *words)[0], 0)
         report = read("out/000.png.report")
         for kind, suffix, wanted in (
@@ -159,6 +159,10 @@ class Measuring(InFolder):
         ):
             values = np.array(Image.open(f"out/000.png.{kind}.{suffix}"))
             np.testing.assert_array_equal(values > 0, wanted)
+        y, x = report.mask.shape
+        squares = np.fromfile(f"out/000.png.squares.{x}x{y}.32bit.raw", "<u4").reshape(y, x)
+        np.testing.assert_array_equal(squares[report.points[:, 1], report.points[:, 0]], report.squares)
+        self.assertEqual(squares[~report.mask].max(initial=0), 0)
         self.assertEqual(self.shapes("check", "out")[0], 0)
         Path("out/000.png.skeleton.pbm").write_text("P1 1 1 1")
         self.assertIn("but out/000.png.skeleton.pbm is not what `shape mask` makes of it", self.shapes("check", "out")[1][0])

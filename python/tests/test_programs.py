@@ -60,6 +60,15 @@ class OtherPrograms(InFolder):
             self.assertEqual(Path("out/cross.pbm.svg").read_text(), drawn)
             self.assertEqual(self.shapes("check", "out")[0], 0)
 
+    def test_squares_are_numbers_whose_sides_and_size_the_name_tells(self):
+        self.tell(more="", values="")
+        self.program("mask", '[ "$1" = squares ] && echo numbers')
+        np.save("v.npy", random_mask(4, 5, 6, 7))
+        for words, name in ((("measure", STORED / "cross.pbm"), "cross.pbm.squares.21x15.32bit.raw"), (("volume", "v.npy"), "v.npy.squares.7x6x5.32bit.raw")):
+            self.assertEqual(self.shapes(*words, "--masks", "squares", "-o", words[0])[0], 0)
+            self.assertEqual(Path(words[0], name).read_text(), "numbers\n")
+            self.assertEqual(self.shapes("check", words[0])[0], 0)
+
     def test_a_drawing_by_another_version_is_told(self):
         self.tell(more="", values="")
         self.program("draw", "echo one")

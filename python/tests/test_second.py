@@ -192,7 +192,8 @@ class Command(InFolder):
         told = read(picture, Path("word.report").read_bytes())[1]
         Path("word.csv").write_bytes(table(picture, told.rule, told.contours))
         Path("word.skeleton.pbm").write_bytes(mask(picture, told.rule, "skeleton"))
-        self.assertIn("reports 1, tables 1, masks 1;", self.second("word.report")[1][1])
+        Path("word.squares.59x29.32bit.raw").write_bytes(mask(picture, told.rule, "squares"))
+        self.assertIn("reports 1, tables 1, masks 2;", self.second("word.report")[1][1])
         Path("word.skeleton.pbm").write_bytes(mask(picture, told.rule, "object"))
         why = "word: no, the report holds, but word.skeleton.pbm is not what the second reading makes of it"
         self.assertEqual(self.second("word.report")[1][0], why)

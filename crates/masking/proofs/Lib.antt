@@ -4,4 +4,5 @@ pub mod CommandWords
 pub mod ByteBits
 pub mod PbmSpelled
 pub mod LevelLaws
+pub mod SquareLaws
 pub mod Shown

@@ -14,14 +14,14 @@ use Rattle.std.proofs.lemmas.Nat.{mul-le}
 use Rattle.std.proofs.lemmas.Int.{ints}
 use Rattle.std.proofs.lemmas.Fmt.{decimal_is_IsNumeral, digits_decimal, digits_value-decimal, length-decimal-le}
 use Rattle.std.proofs.lemmas.Str.Parse.{IsNumeralModel, IsDigitsTest, numerals_by_fold}
-use Rattle.shape_terms.specs.Limits.{most_flat}
+use Rattle.shape_terms.specs.Limits.{most_flat, most_bytes}
 use Rattle.shape_terms.specs.Points.{AreSides, box_points, box_count}
 use Rattle.shape_terms.specs.Pictures.{Picture, at}
 use Rattle.shape_terms.proofs.BoxLists.{values_are}
 use Rattle.shape_picture.specs.Pbm.{Pbm, IsDigit, IsSide, IsGap, IsGapPiece, IsOneWhite, IsInWidth, IsInHeight, IsInRaster, AreRows, number_value, magic, row_bytes, row_pixels}
 use Rattle.shape_picture.specs.declared.header.Form.TheVariants.{Packed}
 use Rattle.shape_picture.specs.Raw.{Raw, is_object}
-use Rattle.shape_picture.specs.Answers.{most_side, most_bytes, SpellsPicture}
+use Rattle.shape_picture.specs.Answers.{SpellsPicture}
 use Rattle.shape_picture.proofs.RowBytes.{length-concat}
 use Rattle.report_lines.specs.Reports.{flat}
 use Rattle.report_lines.specs.Tells.{StandsIn}
@@ -132,13 +132,13 @@ module _ (X : Picture) (w h : ℕ) (e : X.sides ≡ w ∷ h ∷ []) (filled : le
   }
 
   -- how many bytes the rows have
-  few_bytes : w ≤ most_flat → h ≤ most_flat → length (flat_map (row X) (range_with_len 0 h)) ≤ 524288
+  few_bytes : w ≤ most_flat → h ≤ most_flat → length (flat_map (row X) (range_with_len 0 h)) ≤ most_flat * (most_flat / 8)
   unfolding rows
   few_bytes a b =
       let n = length-concat (row_bytes w) rows rows_long in
       let m = length-map-range_with_len (row X) 0 h in
-      let few : row_bytes w ≤ 256 = omega arith in
-      let most = mul-le h (row_bytes w) most_flat 256 b few in
+      let few : row_bytes w ≤ most_flat / 8 = omega arith in
+      let most = mul-le h (row_bytes w) most_flat (most_flat / 8) b few in
       let same = ap length (concat_map (row X) (range_with_len 0 h)) in
       let times = ap (λ k. k * row_bytes w) m in
       omega (arith, n, most, same, times)
@@ -150,7 +150,7 @@ bytes_of : (w h : ℕ) (raster : List ℕ) → List ℕ
 bytes_of w h raster = ((magic Packed ++ 10 ∷ []) ++ decimal w ++ 32 ∷ [] ++ decimal h) ++ 10 ∷ [] ++ raster
 
 module _ (X : Picture) (w h : ℕ) (raster : List ℕ) (e : X.sides ≡ w ∷ h ∷ []) (filled : length X.values ≡ box_count X.sides) (rows : AreRows w h raster X.values) (a : 1 ≤ w) (b : w ≤ most_flat) (c : 1 ≤ h) (d : h ≤ most_flat) where
-  in_width : IsInWidth Packed most_side ((magic Packed ++ 10 ∷ []) ++ decimal w) (decimal w)
+  in_width : IsInWidth Packed most_flat ((magic Packed ++ 10 ∷ []) ++ decimal w) (decimal w)
   in_width = record {
     gap = 10 ∷ [];
     is_gap = IsGap.one (IsGapPiece.white 10 refl);
@@ -159,7 +159,7 @@ module _ (X : Picture) (w h : ℕ) (raster : List ℕ) (e : X.sides ≡ w ∷ h 
     front_is = refl;
   }
 
-  in_height : IsInHeight Packed most_side ((magic Packed ++ 10 ∷ []) ++ decimal w ++ 32 ∷ [] ++ decimal h) (decimal w) (decimal h)
+  in_height : IsInHeight Packed most_flat ((magic Packed ++ 10 ∷ []) ++ decimal w ++ 32 ∷ [] ++ decimal h) (decimal w) (decimal h)
   in_height = record {
     before = (magic Packed ++ 10 ∷ []) ++ decimal w;
     gap = 32 ∷ [];
@@ -171,7 +171,7 @@ module _ (X : Picture) (w h : ℕ) (raster : List ℕ) (e : X.sides ≡ w ∷ h 
     front_is = refl;
   }
 
-  in_raster : IsInRaster Packed most_side (bytes_of w h raster) (decimal w) (decimal h) raster
+  in_raster : IsInRaster Packed most_flat (bytes_of w h raster) (decimal w) (decimal h) raster
   unfolding bytes_of
   in_raster = record {
     before = (magic Packed ++ 10 ∷ []) ++ decimal w ++ 32 ∷ [] ++ decimal h;
@@ -188,7 +188,7 @@ module _ (X : Picture) (w h : ℕ) (raster : List ℕ) (e : X.sides ≡ w ∷ h 
   unfolding bytes_of
   some_bytes = simp (length-append {A = ℕ}) (omega arith)
 
-  spelled_so : (n : ℕ) → length (bytes_of w h raster) ≡ n → n ≤ most_bytes → Pbm most_side most_bytes (bytes_of w h raster) X n
+  spelled_so : (n : ℕ) → length (bytes_of w h raster) ≡ n → n ≤ most_bytes → Pbm most_flat most_bytes (bytes_of w h raster) X n
   spelled_so n size short =
       let some = some_bytes in
       let u = value_back w (omega arith) in
@@ -198,7 +198,7 @@ module _ (X : Picture) (w h : ℕ) (raster : List ℕ) (e : X.sides ≡ w ∷ h 
         width = decimal w;
         height = decimal h;
         raster = raster;
-        front = subst (λ t. IsInRaster Packed most_side t (decimal w) (decimal h) raster) (sym (take_all n (bytes_of w h raster) (omega (arith, size)))) in_raster;
+        front = subst (λ t. IsInRaster Packed most_flat t (decimal w) (decimal h) raster) (sym (take_all n (bytes_of w h raster) (omega (arith, size)))) in_raster;
         sides = e ∙ sym (ap (λ k. k ∷ number_value (decimal h) ∷ []) u ∙ ap (λ k. w ∷ k ∷ []) v);
         values = subst (λ k. AreRows k (number_value (decimal h)) raster X.values) (sym u) (subst (λ k. AreRows w k raster X.values) (sym v) rows);
         filled = filled;
@@ -210,10 +210,10 @@ header_is : (w h : ℕ) (raster : List ℕ) → header (magic Packed) w h ++ ras
 unfolding bytes_of
 header_is w h raster = simp append_assoc
 
-header_few : (w h : ℕ) (raster : List ℕ) → w ≤ most_flat → h ≤ most_flat → length raster ≤ 524288 → length (header (magic Packed) w h ++ raster) ≤ most_bytes
+header_few : (w h : ℕ) (raster : List ℕ) → w ≤ most_flat → h ≤ most_flat → length raster ≤ most_flat * (most_flat / 8) → length (header (magic Packed) w h ++ raster) ≤ most_bytes
 header_few w h raster a b c =
-    let u = length-decimal-le 4 w (omega arith) (omega arith) (omega arith) in
-    let v = length-decimal-le 4 h (omega arith) (omega arith) (omega arith) in
+    let u = length-decimal-le 5 w (omega arith) (omega arith) (omega arith) in
+    let v = length-decimal-le 5 h (omega arith) (omega arith) (omega arith) in
     simp (length-append {A = ℕ}) (omega (arith, u, v, c))
 
 two_sides : (sides : List ℕ) → length sides ≡ 2 → sides ≡ side sides 0 ∷ side sides 1 ∷ []
@@ -222,7 +222,7 @@ two_sides (w ∷ []) l = absurd (omega arith)
 two_sides (w ∷ h ∷ []) l = refl
 two_sides (w ∷ h ∷ n ∷ sides) l = absurd (omega (arith, l))
 
-pub picture_spelled : (X : Picture) → StandsIn flat X → SpellsPicture most_side most_bytes X (pbm X)
+pub picture_spelled : (X : Picture) → StandsIn flat X → SpellsPicture most_flat most_bytes X (pbm X)
 picture_spelled X stands =
     let w = side X.sides 0 in
     let h = side X.sides 1 in
@@ -239,4 +239,4 @@ picture_spelled X stands =
     let whole = header_is w h raster in
     let few = header_few w h raster b d (few_bytes X w h e filled b d) in
     let n = length (bytes_of w h raster) in
-    subst (SpellsPicture most_side most_bytes X) (sym whole) (n, spelled_so X w h raster e filled (are_rows X w h e filled) a b c d n refl (omega (arith, few, ap length whole)))
+    subst (SpellsPicture most_flat most_bytes X) (sym whole) (n, spelled_so X w h raster e filled (are_rows X w h e filled) a b c d n refl (omega (arith, few, ap length whole)))

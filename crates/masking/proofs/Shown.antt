@@ -1,5 +1,5 @@
 -- What a run wrote that makes a mask of a report that holds of a picture.
--- The laws of the bytes stand in `PbmSpelled` and `LevelLaws`.
+-- The laws of the bytes stand in `PbmSpelled`, `LevelLaws` and `SquareLaws`.
 use Rattle.std.proofs.Common.{◌≡◌, inl, inr, ℕ, ◌*◌, ◌<◌, refl, sym, ap, ◌∙◌, subst, arith, List, [], ◌∷◌, ◌++◌, length, get_or, map, pos}
 use Rattle.std.specs.Prelude.{slice_get, Some}
 use Rattle.std.proofs.lemmas.Bool.{cases_lt}
@@ -31,10 +31,11 @@ use Rattle.masking.specs.Levels.{IsLevel, AreLevels, AreDepths, number_at}
 use Rattle.masking.specs.Masks.{points_mask, distances_mask, mask_bytes}
 use Rattle.masking.specs.Shown.{Spell, ShowDepths, ShowLeft, Show, WritesShown}
 use Rattle.masking.specs.declared.mask.Mask.{Mask}
-use Rattle.masking.specs.declared.mask.Mask.TheVariants.{Skeleton, Object, Distances}
+use Rattle.masking.specs.declared.mask.Mask.TheVariants.{Skeleton, Object, Distances, Squares}
 use Rattle.masking.proofs.RootLaws.{at_most_square}
 use Rattle.masking.proofs.PbmSpelled.{picture_spelled, volume_spelled}
 use Rattle.masking.proofs.LevelLaws.{low_levels, grey_levels}
+use Rattle.masking.proofs.SquareLaws.{squares_shown}
 
 -- ---- points
 
@@ -110,6 +111,7 @@ module _ (s : Space) (known : IsSpace s) (X : Subject) (text : List ℕ) (stands
   shown Object = subst (λ Y. Spell s.axes X.picture (points_mask s.axes Y)) (sym tells.object) (points_shown s known X.picture stands)
   shown Distances =
       subst (λ (Y : Picture). ShowDepths s.axes X.picture (distances_mask s.axes Y.sides (said tells.lines).squares)) (sym tells.object) (depths_shown s known X.picture (said tells.lines).squares tells.squares)
+  shown Squares = squares_shown s known X.picture stands (said tells.lines).squares tells.squares
 
 pub masks_shown : (mask : Mask) (s : Space) (X : Subject) (name text : List ℕ) (old new : DeskState) → IsSpace s → StandsIn s X.picture → Holds X text → FileIs old.files name (λ bytes. bytes ≡ text) → Ran (exactly (mask_bytes mask)) name old new Done
     → WritesShown mask s.axes X text old new

@@ -3,9 +3,9 @@
 use Rattle.std.specs.Prelude.{ℕ, ◌==◌, if◌then◌else◌, List}
 use Rattle.shape_terms.specs.Pictures.{Picture}
 use Rattle.report_lines.specs.Said.{Said}
-use Rattle.masking.specs.Pictures.{pbm, voxels, pgm, depths}
+use Rattle.masking.specs.Pictures.{pbm, voxels, pgm, depths, square_bytes}
 use Rattle.masking.specs.declared.mask.Mask.{Mask}
-use Rattle.masking.specs.declared.mask.Mask.TheVariants.{Skeleton, Object, Distances}
+use Rattle.masking.specs.declared.mask.Mask.TheVariants.{Skeleton, Object, Distances, Squares}
 
 -- a picture of points with so many axes
 abbrev pub points_mask : ℕ → Picture → List ℕ
@@ -20,3 +20,4 @@ abbrev pub mask_bytes : Mask → ℕ → Said → List ℕ
 mask_bytes Skeleton d s = points_mask d s.left
 mask_bytes Object d s = points_mask d s.object
 mask_bytes Distances d s = distances_mask d s.object.sides s.squares
+mask_bytes Squares d s = square_bytes s.squares

@@ -63,3 +63,17 @@ pgm sides squares = header (codes "P5") (side sides 0) (side sides 1) ++ (codes 
 -- two bytes for the distance of each voxel, in raster order
 abbrev pub depths : (squares : List ℕ) → List ℕ
 depths squares = flat_map (λ s. low_first (level s)) squares
+
+-- ---- squared distances
+
+-- a squared distance as a number of 32 bits, and 4294967295 where it is greater
+abbrev pub told_square : ℕ → ℕ
+told_square square = min square 4294967295
+
+-- the four bytes of a number below 2 ^ 32, the lowest one first
+abbrev pub low_first32 : ℕ → List ℕ
+low_first32 n = n % 256 ∷ n / 256 % 256 ∷ n / 65536 % 256 ∷ n / 16777216 % 256 ∷ []
+
+-- four bytes for the squared distance of each point, in raster order
+abbrev pub square_bytes : (squares : List ℕ) → List ℕ
+square_bytes squares = flat_map (λ s. low_first32 (told_square s)) squares

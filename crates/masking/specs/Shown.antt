@@ -1,20 +1,21 @@
 -- What the bytes of a mask show of the picture that a report holds of.
 -- Geometry, and the formats in which the program itself reads pictures.
 use Rattle.std.specs.Prelude.{◌≡◌, ◌++◌, ℕ, zero, suc, List, codes}
+use Rattle.shape_terms.specs.Limits.{most_flat, most_bytes}
 use Rattle.shape_terms.specs.Pictures.{Picture}
 use Rattle.shape_terms.specs.Thinning.{Rule, Event, Stage, IsThinning}
 use Rattle.shape_desk.specs.Desk.{DeskState, Puts}
-use Rattle.shape_picture.specs.Answers.{Format, most_side, most_bytes, pbm, raw}
+use Rattle.shape_picture.specs.Answers.{Format, pbm, raw}
 use Rattle.report_terms.specs.Subjects.{Subject, IsOnShelf}
 use Rattle.report_terms.specs.Holds.{GivesRule}
 use Rattle.masking.specs.Pictures.{side, header}
-use Rattle.masking.specs.Levels.{high_number, low_number, AreDepths}
+use Rattle.masking.specs.Levels.{high_number, low_number, AreDepths, AreSquaredDepths}
 use Rattle.masking.specs.declared.mask.Mask.{Mask}
-use Rattle.masking.specs.declared.mask.Mask.TheVariants.{Skeleton, Object, Distances}
+use Rattle.masking.specs.declared.mask.Mask.TheVariants.{Skeleton, Object, Distances, Squares}
 
 -- the format in which the program reads pictures with so many axes and these sides: PBM, or a raw volume of the sides
 abbrev pub picture_format : ℕ → List ℕ → Format
-picture_format (suc (suc zero)) sides = pbm most_side most_bytes
+picture_format (suc (suc zero)) sides = pbm most_flat most_bytes
 picture_format _ sides = raw sides
 
 -- the bytes are a file that the program reads as just this picture
@@ -46,6 +47,7 @@ abbrev pub Show : Mask → ℕ → Subject → (text bytes : List ℕ) → Type 
 Show Skeleton d X text bytes = ShowLeft d X text bytes
 Show Object d X text bytes = Spell d X.picture bytes
 Show Distances d X text bytes = ShowDepths d X.picture bytes
+Show Squares d X text bytes = AreSquaredDepths X.picture bytes
 
 -- bytes were written that show it
 pub record WritesShown (mask : Mask) (d : ℕ) (X : Subject) (text : List ℕ) (old new : DeskState) : Type 0 where

@@ -11,24 +11,26 @@ ghost use Rattle.report_making.specs.Made.{IsSpace, exactly};
 ghost use Rattle.report_making.specs.Runs.{Ran};
 ghost use Rattle.report_making.specs.Complete.{FileIs};
 ghost use Rattle.report_making.specs.declared.outcome.Outcome.TheVariants.{Done};
-ghost use Rattle.masking.specs.Pictures.{pbm, voxels, pgm, depths};
-ghost use Rattle.masking.specs.Levels.{high_number, low_number, AreLevels};
+ghost use Rattle.masking.specs.Pictures.{pbm, voxels, pgm, depths, square_bytes};
+ghost use Rattle.masking.specs.Levels.{high_number, low_number, AreLevels, AreTold};
 ghost use Rattle.masking.specs.Masks.{mask_bytes};
 ghost use Rattle.masking.specs.Shown.{Spell, WritesShown, grey_front};
 ghost use Rattle.masking.specs.declared.mask.Mask.{Mask};
 
 /// The mask of points is a file that the program reads as just these points: a raw PBM, or a raw volume of the same sides. That
-/// of distances has the level of each square at its place, two bytes for each.
+/// of distances has the level of each square at its place, two bytes for each, and that of squares the number that stands for it,
+/// four bytes for each.
 pub fn masks_are_pictures()
     ensures pixels { (X : Picture) → StandsIn flat X → Spell 2 X (pbm X) }
     ensures voxels { (X : Picture) → StandsIn solid X → Spell 3 X (voxels X) }
     ensures greys { (sides squares : List ℕ) → (rest : List ℕ)
         × (pgm sides squares ≡ grey_front sides ++ rest) × AreLevels high_number squares rest }
     ensures depths { (squares : List ℕ) → AreLevels low_number squares (depths squares) }
+    ensures squares { (squares : List ℕ) → AreTold squares (square_bytes squares) }
 {}
 
 /// A run that ends well for a file whose text is a report that holds of a picture has written the picture itself, what the
-/// thinning by the rule that the text names leaves of it, or how far its points are from the background.
+/// thinning by the rule that the text names leaves of it, how far its points are from the background, or the squares of that.
 pub fn masks_of_what_holds()
     ensures { (mask : Mask) (s : Space) (X : Subject) (name text : List ℕ) (old new : DeskState)
         → IsSpace s → StandsIn s X.picture → Holds X text

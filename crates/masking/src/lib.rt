@@ -1,4 +1,4 @@
-//! Masks of a report: the points left, the object or the distances, as raw pictures that other tools read.
+//! Masks of a report: the points left, the object, the distances or their squares, as raw pictures that other tools read.
 //! No claim is judged; what is masked is what `report_lines` sees of the report.
 #![tactic(auto)]
 
@@ -7,6 +7,7 @@ mod distances;
 mod header;
 mod law;
 mod mask;
+mod squares;
 mod top;
 mod voxels;
 

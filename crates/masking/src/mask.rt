@@ -5,6 +5,7 @@ ghost use Rattle.masking.specs.Words.{mask_word};
 
 use crate::bits::bits;
 use crate::distances::{depths, greys};
+use crate::squares::square_bytes;
 use crate::voxels::voxels;
 use report_lines::{Heading, Seen};
 use report_making::Making;
@@ -20,6 +21,8 @@ pub enum Mask {
     Object,
     /// The distances to the background.
     Distances,
+    /// The squared distances to the background.
+    Squares,
 }
 
 // The mask with this word.
@@ -36,6 +39,9 @@ pub(crate) fn mask_called(word: &[u8]) -> Option<Mask>
     if word == b"distances".as_slice() {
         return Some(Mask::Distances);
     }
+    if word == b"squares".as_slice() {
+        return Some(Mask::Squares);
+    }
     None
 }
 
@@ -50,6 +56,7 @@ impl Mask {
             Mask::Skeleton => bits(alloc, seen.left()),
             Mask::Object => bits(alloc, seen.object()),
             Mask::Distances => greys(alloc, seen.object(), seen.squares()),
+            Mask::Squares => square_bytes(alloc, seen.squares()),
         }
     }
 
@@ -61,6 +68,7 @@ impl Mask {
             Mask::Skeleton => voxels(alloc, seen.left()),
             Mask::Object => voxels(alloc, seen.object()),
             Mask::Distances => depths(alloc, seen.squares()),
+            Mask::Squares => square_bytes(alloc, seen.squares()),
         }
     }
 }

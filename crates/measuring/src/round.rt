@@ -1,11 +1,12 @@
 //! Thousandths, rounded to nearest by whole numbers alone.
 //! Another precision is a change here and of the same numbers in `Rounding`.
-ghost use Rattle.std.specs.Prelude.{◌≡◌, ◌≤◌, ◌*◌, ◌^◌};
+ghost use Rattle.std.specs.Prelude.{◌≡◌, ◌≤◌, ◌*◌};
+ghost use Rattle.shape_terms.specs.Limits.{most_points, most_coordinate};
 ghost use Rattle.measure_terms.specs.Rounding.{IsRoot, mean, root};
 
 /// The quotient of a sum by a count, in thousandths, rounded to nearest and a half up.
 pub(crate) fn mean(sum: u64, count: u32) -> u64
-    requires { sum ≤ 2 ^ 40 }
+    requires { sum ≤ most_coordinate * most_points }
     ensures value { result ≡ mean sum count }
 {
     if count == 0 {

@@ -7,6 +7,7 @@ use Rattle.shape_desk.specs.Desk.{Files, DeskState, IsAtFront, IsMissing}
 use Rattle.shape_desk.specs.Line.{IfTold}
 use Rattle.shape_desk.specs.Files.{OfFile}
 use Rattle.shape_desk.proofs.Begun.{of_file, rose_earlier}
+use Rattle.shape_terms.specs.Limits.{most_flat}
 use Rattle.shape_terms.specs.Points.{AreSides, sides_of}
 use Rattle.shape_terms.proofs.Boxes.{abs_is}
 use Rattle.shape_terms.specs.Points.{Point}
@@ -102,7 +103,7 @@ further_file sides name old mid new left (Err fault.NoMemory) f l h = tt
 -- ---- both
 
 -- the sides of a box are those of its lengths
-whole : (x y : ℤ) → AreSides (pos 2048) (x ∷ y ∷ []) → map pos (sides_of (x ∷ y ∷ [])) ≡ x ∷ y ∷ []
+whole : (x y : ℤ) → AreSides (pos most_flat) (x ∷ y ∷ []) → map pos (sides_of (x ∷ y ∷ [])) ≡ x ∷ y ∷ []
 whole x y h =
     let a = (h 0 (omega arith)).0 in
     let b = (h 1 (omega arith)).0 in

@@ -19,7 +19,10 @@ use std::io;
 fn is_inside(p: P2) -> bool
     ensures { IsTrue result → IsTrue (in_box (most_flat ∷ most_flat ∷ []) (flat_point p)) }
 {
-    match Sides::try_new(P2 { x: MOST_FLAT, y: MOST_FLAT }) {
+    match Sides::try_new(P2 {
+        x: MOST_FLAT,
+        y: MOST_FLAT,
+    }) {
         Some(sides) => sides.inside(p),
         None => false,
     }

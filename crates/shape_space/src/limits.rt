@@ -28,7 +28,14 @@ pub const MOST_WAY: u32 = 2 * MOST_COORDINATE;
 pub const FAR: u32 = MOST_WAY * MOST_WAY;
 
 ghost use Rattle.shape_space.specs.declared.limits.TheConstants.{
-    MOST_FLAT, MOST_SOLID, MOST_BYTES, MOST_FLAT_TRIAL, MOST_SOLID_TRIAL, MOST_COORDINATE, MOST_WAY, FAR,
+  MOST_FLAT,
+  MOST_SOLID,
+  MOST_BYTES,
+  MOST_FLAT_TRIAL,
+  MOST_SOLID_TRIAL,
+  MOST_COORDINATE,
+  MOST_WAY,
+  FAR,
 };
 
 /// A law: the program's bounds are those of the definitions. It does nothing.
@@ -41,5 +48,4 @@ pub fn are_limits()
     ensures coordinate { MOST_COORDINATE ≡ most_coordinate }
     ensures way { MOST_WAY ≡ most_way }
     ensures far { FAR ≡ far }
-{
-}
+{}

@@ -70,8 +70,8 @@ fn long_fault(alloc: Global, length: u64) -> Option<PictureError> {
 
 #[test]
 fn longest(rt: HostRuntime) {
-    let short = PictureFault::Short { at: 33554432 };
-    assert!(rt; long_fault(rt.alloc(), 33554432) == Some(PictureError::Bad(short)));
+    let short = PictureFault::Short { at: 30000000 };
+    assert!(rt; long_fault(rt.alloc(), 30000000) == Some(PictureError::Bad(short)));
     let too_long = PictureFault::TooLong;
     assert!(rt; long_fault(rt.alloc(), MOST_BYTES) == Some(PictureError::Bad(too_long)));
 }

@@ -1,5 +1,6 @@
 use Rattle.masking.proofs.PbmSpelled.{picture_spelled, volume_spelled}
 use Rattle.masking.proofs.LevelLaws.{grey_levels, low_levels}
+use Rattle.masking.proofs.SquareLaws.{are_told}
 use Rattle.masking.proofs.law.masks_are_pictures.Goals as goal
 
 pub returns-clause-pixels : goal.returns-clause-pixels
@@ -13,3 +14,6 @@ returns-clause-greys c = grey_levels
 
 pub returns-clause-depths : goal.returns-clause-depths
 returns-clause-depths c = low_levels
+
+pub returns-clause-squares : goal.returns-clause-squares
+returns-clause-squares c = are_told
