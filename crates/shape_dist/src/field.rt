@@ -4,14 +4,16 @@ ghost use Rattle.std.specs.Prelude.{◌≡◌, ◌<◌, length, IfOk, All, Some,
 ghost use Rattle.shape_terms.specs.Limits.{most_coordinate};
 ghost use Rattle.shape_terms.specs.Points.{in_box, box_count};
 ghost use Rattle.shape_terms.specs.Pictures.{Least};
-ghost use Rattle.shape_terms.specs.FramedBox.{framed_sides, IsWithin};
+ghost use Rattle.shape_terms.specs.FramedBox.{framed_sides, framed_point, IsWithin};
+ghost use Rattle.shape_terms.specs.AxisLines.{apart};
 ghost use Rattle.shape_terms.specs.Distances.{IsField, IsFramed};
 ghost use Rattle.shape_dist.specs.Spreads.{AreNearestOn};
 
 use crate::axes::all_found;
 use crate::found::Found;
+use crate::kept::Kept;
 use shape_grid::Grid;
-use shape_space::{NoMemory, Point, Steps};
+use shape_space::{NoMemory, Point, Sides, Steps, squared_distance};
 use std::alloc::Global;
 use std::marker::{Brand, Model};
 use std::sync::ledger::{Blank, Ledger};
@@ -28,40 +30,41 @@ pub struct Near<P> {
 }
 
 /// A nearest background point for each object point of a grid, in raster order.
+///
+/// It takes eight bytes for each object point: the points are kept as numbers of the framed box, and their distance is not kept.
 #[derive(Drop)]
 pub struct Field<P: Point> {
-    entries: Vec<Near<P>>,
+    sides: Sides<P>,
+    kept: Vec<Kept>,
 }
 
 impl<P: Point> Model for Field<P> {
-    ghost use Rattle.std.specs.Prelude.{◌<◌, ◌^◌, List, map, length};
+    ghost use Rattle.std.specs.Prelude.{◌<◌, ◌^◌, List, length};
+    ghost use Rattle.shape_terms.specs.Points.{sides_of};
     ghost use Rattle.shape_terms.specs.Distances.{NearFact};
+    ghost use Rattle.shape_dist.specs.Kept.{facts_of};
 
     ghost Value = { List NearFact };
 
-    ghost view = { λ f. map (λ e. record { p = P.coords e.p; q = P.coords e.q; s = e.s }) f.entries.items };
+    ghost view = { λ f. facts_of (sides_of (P.coords f.sides.lengths)) f.kept.items };
 
-    ghost invariant = { λ f. length f.entries.items < 2 ^ 32 };
+    ghost invariant = { λ f. length f.kept.items < 2 ^ 32 };
 }
 
-// The entry of a point of the box.
-fn near_of<P: Point>(grid: &Grid<P>, cells: &[Option<Found>], p: P) -> Near<P>
+// What is kept of a point of the box.
+fn kept_of<P: Point>(grid: &Grid<P>, cells: &[Option<Found>], p: P) -> Kept
     requires inside { IsTrue (in_box grid.now.sides (P.coords p)) }
     requires long { length cells.now ≡ box_count (framed_sides grid.now.sides) }
     requires near { AreNearestOn grid.now (box_count (framed_sides grid.now.sides)) cells.now }
-    ensures point { result.p ≡ p }
-    ensures least { Least grid.now (P.coords p) (P.coords result.q) result.s }
-    ensures p_within { IsWithin (negsuc 0) (pos most_coordinate) (P.coords p) }
-    ensures q_within { IsWithin (negsuc 0) (pos most_coordinate) (P.coords result.q) }
+    ensures point { framed_point grid.now.sides result.p ≡ P.coords p }
+    ensures least { Least grid.now (P.coords p) (framed_point grid.now.sides result.q)
+        (apart grid.now.sides result.p result.q) }
+    ensures p_within { IsWithin (negsuc 0) (pos most_coordinate) (framed_point grid.now.sides result.p) }
+    ensures q_within { IsWithin (negsuc 0) (pos most_coordinate) (framed_point grid.now.sides result.q) }
 {
-    let sides = grid.sides();
-    let i = sides.framed_number(p);
+    let i = grid.sides().framed_number(p);
     match cells[i as usize] {
-        Some(f) => Near {
-            p,
-            q: sides.framed_point(f.q),
-            s: f.s,
-        },
+        Some(f) => Kept { p: i, q: f.q },
         None => unreachable!(),
     }
 }
@@ -77,11 +80,12 @@ fn collected<P: Point>(
     ensures field { IfOk result (IsField grid.now) }
     ensures framed { IfOk result (All IsFramed) }
 {
-    let mut entries = Vec::with_capacity(alloc, grid.count() as usize)?;
+    let mut kept = Vec::with_capacity(alloc, grid.count() as usize)?;
     for p in grid.objects() {
-        entries.push(near_of(grid, cells, p))?;
+        kept.push(kept_of(grid, cells, p))?;
     }
-    Ok(Field { entries })
+    let sides = grid.sides();
+    Ok(Field { sides, kept })
 }
 
 // The same as `nearest`, with a ledger for the steps.
@@ -116,7 +120,7 @@ impl<P: Point> Field<P> {
     pub fn len(&self) -> u32
         ensures { result ≡ length self.now }
     {
-        self.entries.len() as u32
+        self.kept.len() as u32
     }
 
     /// The entry of the object point that is number `i` in raster order, from 0 on.
@@ -125,6 +129,10 @@ impl<P: Point> Field<P> {
         ensures { slice_get self.now i ≡ Some
             (record { p = P.coords result.p; q = P.coords result.q; s = result.s }) }
     {
-        self.entries[i as usize]
+        let Kept { p, q } = self.kept[i as usize];
+        let p = self.sides.framed_point(p);
+        let q = self.sides.framed_point(q);
+        let s = squared_distance(p, q) as u32;
+        Near { p, q, s }
     }
 }
