@@ -52,29 +52,25 @@ impl<P: Point> Model for Field<P> {
 }
 
 // What is kept of a point of the box.
-fn kept_of<P: Point>(grid: &Grid<P>, cells: &[Option<Found>], p: P) -> Kept
+fn kept_of<P: Point>(grid: &Grid<P>, cells: &[Found], p: P) -> Kept
     requires inside { IsTrue (in_box grid.now.sides (P.coords p)) }
     requires long { length cells.now ≡ box_count (framed_sides grid.now.sides) }
     requires near { AreNearestOn grid.now (box_count (framed_sides grid.now.sides)) cells.now }
     ensures point { framed_point grid.now.sides result.p ≡ P.coords p }
     ensures least { Least grid.now (P.coords p) (framed_point grid.now.sides result.q)
         (apart grid.now.sides result.p result.q) }
-    ensures p_within { IsWithin (negsuc 0) (pos most_coordinate) (framed_point grid.now.sides result.p) }
-    ensures q_within { IsWithin (negsuc 0) (pos most_coordinate) (framed_point grid.now.sides result.q) }
+    ensures p_within { IsWithin (negsuc 0) (pos most_coordinate)
+        (framed_point grid.now.sides result.p) }
+    ensures q_within { IsWithin (negsuc 0) (pos most_coordinate)
+        (framed_point grid.now.sides result.q) }
 {
-    let i = grid.sides().framed_number(p);
-    match cells[i as usize] {
-        Some(f) => Kept { p: i, q: f.q },
-        None => unreachable!(),
-    }
+    let p = grid.sides().framed_number(p);
+    let q = cells[p as usize].q;
+    Kept { p, q }
 }
 
 // The entries of all object points.
-fn collected<P: Point>(
-    alloc: Global,
-    grid: &Grid<P>,
-    cells: &[Option<Found>],
-) -> Result<Field<P>, NoMemory>
+fn collected<P: Point>(alloc: Global, grid: &Grid<P>, cells: &[Found]) -> Result<Field<P>, NoMemory>
     requires long { length cells.now ≡ box_count (framed_sides grid.now.sides) }
     requires near { AreNearestOn grid.now (box_count (framed_sides grid.now.sides)) cells.now }
     ensures field { IfOk result (IsField grid.now) }
@@ -107,7 +103,7 @@ fn counted<P: Point, L: Ledger>(
 
 /// A nearest background point for each object point.
 ///
-/// Its time is linear in the number of points of the framed box, and it takes some words of memory for each of them.
+/// Its time is linear in the number of points of the framed box. It takes eight bytes of memory for each of them, and as many for each object point.
 pub fn nearest<P: Point>(alloc: Global, grid: &Grid<P>) -> Result<Field<P>, NoMemory>
     ensures field { IfOk result (IsField grid.now) }
     ensures framed { IfOk result (All IsFramed) }
