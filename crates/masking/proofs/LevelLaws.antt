@@ -30,6 +30,40 @@ some_root (suc n) =
 root_of : (n : ℕ) → IsRoot n (root n)
 root_of n = let s = some_root n in subst (IsRoot n) (root_is n s.0 s.1) s.1
 
+-- the whole root of all squares that are greater is told as that of this one
+pub near_level : (square r : ℕ) → IsRoot (10000 * min square 429484) r → (r ≡ level square) × (r ≤ 65535)
+near_level square r h = elim (cases_lt square 429484) [
+  | inl l ↦ near (omega arith) (root_of (10000 * square))
+  | inr m ↦ far (omega arith) m (root_of (10000 * square))
+]
+  where
+    few : min square 429484 ≤ 429484 → r ≤ 65535
+    few k = elim (cases_lt 65535 r) [
+      | inl l ↦ (let q : 65536 * 65536 ≤ r * r = mul-le 65536 65536 r r (omega arith) (omega arith) in absurd (omega (arith, q, h.low, k)))
+      | inr m ↦ m
+    ]
+
+    near : min square 429484 ≡ square → IsRoot (10000 * square) (root (10000 * square)) → (r ≡ level square) × (r ≤ 65535)
+    near e k =
+        let e2 : r ≡ root (10000 * square) = root_is (10000 * square) r (subst (λ n. IsRoot (10000 * n) r) e h) in
+        let f = few (omega arith) in
+        (omega (arith, e2, f), f)
+
+    far : min square 429484 ≡ 429484 → 429484 ≤ square → IsRoot (10000 * square) (root (10000 * square)) → (r ≡ level square) × (r ≤ 65535)
+    far e m k =
+        let f = few (omega arith) in
+        let g : IsRoot (10000 * 429484) r = subst (λ n. IsRoot (10000 * n) r) e h in
+        let all : r ≡ 65535 = elim (cases_lt r 65535) [
+          | inl l ↦ (let q : (r + 1) * (r + 1) ≤ 65535 * 65535 = mul-le (r + 1) (r + 1) 65535 65535 (omega arith) (omega arith) in absurd (omega (arith, q, g.high)))
+          | inr n ↦ omega (arith, f, n)
+        ] in
+        let great : 65535 ≤ root (10000 * square) = elim (cases_lt (root (10000 * square)) 65535) [
+          | inl l ↦ (let q : (root (10000 * square) + 1) * (root (10000 * square) + 1) ≤ 65535 * 65535 = mul-le (root (10000 * square) + 1) (root (10000 * square) + 1) 65535 65535 (omega arith) (omega arith) in
+              absurd (omega (arith, q, k.high, m)))
+          | inr n ↦ n
+        ] in
+        (omega (arith, all, great), f)
+
 pub is_level : (square : ℕ) → IsLevel square (level square)
 is_level square = by_root (root (10000 * square)) (root_of (10000 * square))
   where

@@ -9,12 +9,15 @@ use shape_grid::Grid;
 use shape_space::{NoMemory, P2};
 use std::alloc::Global;
 
+// A square whose distance is told as one that is greater: 65535 squared is below 10,000 times it.
+const FAR_SQUARE: u64 = 429_484;
+
 // The distance in hundredths of which the square is given.
 fn level(square: u64) -> u16
     ensures { result ≡ level square }
 {
-    let root = (10_000 * square as u128).isqrt();
-    root.min(65_535) as u16
+    let near = square.min(FAR_SQUARE) as u32;
+    (10_000 * near).isqrt() as u16
 }
 
 // Puts a number, its higher byte first.

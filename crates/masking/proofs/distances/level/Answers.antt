@@ -1,9 +1,10 @@
-use Rattle.std.proofs.Common.{◌*◌, ap, ◌∙◌}
-use Rattle.std.specs.Prelude.{min}
-use Rattle.masking.proofs.RootLaws.{root_is}
+use Rattle.std.proofs.Common.{◌*◌, subst}
+use Rattle.masking.specs.Roots.{IsRoot}
+use Rattle.masking.proofs.LevelLaws.{near_level}
 use Rattle.masking.proofs.distances.level.Goals as goal
 
 pub returns : goal.returns
 returns c =
-    let r = c.isqrt-root.result in
-    c.min.ensures ∙ ap (λ x. min x 65535) (root_is (10000 * c.args.square) r (record { low = c.isqrt-root.ensures.square_le; high = c.isqrt-root.ensures.next_square_gt }))
+    let r = c.isqrt.result in
+    let found : IsRoot (10000 * c.min-near.result) r = record { low = c.isqrt.ensures.square_le; high = c.isqrt.ensures.next_square_gt } in
+    (near_level c.args.square r (subst (λ n. IsRoot (10000 * n) r) c.min-near.ensures found)).0

@@ -10,8 +10,8 @@ use Rattle.shape_cli.specs.Commands.{Asked}
 use Rattle.shape_cli.proofs.Endings.{answered, cut_short, kept_right, verdict_answers, took}
 use Rattle.shape_cli.proofs.verdict.check_file.Goals as goal
 
-pub judge-requires-clause-suits : goal.judge-requires-clause-suits
-judge-requires-clause-suits g c = subst (IsAbout (about_of (read_report_kind c.args.kind))) (sym c.in-Ok.ensures.kind) c.requires.takes
+pub judge-requires : goal.judge-requires
+judge-requires g c = record { suits = subst (IsAbout (about_of (read_report_kind c.args.kind))) (sym c.in-Ok.ensures.kind) c.requires.takes }
 
 pub returns-clause-ran : goal.returns-clause-ran
 returns-clause-ran g c =
