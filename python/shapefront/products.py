@@ -13,8 +13,8 @@ from .networks import PARTS, Network, part, parts_of
 from .pictures import Source, sides_of, told_suffix
 from .programs import Answer, call, explained, made
 
-# The words for a drawing, the best one first: with the numbers of the objects, where the program knows this word.
-DRAWINGS = (("draw", "labels"), ("draw",))
+# The words for a drawing, the best one first: with the numbers of the objects, where the program knows this word; and of the contours alone, where any other is too large.
+DRAWINGS = (("draw", "labels"), ("draw",), ("draw", "contours"))
 
 
 def measured(image: Path, stem: Path, rule: str, about: str) -> Path:

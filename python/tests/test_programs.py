@@ -54,7 +54,11 @@ class OtherPrograms(InFolder):
 
     def test_drawings_have_numbers_where_the_program_draws_them(self):
         self.tell(more="", values="")
-        for script, drawn in (('[ "$1" = labels ] && echo numbers || echo plain', "numbers\n"), ("[ $# = 1 ] && echo plain || exit 2", "plain\n")):
+        for script, drawn in (
+            ('[ "$1" = labels ] && echo numbers || echo plain', "numbers\n"),
+            ("[ $# = 1 ] && echo plain || exit 2", "plain\n"),
+            ('[ "$1" = contours ] && echo contours && exit; echo "shape: the drawing is too large; draw contours draws the contours alone" >&2; exit 3', "contours\n"),
+        ):
             self.program("draw", script)
             self.assertEqual(self.shapes("measure", STORED / "cross.pbm", "-o", "out")[0], 0)
             self.assertEqual(Path("out/cross.pbm.svg").read_text(), drawn)

@@ -6,7 +6,7 @@ use Rattle.report_terms.specs.Lines.{Line}
 use Rattle.report_lines.specs.Said.{given_sides, said}
 use Rattle.measure_terms.specs.Measures.{Measures}
 use Rattle.measure_terms.specs.Tables.{IsTable}
-use Rattle.drawing.specs.Svg.{report_layers, drawing}
+use Rattle.drawing.specs.Svg.{report_layers, drawing, contour_drawing}
 use Rattle.draw_report.specs.Numbers.{deepest_point, number_layer}
 use Rattle.unfolding.specs.Sheets.{sheet}
 
@@ -27,3 +27,7 @@ pub record IsNumberedText (lines : List Line) (bytes : List ℕ) : Type 0 where
 -- the bytes are the drawing of these lines with numbers, where they are about a flat picture
 abbrev pub IsNumberedDrawing : ℕ → List Line → List ℕ → Type 0
 IsNumberedDrawing d lines bytes = MatchBool (d == 2) (IsNumberedText lines bytes) (bytes ≡ sheet lines)
+
+-- the bytes are the drawing of the contours of these lines alone, where they are about a flat picture
+abbrev pub IsContourDrawing : ℕ → List Line → List ℕ → Type 0
+IsContourDrawing d lines bytes = bytes ≡ (if d == 2 then contour_drawing lines else sheet lines)

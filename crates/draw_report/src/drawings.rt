@@ -1,4 +1,4 @@
-//! What is made of a report: its drawing, without the numbers of the objects or with them.
+//! What is made of a report: its drawing, without the numbers of the objects or with them, or that of its contours alone.
 //! What the layers are is known to `drawing`; which objects there are, to `measuring`.
 ghost use Rattle.std.specs.Prelude.{◌≡◌, List, ◌++◌, codes, map, IfOk, OnOk};
 ghost use Rattle.shape_terms.specs.Points.{sides_of};
@@ -15,7 +15,7 @@ ghost use Rattle.draw_report.specs.Drawings.{IsNumberedText};
 
 use crate::numbered::Numbered;
 use crate::numbers::put_numbers;
-use drawing::{FlatSketch, Svg};
+use drawing::{ContourSketch, FlatSketch, Svg};
 use measuring::{Measures, Table, measure};
 use report_lines::{Heading, Seen};
 use report_making::Making;
@@ -121,6 +121,36 @@ impl Making for NumberedDrawings {
 
     fn make_flat(&self, alloc: Global, kept: Numbered) -> Result<Vec<u8>, NoMemory> {
         numbered(alloc, kept)
+    }
+
+    fn begin_solid(&self, alloc: Global, heading: &Heading<P3>) -> Result<Sheet, NoMemory> {
+        Sheet::new(alloc, heading)
+    }
+
+    fn make_solid(&self, alloc: Global, kept: Sheet) -> Result<Vec<u8>, NoMemory> {
+        kept.draw(alloc)
+    }
+}
+
+/// Makes the drawing of the contours of a report alone, where it is that of a flat picture.
+#[derive(Clone, Copy, Debug, PartialEq, Eq)]
+pub struct ContourDrawings;
+
+impl Making for ContourDrawings {
+    ghost use Rattle.draw_report.specs.Drawings.{IsContourDrawing};
+
+    type Flat = ContourSketch;
+
+    type Solid = Sheet;
+
+    ghost makes = { λ _. IsContourDrawing };
+
+    fn begin_flat(&self, alloc: Global, heading: &Heading<P2>) -> Result<ContourSketch, NoMemory> {
+        Ok(ContourSketch::new(alloc, heading))
+    }
+
+    fn make_flat(&self, alloc: Global, kept: ContourSketch) -> Result<Vec<u8>, NoMemory> {
+        kept.draw(alloc)
     }
 
     fn begin_solid(&self, alloc: Global, heading: &Heading<P3>) -> Result<Sheet, NoMemory> {

@@ -12,6 +12,7 @@ use Rattle.drawing.specs.Outlines.{contour_strokes, is_inside, Kept}
 use Rattle.report_lines.specs.Said.{is_deleted}
 use Rattle.drawing.specs.Seen.{flat, all_pixels}
 use Rattle.drawing.specs.declared.sketch.FlatSketch.{FlatSketch}
+use Rattle.drawing.specs.declared.contour_sketch.ContourSketch.{ContourSketch}
 
 -- the groups of contours begun: none, or some closed ones and the last
 abbrev pub groups_with : Bool → List (List Line) → List Line → List (List Line)
@@ -39,3 +40,8 @@ pub record IsSketchOf (lines : List Line) (s : FlatSketch) : Type 0 where
   pub pixels : all_pixels s.pixels.items ≡ pixels (sides_of (flat s.sides.lengths)) lines
   pub outlines : HasOutlines (sides_of (flat s.sides.lengths)) lines s.outlines
   pub deleted : HasDeleted (sides_of (flat s.sides.lengths)) lines s.deleted
+
+-- a sketch of the contours of the lines, the first of which gives its sides
+pub record IsContourSketchOf (lines : List Line) (s : ContourSketch) : Type 0 where
+  pub given : given_sides lines ≡ sides_of (flat s.sides.lengths)
+  pub outlines : HasOutlines (sides_of (flat s.sides.lengths)) lines s.outlines

@@ -104,3 +104,17 @@ report_layers lines = drawn (given_sides lines) lines
 -- the drawing of a report with these lines
 abbrev pub drawing : List Line → List ℕ
 drawing lines = report_layers lines ++ codes "</svg>\n"
+
+-- a drawing of a flat picture that is written has so many bytes at most, but for that of its contours alone
+abbrev pub most_drawing : ℕ
+most_drawing = 50000000
+
+-- ---- the contours alone
+
+-- the contours of these lines in a box with these sides, without the object and the skeleton
+abbrev pub drawn_contours : List ℕ → List Line → List ℕ
+drawn_contours sides lines = head (slice_index sides 0) (slice_index sides 1) ++ (contour_layer (strokes sides lines) ++ codes "</svg>\n")
+
+-- the drawing of the contours of a report with these lines
+abbrev pub contour_drawing : List Line → List ℕ
+contour_drawing lines = drawn_contours (given_sides lines) lines

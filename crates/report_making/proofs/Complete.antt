@@ -31,7 +31,7 @@ not_missing : (files : Option Files) (name : List ℕ) (P : List ℕ → Type 0)
 not_missing None name P p m = p
 not_missing (Some files) name P p m = subst (λ (o : Option (List ℕ)). MatchOption o ⊥ P) m p
 
-none_of_missing : (files : Option Files) (name : List ℕ) (P : List ℕ → Type 0) → IsMissing files name → OfFile files name P → ⊥
+pub none_of_missing : (files : Option Files) (name : List ℕ) (P : List ℕ → Type 0) → IsMissing files name → OfFile files name P → ⊥
 none_of_missing None name P m p = m
 none_of_missing (Some files) name P m p = subst (λ (o : Option (List ℕ)). MatchOption o ⊥ P) m p
 
@@ -47,13 +47,14 @@ module _ (make : Maker) (name : List ℕ) (old new : DeskState) where
   made outcome.NoMemory r f h = inr refl
   made outcome.Usage r f h = absurd r
   made (outcome.NotOver k) r f h = absurd r
+  made outcome.TooLarge r f h = absurd r
   made (outcome.NotReport k) r f h = absurd (not_refused k f r.0)
   made outcome.ReadFault (inl rose, w) f h = absurd (h.read rose)
   made outcome.ReadFault (inr missing, w) f h = absurd (not_missing old.files name IsSomeReport f missing)
   made outcome.WriteFault r f h = absurd (h.write r.cause)
 
   -- of a file of which nothing can be made nothing is
-  not_made : (bytes : List ℕ) → FileIs old.files name (λ text. IsSomeReport text → ⊥) → OfFile old.files name (λ text. IsMadeOf make text bytes) → ⊥
+  pub not_made : (bytes : List ℕ) → FileIs old.files name (λ text. IsSomeReport text → ⊥) → OfFile old.files name (λ text. IsMadeOf make text bytes) → ⊥
   not_made bytes f h =
       let m = meet old.files name (λ text. IsSomeReport text → ⊥) (λ text. IsMadeOf make text bytes) f h in
       m.1 (is_report make m.0 bytes m.2)
@@ -65,6 +66,7 @@ module _ (make : Maker) (name : List ℕ) (old new : DeskState) where
   refuses outcome.Done r f n = absurd (not_made r.bytes f r.made)
   refuses outcome.Usage r f n = absurd r
   refuses (outcome.NotOver k) r f n = absurd r
+  refuses outcome.TooLarge r f n = absurd r
   refuses outcome.ReadFault (inl rose, w) f n = absurd (n rose)
   refuses outcome.ReadFault (inr missing, w) f n = absurd (not_missing old.files name (λ text. IsSomeReport text → ⊥) f missing)
   refuses outcome.WriteFault r f n = absurd (not_made r.bytes f r.made)
@@ -72,7 +74,7 @@ module _ (make : Maker) (name : List ℕ) (old new : DeskState) where
   the_line : (k m : ℕ) → FileIs old.files name (λ text. IsNoReport text k) → OfFile old.files name (λ text. IsNoReport text m) → m ≡ k
   the_line k m f h = let b = meet old.files name (λ text. IsNoReport text k) (λ text. IsNoReport text m) f h in one_first_bad b.0 m k b.2 b.1
 
-  bad_not_made : (k : ℕ) (bytes : List ℕ) → FileIs old.files name (λ text. IsNoReport text k) → OfFile old.files name (λ text. IsMadeOf make text bytes) → ⊥
+  pub bad_not_made : (k : ℕ) (bytes : List ℕ) → FileIs old.files name (λ text. IsNoReport text k) → OfFile old.files name (λ text. IsMadeOf make text bytes) → ⊥
   bad_not_made k bytes f h =
       let m = meet old.files name (λ text. IsNoReport text k) (λ text. IsMadeOf make text bytes) f h in
       made_or_bad m.0 k (is_report make m.0 bytes m.2) m.1
@@ -83,6 +85,7 @@ module _ (make : Maker) (name : List ℕ) (old new : DeskState) where
   tells outcome.Done k r f n = absurd (bad_not_made k r.bytes f r.made)
   tells outcome.Usage k r f n = absurd r
   tells (outcome.NotOver m) k r f n = absurd r
+  tells outcome.TooLarge k r f n = absurd r
   tells outcome.ReadFault k (inl rose, w) f n = absurd (n rose)
   tells outcome.ReadFault k (inr missing, w) f n = absurd (not_missing old.files name (λ text. IsNoReport text k) f missing)
   tells outcome.WriteFault k r f n = absurd (bad_not_made k r.bytes f r.made)
@@ -94,4 +97,5 @@ module _ (make : Maker) (name : List ℕ) (old new : DeskState) where
   lacks outcome.Done r m = absurd (none_of_missing old.files name (λ text. IsMadeOf make text r.bytes) m r.made)
   lacks outcome.Usage r m = absurd r
   lacks (outcome.NotOver k) r m = absurd r
+  lacks outcome.TooLarge r m = absurd r
   lacks outcome.WriteFault r m = absurd (none_of_missing old.files name (λ text. IsMadeOf make text r.bytes) m r.made)

@@ -16,6 +16,6 @@ file_refused name old mid new left ReadFault a rose h = inl (rose h)
 file_refused name old mid new left NoMemory a rose h = tt
 
 -- what making bytes of a report answers, of the file that it is in
-pub file_made : {V : Type 0} (make : Maker) (bytes : V → List ℕ) (name : List ℕ) (old mid new : DeskState) (left : Option (List ℕ)) (r : Result V ReportFault) → IsAtFront old.files name left → old.read_faults ≤ mid.read_faults → Makes make bytes left mid.read_faults new.read_faults r → FileMade make bytes name old new r
-file_made make bytes name old mid new left (Ok v) a l h = of_file old.files name left (λ t. IsMadeOf make t (bytes v)) a h
+pub file_made : {V : Type 0} (make : V → Maker) (bytes : V → List ℕ) (name : List ℕ) (old mid new : DeskState) (left : Option (List ℕ)) (r : Result V ReportFault) → IsAtFront old.files name left → old.read_faults ≤ mid.read_faults → Makes make bytes left mid.read_faults new.read_faults r → FileMade make bytes name old new r
+file_made make bytes name old mid new left (Ok v) a l h = of_file old.files name left (λ t. IsMadeOf (make v) t (bytes v)) a h
 file_made make bytes name old mid new left (Err fault) a l h = file_refused name old mid new left fault a (rose_earlier old.read_faults mid.read_faults new.read_faults l) h

@@ -3,3 +3,4 @@ pub mod Files
 pub mod OneMaking
 pub mod Complete
 pub mod Written
+pub mod Weaker

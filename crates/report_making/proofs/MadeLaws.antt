@@ -1,6 +1,6 @@
 -- From the heading of a report and the lines behind it to what is made of it, or why nothing is.
 -- Laws over texts and lines; what is made is only what it is said to be.
-use Rattle.std.proofs.Common.{◌≡◌, inl, ℕ, ◌≤◌, refl, sym, ap, ◌∙◌, subst, arith, List, [], ◌∷◌, ◌++◌, Option, None, Some}
+use Rattle.std.proofs.Common.{◌≡◌, inl, ℕ, refl, sym, subst, List, [], ◌∷◌, ◌++◌, Option, None, Some}
 use Rattle.std.specs.Prelude.{Err}
 use Rattle.shape_desk.specs.Line.{IfTold}
 use Rattle.text_terms.specs.Going.{IsTextOf}

@@ -13,7 +13,7 @@ use Rattle.report_making.proofs.OneMaking.{same_space}
 use Rattle.report_making.proofs.Complete.{meet}
 
 -- what is made of a report's text is made of its lines
-made_of : (make : Maker) (text bytes : List ℕ) (s : Space) (lines : List Line) → IsSpace s → IsReport s text lines → IsMadeOf make text bytes → make s.axes lines bytes
+pub made_of : (make : Maker) (text bytes : List ℕ) (s : Space) (lines : List Line) → IsSpace s → IsReport s text lines → IsMadeOf make text bytes → make s.axes lines bytes
 made_of make text bytes s lines known report m =
     let space : m.space ≡ s = same_space text m.space s m.lines lines m.known known m.report report in
     let same : m.lines ≡ lines = one_reading s text m.lines lines (subst (λ u. IsReport u text m.lines) space m.report) report in

@@ -1,6 +1,6 @@
 -- What is made of a report, and why nothing is.
 -- What is made is told by the lines and the number of axes.
-use Rattle.std.specs.Prelude.{◌≡◌, ◌⊎◌, ℕ, ⊤, List, Option, Result, Ok, Err}
+use Rattle.std.specs.Prelude.{◌≡◌, ◌⊎◌, ◌<◌, ◌≤◌, ℕ, ⊤, List, length, Option, Result, Ok, Err}
 use Rattle.shape_desk.specs.Desk.{Rose}
 use Rattle.shape_desk.specs.Line.{IfTold}
 use Rattle.report_terms.specs.Lines.{Line}
@@ -16,6 +16,18 @@ Maker = ℕ → List Line → List ℕ → Type 0
 -- just the bytes of a function of what the lines say of the points of their box
 abbrev pub exactly : (ℕ → Said → List ℕ) → Maker
 exactly f d lines bytes = bytes ≡ f d (said lines)
+
+-- made so, about a picture with so many axes
+abbrev pub about : ℕ → Maker → Maker
+about axes make d lines bytes = make d lines bytes × (d ≡ axes)
+
+-- made so, and of a flat picture no more bytes than so many
+abbrev pub up_to : ℕ → Maker → Maker
+up_to most make d lines bytes = make d lines bytes × (d ≡ 2 → length bytes ≤ most)
+
+-- made so, of a flat picture, and more bytes than so many
+abbrev pub beyond : ℕ → Maker → Maker
+beyond most make d lines bytes = make d lines bytes × (d ≡ 2) × (most < length bytes)
 
 -- the space is that of flat pictures or of volumes
 abbrev pub IsSpace : Space → Type 0
@@ -43,6 +55,6 @@ Refused text before now ReadFault = Rose before now
 Refused text before now NoMemory = ⊤
 
 -- what making bytes of a report answers
-abbrev pub Makes : {V : Type 0} → Maker → (V → List ℕ) → (text : Option (List ℕ)) (before now : ℕ) → Result V ReportFault → Type 0
-Makes make bytes text before now (Ok v) = IfTold text (λ t. IsMadeOf make t (bytes v))
+abbrev pub Makes : {V : Type 0} → (V → Maker) → (V → List ℕ) → (text : Option (List ℕ)) (before now : ℕ) → Result V ReportFault → Type 0
+Makes make bytes text before now (Ok v) = IfTold text (λ t. IsMadeOf (make v) t (bytes v))
 Makes make bytes text before now (Err fault) = Refused text before now fault

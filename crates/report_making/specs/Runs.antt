@@ -5,7 +5,7 @@ use Rattle.shape_desk.specs.Desk.{DeskState, Rose, IsMissing, Puts, PutsFront}
 use Rattle.report_lines.specs.declared.fault.ReportFault.{ReportFault}
 use Rattle.report_lines.specs.declared.fault.ReportFault.TheVariants.{NotReport, ReadFault, NoMemory}
 use Rattle.shape_desk.specs.Files.{OfFile, IsSilent}
-use Rattle.report_making.specs.Made.{Maker, IsMadeOf, IsNoReport}
+use Rattle.report_making.specs.Made.{Maker, up_to, beyond, IsMadeOf, IsNoReport}
 use Rattle.report_making.specs.declared.outcome.Outcome.{Outcome}
 use Rattle.report_making.specs.declared.outcome.Outcome.TheVariants as outcome
 
@@ -16,8 +16,8 @@ FileRefused name old new ReadFault = Rose old.read_faults new.read_faults ⊎ Is
 FileRefused name old new NoMemory = ⊤
 
 -- what making bytes of the report in a file answers
-abbrev pub FileMade : {V : Type 0} → Maker → (V → List ℕ) → List ℕ → DeskState → DeskState → Result V ReportFault → Type 0
-FileMade make bytes name old new (Ok v) = OfFile old.files name (λ text. IsMadeOf make text (bytes v))
+abbrev pub FileMade : {V : Type 0} → (V → Maker) → (V → List ℕ) → List ℕ → DeskState → DeskState → Result V ReportFault → Type 0
+FileMade make bytes name old new (Ok v) = OfFile old.files name (λ text. IsMadeOf (make v) text (bytes v))
 FileMade make bytes name old new (Err fault) = FileRefused name old new fault
 
 -- what is made of the report in the file was written
@@ -39,6 +39,17 @@ Ran make name old new outcome.Done = WritesMade make name old new
 Ran make name old new outcome.Usage = ⊥
 Ran make name old new (outcome.NotReport k) = OfFile old.files name (λ text. IsNoReport text k) × IsSilent old new
 Ran make name old new (outcome.NotOver k) = ⊥
+Ran make name old new outcome.TooLarge = ⊥
 Ran make name old new outcome.ReadFault = (Rose old.read_faults new.read_faults ⊎ IsMissing old.files name) × IsSilent old new
 Ran make name old new outcome.WriteFault = CutsShort make name old new
 Ran make name old new outcome.NoMemory = IsSilent old new
+
+-- the report in the file is that of a flat picture, and more bytes than so many are made of it
+pub record IsTooLarge (most : ℕ) (make : Maker) (name : List ℕ) (old : DeskState) : Type 0 where
+  pub bytes : List ℕ
+  pub made : OfFile old.files name (λ text. IsMadeOf (beyond most make) text bytes)
+
+-- the same of a run that writes what is made of a flat picture where it has so many bytes at most, and else nothing
+abbrev pub RanUpTo : ℕ → Maker → List ℕ → DeskState → DeskState → Outcome → Type 0
+RanUpTo most make name old new outcome.TooLarge = IsTooLarge most make name old × IsSilent old new
+RanUpTo most make name old new o = Ran (up_to most make) name old new o

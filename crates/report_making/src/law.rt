@@ -5,7 +5,7 @@ ghost use Rattle.shape_desk.specs.Desk.{DeskState, Rose, IsMissing};
 ghost use Rattle.report_terms.specs.Lines.{Line};
 ghost use Rattle.report_lines.specs.Reports.{Space, IsReport};
 ghost use Rattle.report_making.specs.Made.{IsSpace, IsMadeOf, IsNoReport};
-ghost use Rattle.report_making.specs.Runs.{Ran};
+ghost use Rattle.report_making.specs.Runs.{Ran, RanUpTo};
 ghost use Rattle.report_making.specs.Complete.{IsSomeReport, FileIs, HasNoFault, WritesOf};
 ghost use Rattle.report_making.specs.declared.outcome.Outcome.{Outcome};
 
@@ -43,6 +43,32 @@ pub fn products_are_complete<M: Making>()
         → (o ≡ Outcome.NotReport k) ⊎ (o ≡ Outcome.NoMemory) }
     ensures lacks { (make : M) (name : List ℕ) (old new : DeskState) (o : Outcome)
         → Ran (M.makes make) name old new o → IsMissing old.files name
+        → (o ≡ Outcome.ReadFault) ⊎ (o ≡ Outcome.NoMemory) }
+{}
+
+/// What a run owes that writes what is made of a flat picture up to a bound: the same, but that more may be made than is
+/// written. Any other outcome is one of a run without a bound.
+pub fn bounded_products_are_complete<M: Making>()
+    ensures other { (make : M) (most : ℕ) (name : List ℕ) (old new : DeskState) (o : Outcome)
+        → RanUpTo most (M.makes make) name old new o → (o ≡ Outcome.TooLarge → ⊥)
+        → Ran (M.makes make) name old new o }
+    ensures made { (make : M) (most : ℕ) (name : List ℕ) (old new : DeskState) (o : Outcome)
+        → RanUpTo most (M.makes make) name old new o → FileIs old.files name IsSomeReport
+        → HasNoFault old new
+        → (o ≡ Outcome.Done) ⊎ ((o ≡ Outcome.TooLarge) ⊎ (o ≡ Outcome.NoMemory)) }
+    ensures refuses { (make : M) (most : ℕ) (name : List ℕ) (old new : DeskState) (o : Outcome)
+        → RanUpTo most (M.makes make) name old new o
+        → FileIs old.files name (λ text. IsSomeReport text → ⊥)
+        → (Rose old.read_faults new.read_faults → ⊥)
+        → ((k : ℕ) × (o ≡ Outcome.NotReport k)
+        × FileIs old.files name (λ text. IsNoReport text k)) ⊎ (o ≡ Outcome.NoMemory) }
+    ensures tells { (make : M) (most : ℕ) (name : List ℕ) (old new : DeskState) (o : Outcome)
+        (k : ℕ) → RanUpTo most (M.makes make) name old new o
+        → FileIs old.files name (λ text. IsNoReport text k)
+        → (Rose old.read_faults new.read_faults → ⊥)
+        → (o ≡ Outcome.NotReport k) ⊎ (o ≡ Outcome.NoMemory) }
+    ensures lacks { (make : M) (most : ℕ) (name : List ℕ) (old new : DeskState) (o : Outcome)
+        → RanUpTo most (M.makes make) name old new o → IsMissing old.files name
         → (o ≡ Outcome.ReadFault) ⊎ (o ≡ Outcome.NoMemory) }
 {}
 

@@ -8,7 +8,7 @@ mod making;
 mod outcome;
 mod top;
 
-pub use law::{one_making, products_are_complete, reports_are_made};
+pub use law::{bounded_products_are_complete, one_making, products_are_complete, reports_are_made};
 pub use making::Making;
 pub use outcome::Outcome;
-pub use top::run_named;
+pub use top::{run_named, run_up_to};

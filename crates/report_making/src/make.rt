@@ -9,13 +9,20 @@ ghost use Rattle.report_lines.specs.Reports.{space, flat, solid};
 ghost use Rattle.report_lines.specs.Headings.{TakesHeading};
 ghost use Rattle.report_lines.specs.Seen.{flat_line, solid_line};
 ghost use Rattle.report_lines.specs.Answers.{Reads};
-ghost use Rattle.report_making.specs.Made.{Makes};
+ghost use Rattle.report_making.specs.Made.{Makes, about};
 
 use crate::making::Making;
 use report_lines::{Heading, Opening, ReportFault, Sketch, read_lines, read_opening};
 use shape_desk::{Desk, LineReader};
 use shape_space::{NoMemory, P2, P3, Point};
 use std::alloc::Global;
+
+/// The bytes that are made of a report, and the number of axes of its picture.
+#[derive(Drop)]
+pub struct Made {
+    pub(crate) bytes: Vec<u8>,
+    pub(crate) axes: u32,
+}
 
 // What is kept of a report's lines, where its heading was taken and kept.
 fn read_kept<P: Point, S: Sketch<P>, D: Desk>(
@@ -45,19 +52,19 @@ fn make_flat<M: Making, D: Desk>(
     heading: &Heading<P2>,
     reader: &mut LineReader,
     desk: &mut D,
-) -> Result<Vec<u8>, ReportFault>
+) -> Result<Made, ReportFault>
     requires { (D.state desk.old).begun Report ≡ true }
     ensures answer { (text : Option (List ℕ)) → IfTold text (λ bytes. TakesHeading flat bytes
         (ahead_of reader.old.ahead ((D.state desk.old).left Report))
         (flat_line heading.now.line))
-        → Makes (M.makes making.now) (λ v. v.items) text
+        → Makes (λ v. about v.axes (M.makes making.now)) (λ v. v.bytes.items) text
         (D.state desk.old).read_faults (D.state desk.new).read_faults result }
     ensures reads { OnlyReadsAt Report (D.state desk.old) (D.state desk.new) }
 {
     let begun = making.begin_flat(alloc, heading);
     let kept = read_kept::<P2, M::Flat, D>(begun, reader, desk)?;
     match making.make_flat(alloc, kept) {
-        Ok(bytes) => Ok(bytes),
+        Ok(bytes) => Ok(Made { bytes, axes: 2 }),
         Err(_) => Err(ReportFault::NoMemory),
     }
 }
@@ -69,19 +76,19 @@ fn make_solid<M: Making, D: Desk>(
     heading: &Heading<P3>,
     reader: &mut LineReader,
     desk: &mut D,
-) -> Result<Vec<u8>, ReportFault>
+) -> Result<Made, ReportFault>
     requires { (D.state desk.old).begun Report ≡ true }
     ensures answer { (text : Option (List ℕ)) → IfTold text (λ bytes. TakesHeading solid bytes
         (ahead_of reader.old.ahead ((D.state desk.old).left Report))
         (solid_line heading.now.line))
-        → Makes (M.makes making.now) (λ v. v.items) text
+        → Makes (λ v. about v.axes (M.makes making.now)) (λ v. v.bytes.items) text
         (D.state desk.old).read_faults (D.state desk.new).read_faults result }
     ensures reads { OnlyReadsAt Report (D.state desk.old) (D.state desk.new) }
 {
     let begun = making.begin_solid(alloc, heading);
     let kept = read_kept::<P3, M::Solid, D>(begun, reader, desk)?;
     match making.make_solid(alloc, kept) {
-        Ok(bytes) => Ok(bytes),
+        Ok(bytes) => Ok(Made { bytes, axes: 3 }),
         Err(_) => Err(ReportFault::NoMemory),
     }
 }
@@ -93,9 +100,10 @@ pub(crate) fn make<M: Making, D: Desk>(
     alloc: Global,
     making: &M,
     desk: &mut D,
-) -> Result<Vec<u8>, ReportFault>
+) -> Result<Made, ReportFault>
     requires { (D.state desk.old).begun Report ≡ true }
-    ensures answer { Makes (M.makes making.now) (λ v. v.items) ((D.state desk.old).left Report)
+    ensures answer { Makes (λ v. about v.axes (M.makes making.now)) (λ v. v.bytes.items)
+        ((D.state desk.old).left Report)
         (D.state desk.old).read_faults (D.state desk.new).read_faults result }
     ensures reads { OnlyReadsAt Report (D.state desk.old) (D.state desk.new) }
 {

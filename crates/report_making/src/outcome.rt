@@ -16,6 +16,8 @@ pub enum Outcome {
     NotReport { line: u64 },
     /// The file of the second report is none that goes with the first, from this line on.
     NotOver { line: u64 },
+    /// What is made of the report has more bytes than are written of a flat picture. Nothing was written.
+    TooLarge,
     /// A read failed, or the file is missing.
     ReadFault,
     /// A write failed. A front of what is made was written.
@@ -34,6 +36,7 @@ impl Outcome {
             Outcome::Usage => 2,
             Outcome::NotReport { line: _ } => 3,
             Outcome::NotOver { line: _ } => 3,
+            Outcome::TooLarge => 3,
             Outcome::ReadFault => 4,
             Outcome::WriteFault => 5,
             Outcome::NoMemory => 6,
@@ -49,6 +52,9 @@ impl Outcome {
             Outcome::Usage => usage,
             Outcome::NotReport { line: _ } => "not a report at",
             Outcome::NotOver { line: _ } => "the second is no report over the first at",
+            Outcome::TooLarge => {
+                "the drawing is too large; draw contours draws the contours alone"
+            }
             Outcome::ReadFault => "read failed",
             Outcome::WriteFault => "write failed",
             Outcome::NoMemory => "no memory",

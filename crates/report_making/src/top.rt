@@ -1,11 +1,12 @@
-//! The run: what a program makes of the report in a file is written.
+//! The runs: what a program makes of the report in a file is written, whatever its length, or up to a bound.
 //! What each outcome means for the desk stands in `specs/Runs.antt`.
-ghost use Rattle.std.specs.Prelude.{◌≡◌, ℕ, List};
+ghost use Rattle.std.specs.Prelude.{◌≡◌, ◌≤◌, ◌↔◌, IsTrue, length};
 ghost use Rattle.shape_desk.specs.Desk.{OnlyReads};
 ghost use Rattle.shape_desk.specs.Files.{KeepsFiles};
-ghost use Rattle.report_making.specs.Runs.{FileMade, Ran};
+ghost use Rattle.report_making.specs.Made.{about};
+ghost use Rattle.report_making.specs.Runs.{FileMade, Ran, RanUpTo};
 
-use crate::make::make;
+use crate::make::{Made, make};
 use crate::making::Making;
 use crate::outcome::{Outcome, refused};
 use report_lines::ReportFault;
@@ -18,8 +19,8 @@ fn make_file<M: Making, D: Desk>(
     making: &M,
     name: &[u8],
     desk: &mut D,
-) -> Result<Vec<u8>, ReportFault>
-    ensures answer { FileMade (M.makes making.now) (λ v. v.items) name.now
+) -> Result<Made, ReportFault>
+    ensures answer { FileMade (λ v. about v.axes (M.makes making.now)) (λ v. v.bytes.items) name.now
         (D.state desk.old) (D.state desk.new) result }
     ensures only { OnlyReads (D.state desk.old) (D.state desk.new) }
 {
@@ -43,11 +44,43 @@ pub fn run_named<M: Making, D: Desk>(
     ensures ran { Ran (M.makes making.now) name.now (D.state desk.old) (D.state desk.new) result }
     ensures kept { KeepsFiles (D.state desk.old) (D.state desk.new) }
 {
-    let bytes = match make_file(alloc, making, name, desk) {
-        Ok(bytes) => bytes,
+    let made = match make_file(alloc, making, name, desk) {
+        Ok(made) => made,
         Err(fault) => return refused(fault),
     };
-    match put_all(bytes.as_slice(), desk) {
+    match put_all(made.bytes.as_slice(), desk) {
+        Ok(()) => Outcome::Done,
+        Err(_) => Outcome::WriteFault,
+    }
+}
+
+// Whether so many bytes at most are made, or they are made of a volume.
+fn is_small(made: &Made, most: usize) -> bool
+    ensures { IsTrue result ↔ (made.now.axes ≡ 2 → length made.now.bytes.items ≤ most) }
+{
+    made.axes != 2 || made.bytes.len() <= most
+}
+
+/// The same, but where more than so many bytes are made of a flat picture's report nothing is written, and this is told.
+pub fn run_up_to<M: Making, D: Desk>(
+    alloc: Global,
+    making: &M,
+    most: usize,
+    name: &[u8],
+    desk: &mut D,
+) -> Outcome
+    ensures ran { RanUpTo most (M.makes making.now) name.now
+        (D.state desk.old) (D.state desk.new) result }
+    ensures kept { KeepsFiles (D.state desk.old) (D.state desk.new) }
+{
+    let made = match make_file(alloc, making, name, desk) {
+        Ok(made) => made,
+        Err(fault) => return refused(fault),
+    };
+    if !is_small(&made, most) {
+        return Outcome::TooLarge;
+    }
+    match put_all(made.bytes.as_slice(), desk) {
         Ok(()) => Outcome::Done,
         Err(_) => Outcome::WriteFault,
     }

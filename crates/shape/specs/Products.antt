@@ -5,9 +5,10 @@ use Rattle.shape_desk.specs.Desk.{DeskState}
 use Rattle.report_making.specs.Made.{exactly}
 use Rattle.report_making.specs.Runs as Report
 use Rattle.report_making.specs.declared.outcome.Outcome.{Outcome}
-use Rattle.draw_report.specs.Drawings.{IsDrawing, IsNumberedDrawing}
+use Rattle.drawing.specs.Svg.{most_drawing}
+use Rattle.draw_report.specs.Drawings.{IsDrawing, IsNumberedDrawing, IsContourDrawing}
 use Rattle.draw_report.specs.Overs.{RanOver}
-use Rattle.draw_report.specs.Words.{labels_word, AreNoForm}
+use Rattle.draw_report.specs.Words.{labels_word, contours_word, AreNoForm}
 use Rattle.measure_report.specs.TableTexts.{IsTableText}
 use Rattle.masking.specs.Masks.{mask_bytes}
 use Rattle.masking.specs.Words.{mask_word}
@@ -29,16 +30,17 @@ AreNoWords product.Mask words = (mask : Mask) (name : List ℕ) → words ≢ ma
 
 -- what is said of words that the product does not take
 abbrev pub usage_of : Product → List ℕ
-usage_of product.Drawing = codes "usage: shape draw [labels] REPORT, shape draw REPORT FURTHER"
+usage_of product.Drawing = codes "usage: shape draw [labels|contours] REPORT, shape draw REPORT FURTHER"
 usage_of product.Table = codes "usage: shape measure REPORT"
 usage_of product.Mask = codes "usage: shape mask skeleton|object|distances|squares REPORT"
 
 -- what a run did that draws what these words say
 abbrev pub Drew : List (List ℕ) → DeskState → DeskState → Outcome → Type 0
 Drew words old new outcome =
-    ((name : List ℕ) → words ≡ name ∷ [] → Report.Ran IsDrawing name old new outcome)
-    × ((name : List ℕ) → words ≡ labels_word ∷ name ∷ [] → Report.Ran IsNumberedDrawing name old new outcome)
-    × ((analysis further : List ℕ) → words ≡ analysis ∷ further ∷ [] → analysis ≢ labels_word → RanOver analysis further old new outcome)
+    ((name : List ℕ) → words ≡ name ∷ [] → Report.RanUpTo most_drawing IsDrawing name old new outcome)
+    × ((name : List ℕ) → words ≡ labels_word ∷ name ∷ [] → Report.RanUpTo most_drawing IsNumberedDrawing name old new outcome)
+    × ((name : List ℕ) → words ≡ contours_word ∷ name ∷ [] → Report.Ran IsContourDrawing name old new outcome)
+    × ((analysis further : List ℕ) → words ≡ analysis ∷ further ∷ [] → analysis ≢ labels_word → analysis ≢ contours_word → RanOver analysis further old new outcome)
 
 -- what a run did that makes a product by these words behind its own
 abbrev pub Ran : Product → List (List ℕ) → DeskState → DeskState → Outcome → Type 0

@@ -4,6 +4,7 @@ use Rattle.shape_desk.specs.declared.desk.Place.TheVariants.{Report}
 use Rattle.shape_desk.specs.Line.{ahead_of}
 use Rattle.report_lines.specs.Reports.{flat}
 use Rattle.report_lines.specs.Seen.{flat_line}
+use Rattle.report_making.specs.Made.{about}
 use Rattle.report_making.proofs.MadeLaws.{made_so, refused_behind}
 use Rattle.report_making.proofs.make.make_flat.Goals as goal
 
@@ -18,4 +19,4 @@ pub returns-in-Ok-clause-answer : goal.returns-in-Ok-clause-answer
 returns-in-Ok-clause-answer g c = λ text taken.
     let line = flat_line c.args.heading.now.line in
     let read = c.in_ok-kept.ensures.answer text line taken c.begin_flat-begun.ensures in
-    made_so (g.M.Making.makes c.args.making.now) flat (inl refl) g.M.Flat.Sketch.IsOf c.in_ok-kept.kept text _ read c.in-Ok.ensures
+    made_so (about 2 (g.M.Making.makes c.args.making.now)) flat (inl refl) g.M.Flat.Sketch.IsOf c.in_ok-kept.kept text _ read (λ lines kept. (c.in-Ok.ensures lines kept, refl))
