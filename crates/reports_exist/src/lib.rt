@@ -24,7 +24,8 @@ pub fn edge_reports_exist()
 /// up its object.
 pub fn ball_reports_exist()
     ensures flat { (X : Picture) → IsPicture 2 X → HasSidesTo most_flat X → IsMet (ball_report X) }
-    ensures solid { (X : Picture) → IsPicture 3 X → HasSidesTo most_solid X → IsMet (ball_report X) }
+    ensures solid { (X : Picture) → IsPicture 3 X → HasSidesTo most_solid X
+        → IsMet (ball_report X) }
 {}
 
 /// Each flat picture with sides from 1 to `most_flat` has contours, and each of these has its cover.
