@@ -21,7 +21,8 @@ abbrev no_fact : NearFact
 no_fact = record { p = []; q = []; s = 0 }
 
 -- item i of a list that is made of another one
-item_of : {A : Type 0} (f : NearFact → A) (facts : List NearFact) (xs : List A) (i : ℕ) (x : A) → map f facts ≡ xs → slice_get xs i ≡ Some x → (i < length facts) × (f (get_or facts i no_fact) ≡ x)
+item_of : {A : Type 0} (f : NearFact → A) (facts : List NearFact) (xs : List A) (i : ℕ) (x : A) → map f facts ≡ xs → slice_get xs i ≡ Some x
+    → (i < length facts) × (f (get_or facts i no_fact) ≡ x)
 item_of f facts xs i x e h =
     let l : i < length facts = subst (λ n. i < n) (ap length (sym e) ∙ length-map facts f) (slice_get_within xs i x h) in
     (l, sym (get_or-map f facts i no_fact x l) ∙ ap (λ l. get_or l i x) e ∙ get_or_from_slice_get xs i x x h)
@@ -39,7 +40,8 @@ features_of X facts h = record {
 }
 
 -- the numbers of all that is kept
-pub numbers_told : (sides numbers : List ℕ) (kept : List Kept) (n : ℕ) → numbers ≡ map (λ (e : Kept). e.q) (take n kept) → length kept ≤ n → framed_points sides numbers ≡ map (λ (e : Kept). framed_point sides e.q) kept
+pub numbers_told : (sides numbers : List ℕ) (kept : List Kept) (n : ℕ) → numbers ≡ map (λ (e : Kept). e.q) (take n kept) → length kept ≤ n
+    → framed_points sides numbers ≡ map (λ (e : Kept). framed_point sides e.q) kept
 numbers_told sides numbers kept n e l =
     let whole : numbers ≡ map (λ (e : Kept). e.q) kept = e ∙ ap (map (λ (e : Kept). e.q)) (take_all n kept l) in
     ap (framed_points sides) whole ∙ told kept
@@ -49,10 +51,13 @@ numbers_told sides numbers kept n e l =
     told (e ∷ kept) = ap (λ l. framed_point sides e.q ∷ l) (told kept)
 
 -- the points of a field, at whatever answer
-pub told_of : {E : Type 0} (sides : List ℕ) (kept told : List Kept) (facts : List NearFact) (r : Result (List Point) E) → facts_of sides kept ≡ facts → told ≡ kept → IfOk r (λ qs. qs ≡ map (λ (e : Kept). framed_point sides e.q) told) → IfOk r (λ qs. qs ≡ map (λ (f : NearFact). f.q) facts)
+pub told_of : {E : Type 0} (sides : List ℕ) (kept told : List Kept) (facts : List NearFact) (r : Result (List Point) E) → facts_of sides kept ≡ facts
+    → told ≡ kept → IfOk r (λ qs. qs ≡ map (λ (e : Kept). framed_point sides e.q) told) → IfOk r (λ qs. qs ≡ map (λ (f : NearFact). f.q) facts)
 told_of sides kept told facts (Err e) view same h = tt
-told_of sides kept told facts (Ok qs) view same h = h ∙ ap (map (λ (e : Kept). framed_point sides e.q)) same ∙ sym (kept_points sides kept) ∙ ap (map (λ (f : NearFact). f.q)) view
+told_of sides kept told facts (Ok qs) view same h =
+    h ∙ ap (map (λ (e : Kept). framed_point sides e.q)) same ∙ sym (kept_points sides kept) ∙ ap (map (λ (f : NearFact). f.q)) view
 
-pub features_told : {E : Type 0} (X : Picture) (facts : List NearFact) (r : Result (List Point) E) → IsField X facts → IfOk r (λ qs. qs ≡ map (λ (f : NearFact). f.q) facts) → IfOk r (AreFeatures X)
+pub features_told : {E : Type 0} (X : Picture) (facts : List NearFact) (r : Result (List Point) E) → IsField X facts
+    → IfOk r (λ qs. qs ≡ map (λ (f : NearFact). f.q) facts) → IfOk r (AreFeatures X)
 features_told X facts (Err e) h is = tt
 features_told X facts (Ok qs) h is = subst (AreFeatures X) (sym is) (features_of X facts h)

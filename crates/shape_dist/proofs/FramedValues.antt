@@ -28,7 +28,8 @@ no_value X values n e l = record {
       | inr k ↦ get_or_past (replicate n false) i false (omega (arith, length-replicate n false))
     ]
 
-pub object_more : (X : Picture) (n : ℕ) (values : List Bool) → n < box_count (framed_sides X.sides) → at X (framed_point X.sides n) ≡ true → AreValuesTo X n values → AreValuesTo X (n + 1) (set values n true)
+pub object_more : (X : Picture) (n : ℕ) (values : List Bool) → n < box_count (framed_sides X.sides) → at X (framed_point X.sides n) ≡ true
+    → AreValuesTo X n values → AreValuesTo X (n + 1) (set values n true)
 object_more X n values l here t = record {
   long = length-set values n true ∙ t.long;
   each = below_more (λ i. get_or (set values n true) i false ≡ at X (framed_point X.sides i)) n
@@ -44,7 +45,8 @@ bare_more X n values here t = record {
   rest = λ i k. t.rest i (omega arith);
 }
 
-pub bare_line : (X : Picture) (n w : ℕ) (values : List Bool) → ((x : ℕ) → x < w → at X (framed_point X.sides (n + x)) ≡ false) → AreValuesTo X n values → AreValuesTo X (n + w) values
+pub bare_line : (X : Picture) (n w : ℕ) (values : List Bool) → ((x : ℕ) → x < w → at X (framed_point X.sides (n + x)) ≡ false)
+    → AreValuesTo X n values → AreValuesTo X (n + w) values
 bare_line X n w values bare t = record {
   long = t.long;
   each = λ i k. elim (cases_lt i n) [
@@ -61,7 +63,8 @@ bare_line X n w values bare t = record {
 outside : (X : Picture) (p : Point) → in_box X.sides p ≡ false → at X p ≡ false
 outside X p e = rw e refl
 
-row_point : (sides : List ℕ) (q : Point) (y : ℕ) → IsTrue (in_box sides (set q 0 (pos 0))) → y + 2 < line_length sides → raster_point sides (raster_number sides (set q 0 (pos 0)) + y) ≡ set q 0 (pos y)
+row_point : (sides : List ℕ) (q : Point) (y : ℕ) → IsTrue (in_box sides (set q 0 (pos 0))) → y + 2 < line_length sides
+    → raster_point sides (raster_number sides (set q 0 (pos 0)) + y) ≡ set q 0 (pos y)
 row_point [] q y h l = absurd (omega arith)
 row_point (n ∷ sides) [] y h l = cc
 row_point (n ∷ sides) (x ∷ q) y h l =
@@ -69,11 +72,12 @@ row_point (n ∷ sides) (x ∷ q) y h l =
     let e : 0 + n * r + y ≡ y + n * r = omega arith in
     rw (e, mod_of n y r (omega arith), div_of n y r (omega arith)) (ap (λ p. pos y ∷ p) (raster_point-raster_number sides q (and_parts _ _ h).1))
 
-row_inside : (sides : List ℕ) (q : Point) → IsTrue (in_box sides (set q 0 (pos 0))) → raster_number sides (set q 0 (pos 0)) + (line_length sides - 2) ≤ box_count sides
+row_inside : (sides : List ℕ) (q : Point) → IsTrue (in_box sides (set q 0 (pos 0)))
+    → raster_number sides (set q 0 (pos 0)) + (line_length sides - 2) ≤ box_count sides
 row_inside [] q h = omega arith
 row_inside (n ∷ sides) [] h = let none : ⊥ = cc in absurd none
 row_inside (n ∷ sides) (x ∷ q) h =
-    let below = raster_below sides q (and_parts _ _ h).1 in
+    let below : raster_number sides q < box_count sides = raster_below sides q (and_parts (nat_lt 0 n) (in_box sides q) h).1 in
     let m : n * (raster_number sides q + 1) ≤ n * box_count sides = mul-le n (raster_number sides q + 1) n (box_count sides) (omega arith) (omega arith) in
     omega (arith, m)
 
@@ -91,7 +95,8 @@ row_outside (n ∷ sides) (x ∷ q) (pos k) h = elim (cases_Bool (in_box sides q
 ]
 
 module _ (X : Picture) (a w : ℕ) (p : Point) (line : IsLine X a w) (side : w ≡ line_length X.sides) (first : p ≡ set (framed_point X.sides a) 0 (pos 0)) where
-  pub row_on_line : (r y : ℕ) → IsTrue (in_box X.sides p) → r ≡ raster_number X.sides p → y < w - 2 → raster_point X.sides (r + y) ≡ framed_point X.sides (a + 1 + y)
+  pub row_on_line : (r y : ℕ) → IsTrue (in_box X.sides p) → r ≡ raster_number X.sides p → y < w - 2
+      → raster_point X.sides (r + y) ≡ framed_point X.sides (a + 1 + y)
   row_on_line r y h e l =
       let here = row_point X.sides (framed_point X.sides a) y (rw first at h) (omega arith) in
       let next : a + (y + 1) ≡ a + 1 + y = omega arith in
@@ -108,5 +113,6 @@ module _ (X : Picture) (a w : ℕ) (p : Point) (line : IsLine X a w) (side : w �
   pub row_bare : (x : ℕ) → in_box X.sides p ≡ false → x < w → at X (framed_point X.sides (a + x)) ≡ false
   row_bare x h l =
       let v = pos x -ℤ pos 1 in
-      let f : in_box X.sides (set (framed_point X.sides a) 0 v) ≡ false = row_outside X.sides (framed_point X.sides a) v (ap (in_box X.sides) (sym first) ∙ h) in
+      let f : in_box X.sides (set (framed_point X.sides a) 0 v) ≡ false =
+      row_outside X.sides (framed_point X.sides a) v (ap (in_box X.sides) (sym first) ∙ h) in
       outside X _ (ap (in_box X.sides) (sym (line.point x v l refl)) ∙ f)

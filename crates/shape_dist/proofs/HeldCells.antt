@@ -68,8 +68,9 @@ module _ (X : Picture) (a w : ℕ) (objects : List Bool) (old new : Held Found) 
 -- ---- one axis more
 
 -- what has spread to a place is put into its cell, if it has one
-pub put_spreads : (old new : Held Found) (line : ℕ → Found) (w x i : ℕ) (g : Found) → x < w → i < length old.values → IsBareElsewhere itself old → line x ≡ found old.values i → IsSpreadAt line w x g
-    → (HasCell old i → found new.values i ≡ g) → ((HasCell old i → ⊥) → found new.values i ≡ found old.values i) → IsSpreadAt line w x (found new.values i)
+pub put_spreads : (old new : Held Found) (line : ℕ → Found) (w x i : ℕ) (g : Found) → x < w → i < length old.values → IsBareElsewhere itself old
+    → line x ≡ found old.values i → IsSpreadAt line w x g → (HasCell old i → found new.values i ≡ g)
+    → ((HasCell old i → ⊥) → found new.values i ≡ found old.values i) → IsSpreadAt line w x (found new.values i)
 put_spreads old new line w x i g l inside bare is spread put stays = elim (cell_or_none old i) [
   | inl cell ↦ subst (IsSpreadAt line w x) (sym (put cell)) spread
   | inr none ↦

@@ -110,8 +110,8 @@ fn counted<P: Point, L: Ledger>(
 
 /// A nearest background point for each object point.
 ///
-/// Its time is linear in the number of points of the framed box. It takes eight bytes of memory for each object point and as many again for what it
-/// answers; where more than a quarter of the framed points are object, the first eight are for each framed point. Beside these stand a few bits for each framed point.
+/// Its time is linear in the number of points of the framed box. It takes eight bytes of memory for each object point, or for each framed point where more
+/// than a quarter of them are object, some bits for each framed point beside these, and eight bytes more for each object point of what it answers.
 pub fn nearest<P: Point>(alloc: Global, grid: &Grid<P>) -> Result<Field<P>, NoMemory>
     ensures field { IfOk result (IsField grid.now) }
     ensures framed { IfOk result (All IsFramed) }
