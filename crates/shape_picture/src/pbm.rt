@@ -173,7 +173,7 @@ fn read_rows<D: Desk>(
 /// Reads the PBM at the front of the picture's place, in the form `P1` or `P4`.
 ///
 /// What follows the last pixel, or the last byte of the last row, is not looked at, but may have been taken from the desk.
-/// It takes memory for 512 bytes and the grid.
+/// It takes memory for 65536 bytes and the grid.
 pub fn read_pbm<D: Desk>(alloc: Global, desk: &mut D) -> Result<Grid<P2>, PictureError>
     requires { (D.state desk.old).begun Picture ≡ true }
     ensures answer { PictureAnswer (pbm most_flat most_bytes)

@@ -25,7 +25,7 @@ fn bit(c: u8, place: u32) -> bool
     (c >> (7 - place)) % 2 == 1
 }
 
-/// Gives the next points the first bits of a byte, behind those whose values are known.
+/// Gives the next points the first bits of a byte, behind those whose values are known. A byte of background changes nothing.
 pub fn put_bits<P: Point>(grid: &mut Grid<P>, from: u32, c: u8, pixels: u32)
     requires few { pixels ≤ 8 }
     requires room { from + pixels ≤ box_count grid.old.sides }
@@ -37,6 +37,9 @@ pub fn put_bits<P: Point>(grid: &mut Grid<P>, from: u32, c: u8, pixels: u32)
         ≡ (known ++ take pixels (bits_of c)) ++ replicate (total - (from + pixels)) false }
 {
     grid.is_picture();
+    if c == 0 {
+        return;
+    }
     for place in 0..pixels {
         put(grid, from + place, bit(c, place));
     }
