@@ -9,12 +9,22 @@ use crate::raster::put;
 use shape_grid::Grid;
 use shape_space::Point;
 
-/// How many pixels the next byte holds after so many of the picture: eight, or as many as its row still wants.
-pub fn pixels_ahead(width: u32, count: u32) -> u32
-    requires { 1 ≤ width }
-    ensures { result ≡ byte_pixels width count }
+/// How many pixels the next byte holds after so many of its row: eight, or as many as the row still wants.
+pub fn pixels_ahead(width: u32, column: u32) -> u32
+    requires { column < width }
+    ensures { (n : ℕ) → column ≡ n % width → result ≡ byte_pixels width n }
 {
-    (width - count % width).min(8)
+    (width - column).min(8)
+}
+
+/// How many pixels of its row are known after so many and those of one more byte: none where the row is whole.
+pub fn column_after(width: u32, column: u32, pixels: u32) -> u32
+    requires within { column < width }
+    requires room { column + pixels ≤ width }
+    ensures { (n : ℕ) → column ≡ n % width → result ≡ (n + pixels) % width }
+{
+    let next = column + pixels;
+    if next == width { 0 } else { next }
 }
 
 // The bit at this place of a byte, the highest first.
