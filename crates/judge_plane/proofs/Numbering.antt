@@ -3,7 +3,7 @@
 use Rattle.std.proofs.Common.{◌≡◌, ◌≢◌, ℕ, ◌<◌, ◌≤◌, true, false, ap, sym, ◌∙◌, subst, arith, inl, inr, List, [], ◌∷◌, ◌++◌, length, get_or, map}
 use Rattle.std.specs.Prelude.{◌↔◌, ◌⊎◌, IsTrue, AllPairs, Contains, slice_set}
 use Rattle.std.proofs.lemmas.Bool.{cases_lt, and_parts}
-use Rattle.std.proofs.lemmas.List.{length-append}
+use Rattle.std.proofs.lemmas.List.{length-append, length-map}
 use Rattle.std.proofs.lemmas.List.Elements.{Contains-get_or, Contains-push, Contains-push_cases, Contains-append_left}
 use Rattle.std.proofs.lemmas.List.Quantifiers.{all_pairs_push}
 use Rattle.shape_terms.specs.Points.{Point, in_box, box_count, raster_number, raster_point}
@@ -11,9 +11,10 @@ use Rattle.shape_terms.specs.Pictures.{Picture, at, with_value}
 use Rattle.shape_terms.proofs.Boxes.{raster_below, raster_point_in, raster_point-raster_number, raster_number-raster_point}
 use Rattle.shape_terms.proofs.Members.{Contains-map}
 use Rattle.shape_terms.proofs.Pigeon.{pigeon}
+use Rattle.shape_terms.proofs.PointLists.{no_more}
 use Rattle.shape_terms.proofs.SameCycles.{in_none}
 use Rattle.judge_plane.specs.Exposure.{AreMarked}
-use Rattle.judge_plane.specs.Listings.{AreNumbered}
+use Rattle.judge_plane.specs.Listings.{AreNumbered, HasRoomFor, AreNumberedOf}
 use Rattle.judge_plane.proofs.Marking.{AreMarkedFrom, same_number, with_one}
 
 -- ---- lists without two equal elements
@@ -46,18 +47,17 @@ inside_push sides points p inside here q c = elim (Contains-push_cases points p 
 -- ---- the numbers of marked points
 
 -- none
-pub numbered_none : (M : Picture) (room : ℕ) → box_count M.sides ≤ room → AreMarked [] M → AreNumbered M [] room
-numbered_none M room fits h = record {
+pub numbered_none : (M : Picture) → AreMarked [] M → AreNumbered M []
+numbered_none M h = record {
   apart = λ i j d l m. absurd (omega arith);
   below = λ n c. absurd (in_none n c);
   marked = λ n l. (λ a. absurd (in_none (raster_point M.sides n) ((h.each (raster_point M.sides n)).0 a)), λ c. absurd (in_none n c));
-  fits = fits;
 }
 
-pub few_numbered : (M : Picture) (numbers : List ℕ) (room : ℕ) → AreNumbered M numbers room → length numbers ≤ box_count M.sides
-few_numbered M numbers room h = pigeon (box_count M.sides) (length numbers) (λ i. get_or numbers i 0) (λ i l. h.below (get_or numbers i 0) (Contains-get_or numbers i 0 l)) (λ i j l m e. one_place numbers h.apart 0 i j l m e)
+pub few_numbered : (M : Picture) (numbers : List ℕ) → AreNumbered M numbers → length numbers ≤ box_count M.sides
+few_numbered M numbers h = pigeon (box_count M.sides) (length numbers) (λ i. get_or numbers i 0) (λ i l. h.below (get_or numbers i 0) (Contains-get_or numbers i 0 l)) (λ i j l m e. one_place numbers h.apart 0 i j l m e)
 
-module _ (M : Picture) (numbers : List ℕ) (room : ℕ) (h : AreNumbered M numbers room) where
+module _ (M : Picture) (numbers : List ℕ) (h : AreNumbered M numbers) where
   -- a marked point has its number among them
   pub number_there : (q : Point) → IsTrue (in_box M.sides q) → IsTrue (at M q) → Contains numbers (raster_number M.sides q)
   number_there q inside a = (h.marked (raster_number M.sides q) (raster_below M.sides q inside)).0 (ap (at M) (raster_point-raster_number M.sides q inside) ∙ a)
@@ -81,14 +81,13 @@ module _ (M : Picture) (numbers : List ℕ) (room : ℕ) (h : AreNumbered M numb
       pub put_new : (q : Point) → IsTrue (at M2 q) ↔ (IsTrue (at M q) ⊎ (raster_point M.sides i ≡ q))
       put_new q = subst (λ Y. IsTrue (at Y q) ↔ (IsTrue (at M q) ⊎ (raster_point M.sides i ≡ q))) (sym is_one) (with_one M (raster_point M.sides i) filled (raster_point_in M.sides i l) q)
 
-      pub numbered_more : at M (raster_point M.sides i) ≡ false → (room2 : ℕ) → box_count M.sides ≤ room2 → AreNumbered M2 (numbers ++ i ∷ []) room2
-      numbered_more new room2 fits =
+      pub numbered_more : at M (raster_point M.sides i) ≡ false → AreNumbered M2 (numbers ++ i ∷ [])
+      numbered_more new =
           let same : M2.sides ≡ M.sides = ap (λ (Y : Picture). Y.sides) e in
           record {
             apart = apart_push numbers i h.apart (λ c. (let f : true ≡ false = sym ((h.marked i l).1 c) ∙ new in cc));
             below = λ n c. elim (Contains-push_cases numbers i n c) [ inl o ↦ (let b = h.below n o in omega (arith, b, ap box_count same)) | inr s ↦ omega (arith, s, l, ap box_count same) ];
             marked = λ n m. put_marked n (omega (arith, m, ap box_count same)) (raster_point M2.sides n) (ap (λ s. raster_point s n) same);
-            fits = omega (arith, fits, ap box_count same);
           }
         where
           put_marked : (n : ℕ) → n < box_count M.sides → (q : Point) → q ≡ raster_point M.sides n → IsTrue (at M2 q) ↔ Contains (numbers ++ i ∷ []) n
@@ -105,9 +104,34 @@ module _ (M : Picture) (numbers : List ℕ) (room : ℕ) (h : AreNumbered M numb
             ]),
           )
 
-      -- and there was room for its number
-      pub room_more : at M (raster_point M.sides i) ≡ false → length numbers < room
-      room_more new =
-          let f = few_numbered M2 (numbers ++ i ∷ []) room (numbered_more new room h.fits) in
-          let r = h.fits in
-          omega (arith, f, r, length-append numbers (i ∷ []), ap (λ (Y : Picture). box_count Y.sides) e)
+-- ---- the numbers of marked points that are object points of a picture
+
+-- none
+pub numbered_of_none : (X M : Picture) (room : ℕ) → AreMarked [] M → HasRoomFor X room → AreNumberedOf X M [] room
+numbered_of_none X M room h r = record { numbered = numbered_none M h; within = λ q a. absurd (in_none q ((h.each q).0 a)); room_for = r }
+
+module _ (X M : Picture) (numbers : List ℕ) (room : ℕ) (h : AreNumberedOf X M numbers room) where
+  -- there is room for the number of an object point that is not marked
+  pub room_more : (i : ℕ) → i < box_count M.sides → IsTrue (at X (raster_point M.sides i)) → at M (raster_point M.sides i) ≡ false → length numbers < room
+  room_more i l here new =
+      let r = h.room_for in
+      let apart = apart_push numbers i h.numbered.apart (λ c. (let f : true ≡ false = sym ((h.numbered.marked i l).1 c) ∙ new in cc)) in
+      let few = no_more (numbers ++ i ∷ []) (map (raster_number M.sides) r.among) apart (λ n c. elim (Contains-push_cases numbers i n c) [
+        | inl o ↦ (let b = h.numbered.below n o in listed n b (h.within (raster_point M.sides n) ((h.numbered.marked n b).1 o)))
+        | inr e ↦ subst (Contains (map (raster_number M.sides) r.among)) e (listed i l here)
+      ]) in
+      let fits = r.fits in
+      omega (arith, few, fits, length-append numbers (i ∷ []), length-map r.among (raster_number M.sides))
+    where
+      listed : (n : ℕ) → n < box_count M.sides → IsTrue (at X (raster_point M.sides n)) → Contains (map (raster_number M.sides) h.room_for.among) n
+      listed n b o =
+          let r = h.room_for in
+          subst (Contains (map (raster_number M.sides) r.among)) (raster_number-raster_point M.sides n b) (Contains-map (raster_number M.sides) r.among (raster_point M.sides n) (r.each (raster_point M.sides n) o))
+
+  -- and one of them more is marked
+  pub numbered_with : (i : ℕ) (M2 : Picture) (numbers2 : List ℕ) (room2 : ℕ) → IsTrue (at X (raster_point M.sides i)) → AreNumbered M2 numbers2 → ((q : Point) → IsTrue (at M2 q) ↔ (IsTrue (at M q) ⊎ (raster_point M.sides i ≡ q))) → room2 ≡ room → AreNumberedOf X M2 numbers2 room2
+  numbered_with i M2 numbers2 room2 here n put same = record {
+    numbered = n;
+    within = λ q a. elim ((put q).0 a) [ inl o ↦ h.within q o | inr e ↦ subst (λ z. IsTrue (at X z)) e here ];
+    room_for = subst (HasRoomFor X) (sym same) h.room_for;
+  }

@@ -42,9 +42,9 @@ rise xs ys once each same up k l = elim (cases_lt (slice_index ys k) (slice_inde
     ]
 
 -- the numbers of the object points that are Near a patch, once they are sorted
-pub sorted_round : (left marks : Picture) (patch : List Point) (numbers sorted : List ℕ) (room : ℕ) → marks.sides ≡ left.sides → AreNumbered marks numbers room → ((q : Point) → IsTrue (at marks q) ↔ (IsTrue (at left q) × IsNearTo patch q)) → IsPermutation numbers sorted → IsSorted nat_cmp sorted
+pub sorted_round : (left marks : Picture) (patch : List Point) (numbers sorted : List ℕ) → marks.sides ≡ left.sides → AreNumbered marks numbers → ((q : Point) → IsTrue (at marks q) ↔ (IsTrue (at left q) × IsNearTo patch q)) → IsPermutation numbers sorted → IsSorted nat_cmp sorted
     → AreRound left patch sorted
-sorted_round left marks patch numbers sorted room same h are moves up =
+sorted_round left marks patch numbers sorted same h are moves up =
     let to : (n : ℕ) → Contains numbers n → Contains sorted n = λ n c. Contains-permutation numbers sorted n moves c in
     let of : (n : ℕ) → Contains sorted n → Contains numbers n = λ n c. Contains-permutation sorted numbers n (IsPermutation-sym numbers sorted moves) c in
     record {

@@ -32,12 +32,23 @@ use Rattle.judge_plane.proofs.Touching.{next_yes, next_only, full_yes, full_only
 pub plane_begun : (declared : ℕ) (plane : Naive) → 0 < declared → given_plane declared plane ≡ naive_of 3 plane
 plane_begun declared plane h = cond-false (declared == 0) _ (naive_of 3 plane) (ne_eqb declared 0 (λ e. omega arith))
 
--- no more points are exposed than the box has
-pub few_exposed : (X : Picture) (face : ℕ) → length (exposed_at X face) ≤ box_count X.sides
-few_exposed X face = omega (arith, kept_few (λ p. not (at X (moved p (sense_step (face_axis face) (face_sense face))))) (object_points X), few_objects X)
+-- no more points are exposed than are object
+pub exposed_few : (X : Picture) (face : ℕ) → length (exposed_at X face) ≤ length (object_points X)
+exposed_few X face = kept_few (λ p. not (at X (moved p (sense_step (face_axis face) (face_sense face))))) (object_points X)
   where
     kept_few : (test : Point → Bool) (xs : List Point) → length (filter test xs) ≤ length xs
     kept_few test xs = omega (arith, length-filter test xs, count_by-le-length test xs)
+
+-- nor than the box has
+pub few_exposed : (X : Picture) (face : ℕ) → length (exposed_at X face) ≤ box_count X.sides
+few_exposed X face = omega (arith, exposed_few X face, few_objects X)
+
+-- no more points of a face were declared than are object
+pub declared_few : (X : Picture) (c : Counts) (taken : List Point) (numbers : List ℕ) → AreInStep X c taken numbers → c.start + c.declared ≤ length (object_points X)
+declared_few X c taken numbers k = elim (cases_lt 0 c.begun) [
+  | inl h ↦ omega (arith, k.exposed h, k.declared, exposed_few X (c.begun - 1))
+  | inr h ↦ (let e = k.none (omega arith) in omega (arith, e, k.declared))
+]
 
 pub few_declared : (X : Picture) (c : Counts) (taken : List Point) (numbers : List ℕ) → AreInStep X c taken numbers → c.exposed ≤ box_count X.sides
 few_declared X c taken numbers k = elim (cases_lt 0 c.begun) [

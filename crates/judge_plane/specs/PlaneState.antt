@@ -2,7 +2,7 @@
 -- It holds no line: it stands for each list of lines that stands where it does.
 use Rattle.std.specs.Prelude.{◌≡◌, ℕ, ◌+◌, ◌-◌, ◌*◌, ◌<◌, ◌≤◌, ◌==◌, if◌then◌else◌, List, [], ◌∷◌, ◌++◌, length, drop, pos, Contains}
 use Rattle.shape_terms.specs.Points.{Point, box_count}
-use Rattle.shape_terms.specs.Pictures.{Picture}
+use Rattle.shape_terms.specs.Pictures.{Picture, object_points}
 use Rattle.shape_terms.specs.Naive.{Naive as Plane}
 use Rattle.shape_refute.specs.declared.naive.Naive.{Naive}
 use Rattle.shape_refute.specs.Terms.{naive_of}
@@ -85,7 +85,7 @@ pub record AreInStep (X : Picture) (c : Counts) (taken : List Point) (numbers : 
   pub refused : c.refused ≤ length numbers
   pub few : length numbers ≤ box_count X.sides
 
--- what the judge keeps: its points are of the picture's box, its plane is of the axis of the face, the picture `left` has the points of the face that are not taken, `recent` those that were taken of the last patch, `marks` none, and its numbers agree with those taken
+-- what the judge keeps: its points are of the picture's box, its plane is of the axis of the face, the picture `left` has the points of the face that are not taken, `recent` those that were taken of the last patch, `marks` none, there is room for as many points as are object and one more, and for as many numbers, and its numbers agree with those taken
 pub record IsKept (X : Picture) (c : Counts) (plane : Naive) (near : List ℕ) (left recent : Picture) (taken : Listing) (marks : Picture) (numbers : List ℕ) (room : ℕ) : Type 0 where
   pub solid : length X.sides ≡ 3
   pub near_box : near ≡ X.sides
@@ -96,6 +96,7 @@ pub record IsKept (X : Picture) (c : Counts) (plane : Naive) (near : List ℕ) (
   pub taken_box : taken.sides ≡ X.sides
   pub marks_box : marks.sides ≡ X.sides
   pub unmarked : AreMarked [] marks
-  pub fits : box_count X.sides ≤ room
+  pub taken_fits : length (object_points X) < taken.room
+  pub fits : length (object_points X) ≤ room
   pub axis : 0 < c.begun → plane.axis ≡ face_axis (c.begun - 1)
   pub step : AreInStep X c taken.points numbers

@@ -92,20 +92,21 @@ impl Model for PlaneJudge {
 }
 
 impl PlaneJudge {
-    /// A judge that has taken no line. It takes all its memory here.
+    /// A judge that has taken no line. It takes all its memory here: four bits for each point of the box, and 16 bytes for each
+    /// object point.
     pub fn new(alloc: Global, grid: &Grid<P3>) -> Result<PlaneJudge, NoMemory>
         ensures stands { IfOk result (λ j. StandsFor grid.now j []) }
         ensures room { IfOk result (λ j. room_of j < 2 ^ 60) }
     {
         grid.is_picture();
         let sides = grid.sides();
-        let touching = Vec::with_capacity(alloc, sides.count() as usize)?;
+        let touching = Vec::with_capacity(alloc, grid.count() as usize)?;
         Ok(PlaneJudge {
             grid: grid.copy(alloc)?,
             near: NearNumbers::new(alloc, sides)?,
             begun: 0,
             exposed: 0,
-            taken: Listed::new(alloc, sides)?,
+            taken: Listed::new(alloc, sides, grid.count())?,
             left: Grid::new(alloc, sides)?,
             cursor: 0,
             start: 0,

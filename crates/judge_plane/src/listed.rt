@@ -28,10 +28,11 @@ impl Model for Listed {
 
     ghost Value = { Listing };
 
-    ghost view = { λ l. listing_of (sides_of (point_of l.sides.lengths)) (map point_of l.points.items) };
+    ghost view = { λ l. listing_of (sides_of (point_of l.sides.lengths)) (map point_of l.points.items)
+        (vec_capacity l.points) };
 
     ghost invariant = { λ l. AreListed (sides_of (point_of l.sides.lengths))
-        (map point_of l.points.items) (vec_capacity l.points) };
+        (map point_of l.points.items) };
 }
 
 // Whether weights refute the points from a place on with this point put last, which the list has room for.
@@ -51,11 +52,12 @@ fn refutes_with(points: &mut Vec<P3>, start: usize, p: P3, axis: usize, why: &Re
 }
 
 impl Listed {
-    /// No point of a box. It takes all its memory here.
-    pub(crate) fn new(alloc: Global, sides: Sides<P3>) -> Result<Listed, NoMemory>
-        ensures { IfOk result (λ l. l ≡ listing_of (sides_of (point_of sides.lengths)) []) }
+    /// No point of a box, with room for so many and one more. It takes all its memory here.
+    pub(crate) fn new(alloc: Global, sides: Sides<P3>, most: u32) -> Result<Listed, NoMemory>
+        ensures { IfOk result (λ l. l
+            ≡ listing_of (sides_of (point_of sides.lengths)) [] (most + 1)) }
     {
-        let points = Vec::with_capacity(alloc, sides.count() as usize + 1)?;
+        let points = Vec::with_capacity(alloc, most as usize + 1)?;
         Ok(Listed { sides, points })
     }
 
@@ -78,11 +80,13 @@ impl Listed {
         self.points[i as usize]
     }
 
-    /// Puts a point of the box last.
+    /// Puts a point of the box last. It leaves room for one more.
     pub(crate) fn push(&mut self, p: P3)
+        requires room { length self.old.points + 1 < self.old.room }
         requires inside { IsTrue (in_box self.old.sides (point_of p)) }
         requires new { Contains self.old.points (point_of p) → ⊥ }
-        ensures { self.new ≡ listing_of self.old.sides (self.old.points ++ point_of p ∷ []) }
+        ensures { self.new
+            ≡ listing_of self.old.sides (self.old.points ++ point_of p ∷ []) self.old.room }
     {
         let _ = &self.sides;
         self.points.push_reserved(p);
@@ -90,7 +94,7 @@ impl Listed {
 
     /// Takes all points from the list.
     pub(crate) fn clear(&mut self)
-        ensures { self.new ≡ listing_of self.old.sides [] }
+        ensures { self.new ≡ listing_of self.old.sides [] self.old.room }
     {
         let _ = &self.sides;
         self.points.clear();
@@ -99,6 +103,7 @@ impl Listed {
     /// Whether weights refute the points from a place on with this point put last.
     pub(crate) fn are_refuted(&mut self, start: u32, p: P3, axis: usize, why: &Refutation) -> bool
         requires start { start ≤ length self.old.points }
+        requires room { length self.old.points < self.old.room }
         requires axis { axis < 3 }
         ensures answer { IsTrue result ↔ Refutes 3 axis
             (drop start self.old.points ++ point_of p ∷ []) (refutation_of why.now) }

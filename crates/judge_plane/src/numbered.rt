@@ -1,6 +1,6 @@
 //! The raster numbers of marked points, each once: a point is marked when its number is put down.
 //! Nothing here knows of faces, nor of the order of the numbers.
-ghost use Rattle.std.specs.Prelude.{◌≡◌, ◌⊎◌, ◌<◌, ◌↔◌, [], IsTrue, vec_capacity};
+ghost use Rattle.std.specs.Prelude.{◌≡◌, ◌⊎◌, ◌<◌, ◌↔◌, [], IsTrue, false, length, vec_capacity};
 ghost use Rattle.shape_terms.specs.Points.{Point as Where, box_count, raster_point};
 ghost use Rattle.shape_terms.specs.Pictures.{at};
 ghost use Rattle.judge_plane.specs.Exposure.{AreMarked};
@@ -12,9 +12,12 @@ use shape_space::P3;
 /// Puts down the number of a point of the box and marks the point, unless that was done before.
 pub(crate) fn put(i: u32, marks: &mut Grid<P3>, numbers: &mut Vec<u32>)
     requires place { i < box_count marks.old.sides }
-    requires numbered { AreNumbered marks.old numbers.old.items (vec_capacity numbers.old) }
+    requires numbered { AreNumbered marks.old numbers.old.items }
+    requires room { at marks.old (raster_point marks.old.sides i) ≡ false
+        → length numbers.old.items < vec_capacity numbers.old }
     ensures box_ { marks.new.sides ≡ marks.old.sides }
-    ensures numbered { AreNumbered marks.new numbers.new.items (vec_capacity numbers.new) }
+    ensures numbered { AreNumbered marks.new numbers.new.items }
+    ensures capacity { vec_capacity numbers.new ≡ vec_capacity numbers.old }
     ensures points { (q : Where) → IsTrue (at marks.new q)
         ↔ (IsTrue (at marks.old q) ⊎ (raster_point marks.old.sides i ≡ q)) }
 {
@@ -28,7 +31,7 @@ pub(crate) fn put(i: u32, marks: &mut Grid<P3>, numbers: &mut Vec<u32>)
 
 /// Takes the marks from all points whose numbers were put down.
 pub(crate) fn unmark_all(marks: &mut Grid<P3>, numbers: &Vec<u32>)
-    requires { AreNumbered marks.old numbers.now.items (vec_capacity numbers.now) }
+    requires { AreNumbered marks.old numbers.now.items }
     ensures box_ { marks.new.sides ≡ marks.old.sides }
     ensures none { AreMarked [] marks.new }
 {

@@ -8,7 +8,7 @@ ghost use Rattle.shape_terms.specs.Adjacency.{Near, near_point};
 ghost use Rattle.shape_terms.specs.Pictures.{at};
 ghost use Rattle.judge_plane.specs.Terms.{point_of};
 ghost use Rattle.judge_plane.specs.Exposure.{AreMarked, AreRound, IsNearTo, IsNearObject};
-ghost use Rattle.judge_plane.specs.Listings.{AreNumbered};
+ghost use Rattle.judge_plane.specs.Listings.{AreNumberedOf, HasRoomFor};
 
 use crate::listed::Listed;
 use crate::numbered::{put, unmark_all};
@@ -69,9 +69,12 @@ fn gather_inside(
     requires inside { IsTrue (in_box (sides_of (point_of near.now.sides.lengths)) (point_of p)) }
     requires inner { (k : ℕ) → k < 26
         → IsTrue (in_box (sides_of (point_of near.now.sides.lengths)) (near_point (point_of p) k)) }
-    requires numbered { AreNumbered marks.old numbers.old.items (vec_capacity numbers.old) }
+    requires numbered { AreNumberedOf left.now marks.old numbers.old.items
+        (vec_capacity numbers.old) }
     ensures box_ { marks.new.sides ≡ left.now.sides }
-    ensures numbered { AreNumbered marks.new numbers.new.items (vec_capacity numbers.new) }
+    ensures numbered { AreNumberedOf left.now marks.new numbers.new.items
+        (vec_capacity numbers.new) }
+    ensures capacity { vec_capacity numbers.new ≡ vec_capacity numbers.old }
     ensures points { (q : Where) → IsTrue (at marks.new q) ↔ (IsTrue (at marks.old q)
         ⊎ (IsTrue (at left.now q) × Near q (point_of p))) }
 {
@@ -89,9 +92,12 @@ fn gather_inside(
 fn gather_around(left: &Grid<P3>, p: P3, marks: &mut Grid<P3>, numbers: &mut Vec<u32>)
     requires box_ { marks.old.sides ≡ left.now.sides }
     requires inside { IsTrue (in_box left.now.sides (point_of p)) }
-    requires numbered { AreNumbered marks.old numbers.old.items (vec_capacity numbers.old) }
+    requires numbered { AreNumberedOf left.now marks.old numbers.old.items
+        (vec_capacity numbers.old) }
     ensures box_ { marks.new.sides ≡ left.now.sides }
-    ensures numbered { AreNumbered marks.new numbers.new.items (vec_capacity numbers.new) }
+    ensures numbered { AreNumberedOf left.now marks.new numbers.new.items
+        (vec_capacity numbers.new) }
+    ensures capacity { vec_capacity numbers.new ≡ vec_capacity numbers.old }
     ensures points { (q : Where) → IsTrue (at marks.new q) ↔ (IsTrue (at marks.old q)
         ⊎ (IsTrue (at left.now q) × Near q (point_of p))) }
 {
@@ -116,9 +122,12 @@ fn gather_round(
     requires near_box { sides_of (point_of near.now.sides.lengths) ≡ left.now.sides }
     requires box_ { marks.old.sides ≡ left.now.sides }
     requires inside { IsTrue (in_box left.now.sides (point_of p)) }
-    requires numbered { AreNumbered marks.old numbers.old.items (vec_capacity numbers.old) }
+    requires numbered { AreNumberedOf left.now marks.old numbers.old.items
+        (vec_capacity numbers.old) }
     ensures box_ { marks.new.sides ≡ left.now.sides }
-    ensures numbered { AreNumbered marks.new numbers.new.items (vec_capacity numbers.new) }
+    ensures numbered { AreNumberedOf left.now marks.new numbers.new.items
+        (vec_capacity numbers.new) }
+    ensures capacity { vec_capacity numbers.new ≡ vec_capacity numbers.old }
     ensures points { (q : Where) → IsTrue (at marks.new q) ↔ (IsTrue (at marks.old q)
         ⊎ (IsTrue (at left.now q) × Near q (point_of p))) }
 {
@@ -142,9 +151,11 @@ fn gather(
     requires taken_box { taken.now.sides ≡ left.now.sides }
     requires box_ { marks.old.sides ≡ left.now.sides }
     requires none { AreMarked [] marks.old }
-    requires room { box_count left.now.sides ≤ vec_capacity numbers.old }
+    requires room { HasRoomFor left.now (vec_capacity numbers.old) }
     ensures box_ { marks.new.sides ≡ left.now.sides }
-    ensures numbered { AreNumbered marks.new numbers.new.items (vec_capacity numbers.new) }
+    ensures numbered { AreNumberedOf left.now marks.new numbers.new.items
+        (vec_capacity numbers.new) }
+    ensures capacity { vec_capacity numbers.new ≡ vec_capacity numbers.old }
     ensures points { (q : Where) → IsTrue (at marks.new q)
         ↔ (IsTrue (at left.now q) × IsNearTo (drop start taken.now.points) q) }
 {
@@ -167,12 +178,12 @@ pub(crate) fn find_round(
     requires taken_box { taken.now.sides ≡ left.now.sides }
     requires box_ { marks.old.sides ≡ left.now.sides }
     requires none { AreMarked [] marks.old }
-    requires room { box_count left.now.sides ≤ vec_capacity numbers.old }
+    requires room { HasRoomFor left.now (vec_capacity numbers.old) }
     ensures box_ { marks.new.sides ≡ left.now.sides }
     ensures none { AreMarked [] marks.new }
     ensures round { AreRound left.now (drop start taken.now.points) numbers.new.items }
     ensures few { length numbers.new.items ≤ box_count left.now.sides }
-    ensures room { box_count left.now.sides ≤ vec_capacity numbers.new }
+    ensures capacity { vec_capacity numbers.new ≡ vec_capacity numbers.old }
 {
     gather(left, near, taken, start, marks, numbers);
     unmark_all(marks, numbers);

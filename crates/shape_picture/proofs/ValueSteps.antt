@@ -1,7 +1,7 @@
 -- The first values of a picture are known, and some more become so.
 -- Over plain variables; it knows neither forms nor bytes.
-use Rattle.std.proofs.Common.{◌≡◌, ℕ, suc, ◌+◌, ◌-◌, ◌*◌, ◌<◌, Bool, true, false, cond, List, [], ◌∷◌, ◌++◌, length, get_or, set, take, replicate, refl, sym, ap, ◌∙◌, arith}
-use Rattle.std.proofs.lemmas.List.{append_assoc, append-nil, length-append, length-take-le, set_at}
+use Rattle.std.proofs.Common.{◌≡◌, ℕ, suc, ◌+◌, ◌-◌, ◌*◌, ◌<◌, ◌≤◌, Bool, true, false, cond, List, [], ◌∷◌, ◌++◌, length, get_or, set, take, replicate, refl, sym, ap, ◌∙◌, arith}
+use Rattle.std.proofs.lemmas.List.{append_assoc, append-nil, length-append, length-take-le, replicate-append-replicate, set_at, take-replicate}
 use Rattle.std.proofs.lemmas.Grind.{take_at_read}
 use Rattle.shape_terms.specs.Points.{box_count}
 use Rattle.shape_terms.specs.Pictures.{Picture, blank}
@@ -35,6 +35,15 @@ value_next known more values n i t e l m r =
     values_next (known ++ take i more) values (n + i) t b e k r
     ∙ ap (λ (l : List Bool). l ++ replicate (t - ((n + i) + 1)) false) (append_assoc known (take i more) (b ∷ []) ∙ ap (λ (l : List Bool). known ++ l) (sym (take_at_read more i false m).1))
     ∙ ap (λ (j : ℕ). (known ++ take (i + 1) more) ++ replicate j false) s
+
+-- the next of them are background
+pub values_blank : (known values : List Bool) (n m p t : ℕ) → values ≡ known ++ replicate (t - n) false → p ≤ m → n + p ≤ t → values ≡ (known ++ take p (replicate m false)) ++ replicate (t - (n + p)) false
+values_blank known values n m p t e few room =
+    let s : t - n ≡ p + (t - (n + p)) = omega arith in
+    e ∙ ap (λ (i : ℕ). known ++ replicate i false) s
+    ∙ ap (λ (l : List Bool). known ++ l) (sym (replicate-append-replicate p (t - (n + p)) false))
+    ∙ sym (append_assoc known (replicate p false) (replicate (t - (n + p)) false))
+    ∙ ap (λ (l : List Bool). (known ++ l) ++ replicate (t - (n + p)) false) (sym (take-replicate p m false few))
 
 -- ---- the picture
 

@@ -27,28 +27,28 @@ impl Model for ByteReader {
 
     ghost view = { λ r. take (r.end - r.start) (drop r.start r.buf.items) };
 
-    ghost invariant = { λ r. (r.buf.len ≡ 512) × (r.start ≤ r.end) × (r.end ≤ 512) };
+    ghost invariant = { λ r. (r.buf.len ≡ 65536) × (r.start ≤ r.end) × (r.end ≤ 65536) };
 }
 
 // Reads the next bytes of the file, not more than are wanted.
 fn fill<D: Desk>(buf: &mut [u8], desk: &mut D, most: u64) -> Result<usize, Failed>
-    requires size { length buf.old ≡ 512 }
+    requires size { length buf.old ≡ 65536 }
     requires most { 1 ≤ most }
     requires begun { (D.state desk.old).begun Picture ≡ true }
-    ensures size { length buf.new ≡ 512 }
+    ensures size { length buf.new ≡ 65536 }
     ensures few { IfOk result (λ n. n ≤ most) }
     ensures answer { Reads Picture (D.state desk.old) (D.state desk.new) result buf.new }
 {
-    let want = most.min(512) as usize;
+    let want = most.min(65_536) as usize;
     desk.read(Place::Picture, &mut buf[..want])
 }
 
 impl ByteReader {
-    /// A reader with nothing ahead. It takes 512 bytes of memory.
+    /// A reader with nothing ahead. It takes 65536 bytes of memory.
     pub fn new(alloc: Global) -> Result<ByteReader, NoMemory>
         ensures { IfOk result (λ r. r ≡ []) }
     {
-        let buf = vec![in alloc; 0; 512]?;
+        let buf = vec![in alloc; 0; 65_536]?;
         Ok(ByteReader {
             buf,
             start: 0,

@@ -14,7 +14,7 @@ use crate::bytes::ByteReader;
 use crate::fault::{PictureError, PictureFault};
 use crate::header::{Form, Header, Progress, step};
 use crate::raster::{Piece, piece_at, put};
-use crate::rows::{pixels_ahead, put_bits};
+use crate::rows::{column_after, pixels_ahead, put_bits};
 use shape_desk::{Desk, Place};
 use shape_grid::Grid;
 use shape_space::{MOST_BYTES, P2, Point, Sides};
@@ -157,12 +157,14 @@ fn read_rows<D: Desk>(
     let total = grid.sides().count();
     let mut at = heading.at;
     let mut count: u32 = 0;
+    let mut column: u32 = 0;
     while at < MOST_BYTES {
         let c = next_byte(at, bytes, desk)?;
-        let pixels = pixels_ahead(heading.width, count);
+        let pixels = pixels_ahead(heading.width, column);
         put_bits(&mut grid, count, c, pixels);
         at += 1;
         count += pixels;
+        column = column_after(heading.width, column, pixels);
         if count == total {
             return Ok(grid);
         }
@@ -173,7 +175,7 @@ fn read_rows<D: Desk>(
 /// Reads the PBM at the front of the picture's place, in the form `P1` or `P4`.
 ///
 /// What follows the last pixel, or the last byte of the last row, is not looked at, but may have been taken from the desk.
-/// It takes memory for 512 bytes and the grid.
+/// It takes memory for 65536 bytes and the grid.
 pub fn read_pbm<D: Desk>(alloc: Global, desk: &mut D) -> Result<Grid<P2>, PictureError>
     requires { (D.state desk.old).begun Picture ≡ true }
     ensures answer { PictureAnswer (pbm most_flat most_bytes)

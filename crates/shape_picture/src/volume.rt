@@ -68,7 +68,7 @@ fn if_ended<P: Point, D: Desk>(
 /// Reads the raw volume of these sides that the whole file at the picture's place is.
 ///
 /// x runs fastest, then y, then z. At most one byte more than there are points is taken from the desk, so a file without
-/// end is answered too. It takes memory for 512 bytes and the grid.
+/// end is answered too. It takes memory for 65536 bytes and the grid.
 pub fn read_raw<D: Desk>(
     alloc: Global,
     desk: &mut D,

@@ -1,5 +1,5 @@
 use Rattle.std.proofs.Common.{◌≡◌, ◌<◌, ◌+◌, refl, length, map, subst, ap, sym, ◌∙◌, arith}
-use Rattle.std.specs.Prelude.{Some, vec_capacity}
+use Rattle.std.specs.Prelude.{Some}
 use Rattle.std.proofs.lemmas.List.{length-map}
 use Rattle.std.proofs.lemmas.Option.{slice_get-get_or}
 use Rattle.shape_terms.specs.Points.{box_count, raster_point}
@@ -12,7 +12,7 @@ use Rattle.judge_plane.proofs.Numbering.{marked_numbers}
 use Rattle.judge_plane.proofs.numbered.unmark_all.Goals as goal
 
 pub loop-k-init : goal.loop-k-init
-loop-k-init c = record { sides = refl; marked = marked_numbers c.args.marks.now c.args.numbers.now.items (vec_capacity c.args.numbers.now) c.requires }
+loop-k-init c = record { sides = refl; marked = marked_numbers c.args.marks.now c.args.numbers.now.items c.requires }
 
 pub clear_number-requires : goal.clear_number-requires
 clear_number-requires c =

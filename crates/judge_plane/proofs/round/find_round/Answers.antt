@@ -1,5 +1,4 @@
 use Rattle.std.proofs.Common.{drop, ap, arith}
-use Rattle.std.specs.Prelude.{vec_capacity}
 use Rattle.std.proofs.lemmas.List.Sorted.{length_permutation}
 use Rattle.shape_terms.specs.Points.{box_count}
 use Rattle.judge_plane.proofs.Numbering.{few_numbered}
@@ -7,15 +6,10 @@ use Rattle.judge_plane.proofs.Rising.{sorted_round}
 use Rattle.judge_plane.proofs.round.find_round.Goals as goal
 
 pub returns-clause-round : goal.returns-clause-round
-returns-clause-round c = sorted_round c.args.left.now c.gather.new.marks (drop c.args.start c.args.taken.now.points) c.gather.new.numbers.items c.sort_unstable.new.self.items (vec_capacity c.gather.new.numbers) c.gather.ensures.box_ c.gather.ensures.numbered c.gather.ensures.points c.sort_unstable.ensures.permutation c.sort_unstable.ensures.sorted
+returns-clause-round c = sorted_round c.args.left.now c.gather.new.marks (drop c.args.start c.args.taken.now.points) c.gather.new.numbers.items c.sort_unstable.new.self.items c.gather.ensures.box_ c.gather.ensures.numbered.numbered c.gather.ensures.points c.sort_unstable.ensures.permutation c.sort_unstable.ensures.sorted
 
 pub returns-clause-few : goal.returns-clause-few
 returns-clause-few c =
-    let f = few_numbered c.gather.new.marks c.gather.new.numbers.items (vec_capacity c.gather.new.numbers) c.gather.ensures.numbered in
+    let f = few_numbered c.gather.new.marks c.gather.new.numbers.items c.gather.ensures.numbered.numbered in
     let n = length_permutation c.gather.new.numbers.items c.sort_unstable.new.self.items c.sort_unstable.ensures.permutation in
     omega (arith, f, n, ap box_count c.gather.ensures.box_)
-
-pub returns-clause-room : goal.returns-clause-room
-returns-clause-room c =
-    let f = c.gather.ensures.numbered.fits in
-    omega (arith, f, ap box_count c.gather.ensures.box_, c.sort_unstable.ensures.capacity)

@@ -1,5 +1,5 @@
-use Rattle.std.proofs.Common.{◌≡◌, ◌+◌, ◌≤◌, ◌<◌, ℕ, true, false, sym, ap, ◌∙◌, subst, arith, inl, inr}
-use Rattle.std.specs.Prelude.{IsTrue, ◌⊎◌, ◌↔◌}
+use Rattle.std.proofs.Common.{◌≡◌, ◌+◌, ◌≤◌, ◌<◌, ℕ, refl, true, false, sym, ap, ◌∙◌, subst, arith, inl, inr}
+use Rattle.std.specs.Prelude.{IsTrue, vec_capacity, ◌⊎◌, ◌↔◌}
 use native.Mathlib.Decide.{ℕ_discrete}
 use Rattle.shape_terms.specs.Points.{Point, in_box, box_count, raster_point}
 use Rattle.shape_terms.specs.Adjacency.{near_point}
@@ -7,6 +7,7 @@ use Rattle.shape_terms.specs.Pictures.{Picture, at}
 use Rattle.shape_terms.proofs.NeighbourNumbers.{near_listed_once}
 use Rattle.judge_plane.specs.Terms.{point_of}
 use Rattle.judge_plane.proofs.Exposing.{in_of_at, near_within}
+use Rattle.judge_plane.proofs.Numbering.{room_more, numbered_with}
 use Rattle.judge_plane.proofs.Rounds.{Gathering, gather_none, gather_yes, gather_no, gather_all}
 use Rattle.judge_plane.proofs.round.gather_around.Goals as goal
 use Rattle.judge_plane.proofs.round.gather_around.Goals.{then-has, else-has}
@@ -21,6 +22,7 @@ pub loop-k-init : goal.loop-k-init
 loop-k-init c = record {
   sides = c.requires.box_;
   numbered = c.requires.numbered;
+  capacity = refl;
   points = gather_none c.args.left.now (point_of c.args.p) (λ j. 0 ≤ j) c.args.marks.now (λ j l h. omega arith);
 }
 
@@ -29,6 +31,18 @@ raster-requires c = subst (λ s. IsTrue (in_box s (point_of c.near-q.result))) (
 
 pub put-requires-clause-place : goal.put-requires-clause-place
 put-requires-clause-place c = omega (arith, c.raster.ensures.below, ap box_count c.sides-sides.ensures.value, ap box_count c.loop-k.invariant.sides)
+
+pub put-requires-clause-numbered : goal.put-requires-clause-numbered
+put-requires-clause-numbered c = c.loop-k.invariant.numbered.numbered
+
+pub put-requires-clause-room : goal.put-requires-clause-room
+put-requires-clause-room c =
+    let left = c.args.left.now in
+    let marks = c.loop-k.marks in
+    let below : c.raster.result < box_count marks.sides = omega (arith, c.raster.ensures.below, ap box_count c.sides-sides.ensures.value, ap box_count c.loop-k.invariant.sides) in
+    let back : raster_point marks.sides c.raster.result ≡ point_of c.near-q.result = ap (λ s. raster_point s c.raster.result) (c.loop-k.invariant.sides ∙ sym c.sides-sides.ensures.value) ∙ c.raster.ensures.back in
+    let object : IsTrue (at left (raster_point marks.sides c.raster.result)) = ap (at left) back ∙ sym c.has.ensures ∙ c.if-has.true in
+    room_more left marks c.loop-k.numbers.items (vec_capacity c.loop-k.numbers) c.loop-k.invariant.numbered c.raster.result below object
 
 pub loop-k-preserved : goal.loop-k-preserved
 loop-k-preserved c =
@@ -45,7 +59,8 @@ loop-k-preserved c =
           let put = subst (λ z. (r : Point) → IsTrue (at w.put.new.marks r) ↔ (IsTrue (at marks r) ⊎ (z ≡ r))) back w.put.ensures.points in
           record {
             sides = ap (λ (Y : Picture). Y.sides) w.marks-is ∙ w.put.ensures.box_ ∙ c.loop-k.invariant.sides;
-            numbered = rw (w.marks-is, w.numbers-is) w.put.ensures.numbered;
+            numbered = rw (w.marks-is, w.numbers-is) (numbered_with left marks c.loop-k.numbers.items (vec_capacity c.loop-k.numbers) c.loop-k.invariant.numbered w.raster.result w.put.new.marks w.put.new.numbers.items (vec_capacity w.put.new.numbers) (subst (λ z. IsTrue (at left z)) (sym back) object) w.put.ensures.numbered w.put.ensures.points w.put.ensures.capacity);
+            capacity = ap vec_capacity w.numbers-is ∙ w.put.ensures.capacity ∙ c.loop-k.invariant.capacity;
             points = subst (Gathering left p (λ j. k + 1 ≤ j) c.args.marks.now) (sym w.marks-is) (gather_yes left p (λ j. k ≤ j) (λ j. k + 1 ≤ j) k c.args.marks.now marks g (moves k) q w.put.new.marks (near_listed_once p) c.loop-k-test.true c.near-q.ensures object put);
           }
       | else-has w ↦
@@ -53,6 +68,7 @@ loop-k-preserved c =
           record {
             sides = ap (λ (Y : Picture). Y.sides) w.marks-is ∙ c.loop-k.invariant.sides;
             numbered = rw (w.marks-is, w.numbers-is) c.loop-k.invariant.numbered;
+            capacity = ap vec_capacity w.numbers-is ∙ c.loop-k.invariant.capacity;
             points = subst (Gathering left p (λ j. k + 1 ≤ j) c.args.marks.now) (sym w.marks-is) (gather_no left p (λ j. k ≤ j) (λ j. k + 1 ≤ j) k c.args.marks.now marks g (moves k) none);
           }
     ]

@@ -1,5 +1,5 @@
-use Rattle.std.proofs.Common.{◌≡◌, ◌<◌, ◌^◌, length, sym, ap, ◌∙◌, subst, arith}
-use Rattle.std.specs.Prelude.{IsTrue}
+use Rattle.std.proofs.Common.{refl, ◌≡◌, ◌<◌, ◌^◌, length, sym, ap, ◌∙◌, subst, arith}
+use Rattle.std.specs.Prelude.{IsTrue, vec_capacity}
 use Rattle.std.specs.Int.Count.{count_trailing_zeros}
 use Rattle.std.proofs.lemmas.Nat.Bits.{bit_at-zero}
 use Rattle.shape_terms.specs.Points.{sides_of, in_box, box_count, raster_point}
@@ -9,6 +9,7 @@ use Rattle.shape_terms.proofs.NeighbourNumbers.{near_listed_once}
 use Rattle.shape_adj.specs.NearMasks.{In}
 use Rattle.judge_plane.specs.Terms.{point_of}
 use Rattle.judge_plane.proofs.LeastBits.{less_bit, least_in, less_in, less_other, less_falls}
+use Rattle.judge_plane.proofs.Numbering.{room_more, numbered_with}
 use Rattle.judge_plane.proofs.Rounds.{number_of_near, mask_here, gather_none, gather_yes, gather_all}
 use Rattle.judge_plane.proofs.round.gather_inside.Goals as goal
 
@@ -29,6 +30,7 @@ loop-rest-init c =
     record {
       sides = c.requires.box_;
       numbered = c.requires.numbered;
+      capacity = refl;
       there = λ j. (mask j).0;
       points = gather_none left p (In c.mask-rest.result) c.args.marks.now (λ j l h. (mask j).1 (l, h));
     }
@@ -54,6 +56,19 @@ put-requires-clause-place c =
     let t = c.loop-rest.invariant.there k (least_in c.loop-rest.rest (omega arith) (omega arith)) in
     (number_of_near sides c.loop-rest.marks.sides p (raster_point sides c.raster-i.result) k c.known.result (c.requires.near_box ∙ sym c.loop-rest.invariant.sides) c.raster-i.ensures.back c.known.ensures (c.requires.inner k t.0)).0
 
+pub put-requires-clause-numbered : goal.put-requires-clause-numbered
+put-requires-clause-numbered c = c.loop-rest.invariant.numbered.numbered
+
+pub put-requires-clause-room : goal.put-requires-clause-room
+put-requires-clause-room c =
+    let sides = sides_of (point_of c.args.near.now.sides.lengths) in
+    let p = point_of c.args.p in
+    let left = c.args.left.now in
+    let k = count_trailing_zeros 32 c.loop-rest.rest in
+    let t = c.loop-rest.invariant.there k (least_in c.loop-rest.rest (omega arith) (omega arith)) in
+    let n = number_of_near sides c.loop-rest.marks.sides p (raster_point sides c.raster-i.result) k c.known.result (c.requires.near_box ∙ sym c.loop-rest.invariant.sides) c.raster-i.ensures.back c.known.ensures (c.requires.inner k t.0) in
+    room_more left c.loop-rest.marks c.loop-rest.numbers.items (vec_capacity c.loop-rest.numbers) c.loop-rest.invariant.numbered c.known.result n.0 (subst (λ z. IsTrue (at left z)) (sym n.1) t.1)
+
 pub loop-rest-smaller : goal.loop-rest-smaller
 loop-rest-smaller c = less_falls c.loop-rest.rest (omega arith) (omega arith)
 
@@ -72,7 +87,8 @@ loop-rest-preserved c =
     let new : q ≡ near_point p k = (number_of_near sides marks.sides p (raster_point sides c.raster-i.result) k c.known.result (c.requires.near_box ∙ sym c.loop-rest.invariant.sides) c.raster-i.ensures.back c.known.ensures (c.requires.inner k t.0)).1 in
     record {
       sides = c.put.ensures.box_ ∙ c.loop-rest.invariant.sides;
-      numbered = c.put.ensures.numbered;
+      numbered = numbered_with left marks c.loop-rest.numbers.items (vec_capacity c.loop-rest.numbers) c.loop-rest.invariant.numbered c.known.result c.put.new.marks c.put.new.numbers.items (vec_capacity c.put.new.numbers) (subst (λ z. IsTrue (at left z)) (sym new) t.1) c.put.ensures.numbered c.put.ensures.points c.put.ensures.capacity;
+      capacity = c.put.ensures.capacity ∙ c.loop-rest.invariant.capacity;
       there = λ j i. c.loop-rest.invariant.there j (less_in rest small more j i);
       points = gather_yes left p (In rest) (In (less_bit rest k)) k c.args.marks.now marks c.loop-rest.invariant.points (less_other rest small more) q c.put.new.marks (near_listed_once p) t.0 new (subst (λ z. IsTrue (at left z)) (sym new) t.1) c.put.ensures.points;
     }

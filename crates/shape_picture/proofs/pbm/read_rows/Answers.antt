@@ -27,7 +27,7 @@ put_bits-requires-clause-room g c =
     let h = c.args.heading.height in
     let b : box_count c.loop-at.grid.sides ≡ w * h = ap box_count (c.loop-at.invariant.1 ∙ c.requires.sides) ∙ times_one w h in
     let r : c.loop-at.count + byte_pixels w c.loop-at.count ≤ w * h = room_left w h c.loop-at.count c.requires.some_width (omega (arith, c.loop-at.invariant.2, c.loop-at.invariant.3)) in
-    rw (b, c.pixels_ahead-pixels.ensures) r
+    rw (b, (c.pixels_ahead-pixels.ensures c.loop-at.count c.loop-at.invariant.5)) r
 
 pub returns-then-count-total-clause-answer : goal.returns-then-count-total-clause-answer
 returns-then-count-total-clause-answer g c = λ all h.
@@ -35,7 +35,7 @@ returns-then-count-total-clause-answer g c = λ all h.
     let p = r.known in
     let t = c.in_ok-c.ensures.answer all r.front r.taken (rows_unfinished most_flat p) in
     let s = same_sides p (c.loop-at.invariant.1 ∙ c.requires.sides) in
-    let count = c.pixels_ahead-pixels.ensures ∙ ap (λ (w : ℕ). byte_pixels w c.loop-at.count) (sym s.0) in
+    let count = (c.pixels_ahead-pixels.ensures c.loop-at.count c.loop-at.invariant.5) ∙ ap (λ (w : ℕ). byte_pixels w c.loop-at.count) (sym s.0) in
     let n : c.loop-at.count + c.pixels_ahead-pixels.result ≡ number_value p.width * number_value p.height = c.if-count-total.true ∙ c.loop-at.invariant.2 ∙ sym s.1 in
     let few : length r.front < most_bytes = omega (arith, r.taken.many, c.loop-at-test.true) in
     let known = flat_map (row_pixels (number_value p.width)) p.rows ++ flat_map bits_of p.row in
@@ -49,14 +49,14 @@ loop-at-preserved g c =
     let k = c.args.heading.height in
     let total : c.count-total.result ≡ w * k = c.loop-at.invariant.2 in
     let room : c.loop-at.count + byte_pixels w c.loop-at.count ≤ w * k = room_left w k c.loop-at.count c.requires.some_width (omega (arith, c.loop-at.invariant.3, total)) in
-    let within : c.loop-at.count + c.pixels_ahead-pixels.result ≤ w * k = rw c.pixels_ahead-pixels.ensures room in
+    let within : c.loop-at.count + c.pixels_ahead-pixels.result ≤ w * k = rw (c.pixels_ahead-pixels.ensures c.loop-at.count c.loop-at.invariant.5) room in
     let less : c.loop-at.count + c.pixels_ahead-pixels.result < c.count-total.result = omega (arith, within, total, c.if-count-total.false) in (
       λ all h.
           let r = c.loop-at.invariant.0 all h in
           let p = r.known in
           let t = c.in_ok-c.ensures.answer all r.front r.taken (rows_unfinished most_flat p) in
           let s = same_sides p (c.loop-at.invariant.1 ∙ c.requires.sides) in
-          let count = c.pixels_ahead-pixels.ensures ∙ ap (λ (w : ℕ). byte_pixels w c.loop-at.count) (sym s.0) in
+          let count = (c.pixels_ahead-pixels.ensures c.loop-at.count c.loop-at.invariant.5) ∙ ap (λ (w : ℕ). byte_pixels w c.loop-at.count) (sym s.0) in
           let n : c.loop-at.count + c.pixels_ahead-pixels.result < number_value p.width * number_value p.height = omega (arith, s.1, total, less) in
           let known = flat_map (row_pixels (number_value p.width)) p.rows ++ flat_map bits_of p.row in
           let v = c.put_bits.ensures.values known (number_value p.width * number_value p.height) p.first.count (omega (arith, n)) p.first.values in
@@ -65,6 +65,7 @@ loop-at-preserved g c =
       c.loop-at.invariant.2,
       less,
       OnlyReadsAt-more c.loop-at.invariant.4 c.in_ok-c.ensures.reads,
+      c.column_after-column.ensures c.loop-at.count c.loop-at.invariant.5,
     )
 
 pub returns-clause-answer : goal.returns-clause-answer

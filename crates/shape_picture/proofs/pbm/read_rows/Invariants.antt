@@ -1,4 +1,4 @@
-use Rattle.std.proofs.Common.{◌≡◌, ◌-◌, ◌*◌, ◌<◌, ℕ, List, Option}
+use Rattle.std.proofs.Common.{◌≡◌, ◌-◌, ◌*◌, ◌%◌, ◌<◌, ℕ, List, Option}
 use Rattle.shape_desk.specs.declared.desk.Place.TheVariants.{Picture}
 use Rattle.shape_desk.specs.Desk.{OnlyReadsAt}
 use Rattle.shape_terms.specs.Limits.{most_flat, most_bytes}
@@ -14,6 +14,7 @@ invariant-loop-at g l =
     × (l.total ≡ l.fn.heading.width * l.fn.heading.height)
     × (l.count < l.total)
     × OnlyReadsAt Picture (g.D.Desk.state l.initial.desk) (g.D.Desk.state l.desk)
+    × (l.column ≡ l.count % l.fn.heading.width)
 
 abbrev pub decreases-loop-at : goal.decreases-loop-at
 decreases-loop-at g l = most_bytes - l.at

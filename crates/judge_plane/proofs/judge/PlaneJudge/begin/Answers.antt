@@ -1,4 +1,5 @@
 use Rattle.std.proofs.Common.{◌≡◌, ◌+◌, ◌-◌, ◌<◌, [], length, drop, ap, sym, ◌∙◌, subst, arith}
+use Rattle.shape_terms.specs.Pictures.{object_points}
 use Rattle.report_terms.specs.FaceFacts.{face_axis}
 use Rattle.judge_plane.specs.Listings.{Listing}
 use Rattle.judge_plane.specs.Exposure.{exposed_at, AreLeft, AreMarked}
@@ -34,6 +35,7 @@ invariant_of-self c =
       taken_box = ap (λ (l : Listing). l.sides) c.clear.ensures ∙ k.taken_box;
       marks_box = k.marks_box;
       unmarked = k.unmarked;
+      taken_fits = subst (λ (l : Listing). length (object_points i.grid) < l.room) (sym c.clear.ensures) k.taken_fits;
       fits = (let r = k.fits in omega (arith, r, c.clear-2.ensures.capacity));
       axis = λ l. (let a : c.args.axis ≡ c.axis_of.result = omega (arith, c.if-axis-axis_of.false) in a ∙ c.axis_of.ensures.value ∙ ap face_axis same);
       step = subst (λ ps. AreInStep i.grid m ps c.clear-2.new.self.items) (sym empty) (subst (λ ns. AreInStep i.grid m [] ns) (sym c.clear-2.ensures.items) step);

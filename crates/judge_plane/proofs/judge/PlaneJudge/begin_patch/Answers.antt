@@ -70,6 +70,7 @@ invariant_of-self c =
       taken_box = k.taken_box;
       marks_box = k.marks_box;
       unmarked = k.unmarked;
+      taken_fits = k.taken_fits;
       fits = k.fits;
       axis = k.axis;
       step = step_patch i.grid n i.plane i.taken.points i.touching.items k.step c.len-start.result c.args.points c.len-start.ensures.value c.if-points-eq0.false (omega (arith, c.if-points-self.false));

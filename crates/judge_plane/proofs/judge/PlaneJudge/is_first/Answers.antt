@@ -26,6 +26,7 @@ invariant_of-self c =
       taken_box = k.taken_box;
       marks_box = k.marks_box;
       unmarked = k.unmarked;
+      taken_fits = k.taken_fits;
       fits = k.fits;
       axis = k.axis;
       step = step_cursor i.grid n i.plane i.taken.points i.touching.items k.step c.in-Some.i (taken_up_to i.grid (i.begun - 1) i.taken.points i.left k.left_box (k.are_left begun) i.cursor k.step.below c.in-Some.i f.below f.next);

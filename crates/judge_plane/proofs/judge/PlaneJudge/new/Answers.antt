@@ -1,5 +1,5 @@
-use Rattle.std.proofs.Common.{◌≡◌, ◌<◌, ◌∙◌, ℕ, List, [], ap, sym, subst, arith, rules}
-use Rattle.shape_terms.specs.Pictures.{Picture, blank}
+use Rattle.std.proofs.Common.{◌≡◌, ◌<◌, ◌∙◌, ℕ, List, [], length, ap, sym, subst, arith, rules}
+use Rattle.shape_terms.specs.Pictures.{Picture, blank, object_points}
 use Rattle.judge_plane.specs.Listings.{Listing, listing_of}
 use Rattle.judge_plane.specs.Exposure.{AreMarked}
 use Rattle.shape_terms.specs.Points.{sides_of}
@@ -11,8 +11,8 @@ use Rattle.judge_plane.proofs.Standings.{few_lines}
 use Rattle.judge_plane.proofs.judge.PlaneJudge.new.Goals as goal
 
 -- at first no point is taken
-marked_first : (l : Listing) (R : Picture) (box sides : List ℕ) → l ≡ listing_of box [] → R ≡ blank sides → AreMarked l.points R
-marked_first l R box sides e f = subst (λ ps. AreMarked ps R) (sym (ap (λ (k : Listing). k.points) e)) (subst (AreMarked []) (sym f) (marked_none sides))
+marked_first : (l : Listing) (R : Picture) (box sides : List ℕ) (room : ℕ) → l ≡ listing_of box [] room → R ≡ blank sides → AreMarked l.points R
+marked_first l R box sides room e f = subst (λ ps. AreMarked ps R) (sym (ap (λ (k : Listing). k.points) e)) (subst (AreMarked []) (sym f) (marked_none sides))
 
 -- and no face is begun
 never : {P : Type 0} → 0 < 0 → P
@@ -22,6 +22,7 @@ pub invariant_of-result : goal.invariant_of-result
 invariant_of-result c =
     let X = c.in_ok-copy.field-0 in
     let box : sides_of (point_of c.sides-sides.result.lengths) ≡ X.sides = c.sides-sides.ensures.value ∙ ap (λ (Y : Picture). Y.sides) (sym c.in_ok-copy.ensures) in
+    let objects = ap (λ (Y : Picture). length (object_points Y)) c.in_ok-copy.ensures in
     let sides = λ (Y : Picture). Y.sides in
     let none = ap (λ (k : Listing). k.points) (sym c.in_ok-new-2.ensures) in
     record {
@@ -30,11 +31,12 @@ invariant_of-result c =
       left_box = ap sides c.in_ok-new-3.ensures ∙ box;
       are_left = never;
       recent_box = ap sides c.in_ok-new-4.ensures ∙ box;
-      are_recent = marked_first _ _ _ _ c.in_ok-new-2.ensures c.in_ok-new-4.ensures;
+      are_recent = marked_first _ _ _ _ _ c.in_ok-new-2.ensures c.in_ok-new-4.ensures;
       taken_box = ap (λ (k : Listing). k.sides) c.in_ok-new-2.ensures ∙ box;
       marks_box = ap sides c.in_ok-new-5.ensures ∙ box;
       unmarked = subst (AreMarked []) (sym c.in_ok-new-5.ensures) (marked_none _);
-      fits = search rules;
+      taken_fits = omega (arith, objects, ap (λ (k : Listing). k.room) c.in_ok-new-2.ensures, c.count-2.ensures);
+      fits = omega (arith, objects, c.in_ok-touching.ensures.exact, c.count.ensures);
       axis = never;
       step = subst (λ ps. AreInStep X _ ps c.in_ok-touching.touching.items) none (step_none X c.in_ok-touching.touching.items c.in_ok-touching.ensures.items);
     }

@@ -8,11 +8,20 @@ use Rattle.judge_plane.specs.Exposure.{exposed_at}
 use Rattle.judge_plane.specs.PlaneState.{PlaneState, Counts, IsKept, given_plane}
 use Rattle.judge_plane.proofs.Exposing.{exposed_in}
 use Rattle.judge_plane.proofs.Touching.{next_only}
-use Rattle.judge_plane.proofs.Steps.{touching, step_off, first_more, length-first}
+use Rattle.judge_plane.proofs.Steps.{touching, declared_few, step_off, first_more, length-first}
 use Rattle.judge_plane.proofs.judge.PlaneJudge.take_off.Goals as goal
 
 pub overflow_add-self : goal.overflow_add-self
 overflow_add-self c = let f = c.self.invariant.step.few in let r = c.self.invariant.step.refused in omega (arith, f, r, c.is_picture.ensures.few)
+
+pub are_refuted-requires-clause-room : goal.are_refuted-requires-clause-room
+are_refuted-requires-clause-room c =
+    let i = c.self.inside in
+    let n : Counts = record { begun = i.begun; exposed = i.exposed; start = i.start; declared = i.declared; cursor = i.cursor; refused = i.refused } in
+    let k = c.self.invariant in
+    let given = k.step.given in
+    let fits = k.taken_fits in
+    omega (arith, given, fits, declared_few i.grid n i.taken.points i.touching.items k.step)
 
 pub invariant_of-self-2 : goal.invariant_of-self-2
 invariant_of-self-2 c =
@@ -32,6 +41,7 @@ invariant_of-self-2 c =
       taken_box = k.taken_box;
       marks_box = k.marks_box;
       unmarked = k.unmarked;
+      taken_fits = k.taken_fits;
       fits = k.fits;
       axis = k.axis;
       step = step_off i.grid n i.plane i.taken.points i.touching.items k.step all place.0;

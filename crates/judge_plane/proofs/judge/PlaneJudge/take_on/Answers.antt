@@ -1,5 +1,6 @@
-use Rattle.std.proofs.Common.{◌≡◌, ◌<◌, ◌≤◌, ◌-◌, [], ◌∷◌, ◌++◌, length, drop, subst, ap, sym, ◌∙◌, arith}
+use Rattle.std.proofs.Common.{◌≡◌, ◌<◌, ◌-◌, [], ◌∷◌, ◌++◌, length, drop, subst, ap, sym, ◌∙◌, arith}
 use Rattle.std.proofs.lemmas.Bool.{false≢true}
+use Rattle.std.proofs.lemmas.List.{length-drop}
 use Rattle.std.specs.Prelude.{IsTrue, vec_capacity}
 use Rattle.shape_terms.specs.Points.{sides_of, in_box, box_count}
 use Rattle.shape_terms.specs.Pictures.{Picture}
@@ -11,8 +12,21 @@ use Rattle.judge_plane.specs.PlaneState.{PlaneState, Counts, IsKept, state_of, w
 use Rattle.judge_plane.proofs.Exposing.{exposed_in}
 use Rattle.judge_plane.proofs.LeftPoints.{left_less, round_touches}
 use Rattle.judge_plane.proofs.Marking.{marked_taken}
-use Rattle.judge_plane.proofs.Steps.{left_of_next, more_points, begun_of, some_left, next_on, step_on}
+use Rattle.judge_plane.proofs.Steps.{left_of_next, more_points, begun_of, exposed_few, declared_few, some_left, next_on, step_on}
 use Rattle.judge_plane.proofs.judge.PlaneJudge.take_on.Goals as goal
+
+pub push-requires-clause-room : goal.push-requires-clause-room
+push-requires-clause-room c =
+    let j = c.self-2.inside in
+    let n : Counts = record { begun = j.begun; exposed = j.exposed; start = j.start; declared = j.declared; cursor = j.cursor; refused = j.refused } in
+    let k = c.self-2.invariant in
+    let same = c.self-2.view_is ∙ c.is_next.ensures.same in
+    let more = more_points j.grid n j.taken.points j.touching.items k.step (λ e. (
+    let t = c.has_points.ensures.1 (subst (λ (s : PlaneState). length s.standing.patch.points ≡ s.standing.patch.declared) same e) in
+    false≢true (sym c.if-has_points.false ∙ t))) in
+    let fits = k.taken_fits in
+    let start = k.step.start in
+    omega (arith, more, start, fits, length-drop j.start j.taken.points, declared_few j.grid n j.taken.points j.touching.items k.step)
 
 pub push-requires-clause-inside : goal.push-requires-clause-inside
 push-requires-clause-inside c =
@@ -86,7 +100,8 @@ invariant_of-self c =
       taken_box = k.taken_box;
       marks_box = c.find_round.ensures.box_ ∙ rest_box;
       unmarked = c.find_round.ensures.none;
-      fits = omega (arith, c.find_round.ensures.room, ap box_count rest_box);
+      taken_fits = k.taken_fits;
+      fits = (let r = k.fits in omega (arith, r, c.find_round.ensures.capacity));
       axis = k.axis;
       step = step_on j.grid n j.plane j.taken.points j.touching.items k.step p c.find_round.new.numbers.items more left (λ e. touching) (let f = c.find_round.ensures.few in omega (arith, f, ap box_count rest_box));
     })
@@ -118,6 +133,7 @@ invariant_of-self-else-len-self c =
       taken_box = k.taken_box;
       marks_box = k.marks_box;
       unmarked = k.unmarked;
+      taken_fits = k.taken_fits;
       fits = k.fits;
       axis = k.axis;
       step = step_on j.grid n j.plane j.taken.points j.touching.items k.step p j.touching.items more left (λ e. absurd (c.if-len-self.false (c.len.ensures.value ∙ points ∙ e))) k.step.few;
@@ -140,8 +156,22 @@ find_round-requires-clause-none c = c.self-2.invariant.unmarked
 
 pub find_round-requires-clause-room : goal.find_round-requires-clause-room
 find_round-requires-clause-room c =
+    let j = c.self-2.inside in
+    let n : Counts = record { begun = j.begun; exposed = j.exposed; start = j.start; declared = j.declared; cursor = j.cursor; refused = j.refused } in
     let k = c.self-2.invariant in
-    subst (λ s. box_count s ≤ vec_capacity c.self-2.inside.touching) (sym (ap (λ (Y : Picture). Y.sides) c.clear.ensures ∙ k.left_box)) k.fits
+    let p = point_of c.args.p in
+    let exposed = exposed_at j.grid (j.begun - 1) in
+    let same = c.self-2.view_is ∙ c.is_next.ensures.same in
+    let next = subst (λ (s : PlaneState). IsNextOn (open_exposed s.picture s.standing) s.standing.taken s.standing.patch.points p) (sym same) (c.is_next.ensures.answer.0 c.if-not-is_next.false) in
+    let left = left_of_next exposed j.taken.points (drop j.start j.taken.points) p next in
+    let more = more_points j.grid n j.taken.points j.touching.items k.step (λ e. (
+    let t = c.has_points.ensures.1 (subst (λ (s : PlaneState). length s.standing.patch.points ≡ s.standing.patch.declared) same e) in
+    false≢true (sym c.if-has_points.false ∙ t))) in
+    let begun = begun_of j.grid n j.taken.points j.touching.items k.step (omega (arith, more)) in
+    let inside = subst (λ s. IsTrue (in_box s p)) (sym k.left_box) (exposed_in j.grid (j.begun - 1) p left.there) in
+    let rest = subst (AreLeft exposed (j.taken.points ++ p ∷ [])) (sym c.clear.ensures) (left_less exposed j.taken.points j.left p (k.are_left begun) inside) in
+    let fits = k.fits in
+    record { among = exposed; each = λ q a. ((rest.each q).0 a).there; fits = omega (arith, exposed_few j.grid (j.begun - 1), fits) }
 
 pub returns-then-len-self-clause-picture : goal.returns-then-len-self-clause-picture
 returns-then-len-self-clause-picture c = ap (λ (s : PlaneState). s.picture) (c.self-2.view_is ∙ c.is_next.ensures.same)
