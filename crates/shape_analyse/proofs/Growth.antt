@@ -1,10 +1,10 @@
 -- A report grows by one good line at a time, up to its `near` lines.
 -- One law for each kind of line that is added; those of contours stand in `ContourGrowth`.
-use Rattle.std.proofs.Common.{◌≡◌, ◌+◌, ◌≤◌, ℕ, zero, suc, ℤ, pos, negsuc, ◌≤ℤ◌, List, [], ◌∷◌, ◌++◌, length, map, refl, sym, ap, ◌∙◌, subst, arith, Some}
+use Rattle.std.proofs.Common.{◌≡◌, ◌+◌, ◌≤◌, ℕ, zero, suc, ℤ, pos, negsuc, ◌≤ℤ◌, List, [], ◌∷◌, ◌++◌, length, map, refl, sym, ap, ◌∙◌, subst, arith, Some, Option}
 use Rattle.std.specs.Prelude.{All, FitsSigned, slice_get}
 use Rattle.std.specs.Int.{w32}
 use Rattle.std.proofs.lemmas.Int.{ints}
-use Rattle.std.proofs.lemmas.List.{append-nil, length-append}
+use Rattle.std.proofs.lemmas.List.{append-nil, append_assoc, length-append}
 use Rattle.std.proofs.lemmas.Grind.{flat_map-append}
 use Rattle.std.proofs.lemmas.List.Elements.{All-nil, All-push, All-head, All-tail, All-from_get_or}
 use Rattle.shape_terms.specs.Limits.{most_flat}
@@ -24,6 +24,9 @@ use Rattle.report_terms.proofs.SectionLaws.{come_none, come_more, come_past, goo
 use Rattle.text_terms.proofs.FramedFields.{within_short, distance_fits}
 use Rattle.report_terms.proofs.Spelled.{short_line}
 use Rattle.shape_grid.proofs.SideLists.{sides_back}
+use Rattle.shape_desk.specs.Desk.{DeskState}
+use Rattle.report_text.specs.Telling.{Tells, TellsMore}
+use Rattle.report_text.proofs.Telling.{tells_more}
 use Rattle.shape_analyse.specs.Growing.{Aim, heading_of, HasHeading, AreGood, IsGrowing, IsTextOf}
 
 -- ---- texts
@@ -36,6 +39,14 @@ text_push old new lines l e f =
 
 pub text_more : (IsSo : List Line → Type 0) (old new : List ℕ) (lines : List Line) (l : Line) → old ≡ text_of lines → new ≡ old ++ line_text l → IsSo (lines ++ l ∷ []) → IsTextOf IsSo new
 text_more IsSo old new lines l e f h = record { lines = lines ++ l ∷ []; is = text_push old new lines l e f; so = h }
+
+-- behind the same text
+pub text_behind : {new : List ℕ} (before old more : List ℕ) → new ≡ old ++ more → before ++ new ≡ (before ++ old) ++ more
+text_behind before old more e = ap (λ t. before ++ t) e ∙ sym (append_assoc before old more)
+
+-- where a line is told, the lines of a text that is told are those before it and this one
+pub tells_line : {Was IsSo : List Line → Type 0} {begun before after : DeskState} {old new : Option (List ℕ)} (l : Line) → TellsMore (line_text l) old new before after → ((lines : List Line) → Was lines → IsSo (lines ++ l ∷ [])) → Tells (IsTextOf Was) begun old before → Tells (IsTextOf IsSo) begun new after
+tells_line {IsSo = IsSo} l call f h = tells_more (line_text l) call (λ text t. text_more IsSo text (text ++ line_text l) t.lines l t.is refl (f t.lines t.so)) h
 
 -- what is so of the lines of a text, where it follows from what was
 pub text_as : {Was IsSo : List Line → Type 0} {text : List ℕ} → ((lines : List Line) → Was lines → IsSo lines) → IsTextOf Was text → IsTextOf IsSo text

@@ -1,6 +1,6 @@
 -- How the numbers of a picture grow: by a contour with its cover, and by a face.
 -- Laws of the definitions of `Tallies`, over plain variables.
-use Rattle.std.proofs.Common.{◌≡◌, ℕ, zero, suc, ◌+◌, List, [], ◌∷◌, ◌++◌, Some, length, take, ap, sym, ◌∙◌, arith}
+use Rattle.std.proofs.Common.{◌≡◌, ℕ, zero, suc, ◌+◌, List, [], ◌∷◌, ◌++◌, Some, length, take, ap, sym, subst, ◌∙◌, arith}
 use Rattle.std.specs.Prelude.{slice_get}
 use Rattle.std.specs.List.{range_with_len}
 use Rattle.std.proofs.lemmas.List.Sums.{sum_by_push}
@@ -8,14 +8,17 @@ use Rattle.std.proofs.lemmas.List.FromFn.{map-range_with_len_more}
 use Rattle.std.proofs.lemmas.List.{map-id}
 use Rattle.std.proofs.lemmas.Slice.Zip.{all_zipped_more}
 use Rattle.shape_terms.proofs.ListPushes.{take_next}
-use Rattle.shape_terms.specs.Points.{Point}
 use Rattle.shape_terms.specs.Pictures.{Picture, object_points}
-use Rattle.shape_terms.specs.Thinning.{Rule, Event, IsThinning}
+use Rattle.shape_terms.specs.Thinning.{Rule}
 use Rattle.shape_terms.specs.Shelves.{Named, rules_of}
 use Rattle.shape_rules.specs.Ruled.{rules_on}
 use Rattle.shape_terms.specs.Traces.{Contour}
 use Rattle.shape_terms.specs.Covers.{Stretch, IsCover}
-use Rattle.shape_analyse.specs.Tallies.{HasSegments, HaveCovers, HasThinning, exposed_in, exposed_count}
+use Rattle.shape_terms.specs.Parts.{Counts}
+use Rattle.shape_thin.specs.Runs.{Run}
+use Rattle.shape_analyse.specs.declared.tally.Tally.{Tally}
+use Rattle.shape_analyse.specs.Finding.{IsThinnedBy}
+use Rattle.shape_analyse.specs.Tallies.{HasSegments, HaveCovers, IsExtentOf, HasThinning, IsTallyOf, exposed_in, exposed_count}
 
 pub covers_more : (contours : List Contour) (k m n : ℕ) (c : Contour) → slice_get contours k ≡ Some c → HaveCovers (take k contours) m → HasSegments c n → HaveCovers (take (k + 1) contours) (m + n)
 covers_more contours k m n c there have more =
@@ -43,5 +46,9 @@ rule_at means (e ∷ es) zero r rule a b =
 rule_at means (e ∷ es) (suc i) r rule a b = rule_at means es i r rule a b
 
 -- a thinning tells how many events it has and how many points it leaves
-pub has_thinning : (rule : Rule) (X left : Picture) (events : List Event) (marked : List Point) (state : List ℕ) (n kept : ℕ) → IsThinning rule X events (record { left = left; marked = marked; state = state }) → n ≡ length events → kept ≡ length (object_points left) → HasThinning rule X n kept
-has_thinning rule X left events marked state n kept t e k = record { events = events; stage = record { left = left; marked = marked; state = state }; thinning = t; n_is = e; kept_are = k }
+pub has_thinning : (rule : Rule) (X : Picture) (run : Run) (n kept : ℕ) → IsThinnedBy rule X run → n ≡ length run.events → kept ≡ length (object_points run.left) → HasThinning rule X n kept
+has_thinning rule X run n kept t e k = record { events = run.events; stage = t.stage; thinning = t.thinning; n_is = e; kept_are = k ∙ ap (λ Y. length (object_points Y)) (sym t.left) }
+
+-- the numbers of a picture by a rule are those of the same picture by the same rule
+pub tally_of : (Y X : Picture) (by rule : Rule) (t : Tally) → Y ≡ X → by ≡ rule → Counts Y t.points t.parts.object t.parts.background → IsExtentOf Y t.extent → HasThinning by Y t.events t.kept → IsTallyOf X rule t
+tally_of Y X by rule t same ruled counts extent thinning = subst (λ Z. IsTallyOf Z rule t) same (record { counts = counts; extent = extent; thinning = subst (λ r. HasThinning r Y t.events t.kept) ruled thinning })

@@ -108,6 +108,10 @@ pub record IsTextOf (IsSo : List Line → Type 0) (text : List ℕ) : Type 0 whe
 abbrev pub Stands : Aim → List Contour → Standing → List ℕ → Type 0
 Stands X contours s text = IsTextOf (IsOutlined X contours s) text
 
+-- no line was told so far
+abbrev pub IsNoText : List ℕ → Type 0
+IsNoText text = text ≡ []
+
 -- the text has all lines before those of contours
 abbrev pub HasNears : Aim → List ℕ → Type 0
 HasNears X text = IsTextOf (IsGrowing X (length (object_points X.subject.picture))) text

@@ -1,6 +1,6 @@
 //! The first lines of a report of any dimension: the heading, the counts, and the nearest background points.
 //! What they tell is found by the crates below; nothing here asks what comes behind them.
-ghost use Rattle.std.specs.Prelude.{◌≡◌, ◌≤◌, ℕ, List, IfOk, OnOk, length, All};
+ghost use Rattle.std.specs.Prelude.{◌≡◌, ◌≤◌, ℕ, List, [], length, All};
 ghost use Rattle.shape_terms.specs.Pictures.{object_points};
 ghost use Rattle.shape_terms.specs.Parts.{Counts};
 ghost use Rattle.shape_terms.specs.Distances.{IsField, IsFramed};
@@ -8,16 +8,19 @@ ghost use Rattle.shape_terms.specs.Thinning.{Rule};
 ghost use Rattle.shape_terms.specs.Shelves.{Named};
 ghost use Rattle.report_terms.specs.Forms.{IsNumber, last_number};
 ghost use Rattle.report_terms.specs.Subjects.{IsOnShelf};
+ghost use Rattle.shape_desk.specs.Desk.{DeskState};
+ghost use Rattle.report_text.specs.Telling.{Tells};
 ghost use Rattle.shape_rules.specs.Names.{word_of};
-ghost use Rattle.shape_analyse.specs.Growing.{aim_of, IsGrowing, IsTextOf, HasNears};
+ghost use Rattle.shape_analyse.specs.Growing.{aim_of, IsGrowing, IsTextOf, HasNears, IsNoText};
 
-use shape_adj::{Pairing, Parts};
+use report_text::Page;
+use shape_adj::Parts;
+use shape_desk::Desk;
 use shape_dist::Field;
 use shape_grid::Grid;
-use shape_report::{Line, Report};
+use shape_report::Line;
 use shape_rules::Name;
-use shape_space::{NoMemory, Point};
-use std::alloc::Global;
+use shape_space::Point;
 
 // The greatest number that a report of pictures of this dimension has.
 fn last_number<P: Point>() -> u8
@@ -27,16 +30,20 @@ fn last_number<P: Point>() -> u8
     if P::DIM == 2 { 2 } else { 1 }
 }
 
-// The report that has its `shape` line and its `parts` line alone.
-fn open<P: Pairing>(
-    alloc: Global,
+// Tells the `shape` line and the `parts` line.
+fn tell_head<P: Point, D: Desk>(
     grid: &Grid<P>,
     rule: Name,
     counted: Parts,
-) -> Result<Report, NoMemory>
+    page: &mut Page,
+    desk: &mut D,
+)
     requires { Counts grid.now (length (object_points grid.now)) counted.object counted.background }
-    ensures open { (shelf : List (Named Rule)) (by : Rule) → IsOnShelf shelf (word_of rule) by
-        → IfOk result (IsTextOf (IsGrowing (aim_of grid.now shelf (word_of rule) by) 0)) }
+    ensures told { (shelf : List (Named Rule)) (by : Rule) (begun : DeskState)
+        → IsOnShelf shelf (word_of rule) by
+        → Tells IsNoText begun page.old (D.state desk.old)
+        → Tells (IsTextOf (IsGrowing (aim_of grid.now shelf (word_of rule) by) 0))
+        begun page.new (D.state desk.new) }
     ensures axes { length grid.now.sides ≡ P.DIM }
     ensures few { P.DIM ≤ 3 }
 {
@@ -51,25 +58,20 @@ fn open<P: Pairing>(
         object: counted.object,
         background: counted.background,
     };
-    let mut report = Report::new(alloc);
-    report.add(&head)?;
-    report.add(&counts)?;
-    Ok(report)
+    page.line(&head, desk);
+    page.line(&counts, desk);
 }
 
-// Adds the `near` line of each object point.
-fn add_nears<P: Point>(
-    grid: &Grid<P>,
-    field: &Field<P>,
-    report: &mut Report,
-) -> Result<(), NoMemory>
+// Tells the `near` line of each object point.
+fn tell_nears<P: Point, D: Desk>(grid: &Grid<P>, field: &Field<P>, page: &mut Page, desk: &mut D)
     requires axes { length grid.now.sides ≡ P.DIM }
     requires few { P.DIM ≤ 3 }
     requires field { IsField grid.now field.now }
     requires framed { All IsFramed field.now }
-    ensures { (shelf : List (Named Rule)) (name : List ℕ) (by : Rule)
-        → IsTextOf (IsGrowing (aim_of grid.now shelf name by) 0) report.old
-        → OnOk result (HasNears (aim_of grid.now shelf name by) report.new) }
+    ensures { (shelf : List (Named Rule)) (name : List ℕ) (by : Rule) (begun : DeskState)
+        → Tells (IsTextOf (IsGrowing (aim_of grid.now shelf name by) 0))
+        begun page.old (D.state desk.old)
+        → Tells (HasNears (aim_of grid.now shelf name by)) begun page.new (D.state desk.new) }
 {
     for i in 0..field.len() {
         let near = field.near(i);
@@ -78,28 +80,29 @@ fn add_nears<P: Point>(
             q: near.q,
             s: near.s as u64,
         };
-        report.add(&line)?;
+        page.line(&line, desk);
     }
-    Ok(())
 }
 
-// The report that has all lines before those of contours.
-pub(crate) fn begin<P: Pairing>(
-    alloc: Global,
+// Tells all lines before those of contours.
+pub(crate) fn tell_beginning<P: Point, D: Desk>(
     grid: &Grid<P>,
     field: &Field<P>,
     rule: Name,
     counted: Parts,
-) -> Result<Report, NoMemory>
+    page: &mut Page,
+    desk: &mut D,
+)
     requires field { IsField grid.now field.now }
     requires framed { All IsFramed field.now }
     requires counts { Counts grid.now (length (object_points grid.now))
         counted.object counted.background }
-    ensures grown { (shelf : List (Named Rule)) (by : Rule) → IsOnShelf shelf (word_of rule) by
-        → IfOk result (HasNears (aim_of grid.now shelf (word_of rule) by)) }
-    ensures axes { length grid.now.sides ≡ P.DIM }
+    ensures { (shelf : List (Named Rule)) (by : Rule) (begun : DeskState)
+        → IsOnShelf shelf (word_of rule) by
+        → Tells IsNoText begun page.old (D.state desk.old)
+        → Tells (HasNears (aim_of grid.now shelf (word_of rule) by))
+        begun page.new (D.state desk.new) }
 {
-    let mut report = open(alloc, grid, rule, counted)?;
-    add_nears(grid, field, &mut report)?;
-    Ok(report)
+    tell_head(grid, rule, counted, page, desk);
+    tell_nears(grid, field, page, desk);
 }

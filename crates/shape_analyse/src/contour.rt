@@ -19,10 +19,10 @@ fn add_outline(contour: &Contour, segments: u32, report: &mut Report) -> Result<
     requires side { contour.now.start.side < 4 }
     requires some { 1 ≤ segments }
     requires few { segments ≤ length contour.now.points }
-    ensures { (X : Aim) (contours : List Trace) (k : ℕ)
+    ensures { (X : Aim) (contours : List Trace) (k : ℕ) (before : List ℕ)
         → slice_get contours k ≡ Some contour.now
-        → IsTextOf (HasOutlined X contours k) report.old
-        → OnOk result (Stands X contours (outlined k contour.now segments) report.new) }
+        → IsTextOf (HasOutlined X contours k) (before ++ report.old)
+        → OnOk result (Stands X contours (outlined k contour.now segments) (before ++ report.new)) }
 {
     let start = contour.start();
     let head = Line::Contour {
@@ -44,9 +44,9 @@ fn add_outline(contour: &Contour, segments: u32, report: &mut Report) -> Result<
 fn add_segments(cover: &Cover, report: &mut Report) -> Result<(), NoMemory>
     requires { IsSomeCover cover.now }
     ensures { (X : Aim) (contours : List Trace) (k : ℕ) (contour : Trace)
-        → slice_get contours k ≡ Some contour → IsCoverOf contour.points cover.now
-        → Stands X contours (outlined k contour (length cover.now)) report.old
-        → OnOk result (Stands X contours (covered k contour cover.now 0) report.new) }
+        (before : List ℕ) → slice_get contours k ≡ Some contour → IsCoverOf contour.points cover.now
+        → Stands X contours (outlined k contour (length cover.now)) (before ++ report.old)
+        → OnOk result (Stands X contours (covered k contour cover.now 0) (before ++ report.new)) }
 {
     for j in 0..cover.len() {
         let segment = cover.segment(j);
@@ -66,10 +66,10 @@ fn add_segments(cover: &Cover, report: &mut Report) -> Result<(), NoMemory>
 fn add_gaps(cover: &Cover, report: &mut Report) -> Result<(), NoMemory>
     requires { IsSomeCover cover.now }
     ensures { (X : Aim) (contours : List Trace) (k : ℕ) (contour : Trace)
-        → slice_get contours k ≡ Some contour → IsCoverOf contour.points cover.now
-        → Stands X contours (covered k contour cover.now 0) report.old
+        (before : List ℕ) → slice_get contours k ≡ Some contour → IsCoverOf contour.points cover.now
+        → Stands X contours (covered k contour cover.now 0) (before ++ report.old)
         → OnOk result (Stands X contours
-        (covered k contour cover.now (2 * length cover.now)) report.new) }
+        (covered k contour cover.now (2 * length cover.now)) (before ++ report.new)) }
 {
     for j in 0..cover.len() {
         let gap = cover.gap(j);
@@ -90,10 +90,10 @@ fn add_contour(alloc: Global, contour: &Contour, report: &mut Report) -> Result<
     requires side { contour.now.start.side < 4 }
     ensures segments { IfOk result (HasSegments contour.now) }
     ensures few { IfOk result (λ n. n ≤ most_round) }
-    ensures text { (X : Aim) (contours : List Trace) (k : ℕ)
+    ensures text { (X : Aim) (contours : List Trace) (k : ℕ) (before : List ℕ)
         → slice_get contours k ≡ Some contour.now
-        → IsTextOf (HasOutlined X contours k) report.old
-        → OnOk result (IsTextOf (HasOutlined X contours (k + 1)) report.new) }
+        → IsTextOf (HasOutlined X contours k) (before ++ report.old)
+        → OnOk result (IsTextOf (HasOutlined X contours (k + 1)) (before ++ report.new)) }
 {
     contour.is_closed_path();
     let cover = cover(alloc, contour)?;
@@ -112,8 +112,10 @@ pub(crate) fn add_contours(
 ) -> Result<u64, NoMemory>
     requires sides { All (λ c. c.start.side < 4) contours.now }
     ensures segments { IfOk result (HaveCovers contours.now) }
-    ensures text { (X : Aim) → IsTextOf (HasOutlined X contours.now 0) report.old
-        → OnOk result (IsTextOf (HasOutlined X contours.now (length contours.now)) report.new) }
+    ensures text { (X : Aim) (before : List ℕ)
+        → IsTextOf (HasOutlined X contours.now 0) (before ++ report.old)
+        → OnOk result (IsTextOf (HasOutlined X contours.now (length contours.now))
+        (before ++ report.new)) }
 {
     let mut segments: u64 = 0;
     for k in 0..contours.len() {

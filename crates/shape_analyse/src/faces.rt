@@ -19,9 +19,9 @@ use std::alloc::Global;
 // Adds the `patch` line.
 fn add_head(patch: &Patch<P3>, report: &mut Report) -> Result<(), NoMemory>
     ensures { (X : Aim) (f : ℕ) (found : List FoundPatch) (left : Picture)
-        → AreFound X f (found ++ patch.now.found ∷ []) left
-        → IsTextOf (HasPatches X f found) report.old → OnOk result (IsTextOf
-        (IsFacing X (at_patch f (points_found found) patch.now.found 0 0)) report.new) }
+        (before : List ℕ) → AreFound X f (found ++ patch.now.found ∷ []) left
+        → IsTextOf (HasPatches X f found) (before ++ report.old) → OnOk result (IsTextOf
+        (IsFacing X (at_patch f (points_found found) patch.now.found 0 0)) (before ++ report.new)) }
 {
     let plane = patch.naive();
     let a = plane.a;
@@ -37,10 +37,11 @@ fn add_head(patch: &Patch<P3>, report: &mut Report) -> Result<(), NoMemory>
 // Adds the points of a patch.
 fn add_points(patch: &Patch<P3>, report: &mut Report) -> Result<(), NoMemory>
     ensures { (X : Aim) (f : ℕ) (found : List FoundPatch) (left : Picture)
-        → AreFound X f (found ++ patch.now.found ∷ []) left
-        → IsTextOf (IsFacing X (at_patch f (points_found found) patch.now.found 0 0)) report.old
+        (before : List ℕ) → AreFound X f (found ++ patch.now.found ∷ []) left
+        → IsTextOf (IsFacing X (at_patch f (points_found found) patch.now.found 0 0))
+        (before ++ report.old)
         → OnOk result (IsTextOf (IsFacing X (at_patch f (points_found found) patch.now.found
-        (length patch.now.found.patch.points) 0)) report.new) }
+        (length patch.now.found.patch.points) 0)) (before ++ report.new)) }
 {
     for j in 0..patch.len() {
         report.add(&Line::On { p: patch.point(j) })?;
@@ -52,11 +53,12 @@ fn add_points(patch: &Patch<P3>, report: &mut Report) -> Result<(), NoMemory>
 fn add_refused(patch: &Patch<P3>, report: &mut Report) -> Result<(), NoMemory>
     requires { IsSomePatch patch.now.found }
     ensures { (X : Aim) (f : ℕ) (found : List FoundPatch) (left : Picture)
-        → AreFound X f (found ++ patch.now.found ∷ []) left
+        (before : List ℕ) → AreFound X f (found ++ patch.now.found ∷ []) left
         → IsTextOf (IsFacing X (at_patch f (points_found found) patch.now.found
-        (length patch.now.found.patch.points) 0)) report.old
+        (length patch.now.found.patch.points) 0)) (before ++ report.old)
         → OnOk result (IsTextOf (IsFacing X (at_patch f (points_found found) patch.now.found
-        (length patch.now.found.patch.points) (length patch.now.found.refused))) report.new) }
+        (length patch.now.found.patch.points) (length patch.now.found.refused)))
+        (before ++ report.new)) }
 {
     for m in 0..patch.refused() {
         let (p, why) = patch.refusal(m);
@@ -69,9 +71,10 @@ fn add_refused(patch: &Patch<P3>, report: &mut Report) -> Result<(), NoMemory>
 fn add_patch(patch: &Patch<P3>, report: &mut Report) -> Result<(), NoMemory>
     requires { IsSomePatch patch.now.found }
     ensures { (X : Aim) (f : ℕ) (found : List FoundPatch) (left : Picture)
-        → AreFound X f (found ++ patch.now.found ∷ []) left
-        → IsTextOf (HasPatches X f found) report.old
-        → OnOk result (IsTextOf (HasPatches X f (found ++ patch.now.found ∷ [])) report.new) }
+        (before : List ℕ) → AreFound X f (found ++ patch.now.found ∷ []) left
+        → IsTextOf (HasPatches X f found) (before ++ report.old)
+        → OnOk result (IsTextOf (HasPatches X f (found ++ patch.now.found ∷ []))
+        (before ++ report.new)) }
 {
     add_head(patch, report)?;
     add_points(patch, report)?;
@@ -85,9 +88,10 @@ fn add_patches(
     parting: &mut Parting<P3>,
     report: &mut Report,
 ) -> Result<(), NoMemory>
-    ensures { (X : Aim) (f : ℕ) → parting.old.axis ≡ face_axis f → AreFound X f [] parting.old.left
-        → IsTextOf (HasPatches X f []) report.old
-        → OnOk result (IsTextOf (HasFaces X (f + 1)) report.new) }
+    ensures { (X : Aim) (f : ℕ) (before : List ℕ) → parting.old.axis ≡ face_axis f
+        → AreFound X f [] parting.old.left
+        → IsTextOf (HasPatches X f []) (before ++ report.old)
+        → OnOk result (IsTextOf (HasFaces X (f + 1)) (before ++ report.new)) }
 {
     while let Some(patch) = parting.next_patch(alloc)? {
         add_patch(&patch, report)?;
@@ -100,8 +104,9 @@ fn add_face(alloc: Global, grid: &Grid<P3>, face: u8, report: &mut Report) -> Re
     requires { face < 6 }
     ensures exposed { IfOk result (λ n. n ≡ exposed_in grid.now face) }
     ensures few { IfOk result (λ n. n < 2 ^ 32) }
-    ensures text { (X : Aim) → X.subject.picture ≡ grid.now → IsTextOf (HasFaces X face) report.old
-        → OnOk result (IsTextOf (HasFaces X (face + 1)) report.new) }
+    ensures text { (X : Aim) (before : List ℕ) → X.subject.picture ≡ grid.now
+        → IsTextOf (HasFaces X face) (before ++ report.old)
+        → OnOk result (IsTextOf (HasFaces X (face + 1)) (before ++ report.new)) }
 {
     let axis = face / 2;
     let sense = sense_in(face);
@@ -135,8 +140,9 @@ pub(crate) fn add_faces(
     report: &mut Report,
 ) -> Result<u64, NoMemory>
     ensures exposed { IfOk result (λ n. n ≡ exposed_count grid.now 6) }
-    ensures text { (X : Aim) → X.subject.picture ≡ grid.now → IsTextOf (HasFaces X 0) report.old
-        → OnOk result (IsTextOf (HasFaces X 6) report.new) }
+    ensures text { (X : Aim) (before : List ℕ) → X.subject.picture ≡ grid.now
+        → IsTextOf (HasFaces X 0) (before ++ report.old)
+        → OnOk result (IsTextOf (HasFaces X 6) (before ++ report.new)) }
 {
     let mut exposed: u64 = 0;
     for face in 0..6 {

@@ -1,14 +1,14 @@
-//! Analysis: builds the report of a picture, which holds of it.
+//! Analysis: finds what the report of a picture tells, and tells it; the report holds of the picture.
 //! One function adds the lines of each section; what the lines claim is found by the crates below.
 #![tactic(auto)]
 
 mod begin;
 mod contour;
 mod faces;
+mod findings;
 mod outline;
 mod tally;
 mod thinning;
-mod whole;
 
-pub use tally::{Analysis, Extent, Tally};
-pub use whole::{analyse_flat, analyse_solid};
+pub use findings::{Findings, find_flat, find_solid};
+pub use tally::{Extent, Tally};

@@ -1,7 +1,6 @@
-//! The numbers of a picture and of its thinning, which an analysis gives beside its report.
+//! The numbers of a picture and of its thinning, which its findings give beside their report.
 //! A further number is a field here and a clause of `specs/Tallies.antt`.
 use shape_adj::Parts;
-use shape_report::Report;
 
 /// How much outline a picture has.
 #[derive(Clone, Copy, Debug, PartialEq, Eq)]
@@ -25,13 +24,4 @@ pub struct Tally {
     pub events: u32,
     /// The points that it leaves.
     pub kept: u32,
-}
-
-/// A report, and the numbers of what it tells.
-#[derive(Drop)]
-pub struct Analysis {
-    /// The report.
-    pub report: Report,
-    /// The numbers.
-    pub tally: Tally,
 }

@@ -1,4 +1,4 @@
-use Rattle.std.proofs.Common.{length, subst, sym, ◌∙◌, arith}
+use Rattle.std.proofs.Common.{length, subst, sym, ◌∙◌, arith, ◌++◌}
 use Rattle.std.proofs.lemmas.List.{length-map}
 use Rattle.shape_cover.specs.Found.{Found, stretches_of}
 use Rattle.shape_analyse.specs.Growing.{Stands, outlined}
@@ -17,9 +17,9 @@ returns-clause-text c =
     let contour = c.args.contour.now in
     let found = c.in_ok-cover.cover in
     let cover = c.in_ok-cover.ensures in
-    λ X contours k there h.
-    let outline = c.in_ok-add_outline.ensures X contours k there h in
-    let declared = subst (λ m. Stands X contours (outlined k contour m) c.add_outline.new.report) c.len-segments.ensures outline in
-    let segments = c.in_ok-add_segments.ensures X contours k contour there cover declared in
-    let gaps = c.in_ok-add_gaps.ensures X contours k contour there cover segments in
+    λ X contours k before there h.
+    let outline = c.in_ok-add_outline.ensures X contours k before there h in
+    let declared = subst (λ m. Stands X contours (outlined k contour m) (before ++ c.add_outline.new.report)) c.len-segments.ensures outline in
+    let segments = c.in_ok-add_segments.ensures X contours k contour before there cover declared in
+    let gaps = c.in_ok-add_gaps.ensures X contours k contour before there cover segments in
     text_as (λ lines o. outlined_full X contours k (length found) (stretches_of found) lines contour there (length-map found (λ (f : Found). f.stretch)) o) gaps

@@ -10,4 +10,4 @@ loop-k-preserved c =
     let n = c.from.result in
     let more = c.in_ok-add_contour.ensures in
     let has = subst (HasSegments c.contour.result.now) (sym c.from.ensures) more.segments in
-    (λ X t. more.text X c.args.contours.now k c.contour.ensures (h.0 X t), covers_more c.args.contours.now k c.loop-k.segments n c.contour.result.now c.contour.ensures h.1 has, omega (arith, h.2, c.from.ensures, more.few))
+    (λ X before t. more.text X c.args.contours.now k before c.contour.ensures (h.0 X before t), covers_more c.args.contours.now k c.loop-k.segments n c.contour.result.now c.contour.ensures h.1 has, omega (arith, h.2, c.from.ensures, more.few))

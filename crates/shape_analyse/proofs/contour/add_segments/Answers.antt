@@ -5,7 +5,7 @@ use Rattle.shape_refute.specs.Terms.{naive_of}
 use Rattle.shape_refute.specs.PairTerms.{pairs_of}
 use Rattle.shape_cover.specs.Found.{Found, stretches_of, found_at, IsShortLine}
 use Rattle.shape_analyse.specs.Growing.{Stands, at_contour}
-use Rattle.shape_analyse.proofs.Growth.{text_push, text_more}
+use Rattle.shape_analyse.proofs.Growth.{text_push, text_more, text_behind}
 use Rattle.shape_analyse.proofs.FoundLines.{segment_fits, segment_at, segment_line, found_segment, found_least}
 use Rattle.shape_analyse.proofs.contour.add_segments.Goals as goal
 
@@ -36,15 +36,15 @@ loop-j-preserved c =
     let pairs = pairs_of bounds in
     let few : IsLineOf 2 (Line.Least pairs) = search rules in
     let new = c.in_ok-add.ensures.ok ∙ ap (λ m. c.loop-j.report ++ line_text m) same in
-    λ X contours k contour there cover o.
-    let h = c.loop-j.invariant X contours k contour there cover o in
+    λ X contours k contour before there cover o.
+    let h = c.loop-j.invariant X contours k contour before there cover o in
     let lines = h.lines ++ segment_line (segment_at found j) ∷ [] in
-    let one = text_push _ _ h.lines (segment_line (segment_at found j)) h.is new in
+    let one = text_push _ _ h.lines (segment_line (segment_at found j)) h.is (text_behind before _ _ new) in
     let first = found_segment X contours k contour found j h.lines h.so there cover l fields in
-    text_more _ _ _ lines _ one c.in_ok-add-2.ensures.ok (found_least X contours k contour found j pairs lines first there cover l c.bounds-bounds.ensures few)
+    text_more _ _ _ lines _ one (text_behind before _ _ c.in_ok-add-2.ensures.ok) (found_least X contours k contour found j pairs lines first there cover l c.bounds-bounds.ensures few)
 
 pub returns : goal.returns
 returns c =
     let found = c.args.cover.now in
     let all : take c.loop-j.j (stretches_of found) ≡ stretches_of found = take_all c.loop-j.j (stretches_of found) (omega (arith, c.loop-j.auto.j-end, c.len-j-end.ensures, c.loop-j-test.false, length-map found (λ (f : Found). f.stretch))) in
-    λ X contours k contour there cover o. subst (λ ss. Stands X contours (at_contour k (length contour.points) (length found) ss 0) c.loop-j.report) all (c.loop-j.invariant X contours k contour there cover o)
+    λ X contours k contour before there cover o. subst (λ ss. Stands X contours (at_contour k (length contour.points) (length found) ss 0) (before ++ c.loop-j.report)) all (c.loop-j.invariant X contours k contour before there cover o)

@@ -1,4 +1,4 @@
-use Rattle.std.proofs.Common.{◌≡◌, arith, subst}
+use Rattle.std.proofs.Common.{◌≡◌, arith, subst, ◌++◌}
 use Rattle.shape_analyse.specs.Growing.{IsTextOf}
 use Rattle.shape_analyse.specs.Facing.{HasFaces}
 use Rattle.shape_analyse.specs.Tallies.{exposed_count}
@@ -11,7 +11,7 @@ loop-face-preserved c =
     let f = c.loop-face.face in
     let h = c.loop-face.invariant in
     let more = c.in_ok-add_face.ensures in
-    (λ Y same t. more.text Y same (h.0 Y same t), omega (arith, h.1, more.exposed, c.from.ensures, exposed_more X f), omega (arith, h.2, c.from.ensures, more.few))
+    (λ Y before same t. more.text Y before same (h.0 Y before same t), omega (arith, h.1, more.exposed, c.from.ensures, exposed_more X f), omega (arith, h.2, c.from.ensures, more.few))
 
 pub returns-clause-exposed : goal.returns-clause-exposed
 returns-clause-exposed c =
@@ -21,4 +21,4 @@ returns-clause-exposed c =
 pub returns-clause-text : goal.returns-clause-text
 returns-clause-text c =
     let all : c.loop-face.face ≡ 6 = omega (arith, c.loop-face.auto.face-end, c.loop-face-test.false) in
-    λ X same h. subst (λ f. IsTextOf (HasFaces X f) c.loop-face.report) all (c.loop-face.invariant.0 X same h)
+    λ X before same h. subst (λ f. IsTextOf (HasFaces X f) (before ++ c.loop-face.report)) all (c.loop-face.invariant.0 X before same h)

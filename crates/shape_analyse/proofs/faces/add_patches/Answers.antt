@@ -14,16 +14,16 @@ loop-patch-preserved c =
     let old = c.loop-patch.invariant in
     let next = MatchOption-at_some _ _ _ c.in-Some.is c.in_ok-patch.ensures.next in (
       c.in_ok-patch.ensures.axis ∙ old.0,
-      λ X f axis are begun.
-          let so_far = old.1 X f axis are begun in
+      λ X f before axis are begun.
+          let so_far = old.1 X f before axis are begun in
           let more = found_more X f so_far.0 c.loop-patch.parting.left c.next_patch.new.self.left c.in-Some.patch.found so_far.1 (subst (λ t. IsNextPatch 3 t c.loop-patch.parting.left c.next_patch.new.self.left c.in-Some.patch.found) (old.0 ∙ axis) next) in
-          (so_far.0 ++ c.in-Some.patch.found ∷ [], more, c.in_ok-add_patch.ensures X f so_far.0 c.next_patch.new.self.left more so_far.2),
+          (so_far.0 ++ c.in-Some.patch.found ∷ [], more, c.in_ok-add_patch.ensures X f so_far.0 c.next_patch.new.self.left before more so_far.2),
     )
 
 pub returns : goal.returns
 returns c =
     let old = c.loop-patch.invariant in
     let none = MatchOption-at_none _ _ c.in_default.is c.in_ok-patch.ensures.next in
-    λ X f axis are begun.
-    let so_far = old.1 X f axis are begun in
+    λ X f before axis are begun.
+    let so_far = old.1 X f before axis are begun in
     text_as (λ lines h. face_done X f so_far.0 c.loop-patch.parting.left lines so_far.1 none.0 h) so_far.2

@@ -5,7 +5,7 @@ use Rattle.report_terms.specs.Lines.{Line, IsLineOf}
 use Rattle.shape_refute.specs.Weights.{refutation_of}
 use Rattle.shape_analyse.specs.Growing.{IsTextOf}
 use Rattle.shape_analyse.specs.Facing.{IsFacing, points_found, at_patch}
-use Rattle.shape_analyse.proofs.Growth.{text_more}
+use Rattle.shape_analyse.proofs.Growth.{text_more, text_behind}
 use Rattle.shape_analyse.proofs.FoundLines.{weights_fit}
 use Rattle.shape_analyse.proofs.FaceGrowth.{patch_refused, patch_some}
 use Rattle.shape_analyse.proofs.faces.add_refused.Goals as goal
@@ -26,13 +26,13 @@ loop-m-preserved c =
     let own : IsLineOf 3 (Line.On r.point) = search rules in
     let run : length (points ++ r.point ∷ []) ≤ 2 ^ 32 = omega (arith, length-append points (r.point ∷ []), c.requires.few) in
     let fields : IsLineOf 3 (Line.Off r.point r.why) = (refl, (own.1, weights_fit 3 c.requires.axis (points ++ r.point ∷ []) r.why run (c.requires.refused.weights c.loop-m.m r c.refusal-why.ensures.refused) c.refusal-why.ensures.small)) in
-    λ X f found left are h.
-    let i = c.loop-m.invariant X f found left are h in
-    text_more _ _ _ i.lines _ i.is c.in_ok-add.ensures.ok (patch_refused X f found left c.args.patch.now.found are i.lines c.loop-m.m r i.so c.refusal-why.ensures.refused (patch_some X f found left c.args.patch.now.found are) fields)
+    λ X f found left before are h.
+    let i = c.loop-m.invariant X f found left before are h in
+    text_more _ _ _ i.lines _ i.is (text_behind before _ _ c.in_ok-add.ensures.ok) (patch_refused X f found left c.args.patch.now.found are i.lines c.loop-m.m r i.so c.refusal-why.ensures.refused (patch_some X f found left c.args.patch.now.found are) fields)
 
 pub returns : goal.returns
 returns c =
     let x = c.args.patch.now.found in
     let all : c.loop-m.m ≡ length x.refused = omega (arith, c.loop-m.auto.m-end, c.refused-m-end.ensures, c.loop-m-test.false) in
-    λ X f found left are h.
-    subst (λ m. IsTextOf (IsFacing X (at_patch f (points_found found) x (length x.patch.points) m)) c.loop-m.report) all (c.loop-m.invariant X f found left are h)
+    λ X f found left before are h.
+    subst (λ m. IsTextOf (IsFacing X (at_patch f (points_found found) x (length x.patch.points) m)) (before ++ c.loop-m.report)) all (c.loop-m.invariant X f found left before are h)

@@ -1,8 +1,0 @@
-use Rattle.std.proofs.Common.{ℕ, List}
-use Rattle.shape_terms.specs.Thinning.{Rule}
-use Rattle.shape_terms.specs.Shelves.{Named}
-use Rattle.shape_analyse.specs.Growing.{aim_of, IsGrowing, IsTextOf}
-use Rattle.shape_analyse.proofs.begin.add_nears.Given as goal
-
-abbrev pub invariant-loop-i : goal.invariant-loop-i
-invariant-loop-i g l = (shelf : List (Named Rule)) (name : List ℕ) (by : Rule) → IsTextOf (IsGrowing (aim_of l.grid shelf name by) 0) l.fn.report → IsTextOf (IsGrowing (aim_of l.grid shelf name by) l.i) l.report
