@@ -1,9 +1,8 @@
 use Rattle.std.proofs.Common.{◌/◌, ◌%◌, ◌<◌, refl, arith}
 use Rattle.std.proofs.Math.Nat.{mod-lt}
-use Rattle.shape_terms.specs.Limits.{most_points, most_coordinate}
 use Rattle.shape_queue.specs.Bands.{band_place}
 use Rattle.shape_queue.proofs.BandLaws.{few_before}
-use Rattle.shape_queue.proofs.banded.place_in_bands.Goals as goal
+use Rattle.shape_queue.proofs.spots.place_in_bands.Goals as goal
 
 pub returns : goal.returns
 unfolding band_place
