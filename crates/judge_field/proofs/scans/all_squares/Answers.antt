@@ -1,32 +1,11 @@
-use Rattle.std.proofs.Common.{◌≡◌, inl, inr, ◌<◌, ◌+◌, ◌*◌, ◌/◌, ◌∙◌, ℕ, List, take, drop, length, get_or, refl, ap, sym, subst, arith}
-use Rattle.std.proofs.Math.ListN.{get_or-map}
-use Rattle.std.specs.Prelude.{pos, nat_abs}
+use Rattle.std.proofs.Common.{◌≡◌, ◌<◌, ◌+◌, ◌*◌, ◌/◌, ◌∙◌, take, drop, length, refl, ap, sym, subst, arith}
 use Rattle.shape_terms.specs.Limits.{far}
 use Rattle.shape_terms.specs.Points.{box_count, sides_of}
 use Rattle.shape_terms.specs.FramedBox.{framed_sides}
 use Rattle.shape_terms.proofs.FramedBoxes.{few_framed}
 use Rattle.shape_terms.proofs.AxisCounts.{whole_count, before_step, before_few, some_framed, apart_on_axis}
-use Rattle.judge_field.specs.Scanned.{AreSquaresOn}
 use Rattle.judge_field.proofs.ScanAxes.{scan_more, scanned_small, rows_behind, rows_of}
 use Rattle.judge_field.proofs.scans.all_squares.Goals as goal
-
-pub loop-k-init : goal.loop-k-init
-loop-k-init g c =
-    let s = c.sides-sides.result in
-    let ns = g.P.Point.coords s.lengths in
-    let a = g.met.P.Point.axes s.lengths in
-    let l : 0 < length ns = elim g.met.P.Point.two_or_three [ inl d ↦ omega arith | inr d ↦ omega arith ] in
-    let w = c.framed_side-before.ensures.value in
-    let side = c.framed_side-before.result in
-    let axis : get_or c.args.grid.now.sides 0 0 ≡ get_or (sides_of ns) 0 0 = ap (λ (s : List ℕ). get_or s 0 0) (sym c.sides-sides.ensures.value) in
-    let wide : get_or c.args.grid.now.sides 0 0 + 2 ≡ side = omega (arith, w, axis, get_or-map nat_abs ns 0 (pos 0)) in
-    let one : side ≡ 1 * side = omega arith in
-    record {
-      before = one ∙ before_step ns 0 1 side l w refl;
-      long = c.in_ok-squares.ensures.long;
-      squares = subst (λ n. AreSquaresOn c.args.grid.now n c.in_ok-squares.squares.values) wide c.in_ok-squares.ensures.squares;
-      small = c.in_ok-squares.ensures.small;
-    }
 
 pub scan_lines-requires-clause-whole : goal.scan_lines-requires-clause-whole
 scan_lines-requires-clause-whole g c =
@@ -42,15 +21,6 @@ scan_lines-requires-clause-whole g c =
     let total : length c.loop-k.squares.values ≡ before * (side * rows) = i.long ∙ ap (λ s. box_count (framed_sides s)) (sym c.sides-sides.ensures.value) ∙ whole_count ns k before side rows l i.before c.framed_side-side.ensures.value refl in
     subst (λ n. length c.loop-k.squares.values ≡ before * (side * (n / before / side))) (sym c.len.ensures.places)
     (rows_of before side rows (length c.loop-k.squares.values) some (omega (arith, c.framed_side-side.ensures.value)) total)
-
-pub scan_lines-requires-clause-apart : goal.scan_lines-requires-clause-apart
-scan_lines-requires-clause-apart g c = omega (arith, c.loop-k.invariant.before, some_framed (sides_of (take c.loop-k.k (g.P.Point.coords c.sides-sides.result.lengths))))
-
-pub scan_lines-requires-clause-few : goal.scan_lines-requires-clause-few
-scan_lines-requires-clause-few g c = c.len.ensures.few
-
-pub scan_lines-requires-clause-small : goal.scan_lines-requires-clause-small
-scan_lines-requires-clause-small g c = c.loop-k.invariant.small
 
 pub overflow_mul-before : goal.overflow_mul-before
 overflow_mul-before g c =

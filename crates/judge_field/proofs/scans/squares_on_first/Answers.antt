@@ -1,36 +1,13 @@
-use Rattle.std.proofs.Common.{◌≡◌, ◌<◌, ◌≤◌, List, ◌+◌, ◌*◌, ◌∙◌, ℕ, inl, inr, false, true, drop, length, get_or, refl, ap, sym, subst, arith}
+use Rattle.std.proofs.Common.{◌≡◌, ◌<◌, List, ◌+◌, ◌*◌, ◌∙◌, ℕ, inl, inr, drop, length, get_or, refl, ap, sym, subst, arith}
 use Rattle.std.proofs.Math.ListN.{get_or-map}
 use Rattle.std.specs.Prelude.{pos, nat_abs}
-use Rattle.shape_terms.specs.Limits.{far, most_framed}
+use Rattle.shape_terms.specs.Limits.{far}
 use Rattle.shape_terms.specs.Points.{box_count, sides_of}
 use Rattle.shape_terms.specs.FramedBox.{framed_sides}
 use Rattle.shape_terms.proofs.AxisCounts.{whole_count, apart_on_axis}
 use Rattle.judge_field.specs.Scanned.{AreSquaresOn, first_squares}
 use Rattle.judge_field.proofs.ScanAxes.{scan_more, scanned_small, are_first, first_small}
 use Rattle.judge_field.proofs.scans.squares_on_first.Goals as goal
-
-pub new-requires : goal.new-requires
-new-requires g c = subst (λ xs. length xs ≤ most_framed) (sym c.in_ok-copy.ensures) c.in_ok-objects.ensures.few
-
-pub scan_first-requires-clause-whole : goal.scan_first-requires-clause-whole
-scan_first-requires-clause-whole g c =
-    let s = c.sides.result in
-    let ns = g.P.Point.coords s.lengths in
-    let a = g.met.P.Point.axes s.lengths in
-    let l : 0 < length ns = elim g.met.P.Point.two_or_three [ inl d ↦ omega arith | inr d ↦ omega arith ] in
-    let rows = box_count (framed_sides (sides_of (drop 1 ns))) in
-    let total = whole_count ns 0 1 c.framed_side.result rows l refl c.framed_side.ensures.value refl in
-    let is : box_count (framed_sides c.args.grid.now.sides) ≡ box_count (framed_sides (sides_of ns)) = ap (λ s. box_count (framed_sides s)) (sym c.sides.ensures.value) in
-    (rows, c.in_ok-objects.ensures.objects.long ∙ is ∙ total ∙ omega arith)
-
-pub scan_first-requires-clause-long : goal.scan_first-requires-clause-long
-scan_first-requires-clause-long g c = c.in_ok-squares.ensures.long ∙ ap length c.in_ok-copy.ensures
-
-pub scan_first-requires-clause-cells : goal.scan_first-requires-clause-cells
-scan_first-requires-clause-cells g c = λ i t. c.in_ok-squares.ensures.object i (subst (λ xs. get_or xs i false ≡ true) (sym c.in_ok-copy.ensures) t)
-
-pub returns-clause-long : goal.returns-clause-long
-returns-clause-long g c = c.in_ok-scan_first.ensures.long ∙ c.in_ok-objects.ensures.objects.long
 
 pub returns-clause-squares : goal.returns-clause-squares
 returns-clause-squares g c =
