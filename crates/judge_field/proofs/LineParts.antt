@@ -10,7 +10,7 @@ use Rattle.judge_field.proofs.ScanSteps.{along_same}
 abbrev pub holds : (ℕ → ℕ) → ℕ → ℕ → Type 0
 holds line y s = line y ≡ s
 
-bare_along : (line : ℕ → ℕ) (w x s : ℕ) → x < w → line x ≡ 0 → s ≡ 0 → IsLeastAlong line w x s
+pub bare_along : (line : ℕ → ℕ) (w x s : ℕ) → x < w → line x ≡ 0 → s ≡ 0 → IsLeastAlong line w x s
 bare_along line w x s l bare is =
     let z = gap_none x in
     record {

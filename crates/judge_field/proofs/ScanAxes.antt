@@ -1,10 +1,11 @@
 -- Squares on one axis more, before the first axis and behind the last.
 -- Laws over pictures, squares and numbers alone.
-use Rattle.std.proofs.Common.{◌≡◌, inl, inr, ℕ, ◌+◌, ◌*◌, ◌-◌, ◌/◌, ◌<◌, ◌≤◌, false, List, [], ◌∷◌, ◌++◌, length, get_or, refl, sym, ap, ◌∙◌, subst, arith, mul_comm}
+use Rattle.std.proofs.Common.{◌≡◌, ◌⊎◌, inl, inr, ℕ, ◌+◌, ◌*◌, ◌/◌, ◌<◌, ◌≤◌, Bool, true, false, List, length, get_or, refl, sym, ap, ◌∙◌, subst, arith, mul_comm}
 use Rattle.std.specs.Prelude.{IsTrue}
-use Rattle.std.proofs.lemmas.Bool.{cases_Bool, cases_lt, cases_eq}
-use Rattle.std.proofs.lemmas.List.{get_or_push, get_or_append_left, get_or_past}
-use Rattle.std.proofs.lemmas.Nat.{mod-mul-add, div-mul-add}
+use Rattle.std.proofs.lemmas.Bool.{cases_Bool, cases_lt}
+use Rattle.std.proofs.lemmas.List.{get_or_past}
+use Rattle.std.proofs.Math.ListN.{get_or-map}
+use Rattle.std.proofs.lemmas.Nat.{div-mul-add}
 use Rattle.shape_terms.specs.Limits.{far}
 use Rattle.shape_terms.specs.Points.{Point, box_count, in_box, squared_distance}
 use Rattle.shape_terms.specs.Pictures.{Picture, at}
@@ -17,45 +18,9 @@ use Rattle.shape_terms.specs.AxisLines.{place, gap, apart, IsBare}
 use Rattle.shape_terms.proofs.FramedLines.{distance_same}
 use Rattle.shape_terms.proofs.AxisPlaces.{place_of, place_line, place_high, place_below, same_digits}
 use Rattle.shape_terms.proofs.FramedEnds.{level_all, in_box_in_frame}
+use Rattle.shape_envelope.proofs.LinesDone.{AreLinesDone}
 use Rattle.judge_field.proofs.ScanSteps.{along_small, along_same}
-use Rattle.judge_field.specs.Scanned.{IsLeastSquare, IsLeastAlong, HasScanned, HasBare, AreSquaresOn, digit, line_start, IsScannedAt, IsFirstSquare}
-
--- ---- a number's place on its line
-
-pub digit_is : (c w low x high : ℕ) → low < c → x < w → digit c w (place c w low x high) ≡ x
-digit_is c w low x high l h =
-    let e : place c w low x high / c ≡ high * w + x = place_line c w low x high l ∙ turned x w high in
-    rw (e, mod-mul-add high w x h) refl
-  where
-    turned : (x w high : ℕ) → x + w * high ≡ high * w + x
-    turned x w high = omega (arith, mul_comm w high)
-
-pub line_is : (c w low x high y : ℕ) → low < c → x < w → line_start c w (place c w low x high) + y * c ≡ place c w low y high
-line_is c w low x high y l h =
-    let d = digit_is c w low x high l h in
-    rw d (moved c w low x high y)
-  where
-    moved : (c w low x high y : ℕ) → place c w low x high - x * c + y * c ≡ place c w low y high
-    moved c w low x high y = omega arith
-
-pub scanned : (c w rows n : ℕ) (old new : List ℕ) → n ≡ c * (w * rows) → ((i : ℕ) → i < n → IsScannedAt c w old i (get_or new i 0)) → HasScanned c w rows old new
-scanned c w rows n old new e all low x high l h k =
-    let i = place c w low x high in
-    let t = all i (subst (λ m. i < m) (sym e) (place_below c w rows low x high l h k)) in
-    let d = digit_is c w low x high l h in
-    along_same (λ y. get_or old (line_start c w i + y * c) 0) (λ y. get_or old (place c w low y high) 0) w x (get_or new i 0) (λ y m. ap (λ j. get_or old j 0) (line_is c w low x high y l h))
-    (subst (λ x. IsLeastAlong (λ y. get_or old (line_start c w i + y * c) 0) w x (get_or new i 0)) d t)
-
--- and back again, at each number
-pub scanned_each : (c w rows n : ℕ) (old new : List ℕ) → n ≡ c * (w * rows) → HasScanned c w rows old new → (i : ℕ) → i < n → IsScannedAt c w old i (get_or new i 0)
-scanned_each c w rows n old new e scan i l =
-    let p = place_of c w rows i (subst (λ m. i < m) e l) in
-    subst (λ i. IsScannedAt c w old i (get_or new i 0)) (sym p.is) (
-    let j = place c w p.low p.x p.high in
-    let d = digit_is c w p.low p.x p.high p.low_below p.x_below in
-    along_same (λ y. get_or old (place c w p.low y p.high) 0) (λ y. get_or old (line_start c w j + y * c) 0) w (digit c w j) (get_or new j 0) (λ y m. ap (λ k. get_or old k 0) (sym (line_is c w p.low p.x p.high y p.low_below p.x_below)))
-    (subst (λ x. IsLeastAlong (λ y. get_or old (place c w p.low y p.high) 0) w x (get_or new j 0)) (sym d) (scan p.low p.x p.high p.low_below p.x_below p.high_below))
-    )
+use Rattle.judge_field.specs.Scanned.{IsLeastSquare, IsLeastAlong, HasScanned, HasBare, AreSquaresOn, AreObjects, first_square, first_squares}
 
 -- the squares stay small
 pub scanned_small : (c w rows n m : ℕ) (old new : List ℕ) → n ≡ c * (w * rows) → length new ≡ n → HasScanned c w rows old new → ((i : ℕ) → get_or old i 0 ≤ m) → (i : ℕ) → get_or new i 0 ≤ m
@@ -67,13 +32,27 @@ scanned_small c w rows n m old new e long scan small i = elim (cases_lt i n) [
 ]
 
 -- how often an axis is repeated, from the number of all places
-pub rows_of : (c w rows n : ℕ) → 0 < c → 1 ≤ w → n ≡ c * (w * rows) → n ≡ c * (w * (n / c / w))
-rows_of c w rows n some side e =
+pub rows_behind : (c w rows n : ℕ) → 0 < c → 1 ≤ w → n ≡ c * (w * rows) → n / c / w ≡ rows
+rows_behind c w rows n some side e =
     let a : n ≡ (w * rows) * c + 0 = omega (arith, e, mul_comm c (w * rows)) in
     let b : w * rows ≡ rows * w + 0 = omega (arith, mul_comm w rows) in
     let d : n / c ≡ w * rows = ap (λ m. m / c) a ∙ div-mul-add (w * rows) c 0 some in
-    let f : n / c / w ≡ rows = ap (λ m. m / w) (d ∙ b) ∙ div-mul-add rows w 0 side in
-    rw f e
+    ap (λ m. m / w) (d ∙ b) ∙ div-mul-add rows w 0 side
+
+pub rows_of : (c w rows n : ℕ) → 0 < c → 1 ≤ w → n ≡ c * (w * rows) → n ≡ c * (w * (n / c / w))
+rows_of c w rows n some side e = rw (rows_behind c w rows n some side e) e
+
+pub rows_in_all : (w rows n : ℕ) → 1 ≤ w → n ≡ w * rows → n / w ≡ rows
+rows_in_all w rows n some e =
+    let a : n ≡ rows * w + 0 = omega (arith, e, mul_comm w rows) in
+    ap (λ m. m / w) a ∙ div-mul-add rows w 0 some
+
+-- the lines of the first axis stand one after the other
+pub first_scanned : (w rows : ℕ) (old new : List ℕ) → AreLinesDone (λ line x s. IsLeastAlong line w x s) 0 w rows old new → HasScanned 1 w rows old new
+first_scanned w rows old new done low x high a b h =
+    let at : (y : ℕ) → high * w + y ≡ place 1 w low y high = λ y. omega (arith, mul_comm w high) in
+    subst (λ i. IsLeastAlong (λ y. get_or old (place 1 w low y high) 0) w x (get_or new i 0)) (at x)
+    (along_same (λ y. get_or old (high * w + y) 0) (λ y. get_or old (place 1 w low y high) 0) w x (get_or new (high * w + x) 0) (λ y k. ap (λ i. get_or old i 0) (at y)) (done high x h b))
 
 -- ---- one axis more
 
@@ -127,22 +106,43 @@ module _ (X : Picture) (c w rows : ℕ) (count : box_count (framed_sides X.sides
 by_one : (i : ℕ) → i / 1 ≡ i
 by_one i = omega arith
 
-first_least : (X : Picture) (i r s : ℕ) → IsFirstSquare X i s → IsBare X r → r / 1 ≡ i / 1 → s ≤ apart X.sides i r
+first_least : (X : Picture) (i r s : ℕ) → s ≡ first_square (at X (framed_point X.sides i)) → IsBare X r → r / 1 ≡ i / 1 → s ≤ apart X.sides i r
 first_least X i r s h b e =
     let same : r ≡ i = sym (by_one r) ∙ e ∙ by_one i in
-    omega (arith, h.bare (subst (λ n. at X (framed_point X.sides n) ≡ false) same b.1))
+    let bare : at X (framed_point X.sides i) ≡ false = subst (λ n. at X (framed_point X.sides n) ≡ false) same b.1 in
+    let z : s ≡ 0 = h ∙ ap first_square bare in
+    omega arith
 
-first_reached : (X : Picture) (i s : ℕ) → i < box_count (framed_sides X.sides) → IsFirstSquare X i s → s < far → HasBare X 1 i s
+first_reached : (X : Picture) (i s : ℕ) → i < box_count (framed_sides X.sides) → s ≡ first_square (at X (framed_point X.sides i)) → s < far → HasBare X 1 i s
 first_reached X i s l h small = elim (cases_Bool (at X (framed_point X.sides i))) [
-  | inl t ↦ absurd (omega (arith, h.object t))
-  | inr f ↦ record { q = i; bare = (l, f); level = refl; distance = h.bare f ∙ sym (distance_same (framed_point X.sides i)) }
+  | inl t ↦ absurd (let f : s ≡ far = h ∙ ap first_square t in omega arith)
+  | inr f ↦ record { q = i; bare = (l, f); level = refl; distance = h ∙ ap first_square f ∙ sym (distance_same (framed_point X.sides i)) }
 ]
 
-pub first_squares : (X : Picture) (squares : List ℕ) → ((i : ℕ) → i < box_count (framed_sides X.sides) → IsFirstSquare X i (get_or squares i 0)) → AreSquaresOn X 1 squares
-first_squares X squares h = record {
-  least = λ i r l b e. first_least X i r (get_or squares i 0) (h i l) b e;
-  reached = λ i l small. first_reached X i (get_or squares i 0) l (h i l) small;
+-- the square of a place before the first axis
+pub first_at : (objects : List Bool) (i : ℕ) → get_or (first_squares objects) i 0 ≡ first_square (get_or objects i false)
+first_at objects i = get_or-map first_square objects i false
+
+pub first_two : (objects : List Bool) (i : ℕ) → (get_or (first_squares objects) i 0 ≡ 0) ⊎ (get_or (first_squares objects) i 0 ≡ far)
+first_two objects i = elim (cases_Bool (get_or objects i false)) [
+  | inl t ↦ inr (first_at objects i ∙ ap first_square t)
+  | inr f ↦ inl (first_at objects i ∙ ap first_square f)
+]
+
+pub first_bare : (objects : List Bool) (i : ℕ) → (get_or objects i false ≡ true → ⊥) → get_or (first_squares objects) i 0 ≡ 0
+first_bare objects i none = elim (cases_Bool (get_or objects i false)) [ inl t ↦ absurd (none t) | inr f ↦ first_at objects i ∙ ap first_square f ]
+
+pub first_small : (objects : List Bool) (i : ℕ) → get_or (first_squares objects) i 0 ≤ far
+first_small objects i = elim (first_two objects i) [ inl z ↦ omega arith | inr f ↦ omega arith ]
+
+pub are_first : (X : Picture) (objects : List Bool) → AreObjects X objects → AreSquaresOn X 1 (first_squares objects)
+are_first X objects h = record {
+  least = λ i r l b e. first_least X i r (get_or (first_squares objects) i 0) (is i l) b e;
+  reached = λ i l small. first_reached X i (get_or (first_squares objects) i 0) l (is i l) small;
 }
+  where
+    is : (i : ℕ) → i < box_count (framed_sides X.sides) → get_or (first_squares objects) i 0 ≡ first_square (at X (framed_point X.sides i))
+    is i l = first_at objects i ∙ ap first_square (h.same i l)
 
 -- ---- behind the last axis
 
@@ -163,11 +163,3 @@ least_of_all X p i squares d h e small t =
           (has.distance ∙ ap (λ q. squared_distance q (framed_point X.sides has.q)) is)
           (λ r l b. subst (λ q. get_or squares i 0 ≤ squared_distance q (framed_point X.sides r)) is (t.least i r below (l, b) (level_all _ r i l below)));
     }
-
--- ---- a list that grows
-
-pub pushed_each : (P : ℕ → ℕ → Type 0) (xs : List ℕ) (s i : ℕ) → length xs ≡ i → ((j : ℕ) → j < i → P j (get_or xs j 0)) → P i s → (j : ℕ) → j < i + 1 → P j (get_or (xs ++ s ∷ []) j 0)
-pushed_each P xs s i e all one j l = elim (cases_eq j i) [
-  | inl same ↦ subst (λ n. P n (get_or (xs ++ s ∷ []) n 0)) (sym same) (subst (P i) (sym (get_or_push xs s 0 i e)) one)
-  | inr other ↦ subst (P j) (sym (get_or_append_left xs (s ∷ []) 0 j (omega arith))) (all j (omega arith))
-]

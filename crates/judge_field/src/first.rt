@@ -1,27 +1,24 @@
-//! The squares on the first axis, where each place of a line has 0 or nothing: two looks along the line, one from each end.
+//! The squares on the first axis, where each place of a line is an object point's or bare: two looks along each line, one from each end.
 //! How the other axes are scanned stands in `line`.
-ghost use Rattle.std.specs.Prelude.{◌≡◌, ◌⊎◌, ◌+◌, ◌*◌, ◌-◌, ◌%◌, ◌<◌, ◌≤◌, ◌^◌, ℕ, IfOk, length, slice_index};
-ghost use Rattle.shape_terms.specs.Limits.{most_coordinate, most_way, far};
-ghost use Rattle.judge_field.specs.Scanned.{HasTwo, IsScannedAt, IsWay};
+ghost use Rattle.std.specs.Prelude.{◌≡◌, ◌+◌, ◌*◌, ◌<◌, ◌≤◌, ℕ, true, false, IfOk, length, slice_index, slice_index_or};
+ghost use Rattle.shape_terms.specs.Limits.{most_coordinate, most_way, most_framed};
+ghost use Rattle.shape_cells.specs.Held.{HasCell};
+ghost use Rattle.judge_field.specs.Scanned.{AreLeastAlong, AreWaysBack, HasScanned, HasTwo, IsLeastAlong, first_line, first_squares};
 
+use shape_bits::Bits;
+use shape_cells::Cells;
 use shape_space::{MOST_WAY, NoMemory};
 use std::alloc::Global;
 
-// The way that is known one place before: none at the first place of a line.
-fn known(k: u32, way: u32) -> u32
-    ensures first { k ≡ 0 → result ≡ most_way }
-    ensures later { 0 < k → result ≡ way }
+// The way to the last bare place, one place on: none is known before the first place of a line.
+#[inline(always)]
+fn next_way(object: bool, way: u32) -> u32
+    ensures bare { object ≡ false → result ≡ 0 }
+    ensures near { object ≡ true → way < most_way → result ≡ way + 1 }
+    ensures far { object ≡ true → most_way ≤ way → result ≡ most_way }
+    ensures small { result ≤ most_way }
 {
-    if k == 0 { MOST_WAY } else { way }
-}
-
-// The way to the last place with 0, one place on.
-fn next_way(square: u32, way: u32) -> u32
-    ensures bare { square ≡ 0 → result ≡ 0 }
-    ensures near { 0 < square → way < most_way → result ≡ way + 1 }
-    ensures far { 0 < square → most_way ≤ way → result ≡ most_way }
-{
-    if square == 0 {
+    if !object {
         0
     } else if way < MOST_WAY {
         way + 1
@@ -30,80 +27,92 @@ fn next_way(square: u32, way: u32) -> u32
     }
 }
 
-// The way back to the last place with 0 from a place that has k places of its line before it.
-fn way_at(square: u32, k: u32, way: u32) -> u32
-    requires two { (square ≡ 0) ⊎ (square ≡ far) }
-    ensures { (line before : ℕ → ℕ) → line 0 ≡ square → ((g : ℕ) → line (g + 1) ≡ before g)
-        → (0 < k → IsWay before (k - 1) way) → IsWay line k result }
-{
-    next_way(square, known(k, way))
-}
-
 // The square of the shorter of two ways.
+#[inline(always)]
 fn nearer(a: u32, b: u32) -> u32
     requires a_small { a ≤ most_way }
     requires b_small { b ≤ most_way }
     ensures first { a ≤ b → result ≡ a * a }
     ensures second { b < a → result ≡ b * b }
 {
-    if a <= b { a * a } else { b * b }
+    let way = if a <= b { a } else { b };
+    way * way
 }
 
-// The way back from each place.
-fn ways_back(alloc: Global, squares: &[u32], side: u32) -> Result<Vec<u32>, NoMemory>
-    requires some { 1 ≤ side }
-    requires few { length squares.now < 2 ^ 31 }
-    requires two { HasTwo squares.now }
-    ensures long { IfOk result (λ v. length v.items ≡ length squares.now) }
-    ensures ways { IfOk result (λ v. (i : ℕ) → i < length squares.now
-        → IsWay (λ g. slice_index squares.now (i - g)) (i % side) (slice_index v.items i)) }
+// The way back from each place of a line.
+fn ways_back(row: &mut [u32], objects: &Bits, start: usize)
+    requires inside { start + length row.old ≤ length objects.now }
+    requires few { length objects.now ≤ most_framed }
+    ensures ways { AreWaysBack (first_line objects.now start) row.new }
+    ensures small { (x : ℕ) → x < length row.new → slice_index row.new x ≤ most_way }
+    ensures long { length row.new ≡ length row.old }
 {
-    let n = squares.len() as u32;
-    let mut ways = Vec::with_capacity(alloc, n as usize)?;
     let mut way = MOST_WAY;
-    for i in 0..n {
-        way = way_at(squares[i as usize], i % side, way);
-        ways.push(way)?;
-    }
-    Ok(ways)
-}
-
-// The squares, where the ways back are known: the ways on are found from the last place down.
-fn both_ways(ways: &mut [u32], squares: &[u32], side: u32)
-    requires some { 1 ≤ side }
-    requires near { side ≤ most_coordinate }
-    requires few { length squares.now < 2 ^ 31 }
-    requires whole { (rows : ℕ) × (length squares.now ≡ side * rows) }
-    requires two { HasTwo squares.now }
-    requires long { length ways.old ≡ length squares.now }
-    requires ways { (i : ℕ) → i < length squares.now
-        → IsWay (λ g. slice_index squares.now (i - g)) (i % side) (slice_index ways.old i) }
-    ensures long { length ways.new ≡ length squares.now }
-    ensures scanned { (i : ℕ) → i < length squares.now
-        → IsScannedAt 1 side squares.now i (slice_index ways.new i) }
-    ensures small { (i : ℕ) → i < length squares.now → slice_index ways.new i ≤ far }
-{
-    let n = squares.len() as u32;
-    let mut way = MOST_WAY;
-    for i in (0..n).rev() {
-        way = way_at(squares[i as usize], side - 1 - i % side, way);
-        ways[i as usize] = nearer(ways[i as usize], way);
+    for x in 0..row.len() {
+        way = next_way(objects.get(start + x), way);
+        row[x] = way;
     }
 }
 
-/// The squares on the first axis, whose lines have the length `side`.
-pub fn scan_first(alloc: Global, squares: &[u32], side: u32) -> Result<Vec<u32>, NoMemory>
+// The squares of a line, where the ways back are known: the ways on are found from the last place down.
+fn both_ways(row: &mut [u32])
+    requires near { length row.old ≤ most_coordinate }
+    requires small { (x : ℕ) → x < length row.old → slice_index row.old x ≤ most_way }
+    ensures scanned { (line : ℕ → ℕ) → HasTwo line → AreWaysBack line row.old
+        → AreLeastAlong line row.new }
+    ensures long { length row.new ≡ length row.old }
+{
+    let mut way = MOST_WAY;
+    for x in (0..row.len()).rev() {
+        way = next_way(row[x] != 0, way);
+        row[x] = nearer(row[x], way);
+    }
+}
+
+// The squares of a line, which begins at a place: its places that have a cell of their own get what the line gives them.
+fn scan_row(row: &mut [u32], squares: &mut Cells<u32>, objects: &Bits, start: u32)
+    requires near { length row.old ≤ most_coordinate }
+    requires few { length objects.now ≤ most_framed }
+    requires inside { start + length row.old ≤ length objects.now }
+    requires long { length squares.old.values ≡ length objects.now }
+    requires cells { (i : ℕ) → slice_index_or objects.now i false ≡ true
+        → HasCell squares.old i }
+    ensures scanned { (x : ℕ) → x < length row.old
+        → IsLeastAlong (first_line objects.now start) (length row.old) x
+        (slice_index squares.new.values (start + x)) }
+    ensures others { (i : ℕ) → ((x : ℕ) → x < length row.old → i ≡ start + x → ⊥)
+        → slice_index squares.new.values i ≡ slice_index squares.old.values i }
+    ensures long { length squares.new.values ≡ length squares.old.values }
+    ensures kept { squares.new.kept ≡ squares.old.kept }
+{
+    ways_back(row, objects, start as usize);
+    both_ways(row);
+    squares.put_row(row, start);
+    squares.is_bare_elsewhere();
+}
+
+/// The squares on the first axis, whose lines have the length `side`. A place with the value true is an object point's.
+pub fn scan_first(
+    alloc: Global,
+    squares: &mut Cells<u32>,
+    objects: &Bits,
+    side: u32,
+) -> Result<(), NoMemory>
     requires some { 1 ≤ side }
     requires near { side ≤ most_coordinate }
-    requires few { length squares.now < 2 ^ 31 }
-    requires whole { (rows : ℕ) × (length squares.now ≡ side * rows) }
-    requires two { HasTwo squares.now }
-    ensures long { IfOk result (λ v. length v.items ≡ length squares.now) }
-    ensures scanned { IfOk result (λ v. (i : ℕ) → i < length squares.now
-        → IsScannedAt 1 side squares.now i (slice_index v.items i)) }
-    ensures small { IfOk result (λ v. (i : ℕ) → slice_index v.items i ≤ far) }
+    requires few { length objects.now ≤ most_framed }
+    requires whole { (rows : ℕ) × (length objects.now ≡ side * rows) }
+    requires long { length squares.old.values ≡ length objects.now }
+    requires cells { (i : ℕ) → slice_index_or objects.now i false ≡ true
+        → HasCell squares.old i }
+    ensures scanned { IfOk result (λ _. (rows : ℕ) → length objects.now ≡ side * rows
+        → HasScanned 1 side rows (first_squares objects.now) squares.new.values) }
+    ensures long { IfOk result (λ _. length squares.new.values ≡ length objects.now) }
 {
-    let mut ways = ways_back(alloc, squares, side)?;
-    both_ways(&mut ways, squares, side);
-    Ok(ways)
+    let mut row = vec![in alloc; 0u32; side as usize]?;
+    let rows = objects.len() as u32 / side;
+    for r in 0..rows {
+        scan_row(&mut row, squares, objects, r * side);
+    }
+    Ok(())
 }

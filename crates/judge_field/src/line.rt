@@ -2,11 +2,12 @@
 //! A place with the square 0 keeps it, and hides the places behind it: parts end at such places.
 //! Lines that stand side by side are scanned together, in a block that holds them one after the other.
 ghost use Rattle.std.specs.Prelude.{◌≡◌, ◌+◌, ◌*◌, ◌<◌, ◌≤◌, ◌^◌, ℕ, IfOk, length, slice_index};
-ghost use Rattle.shape_terms.specs.Limits.{most_coordinate, far};
+ghost use Rattle.shape_terms.specs.Limits.{most_coordinate, most_framed, far};
 ghost use Rattle.judge_field.specs.Scanned.{IsLeastAlong, HasScanned};
 
 use crate::part::{scan_part, square_at};
-use shape_envelope::{block_room, line_count, line_start, lines_beside, put_lines, take_lines};
+use shape_cells::Cells;
+use shape_envelope::{block_room, line_count, line_start, lines_beside};
 use shape_space::{NoMemory, Steps};
 use std::alloc::Global;
 use std::sync::ledger::Ledger;
@@ -106,9 +107,10 @@ fn scan_each<L: Ledger>(
 }
 
 // Scans lines that stand side by side: they are copied into a block, one after the other, scanned there, and copied back.
+// A place without a cell of its own keeps its 0, which is the least there.
 fn scan_block<L: Ledger>(
     alloc: Global,
-    squares: &mut [u32],
+    squares: &mut Cells<u32>,
     block: &mut [u32],
     out: &mut [u32],
     start: usize,
@@ -121,42 +123,45 @@ fn scan_block<L: Ledger>(
     requires some { 1 ≤ side }
     requires near { side ≤ most_coordinate }
     requires beside { lines ≤ 8 }
-    requires inside { (y : ℕ) → y < side → start + y * step + lines ≤ length squares.old }
-    requires few { length squares.old < 2 ^ 31 }
+    requires inside { (y : ℕ) → y < side → start + y * step + lines ≤ length squares.old.values }
     requires room { lines * side ≤ length block.old }
     requires short { length block.old < 2 ^ 32 }
     requires long { length out.old ≡ length block.old }
     requires small { (j y : ℕ) → j < lines → y < side
-        → slice_index squares.old (start + y * step + j) ≤ far }
+        → slice_index squares.old.values (start + y * step + j) ≤ far }
     ensures on_lines { IfOk result (λ _. (j x : ℕ) → j < lines → x < side
-        → IsLeastAlong (λ y. slice_index squares.old (start + y * step + j)) side x
-        (slice_index squares.new (start + x * step + j))) }
+        → IsLeastAlong (λ y. slice_index squares.old.values (start + y * step + j)) side x
+        (slice_index squares.new.values (start + x * step + j))) }
     ensures others { IfOk result (λ _. (i : ℕ)
         → ((j x : ℕ) → j < lines → x < side → i ≡ start + x * step + j → ⊥)
-        → slice_index squares.new i ≡ slice_index squares.old i) }
+        → slice_index squares.new.values i ≡ slice_index squares.old.values i) }
+    ensures long { IfOk result (λ _. length squares.new.values ≡ length squares.old.values) }
 {
-    take_lines(block, squares, start, step, side, lines);
+    squares.is_bare_elsewhere();
+    squares.take_lines(block, start, step, side, lines);
     scan_each(alloc, out, block, side, lines, steps)?;
-    put_lines(squares, out, start, step, side, lines);
+    squares.put_lines(out, start, step, side, lines);
     Ok(())
 }
 
 /// Scans each line of an axis, where `before` numbers the points on the axes before it, and `behind` those on the axes behind it.
 pub fn scan_lines<L: Ledger>(
     alloc: Global,
-    squares: &mut [u32],
+    squares: &mut Cells<u32>,
     before: u32,
     side: u32,
     behind: u32,
     steps: &mut Steps<L>,
 ) -> Result<(), NoMemory>
-    requires whole { length squares.old ≡ before * (side * behind) }
+    requires whole { length squares.old.values ≡ before * (side * behind) }
     requires apart { 0 < before }
     requires some { 1 ≤ side }
     requires near { side ≤ most_coordinate }
-    requires few { length squares.old < 2 ^ 31 }
-    requires small { (i : ℕ) → slice_index squares.old i ≤ far }
-    ensures { IfOk result (λ _. HasScanned before side behind squares.old squares.new) }
+    requires few { length squares.old.values ≤ most_framed }
+    requires small { (i : ℕ) → slice_index squares.old.values i ≤ far }
+    ensures scanned { IfOk result (λ _. HasScanned before side behind squares.old.values
+        squares.new.values) }
+    ensures long { IfOk result (λ _. length squares.new.values ≡ length squares.old.values) }
 {
     let mut block = vec![in alloc; 0u32; block_room(side)]?;
     let mut out = vec![in alloc; 0u32; block_room(side)]?;

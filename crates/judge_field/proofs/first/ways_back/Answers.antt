@@ -1,17 +1,32 @@
-use Rattle.std.proofs.Common.{◌≡◌, ◌-◌, ◌%◌, ◌++◌, ◌∷◌, [], get_or, rules}
-use Rattle.judge_field.specs.Scanned.{IsWay}
-use Rattle.judge_field.proofs.ScanAxes.{pushed_each}
-use Rattle.judge_field.proofs.FirstAxis.{way_on, prior_back}
+use Rattle.std.proofs.Common.{◌≡◌, inl, inr, ◌+◌, ◌∙◌, get_or-set_other, refl, arith}
+use Rattle.std.proofs.lemmas.Bool.{cases_eq}
+use Rattle.std.proofs.lemmas.Grind.{get_or-set_at}
+use Rattle.judge_field.specs.Scanned.{first_line, first_square}
+use Rattle.judge_field.proofs.FirstAxis.{way_back, back_more, back_prior}
+use Rattle.judge_field.proofs.ScanAxes.{first_at}
 use Rattle.judge_field.proofs.first.ways_back.Goals as goal
 
-pub loop-i-preserved : goal.loop-i-preserved
-loop-i-preserved c =
-    let items : c.push.new.self.items ≡ c.loop-i.ways.items ++ c.way_at-way.result ∷ [] = search rules in
-    let i = c.loop-i.invariant in
-    let squares = c.args.squares.now in
-    let way = way_on squares c.loop-i.i c.args.side c.loop-i.way c.way_at-way.result c.requires.some i.way c.way_at-way.ensures in
+pub loop-x-init : goal.loop-x-init
+loop-x-init c = record {
+  ways = λ y l. absurd (omega arith);
+  small = λ y l. absurd (omega arith);
+  way = record { none = λ e. refl; some = λ l. absurd (omega arith) };
+}
+
+pub loop-x-preserved : goal.loop-x-preserved
+loop-x-preserved c =
+    let i = c.loop-x.invariant in
+    let x = c.loop-x.x in
+    let n = c.next_way-way.ensures in
+    let r = c.next_way-way.result in
+    let line = first_line c.args.objects.now c.args.start in
+    let here : line x ≡ first_square c.get.result = first_at c.args.objects.now (c.args.start + x) ∙ rw (c.get.ensures) refl in
+    let way = way_back line c.get.result x c.loop-x.way r here i.way (record { bare = n.bare; near = n.near; past = n.far }) in
     record {
-      long = search rules;
-      ways = rw items (pushed_each (λ j w. IsWay (λ g. get_or squares (j - g) 0) (j % c.args.side) w) c.loop-i.ways.items c.way_at-way.result c.loop-i.i i.long i.ways way);
-      way = λ s. prior_back squares c.loop-i.i c.args.side c.way_at-way.result way;
+      ways = back_more line c.loop-x.row x r (omega arith) i.ways way;
+      small = λ y l. elim (cases_eq y x) [
+        | inl e ↦ rw (get_or-set_at c.loop-x.row x y r 0 e (omega arith)) n.small
+        | inr e ↦ rw (get_or-set_other c.loop-x.row x y r 0 e) (i.small y (omega arith))
+      ];
+      way = back_prior line x r way;
     }

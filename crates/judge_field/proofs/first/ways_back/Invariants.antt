@@ -1,10 +1,12 @@
-use Rattle.std.proofs.Common.{◌≡◌, ℕ, ◌-◌, ◌%◌, ◌<◌, length, get_or}
-use Rattle.judge_field.specs.Scanned.{IsWay}
+use Rattle.std.proofs.Common.{ℕ, ◌-◌, ◌<◌, ◌≤◌, get_or}
+use Rattle.shape_terms.specs.Limits.{most_way}
+use Rattle.judge_field.specs.Scanned.{IsWay, first_line}
+use Rattle.judge_field.proofs.FirstAxis.{IsPriorWay}
 use Rattle.judge_field.proofs.first.ways_back.Given as goal
 
-abbrev pub invariant-loop-i : goal.invariant-loop-i
-invariant-loop-i l = record {
-  long : length l.ways.items ≡ l.i;
-  ways : (j : ℕ) → j < l.i → IsWay (λ g. get_or l.squares (j - g) 0) (j % l.side) (get_or l.ways.items j 0);
-  way : 0 < l.i → IsWay (λ g. get_or l.squares (l.i - 1 - g) 0) ((l.i - 1) % l.side) l.way;
+abbrev pub invariant-loop-x : goal.invariant-loop-x
+invariant-loop-x l = record {
+  ways : (y : ℕ) → y < l.x → IsWay (λ g. first_line l.objects l.start (y - g)) y (get_or l.row y 0);
+  small : (y : ℕ) → y < l.x → get_or l.row y 0 ≤ most_way;
+  way : IsPriorWay (λ g. first_line l.objects l.start (l.x - 1 - g)) l.x l.way;
 }

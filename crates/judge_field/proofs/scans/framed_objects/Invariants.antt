@@ -1,11 +1,11 @@
 use Rattle.std.proofs.Common.{◌≤◌, ◌-◌}
 use Rattle.shape_terms.specs.Points.{box_count}
-use Rattle.judge_field.proofs.FirstSquares.{HasFound}
-use Rattle.judge_field.proofs.scans.first_squares.Given as goal
+use Rattle.judge_field.proofs.FramedObjects.{HasFound}
+use Rattle.judge_field.proofs.scans.framed_objects.Given as goal
 
 abbrev pub invariant-loop-i : goal.invariant-loop-i
 invariant-loop-i g l = record {
-  found : HasFound l.grid l.next l.squares.items;
+  found : HasFound l.grid l.next l.objects;
   low : l.next ≤ box_count l.grid.sides;
 }
 
