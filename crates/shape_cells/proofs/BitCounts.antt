@@ -87,7 +87,8 @@ pub record AreCountsTo (values : List Bool) (w : ℕ) (counts : List ℕ) : Type
   pub each : (b : ℕ) → b < length counts → slice_index counts b ≡ trues_before values (64 * b)
 
 -- the count of one more word
-pub counts_pushed : (values : List Bool) (w n : ℕ) (counts : List ℕ) → n ≡ trues_before values (64 * w) → AreCountsTo values w counts → AreCountsTo values (w + 1) (counts ++ n ∷ [])
+pub counts_pushed : (values : List Bool) (w n : ℕ) (counts : List ℕ) → n ≡ trues_before values (64 * w) → AreCountsTo values w counts
+    → AreCountsTo values (w + 1) (counts ++ n ∷ [])
 counts_pushed values w n counts e a =
     let l = a.long in
     let s = length-append counts (n ∷ []) in
@@ -107,7 +108,8 @@ pub all_true : (values : List Bool) (i : ℕ) → length values ≤ i → trues_
 all_true values i l = ap trues (take_all i values l)
 
 -- values none of which is true
-pub none_true : (values : List Bool) (a z : ℕ) → ((k : ℕ) → a ≤ k → k < a + z → get_or values k false ≡ false) → trues_before values (a + z) ≡ trues_before values a
+pub none_true : (values : List Bool) (a z : ℕ) → ((k : ℕ) → a ≤ k → k < a + z → get_or values k false ≡ false)
+    → trues_before values (a + z) ≡ trues_before values a
 none_true values a zero none = let e : a + 0 ≡ a = omega arith in rw e refl
 none_true values a (suc z) none =
     let e : a + suc z ≡ a + z + 1 = omega arith in

@@ -10,7 +10,8 @@ module _ {A : Type 0} (objects : List Bool) (at : ℕ) (g : ℕ → ℕ) (j : �
   pub put_more : (v : A) → at + j < length values → g j < length from → v ≡ get_or from (g j) v
       → ((d : A) (k : ℕ) → k < j → get_or objects (at + k) false ≡ true → get_or values (at + k) d ≡ get_or from (g k) d)
       → (d : A) (k : ℕ) → k < j + 1 → get_or objects (at + k) false ≡ true → get_or (set values (at + j) v) (at + k) d ≡ get_or from (g k) d
-  put_more v inside there read old d = below_more (λ k. get_or objects (at + k) false ≡ true → get_or (set values (at + j) v) (at + k) d ≡ get_or from (g k) d) j
+  put_more v inside there read old d = below_more
+      (λ k. get_or objects (at + k) false ≡ true → get_or (set values (at + j) v) (at + k) d ≡ get_or from (g k) d) j
       (λ k l t. get_or-set_other values (at + j) (at + k) v d (λ e. omega (arith, l, e)) ∙ old d k l t)
       (λ t. get_or-set_same values (at + j) v d inside ∙ read ∙ get_or_default from (g j) v d there)
 
@@ -36,17 +37,22 @@ module _ {A : Type 0} (objects : List Bool) (at : ℕ) (g : ℕ → ℕ) (j : �
 
 module _ {A : Type 0} (objects : List Bool) (start step side lines y : ℕ) where
   pub lines_put : (old values block : List A) → lines ≤ step
-      → ((d : A) (j z : ℕ) → j < lines → z < y → get_or objects (start + z * step + j) false ≡ true → get_or old (start + z * step + j) d ≡ get_or block (j * side + z) d)
-      → ((d : A) (j : ℕ) → j < lines → get_or objects (start + y * step + j) false ≡ true → get_or values (start + y * step + j) d ≡ get_or block (j * side + y) d)
+      → ((d : A) (j z : ℕ) → j < lines → z < y → get_or objects (start + z * step + j) false ≡ true
+      → get_or old (start + z * step + j) d ≡ get_or block (j * side + z) d)
+      → ((d : A) (j : ℕ) → j < lines → get_or objects (start + y * step + j) false ≡ true
+      → get_or values (start + y * step + j) d ≡ get_or block (j * side + y) d)
       → ((d : A) (i : ℕ) → ((j : ℕ) → j < lines → i ≡ start + y * step + j → get_or objects i false ≡ true → ⊥) → get_or values i d ≡ get_or old i d)
-      → (d : A) (j z : ℕ) → j < lines → z < y + 1 → get_or objects (start + z * step + j) false ≡ true → get_or values (start + z * step + j) d ≡ get_or block (j * side + z) d
-  lines_put old values block apart before put others d j z l = below_more (λ z. get_or objects (start + z * step + j) false ≡ true → get_or values (start + z * step + j) d ≡ get_or block (j * side + z) d) y
+      → (d : A) (j z : ℕ) → j < lines → z < y + 1 → get_or objects (start + z * step + j) false ≡ true
+      → get_or values (start + z * step + j) d ≡ get_or block (j * side + z) d
+  lines_put old values block apart before put others d j z l = below_more
+      (λ z. get_or objects (start + z * step + j) false ≡ true → get_or values (start + z * step + j) d ≡ get_or block (j * side + z) d) y
       (λ z h t. others d (start + z * step + j) (λ k m e _. other_beside start step z j y k (omega arith) (omega arith) (omega arith) e) ∙ before d j z l h t)
       (put d j l) z
 
   pub lines_left : (first old values : List A)
       → ((d : A) (i : ℕ) → ((j z : ℕ) → j < lines → z < y → i ≡ start + z * step + j → get_or objects i false ≡ true → ⊥) → get_or old i d ≡ get_or first i d)
       → ((d : A) (i : ℕ) → ((j : ℕ) → j < lines → i ≡ start + y * step + j → get_or objects i false ≡ true → ⊥) → get_or values i d ≡ get_or old i d)
-      → (d : A) (i : ℕ) → ((j z : ℕ) → j < lines → z < y + 1 → i ≡ start + z * step + j → get_or objects i false ≡ true → ⊥) → get_or values i d ≡ get_or first i d
+      → (d : A) (i : ℕ) → ((j z : ℕ) → j < lines → z < y + 1 → i ≡ start + z * step + j → get_or objects i false ≡ true → ⊥)
+      → get_or values i d ≡ get_or first i d
   lines_left first old values before others d i none =
       others d i (λ j l. none j y l (omega arith)) ∙ before d i (λ j z l h. none j z l (omega (arith, h)))

@@ -37,13 +37,15 @@ module _ {A : Type 0} where
         | inr f ↦ f
       ] in
       elim (dec_lt from (length cells)) [
-        | yes l ↦ subst (λ b. MatchOption (then_some b from) ((k : ℕ) → from ≤ k → get_or kept k false ≡ false) (λ k. IsFirstTrue kept from k)) (sym (lt-ltb from (length cells) l)) (record {
-          on = omega arith;
-          within = omega (arith, l, n);
-          there = marked cells from l;
-          first = λ j m k. absurd (omega (arith, m, k));
-        })
-        | no m ↦ subst (λ b. MatchOption (then_some b from) ((k : ℕ) → from ≤ k → get_or kept k false ≡ false) (λ k. IsFirstTrue kept from k)) (sym (none m))
+        | yes l ↦ subst (λ b. MatchOption (then_some b from) ((k : ℕ) → from ≤ k → get_or kept k false ≡ false) (λ k. IsFirstTrue kept from k))
+            (sym (lt-ltb from (length cells) l)) (record {
+              on = omega arith;
+              within = omega (arith, l, n);
+              there = marked cells from l;
+              first = λ j m k. absurd (omega (arith, m, k));
+            })
+        | no m ↦ subst (λ b. MatchOption (then_some b from) ((k : ℕ) → from ≤ k → get_or kept k false ≡ false) (λ k. IsFirstTrue kept from k))
+            (sym (none m))
             (λ k l. get_or_past kept k false (omega (arith, l, m, n)))
       ]
 
@@ -54,7 +56,8 @@ module _ {A : Type 0} where
   -- a row of them is written
   pub pasted : (cells row : List A) (a n i : ℕ) (d : A) → n ≡ length row → a + n ≤ length cells → (i < a) ⊎ (a + n ≤ i)
       → get_or (take a cells ++ (row ++ drop n (drop a cells))) i d ≡ get_or cells i d
-  pasted cells row a n i d m l (inl before) = get_or_append_left (take a cells) (row ++ drop n (drop a cells)) d i (omega (arith, l, before, length-take a cells)) ∙ get_or-take a cells i d before
+  pasted cells row a n i d m l (inl before) =
+      get_or_append_left (take a cells) (row ++ drop n (drop a cells)) d i (omega (arith, l, before, length-take a cells)) ∙ get_or-take a cells i d before
   pasted cells row a n i d m l (inr behind) =
       let taken : length (take a cells) ≡ a = omega (arith, l, length-take a cells) in
       let e : a + (n + (i - a - n)) ≡ i = omega (arith, behind) in
@@ -62,7 +65,8 @@ module _ {A : Type 0} where
       ∙ get_or-append_right row (drop n (drop a cells)) n (i - a) d (sym m) (omega (arith, behind))
       ∙ get_or-drop n (drop a cells) (i - a - n) d ∙ get_or-drop a cells (n + (i - a - n)) d ∙ ap (λ k. get_or cells k d) e
 
-  pub pasted_long : (cells row : List A) (a n : ℕ) → n ≡ length row → a + n ≤ length cells → length (take a cells ++ (row ++ drop n (drop a cells))) ≡ length cells
+  pub pasted_long : (cells row : List A) (a n : ℕ) → n ≡ length row → a + n ≤ length cells
+      → length (take a cells ++ (row ++ drop n (drop a cells))) ≡ length cells
   pasted_long cells row a n m l =
       let s = length-append (take a cells) (row ++ drop n (drop a cells)) in
       let t = length-append row (drop n (drop a cells)) in
@@ -76,16 +80,13 @@ module _ {A : Type 0} (bare : ℕ → A) where
   bare_elsewhere (Some objects) cells i l none =
       let within : i < length objects = omega (arith, l, length-values bare objects cells) in
       let f : get_or objects i false ≡ false = elim (cases_Bool (get_or objects i false)) [ inl t ↦ absurd (none t) | inr f ↦ f ] in
-      slice_get-get_or (trues_kept bare objects cells).values i (bare i) l ∙ ap Some (value_of bare objects cells i (bare i) within ∙ of_other bare objects cells i f)
-
-  pub sizes : (o : Option (List Bool)) (cells : List A) → AreCells o cells → (length (held bare o cells).values ≤ most_framed) × (length (held bare o cells).kept ≡ length (held bare o cells).values)
-  sizes None cells a = (a, ap length (marks cells) ∙ length-replicate (length cells) true)
-  sizes (Some objects) cells a = (omega (arith, a.0, length-values bare objects cells), sym (length-values bare objects cells))
+      slice_get-get_or (trues_kept bare objects cells).values i (bare i) l
+      ∙ ap Some (value_of bare objects cells i (bare i) within ∙ of_other bare objects cells i f)
 
 -- ---- what is seen from outside, in either form
 
-module _ {A : Type 0} (bare : ℕ → A) (o : Option (List Bool)) (cells : List A) (h : Held A) (view : held bare o cells ≡ h) where
-  module _ (objects : List Bool) (form : o ≡ Some objects) where
+module _ {A : Type 0} (bare : ℕ → A) (o : Option (List Bool)) (cells : List A) {h : Held A} (view : held bare o cells ≡ h) where
+  module _ {objects : List Bool} (form : o ≡ Some objects) where
     pub some_view : trues_kept bare objects cells ≡ h
     some_view = ap (λ (o : Option (List Bool)). held bare o cells) (sym form) ∙ view
 
@@ -102,7 +103,8 @@ module _ {A : Type 0} (bare : ℕ → A) (o : Option (List Bool)) (cells : List 
     -- what the cells now hold, at a place where it is what they held
     pub some_same : (now : List A) (i : ℕ) (d : A) → get_or (trues_kept bare objects now).values i d ≡ get_or (trues_kept bare objects cells).values i d
         → get_or (held bare o now).values i d ≡ get_or h.values i d
-    some_same now i d same = ap (λ (o : Option (List Bool)). get_or (held bare o now).values i d) form ∙ same ∙ ap (λ (h : Held A). get_or h.values i d) some_view
+    some_same now i d same = ap (λ (o : Option (List Bool)). get_or (held bare o now).values i d) form ∙ same
+        ∙ ap (λ (h : Held A). get_or h.values i d) some_view
 
   module _ (form : o ≡ None) where
     pub none_view : all_kept cells ≡ h
@@ -122,7 +124,8 @@ module _ {A : Type 0} (bare : ℕ → A) (o : Option (List Bool)) (cells : List 
         ∙ all_put cells i v (let n = none_length in omega (arith, l, n)) ∙ ap (λ (h : Held A). with_value h i v) none_view
 
     pub none_same : (now : List A) (i : ℕ) (d : A) → get_or now i d ≡ get_or cells i d → get_or (held bare o now).values i d ≡ get_or h.values i d
-    none_same now i d same = ap (λ (o : Option (List Bool)). get_or (held bare o now).values i d) form ∙ same ∙ ap (λ (h : Held A). get_or h.values i d) none_view
+    none_same now i d same = ap (λ (o : Option (List Bool)). get_or (held bare o now).values i d) form ∙ same
+        ∙ ap (λ (h : Held A). get_or h.values i d) none_view
 
     pub none_kept : (now : List A) → length now ≡ length cells → (held bare o now).kept ≡ h.kept
     none_kept now e = ap (λ (o : Option (List Bool)). (held bare o now).kept) form ∙ same_marks cells now e ∙ ap (λ (h : Held A). h.kept) none_view
@@ -132,7 +135,20 @@ module _ {A : Type 0} (bare : ℕ → A) (o : Option (List Bool)) (cells : List 
     none_first from = subst (λ (h : Held A). MatchOption (then_some (nat_lt from (length cells)) from)
         ((k : ℕ) → from ≤ k → get_or h.kept k false ≡ false) (λ k. IsFirstTrue h.kept from k)) none_view (all_first cells from)
 
--- the cells of all places at the beginning
+    -- where a row of the cells is written, the places of that row hold other values at most
+    pub none_pasted : (row : List A) (a n : ℕ) → n ≡ length row → a + n ≤ length cells → (d : A) (i : ℕ) → ((y : ℕ) → y < n → i ≡ a + y → HasCell h i → ⊥)
+        → get_or (held bare o (take a cells ++ (row ++ drop n (drop a cells)))).values i d ≡ get_or h.values i d
+    none_pasted row a n m l d i none = none_same (take a cells ++ (row ++ drop n (drop a cells))) i d (pasted cells row a n i d m l (elim (dec_lt i a) [
+      | yes b ↦ inl b
+      | no b ↦ elim (dec_lt i (a + n)) [
+        | yes e ↦ absurd (none (i - a) (omega (arith, b, e)) (omega (arith, b)) (none_has i (let t = none_length in omega (arith, e, l, t))))
+        | no e ↦ inr (omega (arith, e))
+      ]
+    ]))
+
+-- ---- the cells of all places at the beginning
+
 module _ {A : Type 0} (bare : ℕ → A) where
   pub all_begun : (n i : ℕ) → i < n → slice_get (map bare (range_with_len 0 n)) i ≡ Some (bare i)
-  all_begun n i l = slice_get-get_or (map bare (range_with_len 0 n)) i (bare i) (omega (arith, l, length-map-range_with_len bare 0 n)) ∙ ap Some (get_or-map-range_with_len bare 0 n i i (bare i) l (omega arith))
+  all_begun n i l = slice_get-get_or (map bare (range_with_len 0 n)) i (bare i) (omega (arith, l, length-map-range_with_len bare 0 n))
+      ∙ ap Some (get_or-map-range_with_len bare 0 n i i (bare i) l (omega arith))

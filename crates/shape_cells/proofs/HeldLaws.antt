@@ -32,11 +32,13 @@ module _ {A : Type 0} (bare : ℕ → A) (objects : List Bool) where
   of_other cells i f = ap (λ b. if b then get_or cells (trues_before objects i) (bare i) else bare i) f
 
   -- what is read of a cell, or told by a place without one, is what the place holds
-  pub read_object : (cells : List A) (i n : ℕ) (v : A) → length cells ≡ trues objects → get_or objects i false ≡ true → n ≡ trues_before objects i → v ≡ get_or cells n v
-      → v ≡ get_or (trues_kept bare objects cells).values i v
-  read_object cells i n v e t number read = read ∙ ap (λ k. get_or cells k v) number ∙ sym (value_of cells i v (true_within objects i t) ∙ of_object cells i v e t)
+  pub read_object : (cells : List A) (i n : ℕ) (v : A) → length cells ≡ trues objects → get_or objects i false ≡ true → n ≡ trues_before objects i
+      → v ≡ get_or cells n v → v ≡ get_or (trues_kept bare objects cells).values i v
+  read_object cells i n v e t number read = read ∙ ap (λ k. get_or cells k v) number
+      ∙ sym (value_of cells i v (true_within objects i t) ∙ of_object cells i v e t)
 
-  pub read_other : (cells : List A) (i : ℕ) (v : A) → i < length objects → get_or objects i false ≡ false → v ≡ bare i → v ≡ get_or (trues_kept bare objects cells).values i v
+  pub read_other : (cells : List A) (i : ℕ) (v : A) → i < length objects → get_or objects i false ≡ false → v ≡ bare i
+      → v ≡ get_or (trues_kept bare objects cells).values i v
   read_other cells i v l f read = read ∙ sym (value_of cells i v l ∙ of_other cells i f)
 
   module _ (cells : List A) (e : length cells ≡ trues objects) (i : ℕ) (v : A) (t : get_or objects i false ≡ true) where
@@ -75,7 +77,8 @@ module _ {A : Type 0} (bare : ℕ → A) (objects : List Bool) where
     object_put = ap (λ (vs : List A). record { values = vs; kept = objects }) (
         cell_set ∙ sym (ap (λ b. if b then set (trues_kept bare objects cells).values i v else (trues_kept bare objects cells).values) t))
 
-  pub other_put : (cells : List A) (i : ℕ) (v : A) → get_or objects i false ≡ false → trues_kept bare objects cells ≡ with_value (trues_kept bare objects cells) i v
+  pub other_put : (cells : List A) (i : ℕ) (v : A) → get_or objects i false ≡ false
+      → trues_kept bare objects cells ≡ with_value (trues_kept bare objects cells) i v
   other_put cells i v f = ap (λ (vs : List A). record { values = vs; kept = objects }) (
       sym (ap (λ b. if b then set (trues_kept bare objects cells).values i v else (trues_kept bare objects cells).values) f))
 
@@ -119,7 +122,8 @@ module _ {A : Type 0} (bare : ℕ → A) (objects : List Bool) where
     filled_long =
         let o = a.on in
         let e : from + (length objects - from) ≡ length objects = omega (arith, o) in
-        a.long ∙ sym (none_true objects from (length objects - from) (λ k l m. none k l)) ∙ ap (trues_before objects) e ∙ all_true objects (length objects) (omega arith)
+        a.long ∙ sym (none_true objects from (length objects - from) (λ k l m. none k l)) ∙ ap (trues_before objects) e
+        ∙ all_true objects (length objects) (omega arith)
 
     pub filled_all : (i : ℕ) → value_at bare objects cells i ≡ bare i
     filled_all i = elim (cases_Bool (get_or objects i false)) [

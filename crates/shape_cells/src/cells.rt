@@ -18,8 +18,8 @@ use std::marker::Model;
 
 /// What each place holds. A place of the object has a cell of its own, and so may others; those without one hold what their number tells.
 ///
-/// Where the object is a quarter of the places or less, its places alone have a cell, and a place takes one bit and a half beside; else
-/// each place has a cell, and nothing is kept beside.
+/// Where the object is a quarter of the places or less, its places alone have a cell, and each place takes a bit and a half beside. Else each
+/// place has a cell, and nothing is kept beside.
 #[derive(Drop)]
 pub struct Cells<T: Cell> {
     objects: Option<Numbering>,
@@ -41,9 +41,11 @@ impl<T: Cell> Cells<T> {
     pub fn new(alloc: Global, objects: Bits) -> Result<Cells<T>, NoMemory>
         requires { length objects ≤ most_framed }
         ensures long { IfOk result (λ c. length c.values ≡ length objects) }
-        ensures object { IfOk result (λ c. (i : ℕ) → slice_index_or objects i false ≡ true → HasCell c i) }
+        ensures object { IfOk result
+            (λ c. (i : ℕ) → slice_index_or objects i false ≡ true → HasCell c i) }
         ensures few { IfOk result (λ c. 4 * trues objects ≤ length objects → c.kept ≡ objects) }
-        ensures bare { IfOk result (λ c. (i : ℕ) → i < length objects → slice_get c.values i ≡ Some (T.bare i)) }
+        ensures bare { IfOk result
+            (λ c. (i : ℕ) → i < length objects → slice_get c.values i ≡ Some (T.bare i)) }
     {
         if 4 * count(&objects) as usize <= objects.len() {
             return Cells::of_trues(alloc, objects);

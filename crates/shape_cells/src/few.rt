@@ -1,9 +1,9 @@
 //! Cells for the true values of a row alone: the cell of such a place stands at its number.
 //! Where each place has a cell, nothing of this is used.
 ghost use Rattle.std.specs.Prelude.{◌≡◌, ◌+◌, ◌*◌, ◌<◌, ◌≤◌, ℕ, IfOk, true, false, length, slice_index_or};
-ghost use Rattle.shape_terms.specs.Limits.{most_framed, most_coordinate};
+ghost use Rattle.shape_terms.specs.Limits.{most_framed};
 ghost use Rattle.shape_cells.specs.Counting.{trues};
-ghost use Rattle.shape_cells.specs.Held.{HasCell, trues_kept, value_at, with_value};
+ghost use Rattle.shape_cells.specs.Held.{trues_kept, value_at, with_value};
 
 use crate::cell::Cell;
 use crate::numbering::Numbering;

@@ -28,7 +28,8 @@ loop-j-preserved g c =
           let v = w.index-block-j.result in
           let all : length cells ≡ trues objects = omega (arith, c.requires.all, c.loop-j.auto.cells) in
           let now : (trues_kept g.T.Cell.bare objects c.if-has.cells).values ≡ set values (a.at + j) v =
-          ap (λ x. (trues_kept g.T.Cell.bare objects x).values) (w.cells-is ∙ ap (λ k. set cells k v) n) ∙ cell_set g.T.Cell.bare objects cells all (a.at + j) v t in
+          ap (λ x. (trues_kept g.T.Cell.bare objects x).values) (w.cells-is ∙ ap (λ k. set cells k v) n)
+          ∙ cell_set g.T.Cell.bare objects cells all (a.at + j) v t in
           rw (now, w.number-is) (record {
             number = rw next (omega (arith, m, n));
             put = put_more objects a.at (λ k. k * a.side + a.y) j values a.block.now v inside there w.index-block-j.is i.put;

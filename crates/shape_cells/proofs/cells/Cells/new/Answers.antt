@@ -8,7 +8,8 @@ use Rattle.shape_cells.proofs.Forms.{marked, all_begun}
 use Rattle.shape_cells.proofs.cells.Cells.new.Goals as goal
 
 pub returns-then-count-len-clause-long : goal.returns-then-count-len-clause-long
-returns-then-count-len-clause-long g c = IfOk-weaker c.of_trues.result _ _ (λ x u. ap length u ∙ length-map-range_with_len g.T.Cell.bare 0 (length c.args.objects)) c.of_trues.ensures.values
+returns-then-count-len-clause-long g c = IfOk-weaker c.of_trues.result _ _
+    (λ x u. ap length u ∙ length-map-range_with_len g.T.Cell.bare 0 (length c.args.objects)) c.of_trues.ensures.values
 
 pub returns-then-count-len-clause-few : goal.returns-then-count-len-clause-few
 returns-then-count-len-clause-few g c = IfOk-weaker c.of_trues.result _ _ (λ x u _. u) c.of_trues.ensures.kept
@@ -29,7 +30,8 @@ returns-clause-object g c = IfOk-weaker c.of_all.result _ _ (λ x u i t.
     ap (λ h. get_or h.kept i false) u ∙ marked (map g.T.Cell.bare (range_with_len 0 c.len-places.result)) i (omega (arith, n, l, p))) c.of_all.ensures
 
 pub returns-clause-few : goal.returns-clause-few
-returns-clause-few g c = IfOk-weaker c.of_all.result _ _ (λ x u l. absurd (omega (arith, l, c.count.ensures, c.len.ensures, c.if-count-len.false))) c.of_all.ensures
+returns-clause-few g c = IfOk-weaker c.of_all.result _ _
+    (λ x u l. absurd (omega (arith, l, c.count.ensures, c.len.ensures, c.if-count-len.false))) c.of_all.ensures
 
 pub returns-clause-bare : goal.returns-clause-bare
 returns-clause-bare g c = IfOk-weaker c.of_all.result _ _ (λ x u i l.

@@ -4,5 +4,5 @@ use Rattle.shape_cells.proofs.cells.Cells.take_row.Goals as goal
 
 pub take_places-requires-clause-inside : goal.take_places-requires-clause-inside
 take_places-requires-clause-inside g c =
-    let n = some_length g.T.Cell.bare c.self.inside.objects c.self.inside.cells.items c.args.self.now c.self.view_is c.in-Some.objects c.in-Some.is in
+    let n = some_length g.T.Cell.bare c.self.inside.objects c.self.inside.cells.items c.self.view_is c.in-Some.is in
     omega (arith, c.requires, n)
