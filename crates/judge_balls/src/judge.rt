@@ -10,6 +10,7 @@ ghost use Rattle.shape_window.specs.Marks.{is_marked};
 ghost use Rattle.judge_balls.specs.Tests.{PassesTests, IsFreeIn, AllMarked};
 
 use judge_field::{Scans, is_least};
+use shape_bits::Bits;
 use shape_grid::Grid;
 use shape_space::{NoMemory, Point, squared_distance};
 use shape_window::{holds_mark, mark_ball};
@@ -23,13 +24,13 @@ use std::alloc::Global;
 pub struct BallJudge<P: Point> {
     scans: Scans<P>,
     // Whether each point of the box is in a ball that was taken.
-    covered: Vec<bool>,
+    covered: Bits,
     // Whether it is the own point of one.
-    own: Vec<bool>,
+    own: Bits,
     // The raster number from which the next centre may come.
     next: u32,
-    ghost covered_filled: { length covered.items ≡ box_count scans.sides },
-    ghost own_filled: { length own.items ≡ box_count scans.sides },
+    ghost covered_filled: { length covered ≡ box_count scans.sides },
+    ghost own_filled: { length own ≡ box_count scans.sides },
 }
 
 // Whether two points have the same coordinates.
@@ -51,8 +52,8 @@ impl<P: Point> BallJudge<P> {
         grid.is_picture();
         let count = grid.sides().count() as usize;
         let scans = Scans::new(alloc, grid)?;
-        let covered = vec![in alloc; false; count]?;
-        let own = vec![in alloc; false; count]?;
+        let covered = Bits::new(alloc, count)?;
+        let own = Bits::new(alloc, count)?;
         Ok(BallJudge {
             scans,
             covered,
@@ -85,20 +86,20 @@ impl<P: Point> BallJudge<P> {
     fn has_own(&self, centre: P, s: u64, own: P) -> bool
         requires { IsTrue (at self.now.scans (P.coords centre)) }
         ensures { IsTrue result
-            ↔ IsFreeIn self.now.scans self.now.covered.items (P.coords centre) s (P.coords own) }
+            ↔ IsFreeIn self.now.scans self.now.covered (P.coords centre) s (P.coords own) }
     {
         let grid = self.scans.grid();
         let sides = grid.sides();
         if !grid.has(own) {
             return false;
         }
-        squared_distance(centre, own) < s && !self.covered[sides.raster(own) as usize]
+        squared_distance(centre, own) < s && !self.covered.get(sides.raster(own) as usize)
     }
 
     // Whether a ball passes the tests after the balls that were taken.
     fn passes(&self, centre: P, near: P, s: u64, own: P) -> bool
         ensures { IsTrue result
-            ↔ PassesTests self.now.scans self.now.covered.items self.now.own.items self.now.next
+            ↔ PassesTests self.now.scans self.now.covered self.now.own self.now.next
             (ball_by (P.coords centre) (P.coords near) s (P.coords own)) }
     {
         let grid = self.scans.grid();
@@ -136,7 +137,7 @@ impl<P: Point> BallJudge<P> {
         }
         let sides = self.scans.grid().sides();
         mark_ball(&mut self.covered, &sides, centre, s);
-        self.own[sides.raster(own) as usize] = true;
+        self.own.set(sides.raster(own) as usize);
         self.next = sides.raster(centre) + 1;
         true
     }
@@ -145,15 +146,15 @@ impl<P: Point> BallJudge<P> {
     fn is_open(&self, i: u32) -> bool
         requires { i < box_count self.now.scans.sides }
         ensures { result ≡ (at self.now.scans (raster_point self.now.scans.sides i)
-            && not (is_marked self.now.covered.items i)) }
+            && not (is_marked self.now.covered i)) }
     {
         let grid = self.scans.grid();
-        grid.has(grid.sides().unraster(i)) && !self.covered[i as usize]
+        grid.has(grid.sides().unraster(i)) && !self.covered.get(i as usize)
     }
 
     // Whether each object point is in a ball that was taken.
     fn is_covered(&self) -> bool
-        ensures { IsTrue result ↔ AllMarked self.now.scans self.now.covered.items }
+        ensures { IsTrue result ↔ AllMarked self.now.scans self.now.covered }
     {
         for i in 0..self.scans.grid().sides().count() {
             if self.is_open(i) {
