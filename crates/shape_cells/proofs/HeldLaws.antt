@@ -1,6 +1,6 @@
 -- What places hold by the cells of true values, and what it is once a cell is written.
 -- Laws over lists alone.
-use Rattle.std.proofs.Common.{◌≡◌, ◌≢◌, ℕ, ◌+◌, ◌-◌, ◌<◌, ◌≤◌, Bool, true, false, List, [], ◌∷◌, ◌++◌, length, set, get_or, refl, sym, ap, ◌∙◌, arith, inl, inr, get_or-set_same, get_or-set_other}
+use Rattle.std.proofs.Common.{◌≡◌, ◌≢◌, ℕ, ◌+◌, ◌-◌, ◌<◌, ◌≤◌, Bool, true, false, List, [], ◌∷◌, ◌++◌, length, set, get_or, sym, ap, ◌∙◌, arith, inl, inr, get_or-set_same, get_or-set_other}
 use Rattle.std.specs.Prelude.{if◌then◌else◌}
 use Rattle.std.proofs.lemmas.Bool.{cases_Bool}
 use Rattle.std.proofs.lemmas.List.{length-set, length-append, get_or_append_left, get_or_default, same_lists}
@@ -113,9 +113,6 @@ module _ {A : Type 0} (bare : ℕ → A) (objects : List Bool) where
               get_or_append_left cells (bare place ∷ []) d (trues_before objects i) (omega (arith, n, r)) ∙ a.each i d before t)
         ];
       }
-
-  pub filled_none : AreFilled [] 0
-  filled_none = record { on = omega arith; long = refl; each = λ i d l t. absurd (omega (arith, l)) }
 
   module _ (cells : List A) (from : ℕ) (a : AreFilled cells from) (none : (k : ℕ) → from ≤ k → get_or objects k false ≡ false) where
     pub filled_long : length cells ≡ trues objects
