@@ -9,6 +9,7 @@ ghost use Rattle.shape_balls.specs.Keeping.{fact_at, InKept, IsKeeping};
 
 use crate::keep::keep_all;
 use judge_balls::Ball;
+use shape_bits::Bits;
 use shape_dist::{Field, nearest};
 use shape_grid::Grid;
 use shape_space::{NoMemory, Point};
@@ -19,15 +20,15 @@ fn listed<P: Point>(
     alloc: Global,
     grid: &Grid<P>,
     field: &Field<P>,
-    kept: &Vec<bool>,
-    covered: &Vec<bool>,
+    kept: &Bits,
+    covered: &Bits,
 ) -> Result<Vec<Ball<P>>, NoMemory>
     requires field { IsField grid.now field.now }
     requires framed { All IsFramed field.now }
     requires axes { length grid.now.sides ≡ P.DIM }
-    requires keeping { IsKeeping grid.now field.now kept.now.items covered.now.items }
+    requires keeping { IsKeeping grid.now field.now kept.now covered.now }
     requires all { (i : ℕ) → i < length field.now
-        → InKept field.now kept.now.items (fact_at field.now i).p }
+        → InKept field.now kept.now (fact_at field.now i).p }
     ensures balls { IfOk result (λ v. Terms.AreBalls grid.now (map (ball_of P.coords) v.items)) }
     ensures fits { IfOk result (λ v. All (λ b. (spelled P.DIM).IsLine (Line.Ball b))
         (map (ball_of P.coords) v.items)) }
@@ -35,7 +36,7 @@ fn listed<P: Point>(
 {
     let mut balls = Vec::new(alloc);
     for i in 0..field.len() {
-        if kept[i as usize] {
+        if kept.get(i as usize) {
             let f = field.near(i);
             balls.push(Ball {
                 centre: f.p,
@@ -56,9 +57,10 @@ pub fn union_of<P: Point>(alloc: Global, grid: &Grid<P>) -> Result<Vec<Ball<P>>,
         (map (ball_of P.coords) v.items)) }
     ensures few { IfOk result (λ v. length v.items < 2 ^ 32) }
 {
+    grid.is_picture();
     let field = nearest(alloc, grid)?;
-    let mut kept = vec![in alloc; false; field.len() as usize]?;
-    let mut covered = vec![in alloc; false; grid.sides().count() as usize]?;
+    let mut kept = Bits::new(alloc, field.len() as usize)?;
+    let mut covered = Bits::new(alloc, grid.sides().count() as usize)?;
     keep_all(alloc, &mut kept, &mut covered, grid, &field)?;
     listed(alloc, grid, &field, &kept, &covered)
 }

@@ -4,4 +4,4 @@ use Rattle.shape_balls.specs.Chosen.{IsChosen}
 use Rattle.shape_balls.proofs.list.listed.Given as goal
 
 abbrev pub invariant-loop-i : goal.invariant-loop-i
-invariant-loop-i g l = IsChosen l.grid l.field l.kept.items l.i (map (ball_of g.P.Point.coords) l.balls.items)
+invariant-loop-i g l = IsChosen l.grid l.field l.kept l.i (map (ball_of g.P.Point.coords) l.balls.items)
