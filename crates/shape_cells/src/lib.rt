@@ -4,6 +4,8 @@
 
 mod cell;
 mod cells;
+mod counts;
+mod few;
 mod numbering;
 
 pub use cell::Cell;
