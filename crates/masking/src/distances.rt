@@ -7,6 +7,7 @@ ghost use Rattle.masking.specs.Pictures.{level, high_first, low_first, pgm, dept
 use crate::header::{put_header, side_of};
 use shape_grid::Grid;
 use shape_space::{NoMemory, P2};
+use shape_squares::Squares;
 use std::alloc::Global;
 
 // A square whose distance is told as one that is greater: 65535 squared is below 10,000 times it.
@@ -39,18 +40,18 @@ fn put_low(n: u16, out: &mut Vec<u8>) -> Result<(), NoMemory>
 }
 
 // Puts the distances, the higher byte of each first.
-fn put_levels(squares: &[u64], out: &mut Vec<u8>) -> Result<(), NoMemory>
+fn put_levels(squares: &Squares, out: &mut Vec<u8>) -> Result<(), NoMemory>
     ensures { OnOk result (out.new.items
         ≡ out.old.items ++ flat_map (λ s. high_first (level s)) squares.now) }
 {
-    for s in squares {
-        put_high(level(*s), out)?;
+    for i in 0..squares.len() {
+        put_high(level(squares.get(i)), out)?;
     }
     Ok(())
 }
 
 /// The raw PGM of the distances of the points of a grid's box.
-pub(crate) fn greys(alloc: Global, grid: &Grid<P2>, squares: &[u64]) -> Result<Vec<u8>, NoMemory>
+pub(crate) fn greys(alloc: Global, grid: &Grid<P2>, squares: &Squares) -> Result<Vec<u8>, NoMemory>
     ensures { IfOk result (λ v. v.items ≡ pgm grid.now.sides squares.now) }
 {
     let mut out = Vec::new(alloc);
@@ -61,12 +62,12 @@ pub(crate) fn greys(alloc: Global, grid: &Grid<P2>, squares: &[u64]) -> Result<V
 }
 
 /// The raw numbers of the distances, the lower byte of each first.
-pub(crate) fn depths(alloc: Global, squares: &[u64]) -> Result<Vec<u8>, NoMemory>
+pub(crate) fn depths(alloc: Global, squares: &Squares) -> Result<Vec<u8>, NoMemory>
     ensures { IfOk result (λ v. v.items ≡ depths squares.now) }
 {
     let mut out = Vec::new(alloc);
-    for s in squares {
-        put_low(level(*s), &mut out)?;
+    for i in 0..squares.len() {
+        put_low(level(squares.get(i)), &mut out)?;
     }
     Ok(out)
 }

@@ -4,6 +4,7 @@ ghost use Rattle.std.specs.Prelude.{◌≡◌, ◌++◌, IfOk, OnOk};
 ghost use Rattle.masking.specs.Pictures.{told_square, low_first32, square_bytes};
 
 use shape_space::NoMemory;
+use shape_squares::Squares;
 use std::alloc::Global;
 
 // The number of 32 bits that stands for a square.
@@ -22,12 +23,12 @@ fn put_number(n: u32, out: &mut Vec<u8>) -> Result<(), NoMemory>
 }
 
 /// The raw numbers of the squares, the lowest byte of each first.
-pub(crate) fn square_bytes(alloc: Global, squares: &[u64]) -> Result<Vec<u8>, NoMemory>
+pub(crate) fn square_bytes(alloc: Global, squares: &Squares) -> Result<Vec<u8>, NoMemory>
     ensures { IfOk result (λ v. v.items ≡ square_bytes squares.now) }
 {
     let mut out = Vec::new(alloc);
-    for s in squares {
-        put_number(told_square(*s), &mut out)?;
+    for i in 0..squares.len() {
+        put_number(told_square(squares.get(i)), &mut out)?;
     }
     Ok(out)
 }

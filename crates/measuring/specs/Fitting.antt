@@ -1,6 +1,6 @@
 -- Why no count and no sum of an object overflows: each is bounded by the number of its points.
 -- A further count is one more field here.
-use Rattle.std.specs.Prelude.{ℕ, ◌≤◌, ◌*◌, ◌^◌}
+use Rattle.std.specs.Prelude.{ℕ, ◌≤◌, ◌*◌}
 use Rattle.shape_terms.specs.Limits.{most_points, most_coordinate}
 use Rattle.measuring.specs.declared.span.Span.{Span}
 

@@ -13,6 +13,7 @@ use crate::row::Measures;
 use shape_adj::{Labels, Pairing, labels};
 use shape_grid::Grid;
 use shape_space::NoMemory;
+use shape_squares::Squares;
 use std::alloc::Global;
 
 /// The table of a picture's objects.
@@ -53,7 +54,7 @@ fn empty_rows(alloc: Global, count: u32) -> Result<Vec<Measures>, NoMemory>
 fn add_point<P: Pairing>(
     all: &mut [Measures],
     object: &Grid<P>,
-    squares: &[u64],
+    squares: &Squares,
     left: &Grid<P>,
     labels: &Labels,
     i: u32,
@@ -69,7 +70,7 @@ fn add_point<P: Pairing>(
 {
     let part = labels.label(i);
     if part != 0 {
-        let fact = fact_of(object, left, part, squares[i as usize], i);
+        let fact = fact_of(object, left, part, squares.get(i as usize), i);
         let row = part as usize - 1;
         all[row] = all[row].with(left.sides(), &fact);
     }
@@ -79,7 +80,7 @@ fn add_point<P: Pairing>(
 fn add_points<P: Pairing>(
     all: &mut [Measures],
     object: &Grid<P>,
-    squares: &[u64],
+    squares: &Squares,
     left: &Grid<P>,
     labels: &Labels,
 )
@@ -102,7 +103,7 @@ fn add_points<P: Pairing>(
 pub fn measure<P: Pairing>(
     alloc: Global,
     object: &Grid<P>,
-    squares: &[u64],
+    squares: &Squares,
     left: &Grid<P>,
 ) -> Result<Table, NoMemory>
     requires sides { left.now.sides ≡ object.now.sides }

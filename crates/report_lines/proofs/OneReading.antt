@@ -1,7 +1,6 @@
 -- A text is a report of one picture at most: its lines are known from it, and so is whether it is about a flat picture or a volume.
 -- Laws of lines and texts; what the lines say does not matter here.
 use Rattle.std.proofs.Common.{◌≡◌, ℕ, refl, sym, ap, ◌∙◌, subst, arith, List, [], ◌∷◌, ◌++◌, get_or}
-use Rattle.std.specs.Prelude.{All}
 use Rattle.std.proofs.lemmas.List.{append-nil, append_assoc}
 use Rattle.std.proofs.lemmas.List.Elements.{recursion_from_All}
 use Rattle.text_terms.specs.Reports.{BeginsWith}
@@ -10,7 +9,7 @@ use Rattle.text_terms.proofs.Checking.{same_front}
 use Rattle.report_terms.specs.Kinds.{split_words}
 use Rattle.report_terms.specs.Lines.{Line, Heading, IsLineOf, line_words, spelling, split, text_of}
 use Rattle.report_terms.proofs.Spelled.{are_spelled, same_words, words_of_line}
-use Rattle.report_lines.specs.Reports.{Space, flat, solid, in_order, IsHeading, IsReport}
+use Rattle.report_lines.specs.Reports.{Space, flat, solid, in_order, IsReport}
 use Rattle.report_lines.specs.Headings.{IsAnyHeading}
 use Rattle.report_lines.proofs.TextLines.{no_lf, one_list}
 use Rattle.report_lines.proofs.Headings.{any_heading}

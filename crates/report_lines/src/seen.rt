@@ -1,6 +1,6 @@
 //! What a report says of the points of its box, as a sketch of its lines.
 //! It is the part that masks and tables have in common.
-ghost use Rattle.std.specs.Prelude.{◌≡◌, [], ◌∷◌, IfOk, length};
+ghost use Rattle.std.specs.Prelude.{◌≡◌, [], ◌∷◌, IfOk, OnOk, length};
 ghost use Rattle.shape_terms.specs.Points.{sides_of, box_count};
 ghost use Rattle.shape_report.specs.LineOf.{line_of};
 ghost use Rattle.report_lines.specs.Said.{said};
@@ -11,18 +11,19 @@ use crate::sketch::Sketch;
 use shape_grid::Grid;
 use shape_report::Line;
 use shape_space::{NoMemory, Point, Sides};
+use shape_squares::Squares;
 use std::alloc::Global;
 use std::marker::Model;
 
 /// What a report says of the points of its box: which are object, how far each is from the background, which were deleted,
 /// and which object points are left.
 ///
-/// It takes eleven bytes for each point of the box.
+/// It takes four bytes and three bits for each point of the box, and four bytes more once there was a square that four cannot hold.
 #[derive(Drop)]
 pub struct Seen<P: Point> {
     sides: Sides<P>,
     object: Grid<P>,
-    squares: Vec<u64>,
+    squares: Squares,
     deleted: Grid<P>,
     left: Grid<P>,
 }
@@ -37,14 +38,14 @@ impl<P: Point> Model for Seen<P> {
 
     ghost view = { λ s. record {
       object = s.object;
-      squares = s.squares.items;
+      squares = s.squares;
       deleted = s.deleted;
       left = s.left;
     } };
 
     ghost invariant = { λ s. AreOf (sides_of (P.coords s.sides.lengths)) (record {
       object = s.object;
-      squares = s.squares.items;
+      squares = s.squares;
       deleted = s.deleted;
       left = s.left;
     }) };
@@ -58,7 +59,7 @@ impl<P: Point> Seen<P> {
         let sides = heading.sides;
         let object = Grid::new(alloc, sides)?;
         let count = sides.count() as usize;
-        let squares = vec![in alloc; 0; count]?;
+        let squares = Squares::new(alloc, count)?;
         let deleted = Grid::new(alloc, sides)?;
         let left = Grid::new(alloc, sides)?;
         Ok(Seen {
@@ -93,11 +94,11 @@ impl<P: Point> Seen<P> {
 
     /// The squared distance of each point of the box in raster order, as the last line about it gives it, and 0 where no line
     /// does.
-    pub fn squares(&self) -> &[u64]
+    pub fn squares(&self) -> &Squares
         ensures value { result.now ≡ self.now.squares }
         ensures count { length result.now ≡ box_count self.now.object.sides }
     {
-        self.squares.as_slice()
+        &self.squares
     }
 
     /// The object points that no line deletes.
@@ -109,16 +110,17 @@ impl<P: Point> Seen<P> {
     }
 
     // Takes a `near` line about a point.
-    fn near(&mut self, p: P, square: u64)
-        ensures { self.new ≡ with_near self.old (P.coords p) square }
+    fn near(&mut self, p: P, square: u64) -> Result<(), NoMemory>
+        ensures { OnOk result (self.new ≡ with_near self.old (P.coords p) square) }
     {
         if self.sides.inside(p) {
             self.object.set(p);
-            self.squares[self.sides.raster(p) as usize] = square;
+            self.squares.set(self.sides.raster(p) as usize, square)?;
             if !self.deleted.has(p) {
                 self.left.set(p);
             }
         }
+        Ok(())
     }
 
     // Takes a `del` line about a point.
@@ -140,7 +142,7 @@ impl<P: Point> Sketch<P> for Seen<P> {
     fn take(&mut self, line: &Line<P>) -> Result<(), NoMemory> {
         self.object.is_picture();
         match line {
-            Line::Near { p, s, .. } => self.near(*p, *s),
+            Line::Near { p, s, .. } => self.near(*p, *s)?,
             Line::Del { p } => self.delete(*p),
             _ => {}
         }

@@ -1,4 +1,4 @@
-use Rattle.std.proofs.Common.{arith, length, ◌≡◌, ◌<◌, ap, get_or, ℕ, List, ◌+◌, ◌-◌, refl, subst}
+use Rattle.std.proofs.Common.{arith, length, ◌≡◌, ◌<◌, ap, get_or, ℕ, List, ◌+◌, ◌-◌, subst}
 use Rattle.shape_terms.specs.Points.{box_count}
 use Rattle.measure_terms.specs.Facts.{facts_below}
 use Rattle.measure_terms.specs.OneMore.{measures_with}
@@ -40,7 +40,7 @@ returns-then-part-ne0 g c =
     let f = fact_told g.P.Point.coords c.fact_of-fact.result in
     let l : k < length all = omega (arith, below_greatest labels c.args.i, c.label-part.ensures, c.requires.enough, c.if-part-ne0.true) in
     let p : get_or labels c.args.i 0 ≡ k + 1 = omega (arith, c.label-part.ensures, c.if-part-ne0.true) in
-    let same = c.fact_of-fact.ensures.told squares labels c.label-part.ensures refl in
+    let same = c.fact_of-fact.ensures.told squares labels c.label-part.ensures c.get.ensures in
     let h = subst (λ (s : List ℕ). measures_told s c.with.result ≡ measures_with (measures_told s (get_or all k d)) f) c.sides.ensures.value c.with.ensures in
     one_added (measures_told left.sides) all object squares left labels c.args.i k d c.with.result f c.requires.so_far p l same h
 

@@ -11,12 +11,12 @@ some_axes : (d : ℕ) → (d ≡ 2) ⊎ (d ≡ 3) → 0 < d
 some_axes d (inl e) = omega (arith, e)
 some_axes d (inr e) = omega (arith, e)
 
-pub returns-in-Near : goal.returns-in-Near
-returns-in-Near g c = λ lines e.
+pub returns-in_ok-near-in-Near : goal.returns-in_ok-near-in-Near
+returns-in_ok-near-in-Near g c = λ lines e.
     let d = g.P.Point.DIM in
     let coords = g.P.Point.coords in
     let some = some_lines d lines (some_axes d g.met.P.Point.two_or_three) (ap (λ s. length s.object.sides) (sym (c.self.view_is ∙ e)) ∙ c.is_picture.ensures.picture.axes) in
-    c.near.ensures ∙ ap (λ s. with_near s (coords c.in-Near.p) c.in-Near.s) e
+    c.in_ok-near-in-Near.ensures ∙ ap (λ s. with_near s (coords c.in-Near.p) c.in-Near.s) e
     ∙ sym (said_more lines (line_of coords c.args.line.now) some ∙ ap (λ x. said_in (given_sides lines) (lines ++ line_of coords x ∷ [])) c.in-Near.is
     ∙ says_near (given_sides lines) lines (coords c.in-Near.p) (coords c.in-Near.q) c.in-Near.s)
 
