@@ -20,7 +20,7 @@ use std::alloc::Global;
 /// What is known of a report: the sides of its box, the face and patch that were begun last, the voxels seen on the faces, and
 /// what it says of the points of the box.
 ///
-/// It takes eleven bytes for each point of the box, and four for each place of the sheet.
+/// It takes what `Seen` does, and four bytes for each place of the sheet.
 #[derive(Drop)]
 pub struct Sheet {
     pub(crate) sides: Sides<P3>,
