@@ -15,6 +15,7 @@ ghost use Rattle.shape_analyse.specs.Analyses.{IsReportBy};
 ghost use Rattle.shape_analyse.specs.Growing.{Aim, IsTextOf, HasSurveyed, HasEvents, HasKept, event_line};
 
 use shape_adj::Parts;
+use shape_cells::Cells;
 use shape_dist::Field;
 use shape_grid::Grid;
 use shape_report::{Line, Report};
@@ -31,9 +32,9 @@ pub(crate) fn into_distances<P: Point>(
     alloc: Global,
     grid: &Grid<P>,
     field: Field<P>,
-) -> Result<Vec<u32>, NoMemory>
+) -> Result<Cells<u32>, NoMemory>
     requires { IsField grid.now field }
-    ensures { IfOk result (λ d. AreDistances grid.now d.items) }
+    ensures { IfOk result (λ d. AreDistances grid.now d.values) }
 {
     distances_of(alloc, grid, &field)
 }
@@ -43,13 +44,13 @@ fn counted<P: SimpleMask, L: Ledger>(
     alloc: Global,
     blank: Blank,
     grid: &Grid<P>,
-    distances: Vec<u32>,
+    distances: Cells<u32>,
     rule: &mut Box<dyn EndRule>,
 ) -> Result<Thinning<P>, NoMemory>
     requires name { blank.name ≡ L.name }
     requires parts { blank.parts ≡ L.parts }
     requires whole { blank.parts ≡ 1 }
-    requires distances { AreDistances grid.now distances.items }
+    requires distances { AreDistances grid.now distances.values }
     ensures thinning { IfOk result (IsRunOf (means rule.old) grid.now (state rule.new)) }
     ensures kept { IfOk result (λ t. KeepsParts grid.now t.left) }
     ensures same_rule { means rule.new ≡ means rule.old }
@@ -62,10 +63,10 @@ fn counted<P: SimpleMask, L: Ledger>(
 pub(crate) fn thinned<P: SimpleMask>(
     alloc: Global,
     grid: &Grid<P>,
-    distances: Vec<u32>,
+    distances: Cells<u32>,
     rule: &mut Box<dyn EndRule>,
 ) -> Result<Thinning<P>, NoMemory>
-    requires { AreDistances grid.now distances.items }
+    requires { AreDistances grid.now distances.values }
     ensures thinning { IfOk result (IsRunOf (means rule.old) grid.now (state rule.new)) }
     ensures kept { IfOk result (λ t. KeepsParts grid.now t.left) }
     ensures same_rule { means rule.new ≡ means rule.old }
