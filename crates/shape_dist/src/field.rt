@@ -1,17 +1,20 @@
 //! The field of a picture: a nearest background point for each object point.
 //! Another way of finding them changes nothing above `all_found`.
-ghost use Rattle.std.specs.Prelude.{◌≡◌, ◌<◌, length, IfOk, All, Some, slice_get, IsTrue, negsuc, pos};
+ghost use Rattle.std.specs.Prelude.{◌≡◌, ◌<◌, length, map, IfOk, All, Some, slice_get, IsTrue, negsuc, pos};
 ghost use Rattle.shape_terms.specs.Limits.{most_coordinate};
 ghost use Rattle.shape_terms.specs.Points.{in_box, box_count};
-ghost use Rattle.shape_terms.specs.Pictures.{Least};
+ghost use Rattle.shape_terms.specs.Pictures.{Picture, Least};
 ghost use Rattle.shape_terms.specs.FramedBox.{framed_sides, framed_point, IsWithin};
 ghost use Rattle.shape_terms.specs.AxisLines.{apart};
 ghost use Rattle.shape_terms.specs.Distances.{IsField, IsFramed};
 ghost use Rattle.shape_dist.specs.Spreads.{AreNearestOn};
+ghost use Rattle.shape_dist.specs.Features.{AreFeatures};
 
 use crate::axes::all_found;
+use crate::features::Features;
 use crate::found::Found;
 use crate::kept::Kept;
+use shape_cells::Cells;
 use shape_grid::Grid;
 use shape_space::{NoMemory, Point, Sides, Steps, squared_distance};
 use std::alloc::Global;
@@ -52,10 +55,10 @@ impl<P: Point> Model for Field<P> {
 }
 
 // What is kept of a point of the box.
-fn kept_of<P: Point>(grid: &Grid<P>, cells: &[Found], p: P) -> Kept
+fn kept_of<P: Point>(grid: &Grid<P>, cells: &Cells<Found>, p: P) -> Kept
     requires inside { IsTrue (in_box grid.now.sides (P.coords p)) }
-    requires long { length cells.now ≡ box_count (framed_sides grid.now.sides) }
-    requires near { AreNearestOn grid.now (box_count (framed_sides grid.now.sides)) cells.now }
+    requires long { length cells.now.values ≡ box_count (framed_sides grid.now.sides) }
+    requires near { AreNearestOn grid.now (box_count (framed_sides grid.now.sides)) cells.now.values }
     ensures point { framed_point grid.now.sides result.p ≡ P.coords p }
     ensures least { Least grid.now (P.coords p) (framed_point grid.now.sides result.q)
         (apart grid.now.sides result.p result.q) }
@@ -65,14 +68,18 @@ fn kept_of<P: Point>(grid: &Grid<P>, cells: &[Found], p: P) -> Kept
         (framed_point grid.now.sides result.q) }
 {
     let p = grid.sides().framed_number(p);
-    let q = cells[p as usize].q;
+    let q = cells.get(p).q;
     Kept { p, q }
 }
 
 // The entries of all object points.
-fn collected<P: Point>(alloc: Global, grid: &Grid<P>, cells: &[Found]) -> Result<Field<P>, NoMemory>
-    requires long { length cells.now ≡ box_count (framed_sides grid.now.sides) }
-    requires near { AreNearestOn grid.now (box_count (framed_sides grid.now.sides)) cells.now }
+fn collected<P: Point>(
+    alloc: Global,
+    grid: &Grid<P>,
+    cells: &Cells<Found>,
+) -> Result<Field<P>, NoMemory>
+    requires long { length cells.now.values ≡ box_count (framed_sides grid.now.sides) }
+    requires near { AreNearestOn grid.now (box_count (framed_sides grid.now.sides)) cells.now.values }
     ensures field { IfOk result (IsField grid.now) }
     ensures framed { IfOk result (All IsFramed) }
 {
@@ -103,7 +110,8 @@ fn counted<P: Point, L: Ledger>(
 
 /// A nearest background point for each object point.
 ///
-/// Its time is linear in the number of points of the framed box. It takes eight bytes of memory for each of them, and as many for each object point.
+/// Its time is linear in the number of points of the framed box. It takes eight bytes of memory for each object point, or for each framed point where more
+/// than a quarter of them are object, some bits for each framed point beside these, and eight bytes more for each object point of what it answers.
 pub fn nearest<P: Point>(alloc: Global, grid: &Grid<P>) -> Result<Field<P>, NoMemory>
     ensures field { IfOk result (IsField grid.now) }
     ensures framed { IfOk result (All IsFramed) }
@@ -130,5 +138,12 @@ impl<P: Point> Field<P> {
         let q = self.sides.framed_point(q);
         let s = squared_distance(p, q) as u32;
         Near { p, q, s }
+    }
+    /// The nearest background points alone, in half the memory. While they are copied, both are there.
+    pub fn into_features(self, alloc: Global) -> Result<Features<P>, NoMemory>
+        ensures points { IfOk result (λ qs. qs ≡ map (λ f. f.q) self) }
+        ensures features { (X : Picture) → IsField X self → IfOk result (AreFeatures X) }
+    {
+        Features::of(alloc, self.sides, &self.kept)
     }
 }

@@ -1,0 +1,6 @@
+use Rattle.std.proofs.Common.{◌+◌}
+use Rattle.shape_dist.specs.Objects.{AreValuesTo}
+use Rattle.shape_dist.proofs.objects.mark_row.Given as goal
+
+abbrev pub invariant-loop-x : goal.invariant-loop-x
+invariant-loop-x g l = AreValuesTo l.grid (l.place + l.x) l.objects
