@@ -1,19 +1,18 @@
 -- A report grows by one good line at a time, up to its `near` lines.
 -- One law for each kind of line that is added; those of contours stand in `ContourGrowth`.
-use Rattle.std.proofs.Common.{◌≡◌, ◌+◌, ◌≤◌, ℕ, zero, suc, ℤ, pos, negsuc, ◌≤ℤ◌, List, [], ◌∷◌, ◌++◌, length, map, refl, sym, ap, ◌∙◌, subst, arith, Some, Option}
-use Rattle.std.specs.Prelude.{All, FitsSigned, slice_get}
+use Rattle.std.proofs.Common.{◌≡◌, ◌+◌, ◌≤◌, ℕ, zero, suc, ℤ, pos, negsuc, ◌≤ℤ◌, List, [], ◌∷◌, ◌++◌, length, map, drop, refl, sym, ap, ◌∙◌, subst, arith, Some, Option}
+use Rattle.std.specs.Prelude.{◌<◌, All, FitsSigned, slice_get}
 use Rattle.std.specs.Int.{w32}
 use Rattle.std.proofs.lemmas.Int.{ints}
-use Rattle.std.proofs.lemmas.List.{append-nil, append_assoc, length-append}
+use Rattle.std.proofs.lemmas.List.{append-nil, append_assoc, length-append, length-drop}
 use Rattle.std.proofs.lemmas.Grind.{flat_map-append}
 use Rattle.std.proofs.lemmas.List.Elements.{All-nil, All-push, All-head, All-tail, All-from_get_or}
-use Rattle.shape_terms.specs.Limits.{most_flat}
+use Rattle.shape_terms.specs.Limits.{most_flat, most_coordinate}
 use Rattle.shape_terms.specs.Points.{Point, coordinate, AreSides, sides_of}
 use Rattle.shape_terms.specs.Pictures.{Picture, object_points, Least}
 use Rattle.shape_terms.specs.Parts.{Counts}
-use Rattle.shape_terms.specs.Distances.{NearFact, IsField, IsFramed}
+use Rattle.shape_terms.specs.FramedBox.{IsWithin}
 use Rattle.text_terms.specs.Forms.{IsName}
-use Rattle.report_terms.specs.Kinds.{weight}
 use Rattle.report_terms.specs.Forms.{last_number}
 use Rattle.report_terms.specs.Lines.{Line, spelling, line_text, text_of, IsLineOf}
 use Rattle.report_terms.specs.Subjects.{IsOnShelf}
@@ -27,7 +26,7 @@ use Rattle.shape_grid.proofs.SideLists.{sides_back}
 use Rattle.shape_desk.specs.Desk.{DeskState}
 use Rattle.report_text.specs.Telling.{Tells, TellsMore}
 use Rattle.report_text.proofs.Telling.{tells_more}
-use Rattle.shape_analyse.specs.Growing.{Aim, heading_of, HasHeading, AreGood, IsGrowing, IsTextOf}
+use Rattle.shape_analyse.specs.Growing.{Aim, heading_of, HasHeading, AreGood, IsGrowing, IsTextOf, near_line}
 
 -- ---- texts
 
@@ -129,30 +128,27 @@ growing_more X n lines p q s h three fields there least =
       nears = ap length (lines_push Section.Nearest lines l refl) ∙ length-append (lines_of Section.Nearest lines) (l ∷ []) ∙ ap (λ k. k + 1) h.nears;
     }
 
--- ---- what is read off the field
+-- ---- the object points, one after another
 
--- the i-th fact is about the i-th object point, has a nearest background point, and fits its line
-pub record IsFactAt (X : Picture) (i : ℕ) (f : NearFact) : Type 0 where
-  pub there : slice_get (object_points X) i ≡ Some f.p
-  pub least : Least X f.p f.q f.s
-  pub fields : IsLineOf (length X.sides) (Line.Near f.p f.q f.s)
+-- the point with this number comes next, and behind it the rest
+pub next_point : (xs ys : List Point) (i : ℕ) (x : Point) → drop i xs ≡ x ∷ ys → (slice_get xs i ≡ Some x) × (drop (i + 1) xs ≡ ys) × (i < length xs)
+next_point [] ys zero x e = cc
+next_point [] ys (suc i) x e = cc
+next_point (z ∷ xs) ys zero x e =
+    let here : z ≡ x = cc in
+    let rest : xs ≡ ys = cc in
+    (ap Some here, rest, omega arith)
+next_point (z ∷ xs) ys (suc i) x e = let r = next_point xs ys i x e in (r.0, r.1, omega (arith, r.2))
 
-get_map : {A B : Type 0} (f : A → B) (xs : List A) (i : ℕ) (x : A) → slice_get xs i ≡ Some x → slice_get (map f xs) i ≡ Some (f x)
-get_map f [] i x e = cc
-get_map f (y ∷ xs) zero x e = let h : y ≡ x = cc in ap (λ z. Some (f z)) h
-get_map f (y ∷ xs) (suc i) x e = get_map f xs i x e
+-- and all came where none is left
+pub none_left : (xs : List Point) (i : ℕ) → i ≤ length xs → drop i xs ≡ [] → i ≡ length xs
+none_left xs i l e = omega (arith, l, length-drop i xs, ap length e)
 
-all_get : {A : Type 0} (P : A → Type 0) (xs : List A) (i : ℕ) (x : A) → All P xs → slice_get xs i ≡ Some x → P x
+pub all_get : {A : Type 0} (P : A → Type 0) (xs : List A) (i : ℕ) (x : A) → All P xs → slice_get xs i ≡ Some x → P x
 all_get P [] i x a e = cc
 all_get P (y ∷ xs) zero x a e = let h : y ≡ x = cc in subst P h (All-head P y xs a)
 all_get P (y ∷ xs) (suc i) x a e = all_get P xs i x (All-tail P y xs a) e
 
-pub fact_at : (X : Picture) (facts : List NearFact) (i : ℕ) (f : NearFact) (d : ℕ) → IsField X facts → All IsFramed facts → slice_get facts i ≡ Some f → length X.sides ≡ d → d ≤ 3 → length f.p ≡ d → length f.q ≡ d → IsFactAt X i f
-fact_at X facts i f d field framed e axes three lp lq =
-    let least = all_get (λ f. Least X f.p f.q f.s) facts i f field.least e in
-    let near = all_get IsFramed facts i f framed e in
-    record {
-      there = ap (λ ps. slice_get ps i) (sym field.points) ∙ get_map (λ (g : NearFact). g.p) facts i f e;
-      least = least;
-      fields = (within_short (length X.sides) f.p (lp ∙ sym axes) near.p, (within_short (length X.sides) f.q (lq ∙ sym axes) near.q, subst weight.InRange (sym least.distance) (distance_fits f.p f.q (omega arith) near.p near.q)));
-    }
+-- the line of two points near the box
+pub near_fits : (d : ℕ) (p q : Point) → length p ≡ d → length q ≡ d → IsWithin (negsuc 0) (pos most_coordinate) p → IsWithin (negsuc 0) (pos most_coordinate) q → IsLineOf d (near_line p q)
+near_fits d p q lp lq wp wq = (within_short d p lp wp, (within_short d q lq wq, distance_fits p q (lp ∙ sym lq) wp wq))

@@ -1,9 +1,10 @@
 -- What is found of a picture before a line of its report is told.
 -- How the lines follow one another, `Growing` says.
-use Rattle.std.specs.Prelude.{◌≡◌, ℕ, List, ◌++◌, All, Some, length, slice_get}
+use Rattle.std.specs.Prelude.{◌≡◌, ℕ, List, ◌++◌, Some, length, slice_get}
 use Rattle.shape_terms.specs.Pictures.{Picture, object_points}
 use Rattle.shape_terms.specs.Parts.{Counts}
-use Rattle.shape_terms.specs.Distances.{NearFact, IsField, IsFramed}
+use Rattle.shape_terms.specs.Points.{Point}
+use Rattle.shape_dist.specs.Features.{AreFeatures}
 use Rattle.shape_terms.specs.Thinning.{Rule, Stage, IsThinning}
 use Rattle.shape_terms.specs.Shelves.{Named, rules_of}
 use Rattle.report_terms.specs.Subjects.{IsOnShelf}
@@ -24,7 +25,7 @@ pub record Found : Type 0 where
   pub rule : List ℕ
   pub object : ℕ
   pub background : ℕ
-  pub nears : List NearFact
+  pub nears : List Point
   pub outline : List ℕ
   pub extent : Extent
   pub run : Run
@@ -32,8 +33,7 @@ pub record Found : Type 0 where
 -- what was found is so of the picture of d axes, whatever the rule
 pub record AreFound (d : ℕ) (f : Found) : Type 0 where
   pub counts : Counts f.picture (length (object_points f.picture)) f.object f.background
-  pub nears : IsField f.picture f.nears
-  pub framed : All IsFramed f.nears
+  pub nears : AreFeatures f.picture f.nears
   pub outline : IsOutlineOf d f.picture f.outline
   pub extent : IsExtentOf f.picture f.extent
   pub kept : KeepsParts f.picture f.run.left

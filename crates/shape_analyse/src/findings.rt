@@ -19,7 +19,7 @@ use crate::thinning::{tell_thinning, thinned};
 use report_text::Page;
 use shape_adj::{Parts, parts};
 use shape_desk::Desk;
-use shape_dist::{Field, nearest};
+use shape_dist::{Features, nearest};
 use shape_grid::Grid;
 use shape_rules::{Name, Shelf};
 use shape_space::{NoMemory, P2, P3, Point};
@@ -36,7 +36,7 @@ pub struct Findings<'a, P: Point> {
     grid: &'a Grid<P>,
     rule: Name,
     counted: Parts,
-    field: Field<P>,
+    features: Features<P>,
     outline: Outline,
     thinning: Thinning<P>,
 }
@@ -52,7 +52,7 @@ impl<'a, P: Point> Model for Findings<'a, P> {
       rule = word_of f.rule;
       object = f.counted.object;
       background = f.counted.background;
-      nears = f.field;
+      nears = f.features;
       outline = f.outline.lines;
       extent = f.outline.extent;
       run = f.thinning;
@@ -63,7 +63,7 @@ impl<'a, P: Point> Model for Findings<'a, P> {
       rule = word_of f.rule;
       object = f.counted.object;
       background = f.counted.background;
-      nears = f.field;
+      nears = f.features;
       outline = f.outline.lines;
       extent = f.outline.extent;
       run = f.thinning;
@@ -87,13 +87,14 @@ fn find<'a, P: Outlined>(
     let counted = parts(alloc, grid)?;
     let field = nearest(alloc, grid)?;
     let distances = distances_of(alloc, grid, &field)?;
+    let features = field.into_features(alloc)?;
     let thinning = thinned(alloc, grid, distances, shelf.rule(which))?;
     let outline = P::outline(alloc, grid)?;
     Ok(Findings {
         grid,
         rule,
         counted,
-        field,
+        features,
         outline,
         thinning,
     })
@@ -145,7 +146,7 @@ impl<'a, P: Point> Findings<'a, P> {
             → slice_get names which ≡ Some name → IsTelling begun [] page.old (D.state desk.old)
             → Tells (IsReportBy (subject_of X rules) name) begun page.new (D.state desk.new) }
     {
-        tell_beginning(self.grid, &self.field, self.rule, self.counted, page, desk);
+        tell_beginning(self.grid, &self.features, self.rule, self.counted, page, desk);
         page.text(self.outline.lines.text(), desk);
         tell_thinning(&self.thinning, self.counted, page, desk);
     }
