@@ -10,4 +10,5 @@ pub mod Reading
 pub mod Complete
 pub mod NumberWords
 pub mod TriedReports
+pub mod Wrote
 pub mod KindRead

@@ -9,4 +9,5 @@ pub mod Commands
 pub mod Trials
 pub mod Runs
 pub mod Parts
+pub mod Making
 pub mod Complete

@@ -16,6 +16,9 @@ use Rattle.report_text.specs.declared.answer.Judgement.{Judgement}
 use Rattle.report_text.specs.declared.answer.Judgement.TheVariants as judgement
 use Rattle.report_text.specs.declared.answer.CheckFault.{CheckFault}
 use Rattle.report_text.specs.declared.answer.CheckFault.TheVariants as check
+use Rattle.shape_analyse.specs.Finding.{Found}
+use Rattle.shape_cli.specs.declared.analysis.Analysis.{Analysis}
+use Rattle.shape_cli.specs.declared.analysis.Analysis.TheVariants as analysis
 use Rattle.shape_cli.specs.declared.picture.Image.{Image}
 use Rattle.shape_cli.specs.declared.picture.Image.TheVariants as image
 use Rattle.shape_cli.specs.Sources.{Kind}
@@ -28,6 +31,11 @@ use Rattle.shape_cli.specs.Runs.{IsRightReport, yes_text, no_text}
 abbrev pub picture_of : Image → Picture
 picture_of (image.Flat X) = X
 picture_of (image.Solid X) = X
+
+-- what was found of it, flat or solid
+abbrev pub findings_of : Analysis → Found
+findings_of (analysis.Flat f) = f
+findings_of (analysis.Solid f) = f
 
 -- an answer of the reading, with the picture that its image is
 abbrev pub seen : Result Image PictureError → Result Picture PictureError

@@ -2,6 +2,7 @@
 //! Everything that a user sees is an `Outcome`, or what was written to the desk.
 #![tactic(auto)]
 
+mod analysis;
 mod balls;
 mod command;
 mod further;
@@ -11,6 +12,7 @@ mod making;
 mod names;
 mod numbers;
 mod outcome;
+mod output;
 mod picture;
 mod rules;
 mod source;

@@ -1,60 +1,105 @@
 //! The commands that make a report: the picture, then its report, then the output.
-//! The report is built whole before its first byte is written.
-ghost use Rattle.std.specs.Prelude.{◌≡◌, ◌<◌, IfOk, length};
+//! All that a report tells is found before its first byte is written.
+ghost use Rattle.std.specs.Prelude.{◌≡◌, ◌<◌, ℕ, List, Some, length, slice_get};
 ghost use Rattle.shape_terms.specs.Shelves.{names_of};
+ghost use Rattle.report_terms.specs.Subjects.{subject_of};
+ghost use Rattle.shape_desk.specs.Files.{KeepsFiles};
 ghost use Rattle.shape_rules.specs.Ruled.{rules_on};
-ghost use Rattle.shape_analyse.specs.Analyses.{IsAnalysisOf};
+ghost use Rattle.shape_analyse.specs.Analyses.{IsReportBy};
 ghost use Rattle.shape_cli.specs.Sources.{kind_at, read_source};
+ghost use Rattle.shape_cli.specs.Further.{read_further, row_of};
 ghost use Rattle.shape_cli.specs.Kinds.{Makes, Takes, IsFound, kind_of, read_wanted};
 ghost use Rattle.shape_cli.specs.Commands.{Asked};
-ghost use Rattle.shape_cli.specs.Parts.{Suits, picture_of};
-ghost use Rattle.shape_desk.specs.Files.{KeepsFiles};
+ghost use Rattle.shape_cli.specs.Parts.{Suits, IsFit, picture_of};
+ghost use Rattle.shape_cli.specs.Making.{Wrote};
 ghost use Rattle.shape_cli.specs.Runs.{Ran};
+ghost use Rattle.shape_cli.specs.declared.making.MakeFault.TheVariants as Fault;
 
+use crate::analysis::analysis_of;
+use crate::further::FurtherKind;
 use crate::kind::Wanted;
 use crate::outcome::{Outcome, refused};
 use crate::picture::{Image, open_picture};
 use crate::source::Source;
-use shape_analyse::{Analysis, analyse_flat, analyse_solid};
+use report_text::{Page, write_report};
 use shape_desk::Desk;
-use shape_report::{Report, write_report};
 use shape_rules::Shelf;
 use shape_space::NoMemory;
 use std::alloc::Global;
 
-// The analysis of a picture by the rule with a number.
-pub(crate) fn analysis_of(
-    alloc: Global,
-    image: &Image,
-    shelf: &mut Shelf,
-    which: usize,
-) -> Result<Analysis, NoMemory>
-    requires { which < length shelf.old }
-    ensures analysis { IfOk result (IsAnalysisOf (picture_of image.now) (names_of shelf.old)
-        (rules_on means shelf.old) which) }
-    ensures kept { rules_on means shelf.new ≡ rules_on means shelf.old }
-{
-    match image {
-        Image::Flat(grid) => analyse_flat(alloc, grid, shelf, which),
-        Image::Solid(grid) => analyse_solid(alloc, grid, shelf, which),
+/// Why a report was not written whole.
+#[derive(Clone, Copy, Debug, PartialEq, Eq)]
+pub enum MakeFault {
+    /// Memory was wanted and there was none. Nothing was written.
+    NoMemory,
+    /// A write failed. A front of the report was written.
+    WriteFault,
+}
+
+impl From<NoMemory> for MakeFault {
+    ghost from_gives = { λ _ fault. fault ≡ Fault.NoMemory };
+
+    fn from(_fault: NoMemory) -> MakeFault {
+        MakeFault::NoMemory
     }
 }
 
-// The report that is wanted of a picture.
-fn make(
+// Writes the analysis of a picture by the rule with a number.
+fn write_analysis<D: Desk>(
+    alloc: Global,
+    image: &Image,
+    which: usize,
+    shelf: &mut Shelf,
+    desk: &mut D,
+) -> Result<(), MakeFault>
+    requires { which < length shelf.old }
+    ensures { (name : List ℕ) → slice_get (names_of shelf.old) which ≡ Some name
+        → Wrote (IsReportBy (subject_of (picture_of image.now) (rules_on means shelf.old)) name)
+        (D.state desk.old) (D.state desk.new) result }
+{
+    let analysis = analysis_of(alloc, image, shelf, which)?;
+    let mut page = Page::new(alloc)?;
+    analysis.tell(&mut page, desk);
+    match page.finish(desk) {
+        Ok(()) => Ok(()),
+        Err(_) => Err(MakeFault::WriteFault),
+    }
+}
+
+// Writes the report of a further kind about a picture.
+fn write_further<D: Desk>(
+    alloc: Global,
+    image: &Image,
+    kind: FurtherKind,
+    desk: &mut D,
+) -> Result<(), MakeFault>
+    requires { IsFit (row_of (read_further kind)).about image.now }
+    ensures { Wrote ((row_of (read_further kind)).Makes (picture_of image.now))
+        (D.state desk.old) (D.state desk.new) result }
+{
+    let report = kind.make(alloc, image)?;
+    match write_report(&report, desk) {
+        Ok(()) => Ok(()),
+        Err(_) => Err(MakeFault::WriteFault),
+    }
+}
+
+// Writes the report that is wanted of a picture.
+fn make<D: Desk>(
     alloc: Global,
     image: &Image,
     wanted: Wanted<'_>,
     shelf: &mut Shelf,
-) -> Result<Report, NoMemory>
+    desk: &mut D,
+) -> Result<(), MakeFault>
     requires found { IsFound (names_of shelf.old) wanted }
     requires suits { Suits (kind_of (read_wanted wanted)) image.now }
-    ensures { IfOk result (Makes (rules_on means shelf.old) (read_wanted wanted.entry)
-        (picture_of image.now)) }
+    ensures { Wrote (Makes (rules_on means shelf.old) (read_wanted wanted.entry)
+        (picture_of image.now)) (D.state desk.old) (D.state desk.new) result }
 {
     match wanted {
-        Wanted::Analysis { which, .. } => Ok(analysis_of(alloc, image, shelf, which)?.report),
-        Wanted::Further(kind) => kind.make(alloc, image),
+        Wanted::Analysis { which, .. } => write_analysis(alloc, image, which, shelf, desk),
+        Wanted::Further(kind) => write_further(alloc, image, kind, desk),
     }
 }
 
@@ -77,12 +122,9 @@ pub(crate) fn make_file<D: Desk>(
         Ok(image) => image,
         Err(error) => return refused(error),
     };
-    let report = match make(alloc, &image, wanted, shelf) {
-        Ok(report) => report,
-        Err(_) => return Outcome::NoMemory,
-    };
-    match write_report(&report, desk) {
+    match make(alloc, &image, wanted, shelf, desk) {
         Ok(()) => Outcome::Done,
-        Err(_) => Outcome::WriteFault,
+        Err(MakeFault::NoMemory) => Outcome::NoMemory,
+        Err(MakeFault::WriteFault) => Outcome::WriteFault,
     }
 }

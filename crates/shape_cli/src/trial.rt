@@ -1,26 +1,32 @@
 //! The command `trial`: a picture that a seed gives, its report, the check of this report, and a line of numbers.
 //! Files play no part in it, so its line is the same on every machine; the numbers are those that the analysis tells.
-ghost use Rattle.std.specs.Prelude.{◌≡◌, IfOk};
+ghost use Rattle.std.specs.Prelude.{◌≡◌, ℕ, List, Some, IfOk, slice_get};
 ghost use Rattle.std.specs.String.{string_bytes};
+ghost use Rattle.shape_terms.specs.Pictures.{Picture};
+ghost use Rattle.shape_terms.specs.Thinning.{Rule};
+ghost use Rattle.shape_terms.specs.Shelves.{Named};
 ghost use Rattle.report_terms.specs.Holds.{Holds};
 ghost use Rattle.report_terms.specs.Subjects.{subject_of};
 ghost use Rattle.shape_rules.specs.Ruled.{rules_on};
 ghost use Rattle.shape_cli.specs.Sources.{read_kind};
 ghost use Rattle.shape_cli.specs.Commands.{Asked, AreTrial};
-ghost use Rattle.shape_cli.specs.Parts.{picture_of};
+ghost use Rattle.shape_analyse.specs.Analyses.{IsReportBy};
+ghost use Rattle.shape_analyse.specs.Finding.{AreFindingsOf};
+ghost use Rattle.shape_cli.specs.Parts.{picture_of, findings_of};
 ghost use Rattle.shape_desk.specs.Files.{KeepsFiles};
 ghost use Rattle.shape_cli.specs.Runs.{Ran};
 ghost use Rattle.shape_cli.specs.Trials.{IsTriedBy, trial_picture, counted_text, thinned_text, trial_text};
 
-use crate::making::analysis_of;
+use crate::analysis::{Analysis, analysis_of};
 use crate::outcome::Outcome;
+use crate::output::OutputDesk;
 use crate::picture::Image;
 use crate::source::Kind;
 use crate::verdict::check_analysis;
+use report_text::Page;
 use shape_analyse::{Extent, Tally};
 use shape_check::{CheckFault, Judgement};
 use shape_desk::{Desk, SteadyDesk, put_all};
-use shape_report::Report;
 use shape_rules::Shelf;
 use shape_space::NoMemory;
 use std::alloc::{AllocError, Global};
@@ -37,12 +43,28 @@ fn image_of(alloc: Global, kind: Kind, seed: u32, side: u32) -> Result<Image, No
     }
 }
 
-// Checks a report that holds of the picture.
-fn confirm(alloc: Global, image: &Image, report: Report, shelf: &mut Shelf) -> Result<(), NoMemory>
-    requires { Holds
-        (subject_of (picture_of image.now) (rules_on means shelf.old)) report }
+// The report that an analysis tells.
+fn text_of(alloc: Global, analysis: Analysis<'_>) -> Result<Vec<u8>, NoMemory>
+    ensures { (X : Picture) (names : List (List ℕ)) (rules : List (Named Rule)) (which : ℕ)
+        (name : List ℕ) → AreFindingsOf X names rules which (findings_of analysis.entry)
+        → slice_get names which ≡ Some name
+        → IfOk result (λ t. IsReportBy (subject_of X rules) name t.items) }
 {
-    let mut desk = SteadyDesk::new(Vec::new(alloc), report.into_text());
+    let mut page = Page::new(alloc)?;
+    let mut desk = OutputDesk::new(alloc);
+    analysis.tell(&mut page, &mut desk);
+    match page.finish(&mut desk) {
+        Ok(()) => Ok(desk.into_text()),
+        Err(_) => Err(NoMemory),
+    }
+}
+
+// Checks a report that holds of the picture.
+fn confirm(alloc: Global, image: &Image, report: Vec<u8>, shelf: &mut Shelf) -> Result<(), NoMemory>
+    requires { Holds
+        (subject_of (picture_of image.now) (rules_on means shelf.old)) report.items }
+{
+    let mut desk = SteadyDesk::new(Vec::new(alloc), report);
     match check_analysis(alloc, image, shelf, &mut desk) {
         Ok(Judgement::Yes) => Ok(()),
         // A report that holds gets no other verdict, and this desk does not fail.
@@ -68,8 +90,10 @@ fn tally_of(
     let last = shelf.len() - 1;
     let image = image_of(alloc, kind, seed, side)?;
     let analysis = analysis_of(alloc, &image, shelf, last)?;
-    confirm(alloc, &image, analysis.report, shelf)?;
-    Ok(analysis.tally)
+    let tally = analysis.tally();
+    let report = text_of(alloc, analysis)?;
+    confirm(alloc, &image, report, shelf)?;
+    Ok(tally)
 }
 
 // The seed, the side and what was counted of the picture.

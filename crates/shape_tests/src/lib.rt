@@ -19,6 +19,8 @@ mod line_texts;
 #[cfg(test)]
 mod long_files;
 #[cfg(test)]
+mod pages;
+#[cfg(test)]
 mod pictures;
 #[cfg(test)]
 mod reports;

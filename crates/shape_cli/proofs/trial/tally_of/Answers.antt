@@ -8,11 +8,13 @@ use Rattle.shape_cli.proofs.trial.tally_of.Goals as goal
 
 pub confirm-requires : goal.confirm-requires
 confirm-requires g c =
-    let h = c.in_ok-analysis.ensures.analysis.holds _ (last_name c.args.shelf.now c.len-last.result c.len-last.ensures.len c.has_names.ensures.some) in
-    subst (λ rules. Holds (subject_of (picture_of c.in_ok-image.image) rules) c.in_ok-analysis.analysis.report) (sym c.in_ok-analysis.ensures.kept) h.by.holds
+    let name = last_name c.args.shelf.now c.len-last.result c.len-last.ensures.len c.has_names.ensures.some in
+    let h = c.in_ok-report.ensures _ _ _ _ _ c.in_ok-analysis.ensures.found name in
+    subst (λ rules. Holds (subject_of (picture_of c.in_ok-image.image) rules) c.in_ok-report.report.items) (sym c.in_ok-analysis.ensures.kept) h.by.holds
 
 pub returns : goal.returns
 returns g c =
     let r = last_rule _ c.args.shelf.now c.len-last.result c.len-last.ensures.len c.has_names.ensures.some in
-    let right = subst (λ X. IsTallyOf X r.0 c.in_ok-analysis.analysis.tally) c.in_ok-image.ensures (c.in_ok-analysis.ensures.analysis.tallied r.0 r.1) in
+    let tally = c.tally.ensures _ _ _ _ r.0 c.in_ok-analysis.ensures.found r.1 in
+    let right = subst (λ X. IsTallyOf X r.0 c.tally.result) c.in_ok-image.ensures tally in
     record { rule = r.0; last = r.2; right = right }
