@@ -9,6 +9,7 @@ ghost use Rattle.shape_queue.specs.Distances.{AreDistances};
 ghost use Rattle.shape_queue.specs.Events.{event_by};
 
 use crate::uncounted::{begun, settled};
+use shape_cells::Cells;
 use shape_grid::Grid;
 use shape_rules::EndRule;
 use shape_space::NoMemory;
@@ -32,8 +33,12 @@ impl<P: SimpleMask> ThinJudge<P> {
 
     /// A judge that has taken no event, by whatever rule they come. The rule is to begin anew
     /// before the first.
-    pub fn new(alloc: Global, grid: &Grid<P>, distances: Vec<u32>) -> Result<ThinJudge<P>, NoMemory>
-        requires { AreDistances grid.now distances.items }
+    pub fn new(
+        alloc: Global,
+        grid: &Grid<P>,
+        distances: Cells<u32>,
+    ) -> Result<ThinJudge<P>, NoMemory>
+        requires { AreDistances grid.now distances.values }
         ensures stands { IfOk result (λ j. (by : Rule) → StandsFor by grid.now [] by.opening j) }
         ensures room { IfOk result (λ j. room_of j ≡ length (object_points grid.now)) }
     {

@@ -6,6 +6,7 @@ ghost use Rattle.shape_terms.specs.Thinning.{Rule};
 ghost use Rattle.shape_queue.specs.Distances.{AreDistances};
 ghost use Rattle.thin_steps.specs.Standing.{StandsFor, room_of, IsNextOf, GoesOn};
 
+use shape_cells::Cells;
 use shape_grid::Grid;
 use shape_space::{NoMemory, Steps};
 use shape_topo::SimpleMask;
@@ -17,13 +18,13 @@ use thin_steps::{Next, Thinner};
 pub(crate) fn begun<P: SimpleMask, L: Ledger>(
     alloc: Global,
     grid: &Grid<P>,
-    distances: Vec<u32>,
+    distances: Cells<u32>,
     blank: Blank,
 ) -> Result<Thinner<P>, NoMemory>
     requires name { blank.name ≡ L.name }
     requires parts { blank.parts ≡ L.parts }
     requires whole { blank.parts ≡ 1 }
-    requires distances { AreDistances grid.now distances.items }
+    requires distances { AreDistances grid.now distances.values }
     ensures stands { IfOk result (λ t. (by : Rule) → StandsFor by grid.now [] by.opening t) }
     ensures room { IfOk result (λ t. room_of t ≡ length (object_points grid.now)) }
 {

@@ -17,6 +17,7 @@ ghost use Rattle.shape_analyse.specs.Growing.{Aim, IsTextOf, HasSurveyed, HasEve
 
 use report_text::Page;
 use shape_adj::Parts;
+use shape_cells::Cells;
 use shape_desk::Desk;
 use shape_grid::Grid;
 use shape_report::Line;
@@ -33,13 +34,13 @@ fn counted<P: SimpleMask, L: Ledger>(
     alloc: Global,
     blank: Blank,
     grid: &Grid<P>,
-    distances: Vec<u32>,
+    distances: Cells<u32>,
     rule: &mut Box<dyn EndRule>,
 ) -> Result<Thinning<P>, NoMemory>
     requires name { blank.name ≡ L.name }
     requires parts { blank.parts ≡ L.parts }
     requires whole { blank.parts ≡ 1 }
-    requires distances { AreDistances grid.now distances.items }
+    requires distances { AreDistances grid.now distances.values }
     ensures thinning { IfOk result (IsRunOf (means rule.old) grid.now (state rule.new)) }
     ensures kept { IfOk result (λ t. KeepsParts grid.now t.left) }
     ensures same_rule { means rule.new ≡ means rule.old }
@@ -52,10 +53,10 @@ fn counted<P: SimpleMask, L: Ledger>(
 pub(crate) fn thinned<P: SimpleMask>(
     alloc: Global,
     grid: &Grid<P>,
-    distances: Vec<u32>,
+    distances: Cells<u32>,
     rule: &mut Box<dyn EndRule>,
 ) -> Result<Thinning<P>, NoMemory>
-    requires { AreDistances grid.now distances.items }
+    requires { AreDistances grid.now distances.values }
     ensures thinning { IfOk result (IsRunOf (means rule.old) grid.now (state rule.new)) }
     ensures kept { IfOk result (λ t. KeepsParts grid.now t.left) }
     ensures same_rule { means rule.new ≡ means rule.old }

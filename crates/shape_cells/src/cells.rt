@@ -1,29 +1,39 @@
 //! Cells of places: which places have one of their own is told when they are made.
 //! How the cells are kept changes nothing outside this file.
-ghost use Rattle.std.specs.Prelude.{◌≡◌, ◌+◌, ◌*◌, ◌<◌, ◌≤◌, ℕ, IfOk, Some, true, false, length, slice_get, slice_index_or};
+ghost use Rattle.std.specs.Prelude.{◌≡◌, ◌+◌, ◌*◌, ◌<◌, ◌≤◌, ℕ, IfOk, MatchOption, Some, true, false, length, map, slice_get, slice_index_or};
+ghost use Rattle.std.specs.List.{range_with_len};
 ghost use Rattle.shape_terms.specs.Limits.{most_framed, most_coordinate};
-ghost use Rattle.shape_cells.specs.Held.{HasCell, IsBareElsewhere, with_value};
+ghost use Rattle.shape_bits.specs.Truths.{IsFirstTrue};
+ghost use Rattle.shape_cells.specs.Counting.{trues};
+ghost use Rattle.shape_cells.specs.Held.{HasCell, IsBareElsewhere, with_value, all_kept};
 
 use crate::cell::Cell;
+use crate::counts::count;
+use crate::few;
+use crate::numbering::Numbering;
 use shape_bits::Bits;
 use shape_space::NoMemory;
 use std::alloc::Global;
 use std::marker::Model;
 
 /// What each place holds. A place of the object has a cell of its own, and so may others; those without one hold what their number tells.
+///
+/// Where the object is a quarter of the places or less, its places alone have a cell, and each place takes a bit and a half beside. Else each
+/// place has a cell, and nothing is kept beside.
 #[derive(Drop)]
 pub struct Cells<T: Cell> {
+    objects: Option<Numbering>,
     cells: Vec<T>,
 }
 
 impl<T: Cell> Model for Cells<T> {
-    ghost use Rattle.shape_cells.specs.Held.{Held, all_kept};
+    ghost use Rattle.shape_cells.specs.Held.{Held, held, AreCells};
 
     ghost Value = { Held T };
 
-    ghost view = { λ c. all_kept c.cells.items };
+    ghost view = { λ c. held T.bare c.objects c.cells.items };
 
-    ghost invariant = { λ c. ⊥ };
+    ghost invariant = { λ c. AreCells c.objects c.cells.items };
 }
 
 impl<T: Cell> Cells<T> {
@@ -31,11 +41,49 @@ impl<T: Cell> Cells<T> {
     pub fn new(alloc: Global, objects: Bits) -> Result<Cells<T>, NoMemory>
         requires { length objects ≤ most_framed }
         ensures long { IfOk result (λ c. length c.values ≡ length objects) }
-        ensures object { IfOk result (λ c. (i : ℕ) → slice_index_or objects i false ≡ true → HasCell c i) }
-        ensures bare { IfOk result (λ c. (i : ℕ) → i < length objects → slice_get c.values i ≡ Some (T.bare i)) }
+        ensures object { IfOk result
+            (λ c. (i : ℕ) → slice_index_or objects i false ≡ true → HasCell c i) }
+        ensures few { IfOk result (λ c. 4 * trues objects ≤ length objects → c.kept ≡ objects) }
+        ensures bare { IfOk result
+            (λ c. (i : ℕ) → i < length objects → slice_get c.values i ≡ Some (T.bare i)) }
     {
-        let _ = (alloc, objects);
-        Err(NoMemory)
+        if 4 * count(&objects) as usize <= objects.len() {
+            return Cells::of_trues(alloc, objects);
+        }
+        let places = objects.len() as u32;
+        drop(objects);
+        Cells::of_all(alloc, places)
+    }
+
+    // Cells of the true values alone.
+    fn of_trues(alloc: Global, objects: Bits) -> Result<Cells<T>, NoMemory>
+        requires { length objects ≤ most_framed }
+        ensures values { IfOk result
+            (λ c. c.values ≡ map T.bare (range_with_len 0 (length objects))) }
+        ensures kept { IfOk result (λ c. c.kept ≡ objects) }
+    {
+        let numbering = Numbering::of(alloc, objects)?;
+        let cells = few::bare_cells(alloc, &numbering)?;
+        Ok(Cells {
+            objects: Some(numbering),
+            cells,
+        })
+    }
+
+    // A cell for each place.
+    fn of_all(alloc: Global, places: u32) -> Result<Cells<T>, NoMemory>
+        requires { places ≤ most_framed }
+        ensures { IfOk result
+            (λ c. c ≡ all_kept (map T.bare (range_with_len 0 places))) }
+    {
+        let mut cells = Vec::with_capacity(alloc, places as usize)?;
+        for place in 0..places {
+            cells.push(T::bare(place))?;
+        }
+        Ok(Cells {
+            objects: None,
+            cells,
+        })
     }
 
     /// The number of places.
@@ -44,8 +92,10 @@ impl<T: Cell> Cells<T> {
         ensures few { length self.now.values ≤ most_framed }
         ensures marks { length self.now.kept ≡ length self.now.values }
     {
-        let _ = &self.cells;
-        unreachable!()
+        match &self.objects {
+            Some(objects) => objects.len(),
+            None => self.cells.len() as u32,
+        }
     }
 
     /// What counts is the clause: a place without a cell of its own holds what its number tells.
@@ -55,22 +105,53 @@ impl<T: Cell> Cells<T> {
         let _ = &self.cells;
     }
 
+    /// The first place from a place on that has a cell of its own.
+    #[inline]
+    pub fn first_from(&self, from: u32) -> Option<u32>
+        ensures { MatchOption result
+            ((k : ℕ) → from ≤ k → slice_index_or self.now.kept k false ≡ false)
+            (λ k. IsFirstTrue self.now.kept from k) }
+    {
+        match &self.objects {
+            Some(objects) => objects.first_from(from),
+            None => ((from as usize) < self.cells.len()).then_some(from),
+        }
+    }
+
+    /// A numbering of the places that have a cell of their own, unless each place has one.
+    pub fn numbering(&self, alloc: Global) -> Result<Option<Numbering>, NoMemory>
+        ensures { IfOk result (λ o. MatchOption o
+            ((i : ℕ) → i < length self.now.values → HasCell self.now i)
+            (λ n. n ≡ self.now.kept)) }
+    {
+        match &self.objects {
+            Some(objects) => Ok(Some(objects.copy(alloc)?)),
+            None => Ok(None),
+        }
+    }
+
     /// What a place holds.
+    #[inline]
     pub fn get(&self, place: u32) -> T
         requires { place < length self.now.values }
         ensures { slice_get self.now.values place ≡ Some result }
     {
-        let _ = &self.cells;
-        unreachable!()
+        match &self.objects {
+            Some(objects) => few::value(objects, self.cells.as_slice(), place),
+            None => self.cells[place as usize],
+        }
     }
 
     /// Has a place hold another value, if it has a cell of its own.
+    #[inline]
     pub fn set(&mut self, place: u32, value: T)
         requires { place < length self.old.values }
         ensures { self.new ≡ with_value self.old place value }
     {
-        let _ = &self.cells;
-        unreachable!()
+        match &self.objects {
+            Some(objects) => few::put(objects, &mut self.cells, place, value),
+            None => self.cells[place as usize] = value,
+        }
     }
 
     /// Copies what so many places from a place on hold.
@@ -80,8 +161,15 @@ impl<T: Cell> Cells<T> {
             → slice_index_or row.new y d ≡ slice_index_or self.now.values (start + y) d }
         ensures long { length row.new ≡ length row.old }
     {
-        let _ = &self.cells;
-        unreachable!()
+        match &self.objects {
+            Some(objects) => {
+                few::take_places(objects, self.cells.as_slice(), row, start, 0, 1, row.len());
+            }
+            None => {
+                let from = start as usize;
+                row.copy_from_slice(&self.cells[from..from + row.len()]);
+            }
+        }
     }
 
     /// Has places in a row hold the values of `row`, from a place on: each that has a cell of its own.
@@ -95,8 +183,15 @@ impl<T: Cell> Cells<T> {
         ensures long { length self.new.values ≡ length self.old.values }
         ensures kept { self.new.kept ≡ self.old.kept }
     {
-        let _ = &self.cells;
-        unreachable!()
+        match &self.objects {
+            Some(objects) => {
+                few::put_places(objects, &mut self.cells, row, start, 0, 1, row.len());
+            }
+            None => {
+                let from = start as usize;
+                self.cells[from..from + row.len()].copy_from_slice(row);
+            }
+        }
     }
 
     /// Copies so many lines of `side` places, the first from `start` on with places `step` apart and each beside the one before, one after
@@ -111,8 +206,22 @@ impl<T: Cell> Cells<T> {
             ≡ slice_index_or self.now.values (start + y * step + j) d }
         ensures long { length block.new ≡ length block.old }
     {
-        let _ = &self.cells;
-        unreachable!()
+        match &self.objects {
+            Some(objects) => {
+                few::take_lines(
+                    objects,
+                    self.cells.as_slice(),
+                    block,
+                    start,
+                    step,
+                    side,
+                    lines,
+                );
+            }
+            None => {
+                shape_envelope::take_lines(block, self.cells.as_slice(), start, step, side, lines);
+            }
+        }
     }
 
     /// Copies the lines of a block back to where `take_lines` finds them: to each place that has a cell of its own.
@@ -132,7 +241,11 @@ impl<T: Cell> Cells<T> {
         ensures long { length self.new.values ≡ length self.old.values }
         ensures kept { self.new.kept ≡ self.old.kept }
     {
-        let _ = &self.cells;
-        unreachable!()
+        match &self.objects {
+            Some(objects) => {
+                few::put_lines(objects, &mut self.cells, block, start, step, side, lines);
+            }
+            None => shape_envelope::put_lines(&mut self.cells, block, start, step, side, lines),
+        }
     }
 }

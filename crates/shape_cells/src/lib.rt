@@ -4,6 +4,10 @@
 
 mod cell;
 mod cells;
+mod counts;
+mod few;
+mod numbering;
 
 pub use cell::Cell;
 pub use cells::Cells;
+pub use numbering::Numbering;

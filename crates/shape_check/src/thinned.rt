@@ -13,6 +13,7 @@ use crate::counts::PictureCounts;
 use crate::judges::SectionJudge;
 use judge_field::Scans;
 use judge_thin::ThinJudge;
+use shape_cells::Cells;
 use shape_report::Line;
 use shape_rules::EndRule;
 use shape_space::{NoMemory, Point};
@@ -33,18 +34,19 @@ pub struct ThinnedJudge<P: SimpleMask> {
     pub kept: bool,
 }
 
-/// The squared distances of the object points by raster number, from the least ones that were scanned; what stands at other numbers is free.
+/// The squared distances of the object points by raster number, from the least ones that were scanned.
 ///
-/// They are what a judge of thinnings is made of, and take four bytes for each point of the box.
-pub fn distances_of<P: Point>(alloc: Global, scans: &Scans<P>) -> Result<Vec<u32>, NoMemory>
-    ensures { IfOk result (λ d. AreDistances scans.now d.items) }
+/// They are what a judge of thinnings is made of. A point of the background has none, and no cell of its own where there are few object points.
+pub fn distances_of<P: Point>(alloc: Global, scans: &Scans<P>) -> Result<Cells<u32>, NoMemory>
+    ensures { IfOk result (λ d. AreDistances scans.now d.values) }
 {
     let grid = scans.grid();
+    grid.is_picture();
     let sides = grid.sides();
-    let mut distances = vec![in alloc; 0u32; sides.count() as usize]?;
+    let mut distances = Cells::new(alloc, grid.values().copy(alloc)?)?;
     let mut next = 0;
     while let Some(i) = grid.first_from(next) {
-        distances[i as usize] = scans.least(sides.unraster(i));
+        distances.set(i, scans.least(sides.unraster(i)));
         next = i + 1;
     }
     Ok(distances)

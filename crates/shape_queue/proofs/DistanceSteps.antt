@@ -1,7 +1,7 @@
 -- The distances of the first object points, by raster number.
 -- Laws over pictures, facts and lists alone.
 use Rattle.std.proofs.Common.{◌≡◌, ◌≢◌, ℕ, ◌+◌, ◌<◌, ◌≤◌, List, [], length, get_or, slice_index, set, Some, sym, ◌∙◌, ap, subst, arith}
-use Rattle.std.specs.Prelude.{Contains, slice_get}
+use Rattle.std.specs.Prelude.{Contains, slice_get, if◌then◌else◌}
 use Rattle.std.proofs.lemmas.List.{get_or-set_same, get_or-set_other, length-set, get_or-map, length-map, get_or_default}
 use Rattle.std.proofs.lemmas.Option.{slice_get_within, get_or_from_slice_get}
 use native.Mathlib.Decide.{ℕ_discrete}
@@ -14,6 +14,7 @@ use Rattle.shape_terms.proofs.Boxes.{raster_below, raster_point-raster_number}
 use Rattle.shape_terms.proofs.BoxLists.{objects_are, length-box_points, get_or-box_points}
 use Rattle.shape_terms.proofs.ObjectPlaces.{object_in_box}
 use Rattle.shape_terms.proofs.Members.{Contains-filter}
+use Rattle.shape_cells.specs.Held.{Held, HasCell, with_value}
 use Rattle.shape_queue.specs.Distances.{AreDistances}
 
 -- each object point is one of the list
@@ -27,6 +28,10 @@ object_listed X q o =
       get_or-box_points X.sides
           (raster_number X.sides q) q l ∙ raster_point-raster_number X.sides q b,
     ) o
+
+-- what is put at a place that has a cell is there then
+pub cell_put : {A : Type 0} (held : Held A) (i : ℕ) (value : A) → HasCell held i → (with_value held i value).values ≡ set held.values i value
+cell_put held i value t = ap (λ b. if b then set held.values i value else held.values) t
 
 -- there is a place for each point, and the first i object points have their distances there
 pub record AreDistancesSoFar (X : Picture) (i : ℕ) (ds : List ℕ) : Type 0 where

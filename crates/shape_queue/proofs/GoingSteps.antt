@@ -1,6 +1,6 @@
 -- The steps of a thinning: it begins, its least key is marked or deleted, and it ends.
 -- Laws over pictures, stages and keys alone.
-use Rattle.std.proofs.Common.{◌≡◌, ◌⊎◌, ℕ, ◌+◌, ◌<◌, ◌≤◌, Bool, true, false, cond, List, [], ◌∷◌, ◌++◌, length, refl, sym, ◌∙◌, ap, subst, arith, mul_comm, ◌*◌}
+use Rattle.std.proofs.Common.{◌≡◌, ◌⊎◌, ℕ, ◌+◌, ◌<◌, ◌≤◌, Bool, true, false, cond, List, [], ◌∷◌, ◌++◌, length, slice_index, refl, sym, ◌∙◌, ap, subst, arith, mul_comm, ◌*◌}
 use Rattle.std.specs.Ordering.{is_gt}
 use Rattle.std.proofs.lemmas.Bool.{and_parts}
 use Rattle.std.proofs.lemmas.Fn.{FoldsTo-push}
@@ -16,11 +16,14 @@ use Rattle.shape_terms.proofs.Boxes.{raster_below}
 use Rattle.shape_terms.proofs.OneValue.{one_object_less}
 use Rattle.shape_queue.specs.declared.key.Key.{Key}
 use Rattle.shape_queue.specs.Keys.{key_cmp}
+use Rattle.shape_queue.specs.Ranks.{background, key_at}
 use Rattle.shape_queue.specs.Waiting.{Waits, IsQueue, IsQueueBut, Put}
 use Rattle.shape_queue.specs.Standing.{IsAhead, Stands}
 use Rattle.shape_queue.specs.Distances.{AreDistances}
 use Rattle.shape_queue.specs.Events.{event_by}
 use Rattle.shape_queue.specs.Going.{stage_of, Reach, IsFrontOf, IsGoing}
+use Rattle.shape_queue.proofs.RankLaws.{rank_behind}
+use Rattle.shape_queue.proofs.SomeDistance.{some_distance}
 use Rattle.shape_queue.proofs.StageSteps.{none_waits, taken_place, taken_reached, taken_next, deleted_stands, deleted_ahead, marked_stands, marked_waits, deleted_waits}
 
 -- no point is one of the blank picture
@@ -36,27 +39,38 @@ none_counted sides =
     let b = sum_by-replicate (λ b. cond b 1 0) (box_count sides) false in
     omega (arith, a, b)
 
--- before any place is passed
+-- before any object point's place is passed
 pub front_start : (d : ℕ) (X : Picture) (ds : List ℕ) (keys : Key → Bool) (state : List ℕ) → IsPicture d X → AreDistances X ds → ((k : Key) → keys k ≡ false)
     → (reached : Picture) → reached ≡ blank X.sides → (ds' : List ℕ) → ds' ≡ ds → (n : ℕ) → n ≡ length (object_points X)
-    → IsFrontOf X (stage_of X [] state) (record { reached = reached; distances = ds'; keys = keys; passed = 0; ahead = n })
-front_start d X ds keys state w h none reached r ds' e n c = rw (r, e, c) (record {
+    → (first : ℕ) → first ≡ background ds' → IsFrontOf X (stage_of X [] state) (record { reached = reached; distances = ds'; keys = keys; passed = first; ahead = n })
+front_start d X ds keys state w h none reached r ds' e n c first b = rw (r, b, e, c) (record {
   stands = record {
     sides = refl;
     filled = w.filled;
     listed = h.filled;
     reached_sides = refl;
     reached_filled = length-replicate (box_count X.sides) false;
-    reached_is = λ q. ((λ o. absurd (none_blank X.sides q o)), λ o. absurd (omega (arith, o.2)));
+    reached_is = λ q. ((λ o. absurd (none_blank X.sides q o)), λ o. absurd (let a = ahead q o.0 in omega (arith, a, o.2)));
     unmarked = λ q a c. absurd (omega (arith, c.1));
     distance = h.least;
+    some = some;
   };
   waits = record {
     proper = λ k t. absurd (let f : false ≡ true = sym (none k) ∙ t in cc);
-    settled = λ i l n. absurd (n (omega arith));
+    settled = λ i l n. (
+      (λ t. absurd (let f : false ≡ true = sym (none (key_at ds i)) ∙ t in cc)),
+      λ m. absurd (none_blank X.sides (raster_point X.sides i) m.0),
+    );
   };
-  rest = record { points = X; sides = refl; filled = w.filled; points_are = λ q. ((λ o. (o, omega arith)), λ o. o.0); counted = refl };
+  rest = record { points = X; sides = refl; filled = w.filled; points_are = λ q. ((λ o. (o, ahead q o)), λ o. o.0); counted = refl };
+  begun = omega arith;
 })
+  where
+    some : (q : Point) → Object X q → 0 < slice_index ds (raster_number X.sides q)
+    some q o = some_distance X q (slice_index ds (raster_number X.sides q)) o (h.least q o)
+
+    ahead : (q : Point) → Object X q → IsAhead ds (background ds) (raster_number X.sides q)
+    ahead q o = rank_behind ds (raster_number X.sides q) (some q o)
 
 -- ---- the front of whatever rule's thinning
 
@@ -82,6 +96,7 @@ module _ (X : Picture) (marked : List Point) (state : List ℕ) (left : Picture)
           stands = marked_stands X (stage_of left marked state) f h k there state';
           waits = marked_waits X (stage_of left marked state) f h k there new put;
           rest = h.rest;
+          begun = h.begun;
         })
 
         module _ (left' : Picture) (d : left' ≡ without left q) where
@@ -100,6 +115,7 @@ module _ (X : Picture) (marked : List Point) (state : List ℕ) (left : Picture)
             stands = deleted_stands_at;
             waits = subst (λ z. Waits z left' reached' f.distances (IsAhead f.distances f.passed) last) (ap (λ (Y : Picture). Y.sides) d ∙ h.stands.sides) (looked near_first);
             rest = rw (d, in_opening) (deleted_ahead X (stage_of left marked state) f h k there);
+            begun = h.begun;
           }
 
 -- ---- a thinning

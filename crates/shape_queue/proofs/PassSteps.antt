@@ -92,6 +92,7 @@ module _ (X : Picture) (s : Stage) (f : Reach) (h : IsFrontOf X s f) (i : ℕ) (
         );
         unmarked = λ q a. st.unmarked q (omega (arith, a));
         distance = st.distance;
+        some = st.some;
       };
       waits = passed_more X.sides s.left f.reached f.distances (IsAhead f.distances f.passed) (IsAhead f.distances (f.passed + 1)) f.keys f.keys h.waits (raster_point X.sides i) not_reached
           (λ j m n a. ahead_still j m (λ e. n (ap (raster_point X.sides) e)) a);
@@ -109,6 +110,7 @@ module _ (X : Picture) (s : Stage) (f : Reach) (h : IsFrontOf X s f) (i : ℕ) (
         );
         counted = h.rest.counted;
       };
+      begun = let b = h.begun in omega arith;
     }
 
   -- the point of the place is left: it is reached, and looked at
@@ -158,6 +160,7 @@ module _ (X : Picture) (s : Stage) (f : Reach) (h : IsFrontOf X s f) (i : ℕ) (
       ];
       unmarked = λ q a. st.unmarked q (omega (arith, a));
       distance = st.distance;
+      some = st.some;
     }
 
     waits_met : (new : Key → Bool) (b : Bool) → (b ≡ true) ↔ IsSimple s.left (raster_point X.sides i) → Put f.keys new (key_at f.distances i) b
@@ -198,4 +201,4 @@ module _ (X : Picture) (s : Stage) (f : Reach) (h : IsFrontOf X s f) (i : ℕ) (
     pub front_met : (reached' : Picture) → reached' ≡ with_value f.reached (raster_point X.sides i) true → (new : Key → Bool) (b : Bool) → (b ≡ true) ↔ IsSimple s.left (raster_point X.sides i)
         → Put f.keys new (key_at f.distances i) b → (n : ℕ) → n + 1 ≡ f.ahead
         → IsFrontOf X s (record { reached = reached'; distances = f.distances; keys = new; passed = f.passed + 1; ahead = n })
-    front_met reached' e new b is put n c = rw e (record { stands = stands_met; waits = waits_met new b is put; rest = rest_met n c })
+    front_met reached' e new b is put n c = rw e (record { stands = stands_met; waits = waits_met new b is put; rest = rest_met n c; begun = let b = h.begun in omega arith })

@@ -1,23 +1,24 @@
 -- The keys of a queue while a rank is put into its set or taken out, and the least of them.
 -- Laws over keys and lists alone.
-use Rattle.std.proofs.Common.{◌≡◌, ◌⊎◌, inl, inr, ℕ, ◌<◌, Bool, true, false, not, cond, eqb, ltb, List, length, replicate, slice_index, refl, sym, ◌∙◌, ap, subst, arith, Option, Some}
-use Rattle.std.specs.Prelude.{◌&&◌, ◌↔◌, slice_get, None, MatchOption, is_none}
+use Rattle.std.proofs.Common.{◌≡◌, ◌⊎◌, inl, inr, ℕ, ◌*◌, ◌<◌, ◌≤◌, Bool, true, false, not, cond, eqb, ltb, List, length, replicate, set, get_or, slice_index, refl, sym, ◌∙◌, ap, subst, arith, Option}
+use Rattle.std.specs.Prelude.{◌&&◌, ◌↔◌, None, Some, MatchOption, IfSome, is_none}
 use Rattle.std.proofs.lemmas.Bool.{eqb-true, eq-eqb, ltb-true, lt-ltb}
-use Rattle.std.proofs.lemmas.List.{length-replicate, get_or-replicate}
-use Rattle.std.proofs.lemmas.Option.{get_or_from_slice_get}
+use Rattle.std.proofs.lemmas.List.{length-replicate, get_or-replicate, length-set, get_or-set_same, get_or-set_other}
 use Rattle.std.specs.Bool.{beq}
 use Rattle.std.specs.BTreeMap.{is_at}
 use native.Mathlib.Decide.{ℕ_discrete, dec_lt}
 use Rattle.shape_bits.specs.Sets.{In, bit_of, IsPut, IsLeast}
 use Rattle.shape_bits.specs.Truths.{is_in}
+use Rattle.shape_cells.specs.Held.{Held}
 use Rattle.shape_queue.specs.declared.key.Key.{Key}
+use Rattle.shape_queue.specs.declared.ranked_key.RankedKey.{RankedKey}
 use Rattle.shape_queue.specs.declared.spot.Spot.{Spot}
 use Rattle.shape_queue.specs.Keys.{key_cmp, IsLeastKey, Queued, has}
-use Rattle.shape_queue.specs.Ranks.{key_at, rank_in, spot_of, Precedes, HasKey, AreSpots, AreQueued}
+use Rattle.shape_queue.specs.Ranks.{key_at, rank_in, background, Precedes, HasKey, AreQueued, AreFitting}
 use Rattle.shape_queue.specs.Waiting.{Put}
 use Rattle.shape_queue.proofs.RankPlaces.{place_of_rank}
 use Rattle.shape_queue.proofs.KeyOrder.{at_itself, at_only, by_key, same_key, not_greater}
-use Rattle.shape_queue.proofs.RankLaws.{rank_rises, rank_apart}
+use Rattle.shape_queue.proofs.RankLaws.{rank_small, rank_rises, rank_apart}
 
 -- a truth value as a bit
 abbrev pub bool_of : Bool → ℕ
@@ -116,16 +117,44 @@ module _ (q : Queued) {r : ℕ} {key : Key} (t : HasKey q.distances r key) where
       key_there : has q key ≡ is_in q.waiting (rank_in q.distances key.place)
       key_there = ap (has q) key_is ∙ has_place q key.place t.inside
 
--- what is read of a place is its spot
-pub spot_is : {ds : List ℕ} {spots : List Spot} → AreSpots ds spots → {i : ℕ} → i < length ds → {s : Spot} → slice_get spots i ≡ Some s → s ≡ spot_of ds i
-spot_is {ds} {spots} h {i} l {s} e = sym (get_or_from_slice_get spots i s s e) ∙ get_or_from_slice_get spots i (spot_of ds i) s (h.each i l)
-
 -- in the beginning none waits
 pub none_queued : (ds waiting : List ℕ) → ((r : ℕ) → In waiting r → ⊥) → AreQueued ds waiting (replicate (length ds) false)
 none_queued ds waiting none = record {
   filled = length-replicate (length ds) false;
   each = λ i l. get_or-replicate (length ds) i false false l ∙ sym (by_value (is_in waiting (rank_in ds i)) (λ t. none (rank_in ds i) (eqb-true (bit_of waiting (rank_in ds i)) 1 t)));
 }
+
+-- the parts of a queue when the key is put in or taken out by its rank
+module _ {ds : List ℕ} {spots : Held Spot} {first : ℕ} {keys : List Key} {waiting : List ℕ} {queued : List Bool} {latest : Option RankedKey} (h : AreFitting ds spots first keys waiting queued latest)
+    {r : ℕ} {key : Key} (t : HasKey ds r key) (behind : background ds ≤ r) where
+  pub rank_within : r < 64 * length waiting
+  rank_within = let s = rank_small ds key.place t.inside in omega (arith, s, t.ranked, h.room)
+
+  pub fitting_put : {waiting' : List ℕ} {queued' : List Bool} {latest' : Option RankedKey} (b : Bool) → IsPut waiting waiting' r (bool_of b) → queued' ≡ set queued key.place b
+      → IfSome latest' (λ l. HasKey ds l.rank l.key) → AreFitting ds spots first keys waiting' queued' latest'
+  fitting_put {waiting'} {queued'} {latest'} b p e last = record {
+    few = h.few;
+    spots_are = h.spots_are;
+    first_is = h.first_is;
+    keys_are = h.keys_are;
+    room = let m = p.room in omega (arith, h.room, m);
+    inside = λ s w. elim (ℕ_discrete s r) [
+      | yes g ↦ (let l = rank_small ds key.place t.inside in (omega (arith, behind, g), omega (arith, l, t.ranked, g)))
+      | no n ↦ h.inside s (sym (p.others s n) ∙ w)
+    ];
+    queued_are = record {
+      filled = ap length e ∙ length-set queued key.place b ∙ h.queued_are.filled;
+      each = λ i l. ap (λ v. get_or v i false) e ∙ elim (ℕ_discrete i key.place) [
+        | yes g ↦ (
+            ap (λ i. get_or (set queued key.place b) i false) g ∙ get_or-set_same queued key.place b false (let f = h.queued_are.filled in let m = t.inside in omega (arith, f, m))
+            ∙ sym (ap (λ i. eqb (bit_of waiting' (rank_in ds i)) 1) g ∙ ap (λ x. eqb (bit_of waiting' x) 1) t.ranked ∙ ap (λ x. eqb x 1) p.here ∙ bit_test b))
+        | no n ↦ (
+            get_or-set_other queued key.place i b false n ∙ h.queued_are.each i l
+            ∙ sym (ap (λ x. eqb x 1) (p.others (rank_in ds i) (λ g. rank_apart ds i key.place l t.inside n (g ∙ sym t.ranked)))))
+      ];
+    };
+    latest_is = last;
+  }
 
 -- ---- the least key
 
@@ -145,12 +174,12 @@ module _ (q : Queued) {r : ℕ} {key : Key} (t : HasKey q.distances r key) (leas
       omega (arith, a, e, t.ranked))
 
 -- no key is there exactly where no rank waits
-pub empty_tells : (q : Queued) → ((r : ℕ) → In q.waiting r → r < length q.distances) → (o : Option ℕ) → MatchOption o ((r : ℕ) → In q.waiting r → ⊥) (IsLeast q.waiting)
+pub empty_tells : (q : Queued) → ((r : ℕ) → In q.waiting r → (background q.distances ≤ r) × (r < length q.distances)) → (o : Option ℕ) → MatchOption o ((r : ℕ) → In q.waiting r → ⊥) (IsLeast q.waiting)
     → (is_none o ≡ true) ↔ ((k : Key) → has q k ≡ false)
 empty_tells q inside None none = (λ t. none_has q none, λ n. refl)
 empty_tells q inside (Some r) least = (
   λ (t : false ≡ true). cc,
-  λ n. let p = place_of_rank q.distances r (inside r least.there) in
+  λ n. let p = place_of_rank q.distances r (inside r least.there).1 in
       let t : HasKey q.distances r (key_at q.distances p.0) = record { inside = p.1; same = refl; ranked = p.2 } in
       absurd (let e : false ≡ true = sym (n (key_at q.distances p.0)) ∙ least_has q t least in cc),
 )

@@ -203,6 +203,7 @@ module _ (X : Picture) (s : Stage) (f : Reach) (h : IsFrontOf X s f) where
       );
       unmarked = st.unmarked;
       distance = λ q o. st.distance q (sym (left_stays q (other q o)) ∙ o);
+      some = λ q o. st.some q (sym (left_stays q (other q o)) ∙ o);
     }
 
     -- as many points are ahead
@@ -236,6 +237,7 @@ module _ (X : Picture) (s : Stage) (f : Reach) (h : IsFrontOf X s f) where
       );
       unmarked = λ q a. not_now q (λ e. let p = subst (λ r. IsPassed f.distances f.passed (raster_number X.sides r)) (sym e) here_passed in omega (arith, p, a)) (st.unmarked q a);
       distance = st.distance;
+      some = st.some;
     }
       where
         later : {q : Point} → Contains s.marked q → Contains (raster_point X.sides k.place ∷ s.marked) q

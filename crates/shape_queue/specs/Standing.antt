@@ -26,6 +26,7 @@ pub record Stands (X : Picture) (s : Stage) (reached : Picture) (distances : Lis
   pub reached_is : (q : Point) → Object reached q ↔ (Object s.left q × (Contains s.marked q → ⊥) × IsPassed distances passed (raster_number X.sides q))
   pub unmarked : (q : Point) → IsAhead distances passed (raster_number X.sides q) → Contains s.marked q → ⊥
   pub distance : (q : Point) → Object s.left q → HasDistance X q (slice_index distances (raster_number X.sides q))
+  pub some : (q : Point) → Object s.left q → 0 < slice_index distances (raster_number X.sides q)
 
 -- of the points left so many are ahead
 pub record AreAhead (left : Picture) (distances : List ℕ) (passed number : ℕ) : Type 0 where

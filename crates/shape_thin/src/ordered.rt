@@ -8,7 +8,9 @@ ghost use Rattle.shape_thin.specs.Runs.{IsRunOf};
 ghost use Rattle.shape_thin.specs.Laws.{KeepsParts};
 
 use crate::distances::distances_of;
-use crate::thinning::{Done, Thinning, put_event};
+use crate::events::{Done, Events};
+use crate::thinning::Thinning;
+use shape_cells::Cells;
 use shape_dist::Field;
 use shape_grid::Grid;
 use shape_rules::{EndRule, ask, begin};
@@ -25,11 +27,11 @@ use thin_steps::Thinner;
 pub fn thin_by_distances<P: SimpleMask, L: Ledger>(
     alloc: Global,
     grid: &Grid<P>,
-    distances: Vec<u32>,
+    distances: Cells<u32>,
     rule: &mut Box<dyn EndRule>,
     steps: &mut Steps<L>,
 ) -> Result<Thinning<P>, NoMemory>
-    requires { AreDistances grid.now distances.items }
+    requires { AreDistances grid.now distances.values }
     ensures thinning { IfOk result (IsRunOf (means rule.old) grid.now (state rule.new)) }
     ensures kept { IfOk result (λ t. KeepsParts grid.now t.left) }
     ensures few { IfOk result (λ t. steps.new ≤ steps.old
@@ -38,12 +40,12 @@ pub fn thin_by_distances<P: SimpleMask, L: Ledger>(
 {
     begin(rule);
     let mut thinner = Thinner::begin(alloc, grid, distances, steps)?;
-    let mut events = Vec::with_capacity(alloc, grid.count() as usize)?;
+    let mut events = Events::new(alloc, grid.count())?;
     while let Some(next) = thinner.next() {
         let tips = ask(rule, &next.facts);
         let place = next.place;
-        put_event(&mut events, Done { place, tips })?;
         thinner.settle(&next, tips, steps);
+        events.push(Done { place, tips })?;
     }
     Ok(Thinning::of(thinner.into_left(), events))
 }

@@ -1,6 +1,6 @@
 -- What the front of a thinning tells of its next place and of a key, and that its parts still fit together after an event.
 -- Laws over pictures and keys alone, and over the next point of a thinning.
-use Rattle.std.proofs.Common.{◌≡◌, ◌≢◌, ℕ, ◌+◌, ◌<◌, ◌↔◌, Bool, true, false, List, [], ◌∷◌, ◌++◌, length, set, refl, sym, ◌∙◌, ap, subst, arith}
+use Rattle.std.proofs.Common.{◌≡◌, ◌≢◌, ℕ, ◌+◌, ◌<◌, ◌≤◌, ◌↔◌, Bool, true, false, List, [], ◌∷◌, ◌++◌, length, set, slice_index, refl, sym, ◌∙◌, ap, subst, arith}
 use Rattle.std.proofs.Math.Logic.{∥∥₁_elim}
 use Rattle.std.proofs.Props.{props}
 use Rattle.std.proofs.lemmas.Grind.{merely}
@@ -17,7 +17,7 @@ use Rattle.shape_terms.proofs.OneValue.{value_there, value_elsewhere}
 use Rattle.shape_adj.specs.NearMasks.{In, near_total}
 use Rattle.shape_rules.specs.FactsOf.{facts_of}
 use Rattle.shape_queue.specs.declared.key.Key.{Key}
-use Rattle.shape_queue.specs.Ranks.{key_at, rank_in}
+use Rattle.shape_queue.specs.Ranks.{background, key_at, rank_in}
 use Rattle.shape_queue.specs.Waiting.{IsQueue, IsQueueBut, Put}
 use Rattle.shape_queue.specs.Standing.{IsSubset}
 use Rattle.shape_queue.specs.Events.{event_by}
@@ -96,6 +96,9 @@ module _ {left : Picture} {f : Reach} (fits : ∥ IsSomeFront left f ∥₁) whe
   pub fits_passed : 0 < f.ahead → f.passed < length f.distances
   fits_passed l = ∥∥₁_elim fits (Prim.hlevel props) (λ a. still_ahead a.opening (stage_of left a.marked a.state) f a.front l)
 
+  pub fits_begun : background f.distances ≤ f.passed
+  fits_begun = ∥∥₁_elim fits (Prim.hlevel props) (λ a. a.front.begun)
+
   -- the place of the next rank
   module _ (i : ℕ) (l : i < length f.distances) (rank : rank_in f.distances i ≡ f.passed) (there : Object left (raster_point left.sides i)) where
     pub fits_reached : length (object_points (record { sides = f.reached.sides; values = set f.reached.values i true })) ≡ length (object_points f.reached) + 1
@@ -173,6 +176,16 @@ module _ {P : Type 0} {left : Picture} {f f' : Reach} {n : Next P} {q : Point} (
       deleted_some r o = ∥∥₁_elim fits (Prim.hlevel props) (λ a.
           let s = deleted_stands_at a.opening a.marked a.state left f a.front (key_of n) next.there q next.place f'.reached (less a) f'.keys taken.put a.state left' left_without in
           ((s.reached_is r).0 o).0)
+
+      -- each point that is reached has a distance of 1 or more
+      pub deleted_far : (i : ℕ) → i < box_count left'.sides → Object f'.reached (raster_point left'.sides i) → 0 < slice_index f'.distances i
+      deleted_far i l o = ∥∥₁_elim fits (Prim.hlevel props) (λ a.
+          let s = deleted_stands_at a.opening a.marked a.state left f a.front (key_of n) next.there q next.place f'.reached (less a) f'.keys taken.put a.state left' left_without in
+          let d = s.some (raster_point left'.sides i) ((s.reached_is (raster_point left'.sides i)).0 o).0 in
+          let e = ap (λ z. raster_number z (raster_point left'.sides i)) (sym s.sides) ∙ raster_number-raster_point left'.sides i l in
+          let h = ap (slice_index f'.distances) e in
+          let k = ap (λ ds. slice_index ds (raster_number a.opening.sides (raster_point left'.sides i))) taken.distances in
+          omega (arith, d, h, k))
 
       -- the mask of q has each near neighbour that is reached
       pub deleted_masked : (j : ℕ) → j < near_total (length q) → Object f'.reached (near_point (raster_point left'.sides n.place) j) → In n.mask j

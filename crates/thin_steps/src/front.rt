@@ -10,6 +10,7 @@ ghost use Rattle.shape_queue.specs.Going.{IsFrontOf, stage_of};
 ghost use Rattle.thin_steps.specs.Fitting.{IsSomeFront};
 
 use crate::next::Next;
+use shape_cells::Cells;
 use shape_grid::Grid;
 use shape_queue::Queue;
 use shape_space::{NoMemory, Steps};
@@ -34,13 +35,13 @@ impl<P: SimpleMask> Front<P> {
     ghost use Rattle.thin_steps.specs.Fronts.{reach_of, room_in, IsTakenOut};
     ghost use Rattle.thin_steps.specs.Standing.{key_of};
 
-    /// The front before any place is passed.
+    /// The front before any object point's place is passed: those with the distance 0 have the first ranks.
     pub(crate) fn new(
         alloc: Global,
         grid: &Grid<P>,
-        distances: Vec<u32>,
+        distances: Cells<u32>,
     ) -> Result<Front<P>, NoMemory>
-        requires { AreDistances grid.now distances.items }
+        requires { AreDistances grid.now distances.values }
         ensures front { IfOk result
             (λ f. (state : List ℕ) → IsFrontOf grid.now (stage_of grid.now [] state) (reach_of f)) }
         ensures room { IfOk result (λ f. room_in f ≡ length (object_points grid.now)) }
@@ -49,11 +50,12 @@ impl<P: SimpleMask> Front<P> {
         grid.is_picture();
         let sides = grid.sides();
         let keys = Queue::new(alloc, sides.side(0) as u32, distances)?;
+        let passed = keys.first_rank();
         let reached = Grid::new(alloc, sides)?;
         Ok(Front {
             reached,
             keys,
-            passed: 0,
+            passed,
             ahead: grid.count(),
         })
     }

@@ -1,6 +1,6 @@
 //! Looks at the near neighbours of a point after its deletion, whether they wait in the queue. Each look is one step of the counter.
 //! How a point is looked at when its place is passed stands in `front.rt`.
-ghost use Rattle.std.specs.Prelude.{◌≡◌, ℕ, ◌+◌, ◌<◌, ◌≤◌, length, IsTrue};
+ghost use Rattle.std.specs.Prelude.{◌≡◌, ℕ, ◌+◌, ◌<◌, ◌≤◌, length, slice_index, IsTrue};
 ghost use Rattle.shape_terms.specs.Points.{in_box, box_count, raster_point};
 ghost use Rattle.shape_terms.specs.Pictures.{at};
 ghost use Rattle.shape_terms.specs.Adjacency.{near_point};
@@ -25,6 +25,7 @@ fn look_at<P: SimpleMask, L: Ledger>(
     requires below { place < box_count left.now.sides }
     requires object { IsTrue (at left.now (raster_point left.now.sides place)) }
     requires filled { length keys.old.distances ≡ box_count left.now.sides }
+    requires far { 0 < slice_index keys.old.distances place }
     ensures looked { IsLookedAt left.now keys.old.distances (raster_point left.now.sides place)
         (has keys.old) (has keys.new) }
     ensures distances { keys.new.distances ≡ keys.old.distances }
@@ -47,6 +48,9 @@ pub(crate) fn look_round<P: SimpleMask, L: Ledger>(
     requires sides { reached.now.sides ≡ left.now.sides }
     requires some { IsSubset reached.now left.now }
     requires filled { length keys.old.distances ≡ box_count left.now.sides }
+    requires far { (i : ℕ) → i < box_count left.now.sides
+        → IsTrue (at reached.now (raster_point left.now.sides i))
+        → 0 < slice_index keys.old.distances i }
     requires masked { (k : ℕ) → k < P.NEAR_COUNT
         → IsTrue (at reached.now (near_point (raster_point left.now.sides place) k)) → In mask k }
     requires boxed { (k : ℕ) → In mask k → (k < P.NEAR_COUNT)

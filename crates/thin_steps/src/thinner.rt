@@ -11,6 +11,7 @@ ghost use Rattle.thin_steps.specs.Fronts.{reach_of};
 use crate::front::Front;
 use crate::look::look_round;
 use crate::next::Next;
+use shape_cells::Cells;
 use shape_grid::Grid;
 use shape_rules::Facts;
 use shape_space::{NoMemory, Steps};
@@ -34,10 +35,10 @@ impl<P: SimpleMask> Thinner<P> {
     pub fn begin<L: Ledger>(
         alloc: Global,
         grid: &Grid<P>,
-        distances: Vec<u32>,
+        distances: Cells<u32>,
         steps: &mut Steps<L>,
     ) -> Result<Thinner<P>, NoMemory>
-        requires { AreDistances grid.now distances.items }
+        requires { AreDistances grid.now distances.values }
         ensures stands { IfOk result (λ t. (by : Rule) → StandsFor by grid.now [] by.opening t) }
         ensures picture { IfOk result (λ t. IsPicture P.DIM grid.now) }
         ensures small { IfOk result (λ t. box_count grid.now.sides ≤ most_points) }

@@ -1,7 +1,12 @@
-use Rattle.std.proofs.Common.{◌≡◌, ◌+◌, ◌<◌, ◌≤◌, ◌∙◌, ℕ, List, ap, sym, subst, arith, ◌∷◌, []}
-use Rattle.shape_terms.specs.Points.{box_count, raster_point}
+use Rattle.std.proofs.Common.{◌≡◌, ◌+◌, ◌<◌, ◌≤◌, ◌∙◌, ℕ, Bool, true, false, List, length, get_or, ap, sym, subst, arith, ◌∷◌, []}
+use Rattle.std.proofs.lemmas.Bool.{and_parts}
+use Rattle.shape_terms.specs.Points.{in_box, box_count, raster_point}
 use Rattle.shape_terms.specs.Pictures.{Picture, objects_from}
+use Rattle.shape_terms.specs.Parts.{Object}
 use Rattle.shape_terms.specs.Thinning.{HasDistance}
+use Rattle.shape_terms.proofs.Boxes.{raster_number-raster_point}
+use Rattle.shape_cells.specs.Held.{Held, HasCell}
+use Rattle.shape_queue.proofs.DistanceSteps.{cell_put}
 use Rattle.judge_field.proofs.NextObjects.{IsNext, next_object}
 use Rattle.shape_check.proofs.Distances.{none_yet, distances_more, distances_all}
 use Rattle.shape_check.proofs.thinned.distances_of.Goals as goal
@@ -14,11 +19,21 @@ found X Y next i e low = subst (λ Z. i < box_count Z.sides → objects_from Z n
 same_sides : (X Y : Picture) (sides : List ℕ) → sides ≡ Y.sides → Y ≡ X → sides ≡ X.sides
 same_sides X Y sides e f = subst (λ Z. sides ≡ Z.sides) f e
 
+-- the place of an object point has a cell
+cell_there : (X : Picture) (kept : List Bool) (i : ℕ) → ((k : ℕ) → get_or X.values k false ≡ true → get_or kept k false ≡ true)
+    → i < box_count X.sides → Object X (raster_point X.sides i) → get_or kept i false ≡ true
+cell_there X kept i cells l o = cells i (ap (λ k. get_or X.values k false) (sym (raster_number-raster_point X.sides i l)) ∙ (and_parts (in_box X.sides (raster_point X.sides i)) _ o).1)
+
 pub loop-i-init : goal.loop-i-init
 loop-i-init g c =
     let X = c.args.scans.now in
-    let all : c.count.result ≡ box_count X.sides = c.count.ensures.value ∙ ap box_count (same_sides X _ _ c.sides-sides.ensures.value c.grid-grid.ensures) in
-    record { so_far = none_yet X c.in_ok-distances.distances.items (omega (arith, all, c.in_ok-distances.ensures.len)); low = omega arith }
+    let copied = c.in_ok-copy.ensures ∙ c.values.ensures ∙ ap (λ (Y : Picture). Y.values) c.grid-grid.ensures in
+    let filled = subst (λ (Y : Picture). length Y.values ≡ box_count Y.sides) c.grid-grid.ensures c.is_picture.ensures.picture.filled in
+    record {
+      so_far = none_yet X c.in_ok-distances.distances.values (c.in_ok-distances.ensures.long ∙ ap length copied ∙ filled);
+      cells = λ i t. c.in_ok-distances.ensures.object i (ap (λ v. get_or v i false) copied ∙ t);
+      low = omega arith;
+    }
 
 pub unraster-requires : goal.unraster-requires
 unraster-requires g c = subst (λ s. c.in-Some.i < box_count s) (sym c.sides-sides.ensures.value) c.in-Some.ensures.below
@@ -30,8 +45,8 @@ least-requires g c =
     let point : g.P.Point.coords c.unraster.result ≡ raster_point X.sides c.in-Some.i = c.unraster.ensures.value ∙ ap (λ s. raster_point s c.in-Some.i) (same_sides X _ _ c.sides-sides.ensures.value c.grid-grid.ensures) in
     rw point n.1.object
 
-pub index_mut-requires : goal.index_mut-requires
-index_mut-requires g c =
+pub set-requires : goal.set-requires
+set-requires g c =
     let n = found c.args.scans.now c.grid-grid.result.now c.loop-i.next c.in-Some.i c.grid-grid.ensures c.loop-i.invariant.low c.in-Some.ensures.below c.in-Some.ensures.next in
     omega (arith, n.0, c.loop-i.invariant.so_far.filled)
 
@@ -48,11 +63,17 @@ loop-i-preserved g c =
     let n = found X c.grid-grid.result.now c.loop-i.next i c.grid-grid.ensures c.loop-i.invariant.low c.in-Some.ensures.below c.in-Some.ensures.next in
     let point : g.P.Point.coords c.unraster.result ≡ raster_point X.sides i = c.unraster.ensures.value ∙ ap (λ s. raster_point s i) (same_sides X _ _ c.sides-sides.ensures.value c.grid-grid.ensures) in
     let nearest = subst (λ p. HasDistance X p s) point (c.least.ensures.q, c.least.ensures.least) in
-    record { so_far = distances_more X c.loop-i.next i s c.loop-i.distances.items n.0 n.1 nearest c.loop-i.invariant.so_far; low = omega (arith, n.0) }
+    let cell : HasCell c.loop-i.distances i = cell_there X c.loop-i.distances.kept i c.loop-i.invariant.cells n.0 n.1.object in
+    let put = ap (λ (h : Held ℕ). h.values) c.set.ensures ∙ cell_put c.loop-i.distances i s cell in
+    record {
+      so_far = rw put (distances_more X c.loop-i.next i s c.loop-i.distances.values n.0 n.1 nearest c.loop-i.invariant.so_far);
+      cells = λ k t. ap (λ (h : Held ℕ). get_or h.kept k false) c.set.ensures ∙ c.loop-i.invariant.cells k t;
+      low = omega (arith, n.0);
+    }
 
 pub returns : goal.returns
 returns g c =
     let X = c.args.scans.now in
     let next = c.loop-i.next in
     let none : objects_from X next ≡ [] = subst (λ Y. objects_from Y next ≡ []) c.grid-grid.ensures c.in_default.ensures.next in
-    distances_all X next c.loop-i.distances.items c.loop-i.invariant.low none c.loop-i.invariant.so_far
+    distances_all X next c.loop-i.distances.values c.loop-i.invariant.low none c.loop-i.invariant.so_far

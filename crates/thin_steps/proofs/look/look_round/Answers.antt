@@ -38,6 +38,12 @@ pub look_at-requires-clause-object : goal.look_at-requires-clause-object
 look_at-requires-clause-object g c =
     c.requires.some _ (subst (λ n. Object c.args.reached.now (raster_point n c.near_number-q.result)) c.requires.sides (sym c.has_number.ensures ∙ c.if-has_number.true))
 
+pub look_at-requires-clause-far : goal.look_at-requires-clause-far
+look_at-requires-clause-far g c =
+    let l = round_below c.requires.masked c.loop-rest.invariant.walk (omega arith) (omega arith) c.requires.boxed c.near_number-q.ensures in
+    rw c.loop-rest.invariant.same (c.requires.far c.near_number-q.result l
+    (subst (λ n. Object c.args.reached.now (raster_point n c.near_number-q.result)) c.requires.sides (sym c.has_number.ensures ∙ c.if-has_number.true)))
+
 pub loop-rest-smaller-then-has_number : goal.loop-rest-smaller-then-has_number
 loop-rest-smaller-then-has_number g c = rest_less c.args.mask c.loop-rest.invariant.walk.from c.loop-rest.rest c.loop-rest.invariant.walk.left (omega arith) (omega arith)
 

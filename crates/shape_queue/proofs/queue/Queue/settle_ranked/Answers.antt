@@ -13,7 +13,7 @@ returns-then-get-waits-clause-put c = λ key t.
 pub returns-else-get-waits-clause-put : goal.returns-else-get-waits-clause-put
 returns-else-get-waits-clause-put c =
     let i = c.self.inside in
-    let ds = distances_of i.spots in
+    let ds = distances_of i.spots.values in
     let q : Queued = record { distances = ds; waiting = i.waiting } in
     let t = subst (λ (q : Queued). HasKey q.distances c.args.rank c.ranked-key.result) (sym c.self.view_is) c.ranked-key.ensures in
     let same = same_value c.get.result c.args.waits c.if-get-waits.false in

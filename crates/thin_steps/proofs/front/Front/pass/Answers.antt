@@ -3,11 +3,11 @@ use Rattle.shape_terms.specs.Points.{box_count}
 use Rattle.shape_terms.specs.Pictures.{Picture, object_points}
 use Rattle.shape_queue.specs.Keys.{has}
 use Rattle.shape_queue.specs.Ranks.{key_at}
-use Rattle.thin_steps.proofs.ThinnerSteps.{fits_filled, fits_sides, fits_passed, fits_reached, front_reached, front_gone}
+use Rattle.thin_steps.proofs.ThinnerSteps.{fits_filled, fits_sides, fits_passed, fits_begun, fits_reached, front_reached, front_gone}
 use Rattle.thin_steps.proofs.front.Front.pass.Goals as goal
 
 pub ranked-key-requires : goal.ranked-key-requires
-ranked-key-requires g c = fits_passed c.requires.fits c.requires.some
+ranked-key-requires g c = record { inside = fits_passed c.requires.fits c.requires.some; some = fits_begun c.requires.fits }
 
 pub overflow_add-self : goal.overflow_add-self
 overflow_add-self g c =
@@ -24,7 +24,7 @@ pub is_simple-simple-requires-clause-below : goal.is_simple-simple-requires-clau
 is_simple-simple-requires-clause-below g c = omega (arith, c.ranked-key.ensures.inside, fits_filled c.requires.fits)
 
 pub settle_ranked-requires : goal.settle_ranked-requires
-settle_ranked-requires g c = fits_passed c.requires.fits c.requires.some
+settle_ranked-requires g c = record { inside = fits_passed c.requires.fits c.requires.some; some = fits_begun c.requires.fits }
 
 pub returns-then-has-clause-front : goal.returns-then-has-clause-front
 returns-then-has-clause-front g c = λ X marked state h.

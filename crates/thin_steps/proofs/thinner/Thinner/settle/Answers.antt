@@ -1,6 +1,6 @@
 use Rattle.std.proofs.Common.{ap, sym, ◌∙◌, length, arith}
 use Rattle.shape_terms.specs.Adjacency.{near_steps}
-use Rattle.thin_steps.proofs.ThinnerSteps.{some_fits, all_fits, fits_on, one_less, marked_fits, marked_goes, deleted_filled, deleted_sides, deleted_some, deleted_masked, deleted_fits, deleted_goes}
+use Rattle.thin_steps.proofs.ThinnerSteps.{some_fits, all_fits, fits_on, one_less, marked_fits, marked_goes, deleted_filled, deleted_sides, deleted_some, deleted_far, deleted_masked, deleted_fits, deleted_goes}
 use Rattle.thin_steps.proofs.thinner.Thinner.settle.Goals as goal
 
 pub advance-requires : goal.advance-requires
@@ -27,6 +27,9 @@ look_round-requires-clause-some g c = deleted_some c.requires c.take.ensures c.c
 
 pub look_round-requires-clause-filled : goal.look_round-requires-clause-filled
 look_round-requires-clause-filled g c = deleted_filled c.requires c.take.ensures c.clear.ensures (some_fits c.args.self.now.fits)
+
+pub look_round-requires-clause-far : goal.look_round-requires-clause-far
+look_round-requires-clause-far g c = deleted_far c.requires c.take.ensures c.clear.ensures (some_fits c.args.self.now.fits)
 
 pub look_round-requires-clause-masked : goal.look_round-requires-clause-masked
 look_round-requires-clause-masked g c = λ j l o.

@@ -1,0 +1,4 @@
+pub mod BitCounts
+pub mod HeldLaws
+pub mod CopiedCells
+pub mod Forms
