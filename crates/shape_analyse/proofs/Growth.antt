@@ -1,20 +1,18 @@
 -- A report grows by one good line at a time, up to its `near` lines.
 -- One law for each kind of line that is added; those of contours stand in `ContourGrowth`.
-use Rattle.std.proofs.Common.{◌≡◌, ◌+◌, ◌≤◌, ℕ, zero, suc, ℤ, pos, negsuc, ◌≤ℤ◌, List, [], ◌∷◌, ◌++◌, length, map, refl, sym, ap, ◌∙◌, subst, arith, Some, Option}
-use Rattle.std.specs.Prelude.{All, FitsSigned, IsTrue, slice_get, drop}
+use Rattle.std.proofs.Common.{◌≡◌, ◌+◌, ◌≤◌, ℕ, zero, suc, ℤ, pos, negsuc, ◌≤ℤ◌, List, [], ◌∷◌, ◌++◌, length, map, drop, refl, sym, ap, ◌∙◌, subst, arith, Some, Option}
+use Rattle.std.specs.Prelude.{◌<◌, All, FitsSigned, slice_get}
 use Rattle.std.specs.Int.{w32}
 use Rattle.std.proofs.lemmas.Int.{ints}
-use Rattle.std.proofs.lemmas.Bool.{and_parts}
 use Rattle.std.proofs.lemmas.List.{append-nil, append_assoc, length-append, length-drop}
 use Rattle.std.proofs.lemmas.Grind.{flat_map-append}
 use Rattle.std.proofs.lemmas.List.Elements.{All-nil, All-push, All-head, All-tail, All-from_get_or}
 use Rattle.shape_terms.specs.Limits.{most_flat, most_coordinate}
-use Rattle.shape_terms.specs.Points.{Point, coordinate, AreSides, sides_of, in_box, squared_distance}
-use Rattle.shape_terms.specs.Pictures.{Picture, at, object_points, Least}
-use Rattle.shape_terms.specs.FramedBox.{IsWithin}
+use Rattle.shape_terms.specs.Points.{Point, coordinate, AreSides, sides_of}
+use Rattle.shape_terms.specs.Pictures.{Picture, object_points, Least}
 use Rattle.shape_terms.specs.Parts.{Counts}
+use Rattle.shape_terms.specs.FramedBox.{IsWithin}
 use Rattle.text_terms.specs.Forms.{IsName}
-use Rattle.report_terms.specs.Kinds.{weight}
 use Rattle.report_terms.specs.Forms.{last_number}
 use Rattle.report_terms.specs.Lines.{Line, spelling, line_text, text_of, IsLineOf}
 use Rattle.report_terms.specs.Subjects.{IsOnShelf}
@@ -24,13 +22,11 @@ use Rattle.report_terms.proofs.HeadingFirst.{past_heading}
 use Rattle.report_terms.proofs.SectionLaws.{come_none, come_more, come_past, good_at, lines_push, lines_skip}
 use Rattle.text_terms.proofs.FramedFields.{within_short, distance_fits}
 use Rattle.report_terms.proofs.Spelled.{short_line}
-use Rattle.shape_terms.proofs.FramedBoxes.{box_point_within}
-use Rattle.shape_grid.proofs.SideLists.{sides_back, naturals_kept}
-use Rattle.shape_dist.specs.Features.{AreFeatures}
+use Rattle.shape_grid.proofs.SideLists.{sides_back}
 use Rattle.shape_desk.specs.Desk.{DeskState}
 use Rattle.report_text.specs.Telling.{Tells, TellsMore}
 use Rattle.report_text.proofs.Telling.{tells_more}
-use Rattle.shape_analyse.specs.Growing.{Aim, heading_of, HasHeading, AreGood, IsGrowing, IsTextOf}
+use Rattle.shape_analyse.specs.Growing.{Aim, heading_of, HasHeading, AreGood, IsGrowing, IsTextOf, near_line}
 
 -- ---- texts
 
@@ -132,37 +128,27 @@ growing_more X n lines p q s h three fields there least =
       nears = ap length (lines_push Section.Nearest lines l refl) ∙ length-append (lines_of Section.Nearest lines) (l ∷ []) ∙ ap (λ k. k + 1) h.nears;
     }
 
--- ---- what is read off the object points and their features
+-- ---- the object points, one after another
 
--- the object point with a number and its feature, which is a nearest background point, fit a `near` line
-pub record IsNearAt (X : Picture) (i : ℕ) (p q : Point) : Type 0 where
-  pub there : slice_get (object_points X) i ≡ Some p
-  pub least : Least X p q (squared_distance p q)
-  pub fields : IsLineOf (length X.sides) (Line.Near p q (squared_distance p q))
+-- the point with this number comes next, and behind it the rest
+pub next_point : (xs ys : List Point) (i : ℕ) (x : Point) → drop i xs ≡ x ∷ ys → (slice_get xs i ≡ Some x) × (drop (i + 1) xs ≡ ys) × (i < length xs)
+next_point [] ys zero x e = cc
+next_point [] ys (suc i) x e = cc
+next_point (z ∷ xs) ys zero x e =
+    let here : z ≡ x = cc in
+    let rest : xs ≡ ys = cc in
+    (ap Some here, rest, omega arith)
+next_point (z ∷ xs) ys (suc i) x e = let r = next_point xs ys i x e in (r.0, r.1, omega (arith, r.2))
 
-pub near_at : (X : Picture) (qs : List Point) (i : ℕ) (p q : Point) → AreFeatures X qs → slice_get (object_points X) i ≡ Some p → slice_get qs i ≡ Some q → length X.sides ≤ 3
-    → length p ≡ length X.sides → length q ≡ length X.sides → IsWithin (negsuc 0) (pos most_coordinate) p → IsWithin (negsuc 0) (pos most_coordinate) q → IsNearAt X i p q
-near_at X qs i p q are there item three lp lq wp wq = record {
-  there = there;
-  least = are.least i p q there item;
-  fields = (within_short (length X.sides) p lp wp, (within_short (length X.sides) q lq wq, distance_fits p q (omega arith) wp wq));
-}
+-- and all came where none is left
+pub none_left : (xs : List Point) (i : ℕ) → i ≤ length xs → drop i xs ≡ [] → i ≡ length xs
+none_left xs i l e = omega (arith, l, length-drop i xs, ap length e)
 
--- an object point lies within the box
-pub object_within : (X : Picture) (greatest : ℤ) (p : Point) → AreSides greatest (map pos X.sides) → greatest ≤ℤ pos most_flat → IsTrue (at X p) → IsWithin (negsuc 0) (pos most_coordinate) p
-object_within X greatest p range flat is =
-    let inside : IsTrue (in_box (sides_of (map pos X.sides)) p) = rw (naturals_kept X.sides) (and_parts _ _ is).0 in
-    box_point_within greatest (map pos X.sides) p range flat inside
+pub all_get : {A : Type 0} (P : A → Type 0) (xs : List A) (i : ℕ) (x : A) → All P xs → slice_get xs i ≡ Some x → P x
+all_get P [] i x a e = cc
+all_get P (y ∷ xs) zero x a e = let h : y ≡ x = cc in subst P h (All-head P y xs a)
+all_get P (y ∷ xs) (suc i) x a e = all_get P xs i x (All-tail P y xs a) e
 
--- the first of the points from one on is the point with that number, and the others are those from the next one on
-pub first_of_rest : {A : Type 0} (xs : List A) (i : ℕ) (x : A) (rest : List A) → drop i xs ≡ x ∷ rest → (slice_get xs i ≡ Some x) × (drop (i + 1) xs ≡ rest)
-first_of_rest [] i x rest e = cc
-first_of_rest (y ∷ xs) zero x rest e =
-    let h : y ≡ x = cc in
-    let t : xs ≡ rest = cc in
-    (ap Some h, t)
-first_of_rest (y ∷ xs) (suc i) x rest e = first_of_rest xs i x rest e
-
--- where none is left from one on, it is the number of all
-pub none_of_rest : {A : Type 0} (xs : List A) (i : ℕ) → drop i xs ≡ [] → i ≤ length xs → i ≡ length xs
-none_of_rest xs i e l = omega (arith, length-drop i xs, ap length e)
+-- the line of two points near the box
+pub near_fits : (d : ℕ) (p q : Point) → length p ≡ d → length q ≡ d → IsWithin (negsuc 0) (pos most_coordinate) p → IsWithin (negsuc 0) (pos most_coordinate) q → IsLineOf d (near_line p q)
+near_fits d p q lp lq wp wq = (within_short d p lp wp, (within_short d q lq wq, distance_fits p q (lp ∙ sym lq) wp wq))

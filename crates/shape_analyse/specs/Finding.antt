@@ -1,13 +1,13 @@
 -- What is found of a picture before a line of its report is told.
 -- How the lines follow one another, `Growing` says.
 use Rattle.std.specs.Prelude.{◌≡◌, ℕ, List, ◌++◌, Some, length, slice_get}
-use Rattle.shape_terms.specs.Points.{Point}
 use Rattle.shape_terms.specs.Pictures.{Picture, object_points}
 use Rattle.shape_terms.specs.Parts.{Counts}
+use Rattle.shape_terms.specs.Points.{Point}
+use Rattle.shape_dist.specs.Features.{AreFeatures}
 use Rattle.shape_terms.specs.Thinning.{Rule, Stage, IsThinning}
 use Rattle.shape_terms.specs.Shelves.{Named, rules_of}
 use Rattle.report_terms.specs.Subjects.{IsOnShelf}
-use Rattle.shape_dist.specs.Features.{AreFeatures}
 use Rattle.shape_thin.specs.Runs.{Run}
 use Rattle.shape_thin.specs.Laws.{KeepsParts}
 use Rattle.shape_analyse.specs.declared.tally.Extent.{Extent}

@@ -1,7 +1,7 @@
 -- A report while it grows: good lines that have come to a section.
 -- The sections of the `near` lines, of the contours and of the thinning are those with many lines.
 use Rattle.std.specs.Prelude.{◌≡◌, ◌+◌, ◌≤◌, ℕ, List, [], ◌∷◌, length, take, None, All}
-use Rattle.shape_terms.specs.Points.{Point}
+use Rattle.shape_terms.specs.Points.{Point, squared_distance}
 use Rattle.shape_terms.specs.Pictures.{Picture, object_points}
 use Rattle.shape_terms.specs.Traces.{Contour, AreContours}
 use Rattle.shape_terms.specs.Covers.{Stretch}
@@ -119,6 +119,10 @@ HasNears X text = IsTextOf (IsGrowing X (length (object_points X.subject.picture
 -- the text has all lines before those of the thinning
 abbrev pub HasSurveyed : ℕ → Aim → List ℕ → Type 0
 HasSurveyed d X text = IsTextOf (IsSurveyed d X) text
+
+-- the line of a point and a background point that is nearest to it
+abbrev pub near_line : (p q : Point) → Line
+near_line p q = Line.Near p q (squared_distance p q)
 
 -- the line of an event
 abbrev pub event_line : Event → Line

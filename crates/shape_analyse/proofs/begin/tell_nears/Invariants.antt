@@ -1,5 +1,4 @@
-use Rattle.std.proofs.Common.{◌≡◌, ◌≤◌, ℕ, List, length}
-use Rattle.std.specs.Prelude.{drop}
+use Rattle.std.proofs.Common.{◌≡◌, ◌≤◌, ℕ, List, length, drop}
 use Rattle.shape_terms.specs.Pictures.{object_points, objects_from}
 use Rattle.shape_terms.specs.Thinning.{Rule}
 use Rattle.shape_terms.specs.Shelves.{Named}
@@ -12,7 +11,7 @@ abbrev pub invariant-loop-p : goal.invariant-loop-p
 invariant-loop-p g l =
     (goal.iterator-loop-p g).can_next l.p-iterator
     × (goal.iterator-loop-p g).is_finite l.p-iterator
-    × (drop l.number (object_points l.grid) ≡ objects_from l.p-iterator.grid.now l.p-iterator.next)
-    × (l.number ≤ length (object_points l.grid))
+    × (drop l.i (object_points l.grid) ≡ objects_from l.p-iterator.grid.now l.p-iterator.next)
+    × (l.i ≤ length (object_points l.grid))
     × ((shelf : List (Named Rule)) (name : List ℕ) (by : Rule) (begun : DeskState) → Tells (IsTextOf (IsGrowing (aim_of l.grid shelf name by) 0)) begun l.fn.page (g.D.Desk.state l.fn.desk)
-    → Tells (IsTextOf (IsGrowing (aim_of l.grid shelf name by) l.number)) begun l.page (g.D.Desk.state l.desk))
+    → Tells (IsTextOf (IsGrowing (aim_of l.grid shelf name by) l.i)) begun l.page (g.D.Desk.state l.desk))
