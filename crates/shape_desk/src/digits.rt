@@ -1,6 +1,6 @@
-//! The digits of a number, put by the crate `itoa` right where they are to stand.
+//! The digits of a number, put right where they are to stand: of a short one digit by digit, of a longer one by the crate `itoa`.
 //! It puts them from the last on, so it is told where they end; how they are counted may be changed here.
-ghost use Rattle.std.specs.Prelude.{◌≡◌, ◌≤◌, ◌<◌, ◌+◌, length};
+ghost use Rattle.std.specs.Prelude.{◌≡◌, ◌≤◌, ◌<◌, ◌+◌, ◌/◌, ◌%◌, [], ◌∷◌, length};
 ghost use Rattle.std.specs.Fmt.{decimal};
 ghost use Rattle.shape_desk.specs.Putting.{PutsAt};
 
@@ -18,20 +18,48 @@ fn put_counted(n: u64, count: usize, buf: &mut [u8], at: usize) -> usize
     end
 }
 
-// Puts the digits of a number below 1000 at a place of the buffer, and answers the place after them.
+// Puts a digit at a place of the buffer, and answers the place after it.
+#[inline]
+fn put_digit(d: u64, buf: &mut [u8], at: usize) -> usize
+    requires digit { d < 10 }
+    requires room { at + 1 ≤ length buf.old }
+    ensures put { PutsAt ((48 + d) ∷ []) at buf.old buf.new result }
+{
+    buf[at] = b'0' + d as u8;
+    at + 1
+}
+
+// Puts both digits of a number below 100, the first of which may be 0, and answers the place after them.
+#[inline]
+fn put_pair(n: u64, buf: &mut [u8], at: usize) -> usize
+    requires short { n < 100 }
+    requires room { at + 2 ≤ length buf.old }
+    ensures put { PutsAt ((48 + n / 10) ∷ (48 + n % 10) ∷ []) at buf.old buf.new result }
+{
+    let end = put_digit(n / 10, buf, at);
+    put_digit(n % 10, buf, end)
+}
+
+// Puts the digits of a number below 10000 at a place of the buffer, and answers the place after them. Most numbers of a
+// report are as short, and a digit of them costs less than a call.
 pub(crate) fn put_short(n: u64, buf: &mut [u8], at: usize) -> usize
-    requires short { n < 1000 }
-    requires room { at + 3 ≤ length buf.old }
+    requires short { n < 10000 }
+    requires room { at + 4 ≤ length buf.old }
     ensures put { PutsAt (decimal n) at buf.old buf.new result }
-    ensures few { result ≤ at + 3 }
+    ensures few { result ≤ at + 4 }
 {
     if n < 10 {
-        return put_counted(n, 1, buf, at);
+        return put_digit(n, buf, at);
     }
     if n < 100 {
-        return put_counted(n, 2, buf, at);
+        return put_pair(n, buf, at);
     }
-    put_counted(n, 3, buf, at)
+    if n < 1000 {
+        let end = put_digit(n / 100, buf, at);
+        return put_pair(n % 100, buf, end);
+    }
+    let end = put_pair(n / 100, buf, at);
+    put_pair(n % 100, buf, end)
 }
 
 // How many digits a number below 10000 has.

@@ -29,8 +29,7 @@ loop-p-preserved g c =
     let next = next_point (object_points X) _ c.loop-p.i p (c.loop-p.invariant.2 ∙ c.in-Some.ensures.steps) in
     let three : length X.sides ≤ 3 = omega (arith, c.requires.axes, c.requires.few) in
     let fields = subst (λ d. IsLineOf d (near_line p q)) (sym c.requires.axes) c.tell_near.ensures.fields in
-    let least = c.requires.features.least c.loop-p.i p q next.0 c.point.ensures.item in
-    (
+    let least = c.requires.features.least c.loop-p.i p q next.0 c.point.ensures.item in (
       tt,
       tt,
       next.1,
