@@ -146,7 +146,14 @@ impl<'a, P: Point> Findings<'a, P> {
             → slice_get names which ≡ Some name → IsTelling begun [] page.old (D.state desk.old)
             → Tells (IsReportBy (subject_of X rules) name) begun page.new (D.state desk.new) }
     {
-        tell_beginning(self.grid, &self.features, self.rule, self.counted, page, desk);
+        tell_beginning(
+            self.grid,
+            &self.features,
+            self.rule,
+            self.counted,
+            page,
+            desk,
+        );
         page.text(self.outline.lines.text(), desk);
         tell_thinning(&self.thinning, self.counted, page, desk);
     }
