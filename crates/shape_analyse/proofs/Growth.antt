@@ -9,7 +9,7 @@ use Rattle.std.proofs.lemmas.Grind.{flat_map-append}
 use Rattle.std.proofs.lemmas.List.Elements.{All-nil, All-push, All-head, All-tail, All-from_get_or}
 use Rattle.shape_terms.specs.Limits.{most_flat, most_coordinate}
 use Rattle.shape_terms.specs.Points.{Point, coordinate, AreSides, sides_of}
-use Rattle.shape_terms.specs.Pictures.{Picture, object_points, Least}
+use Rattle.shape_terms.specs.Pictures.{object_points, Least}
 use Rattle.shape_terms.specs.Parts.{Counts}
 use Rattle.shape_terms.specs.FramedBox.{IsWithin}
 use Rattle.text_terms.specs.Forms.{IsName}
@@ -138,7 +138,10 @@ next_point (z ∷ xs) ys zero x e =
     let here : z ≡ x = cc in
     let rest : xs ≡ ys = cc in
     (ap Some here, rest, omega arith)
-next_point (z ∷ xs) ys (suc i) x e = let r = next_point xs ys i x e in (r.0, r.1, omega (arith, r.2))
+next_point (z ∷ xs) ys (suc i) x e =
+    let r = next_point xs ys i x e in
+    let next : suc (i + 1) ≡ suc i + 1 = omega arith in
+    (r.0, subst (λ n. drop n (z ∷ xs) ≡ ys) next r.1, omega (arith, r.2))
 
 -- and all came where none is left
 pub none_left : (xs : List Point) (i : ℕ) → i ≤ length xs → drop i xs ≡ [] → i ≡ length xs
@@ -150,5 +153,5 @@ all_get P (y ∷ xs) zero x a e = let h : y ≡ x = cc in subst P h (All-head P 
 all_get P (y ∷ xs) (suc i) x a e = all_get P xs i x (All-tail P y xs a) e
 
 -- the line of two points near the box
-pub near_fits : (d : ℕ) (p q : Point) → length p ≡ d → length q ≡ d → IsWithin (negsuc 0) (pos most_coordinate) p → IsWithin (negsuc 0) (pos most_coordinate) q → IsLineOf d (near_line p q)
-near_fits d p q lp lq wp wq = (within_short d p lp wp, (within_short d q lq wq, distance_fits p q (lp ∙ sym lq) wp wq))
+pub near_fits : (d : ℕ) (p q : Point) → d ≤ 3 → length p ≡ d → length q ≡ d → IsWithin (negsuc 0) (pos most_coordinate) p → IsWithin (negsuc 0) (pos most_coordinate) q → IsLineOf d (near_line p q)
+near_fits d p q few lp lq wp wq = (within_short d p lp wp, (within_short d q lq wq, distance_fits p q (omega (arith, few, lp)) wp wq))

@@ -69,6 +69,7 @@ fn tell_head<P: Point, D: Desk>(
 
 // Tells the `near` line of a point of the box, to which this background point is nearest.
 fn tell_near<P: Point, D: Desk>(sides: Sides<P>, p: P, q: P, page: &mut Page, desk: &mut D)
+    requires few { P.DIM ≤ 3 }
     requires inside { IsTrue (in_box (sides_of (P.coords sides.lengths)) (P.coords p)) }
     requires within { IsWithin (negsuc 0) (pos most_coordinate) (P.coords q) }
     ensures told { TellsMore (line_text (near_line (P.coords p) (P.coords q)))

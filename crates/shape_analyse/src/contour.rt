@@ -8,9 +8,10 @@ ghost use Rattle.shape_cover.specs.Found.{IsCoverOf};
 ghost use Rattle.shape_analyse.specs.Growing.{Aim, HasOutlined, IsTextOf, Stands, IsSomeCover, outlined, covered};
 ghost use Rattle.shape_analyse.specs.Tallies.{HasSegments, HaveCovers};
 
+use report_text::Report;
 use shape_cover::{Cover, cover};
 use shape_crack::{Contour, Contours};
-use shape_report::{Line, Report};
+use shape_report::Line;
 use shape_space::{NoMemory, P2};
 use std::alloc::Global;
 

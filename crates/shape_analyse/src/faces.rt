@@ -9,10 +9,11 @@ ghost use Rattle.shape_analyse.specs.Growing.{Aim, IsTextOf};
 ghost use Rattle.shape_analyse.specs.Tallies.{exposed_in, exposed_count};
 ghost use Rattle.shape_analyse.specs.Facing.{IsFacing, HasFaces, HasPatches, AreFound, IsSomePatch, points_found, at_patch};
 
+use report_text::Report;
 use shape_grid::Grid;
 use shape_plane::{Parting, Patch, patches};
 use shape_refute::Sense;
-use shape_report::{Line, Report};
+use shape_report::Line;
 use shape_space::{NoMemory, P3};
 use std::alloc::Global;
 

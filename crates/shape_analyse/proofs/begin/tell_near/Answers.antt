@@ -13,7 +13,7 @@ line-requires g c =
     let p = g.P.Point.coords c.args.p in
     let q = g.P.Point.coords c.args.q in
     let within = box_point_within g.P.Point.MAX_SIDE (g.P.Point.coords c.args.sides.lengths) p c.args.sides.in_range g.met.P.Point.flat_side c.requires.inside in
-    rw c.squared_distance.ensures (near_fits g.P.Point.DIM p q (g.met.P.Point.axes c.args.p) (g.met.P.Point.axes c.args.q) within c.requires.within)
+    rw c.squared_distance.ensures (near_fits g.P.Point.DIM p q c.requires.few (g.met.P.Point.axes c.args.p) (g.met.P.Point.axes c.args.q) within c.requires.within)
 
 pub returns-clause-told : goal.returns-clause-told
 returns-clause-told g c =
@@ -27,4 +27,4 @@ returns-clause-fields g c =
     let p = g.P.Point.coords c.args.p in
     let q = g.P.Point.coords c.args.q in
     let within = box_point_within g.P.Point.MAX_SIDE (g.P.Point.coords c.args.sides.lengths) p c.args.sides.in_range g.met.P.Point.flat_side c.requires.inside in
-    near_fits g.P.Point.DIM p q (g.met.P.Point.axes c.args.p) (g.met.P.Point.axes c.args.q) within c.requires.within
+    near_fits g.P.Point.DIM p q c.requires.few (g.met.P.Point.axes c.args.p) (g.met.P.Point.axes c.args.q) within c.requires.within

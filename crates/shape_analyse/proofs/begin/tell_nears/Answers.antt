@@ -1,11 +1,12 @@
-use Rattle.std.proofs.Common.{◌≡◌, ◌≤◌, ◌∙◌, length, arith, subst, sym, tt}
+use Rattle.std.proofs.Common.{◌≡◌, ◌≤◌, ◌∙◌, length, arith, subst, sym}
 use Rattle.std.specs.Prelude.{IsTrue}
 use Rattle.std.proofs.lemmas.Bool.{and_parts}
 use Rattle.shape_terms.specs.Points.{in_box}
 use Rattle.shape_terms.specs.Pictures.{at, object_points}
 use Rattle.report_terms.specs.Lines.{IsLineOf}
-use Rattle.shape_analyse.specs.Growing.{aim_of, near_line}
-use Rattle.shape_analyse.proofs.Growth.{tells_line, next_point, all_get, growing_more}
+use Rattle.report_text.specs.Telling.{Tells}
+use Rattle.shape_analyse.specs.Growing.{aim_of, IsGrowing, IsTextOf, near_line}
+use Rattle.shape_analyse.proofs.Growth.{tells_line, next_point, none_left, all_get, growing_more}
 use Rattle.shape_analyse.proofs.begin.tell_nears.Goals as goal
 
 pub point-requires : goal.point-requires
@@ -39,4 +40,8 @@ loop-p-preserved g c =
     )
 
 pub returns : goal.returns
-returns g c = λ shelf name by begun start. ?
+returns g c =
+    let points = object_points c.args.grid.now in
+    let all : c.loop-p.i ≡ length points = none_left points c.loop-p.i c.loop-p.invariant.3 (c.loop-p.invariant.2 ∙ c.in-None.ensures.steps.0) in
+    λ shelf name by begun start.
+    subst (λ n. Tells (IsTextOf (IsGrowing (aim_of c.args.grid.now shelf name by) n)) begun c.loop-p.page (g.D.Desk.state c.loop-p.desk)) all (c.loop-p.invariant.4 shelf name by begun start)

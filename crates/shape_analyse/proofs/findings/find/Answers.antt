@@ -33,3 +33,12 @@ returns-clause-found g c =
       entry = λ rule there. rule_at _ c.args.shelf.now c.args.which c.rule.result.now rule c.rule.ensures.value there;
       thinned = record { stage = _; thinning = run.1; left = refl };
     }
+
+pub invariant_of-result : goal.invariant_of-result
+invariant_of-result g c = record {
+  counts = c.in_ok-counted.ensures;
+  nears = c.in_ok-features.ensures.features c.args.grid.now c.in_ok-field.ensures.field;
+  outline = c.in_ok-outline.ensures.text;
+  extent = c.in_ok-outline.ensures.extent;
+  kept = c.in_ok-thinning.ensures.kept;
+}
