@@ -42,7 +42,8 @@ none_counted sides =
 -- before any object point's place is passed
 pub front_start : (d : ℕ) (X : Picture) (ds : List ℕ) (keys : Key → Bool) (state : List ℕ) → IsPicture d X → AreDistances X ds → ((k : Key) → keys k ≡ false)
     → (reached : Picture) → reached ≡ blank X.sides → (ds' : List ℕ) → ds' ≡ ds → (n : ℕ) → n ≡ length (object_points X)
-    → (first : ℕ) → first ≡ background ds' → IsFrontOf X (stage_of X [] state) (record { reached = reached; distances = ds'; keys = keys; passed = first; ahead = n })
+    → (first : ℕ) → first ≡ background ds'
+    → IsFrontOf X (stage_of X [] state) (record { reached = reached; distances = ds'; keys = keys; passed = first; ahead = n })
 front_start d X ds keys state w h none reached r ds' e n c first b = rw (r, b, e, c) (record {
   stands = record {
     sides = refl;

@@ -23,7 +23,8 @@ module _ {A : Type 0} (none : A) (cell : ℕ → ℕ) (kept : List Bool) where
   pub length-laid : (cells : List A) → length (laid none cell kept cells) ≡ length kept
   length-laid cells = length-map-range_with_len (λ i. if get_or kept i false then get_or cells (cell i) none else none) 0 (length kept)
 
-  item_in : (i : ℕ) (cells : List A) → i < length kept → get_or (laid none cell kept cells) i none ≡ (if get_or kept i false then get_or cells (cell i) none else none)
+  item_in : (i : ℕ) (cells : List A) → i < length kept
+      → get_or (laid none cell kept cells) i none ≡ (if get_or kept i false then get_or cells (cell i) none else none)
   item_in i cells l = get_or-map-range_with_len (λ i. if get_or kept i false then get_or cells (cell i) none else none) 0 (length kept) i i none l (omega arith)
 
   item_at : (i : ℕ) (cells : List A) → get_or kept i false ≡ true → get_or (laid none cell kept cells) i none ≡ get_or cells (cell i) none
@@ -51,11 +52,13 @@ module _ {A : Type 0} (none : A) (cell : ℕ → ℕ) (kept : List Bool) where
         let n = length-laid cells in
         let n' = length-laid (set cells (cell i) x) in
         let w = true_within kept i t in
-        ext_get_or none (laid none cell kept (set cells (cell i) x)) (set (laid none cell kept cells) i x) (n' ∙ sym (length-set (laid none cell kept cells) i x ∙ n)) (λ j m.
+        ext_get_or none (laid none cell kept (set cells (cell i) x)) (set (laid none cell kept cells) i x)
+        (n' ∙ sym (length-set (laid none cell kept cells) i x ∙ n)) (λ j m.
         let inside : j < length kept = omega (arith, m, n') in
         elim (ℕ_discrete j i) [
           | yes q ↦ (
-              ap (λ j. get_or (laid none cell kept (set cells (cell i) x)) j none) q ∙ item_at i (set cells (cell i) x) t ∙ get_or-set_same cells (cell i) x none (h.within i t)
+              ap (λ j. get_or (laid none cell kept (set cells (cell i) x)) j none) q ∙ item_at i (set cells (cell i) x) t
+              ∙ get_or-set_same cells (cell i) x none (h.within i t)
               ∙ sym (ap (λ j. get_or (set (laid none cell kept cells) i x) j none) q
               ∙ get_or-set_same (laid none cell kept cells) i x none (omega (arith, w, n))))
           | no d ↦ elim (true_or_false (get_or kept j false)) [

@@ -201,4 +201,5 @@ module _ (X : Picture) (s : Stage) (f : Reach) (h : IsFrontOf X s f) (i : ℕ) (
     pub front_met : (reached' : Picture) → reached' ≡ with_value f.reached (raster_point X.sides i) true → (new : Key → Bool) (b : Bool) → (b ≡ true) ↔ IsSimple s.left (raster_point X.sides i)
         → Put f.keys new (key_at f.distances i) b → (n : ℕ) → n + 1 ≡ f.ahead
         → IsFrontOf X s (record { reached = reached'; distances = f.distances; keys = new; passed = f.passed + 1; ahead = n })
-    front_met reached' e new b is put n c = rw e (record { stands = stands_met; waits = waits_met new b is put; rest = rest_met n c; begun = let b = h.begun in omega arith })
+    front_met reached' e new b is put n c = rw e
+        (record { stands = stands_met; waits = waits_met new b is put; rest = rest_met n c; begun = let b = h.begun in omega arith })

@@ -125,12 +125,14 @@ none_queued ds waiting none = record {
 }
 
 -- the parts of a queue when the key is put in or taken out by its rank
-module _ {ds : List ℕ} {spots : Held Spot} {first : ℕ} {keys : List Key} {waiting : List ℕ} {queued : List Bool} {latest : Option RankedKey} (h : AreFitting ds spots first keys waiting queued latest)
+module _ {ds : List ℕ} {spots : Held Spot} {first : ℕ} {keys : List Key} {waiting : List ℕ} {queued : List Bool} {latest : Option RankedKey}
+    (h : AreFitting ds spots first keys waiting queued latest)
     {r : ℕ} {key : Key} (t : HasKey ds r key) (behind : background ds ≤ r) where
   pub rank_within : r < 64 * length waiting
   rank_within = let s = rank_small ds key.place t.inside in omega (arith, s, t.ranked, h.room)
 
-  pub fitting_put : {waiting' : List ℕ} {queued' : List Bool} {latest' : Option RankedKey} (b : Bool) → IsPut waiting waiting' r (bool_of b) → queued' ≡ set queued key.place b
+  pub fitting_put : {waiting' : List ℕ} {queued' : List Bool} {latest' : Option RankedKey} (b : Bool) → IsPut waiting waiting' r (bool_of b)
+      → queued' ≡ set queued key.place b
       → IfSome latest' (λ l. HasKey ds l.rank l.key) → AreFitting ds spots first keys waiting' queued' latest'
   fitting_put {waiting'} {queued'} {latest'} b p e last = record {
     few = h.few;
@@ -146,7 +148,8 @@ module _ {ds : List ℕ} {spots : Held Spot} {first : ℕ} {keys : List Key} {wa
       filled = ap length e ∙ length-set queued key.place b ∙ h.queued_are.filled;
       each = λ i l. ap (λ v. get_or v i false) e ∙ elim (ℕ_discrete i key.place) [
         | yes g ↦ (
-            ap (λ i. get_or (set queued key.place b) i false) g ∙ get_or-set_same queued key.place b false (let f = h.queued_are.filled in let m = t.inside in omega (arith, f, m))
+            ap (λ i. get_or (set queued key.place b) i false) g
+            ∙ get_or-set_same queued key.place b false (let f = h.queued_are.filled in let m = t.inside in omega (arith, f, m))
             ∙ sym (ap (λ i. eqb (bit_of waiting' (rank_in ds i)) 1) g ∙ ap (λ x. eqb (bit_of waiting' x) 1) t.ranked ∙ ap (λ x. eqb x 1) p.here ∙ bit_test b))
         | no n ↦ (
             get_or-set_other queued key.place i b false n ∙ h.queued_are.each i l
@@ -174,7 +177,8 @@ module _ (q : Queued) {r : ℕ} {key : Key} (t : HasKey q.distances r key) (leas
       omega (arith, a, e, t.ranked))
 
 -- no key is there exactly where no rank waits
-pub empty_tells : (q : Queued) → ((r : ℕ) → In q.waiting r → (background q.distances ≤ r) × (r < length q.distances)) → (o : Option ℕ) → MatchOption o ((r : ℕ) → In q.waiting r → ⊥) (IsLeast q.waiting)
+pub empty_tells : (q : Queued) → ((r : ℕ) → In q.waiting r → (background q.distances ≤ r) × (r < length q.distances)) → (o : Option ℕ)
+    → MatchOption o ((r : ℕ) → In q.waiting r → ⊥) (IsLeast q.waiting)
     → (is_none o ≡ true) ↔ ((k : Key) → has q k ≡ false)
 empty_tells q inside None none = (λ t. none_has q none, λ n. refl)
 empty_tells q inside (Some r) least = (

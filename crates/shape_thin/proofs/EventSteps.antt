@@ -31,7 +31,8 @@ done_is : (places : List ℕ) (tips : List Bool) (i : ℕ) → i < length places
 done_is places tips i l = get_or-map-range_with_len (done_at places tips) 0 (length places) i i nothing l (omega arith)
 
 -- what is read at a place of the list
-pub done_read : (places : List ℕ) (tips : List Bool) (e : EventList) → record { done = all_done places tips; room = length tips } ≡ e → (i p : ℕ) (t : Bool) → i < length places
+pub done_read : (places : List ℕ) (tips : List Bool) (e : EventList) → record { done = all_done places tips; room = length tips } ≡ e
+    → (i p : ℕ) (t : Bool) → i < length places
     → p ≡ slice_index places i → t ≡ get_or tips i false → slice_get e.done i ≡ Some (record { place = p; tips = t })
 done_read places tips e is i p t l a b = subst (λ (e : EventList). slice_get e.done i ≡ Some (record { place = p; tips = t })) is (
     slice_get-get_or (all_done places tips) i nothing (let n = length-done places tips in omega (arith, l, n))

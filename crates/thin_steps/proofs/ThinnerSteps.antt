@@ -174,13 +174,15 @@ module _ {P : Type 0} {left : Picture} {f f' : Reach} {n : Next P} {q : Point} (
 
       pub deleted_some : IsSubset f'.reached left'
       deleted_some r o = ∥∥₁_elim fits (Prim.hlevel props) (λ a.
-          let s = deleted_stands_at a.opening a.marked a.state left f a.front (key_of n) next.there q next.place f'.reached (less a) f'.keys taken.put a.state left' left_without in
+          let s = deleted_stands_at a.opening a.marked a.state left f a.front (key_of n) next.there q next.place f'.reached
+          (less a) f'.keys taken.put a.state left' left_without in
           ((s.reached_is r).0 o).0)
 
       -- each point that is reached has a distance of 1 or more
       pub deleted_far : (i : ℕ) → i < box_count left'.sides → Object f'.reached (raster_point left'.sides i) → 0 < slice_index f'.distances i
       deleted_far i l o = ∥∥₁_elim fits (Prim.hlevel props) (λ a.
-          let s = deleted_stands_at a.opening a.marked a.state left f a.front (key_of n) next.there q next.place f'.reached (less a) f'.keys taken.put a.state left' left_without in
+          let s = deleted_stands_at a.opening a.marked a.state left f a.front (key_of n) next.there q next.place f'.reached
+          (less a) f'.keys taken.put a.state left' left_without in
           let d = s.some (raster_point left'.sides i) ((s.reached_is (raster_point left'.sides i)).0 o).0 in
           let e = ap (λ z. raster_number z (raster_point left'.sides i)) (sym s.sides) ∙ raster_number-raster_point left'.sides i l in
           let h = ap (slice_index f'.distances) e in

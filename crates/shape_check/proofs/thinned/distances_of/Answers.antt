@@ -22,7 +22,8 @@ same_sides X Y sides e f = subst (λ Z. sides ≡ Z.sides) f e
 -- the place of an object point has a cell
 cell_there : (X : Picture) (kept : List Bool) (i : ℕ) → ((k : ℕ) → get_or X.values k false ≡ true → get_or kept k false ≡ true)
     → i < box_count X.sides → Object X (raster_point X.sides i) → get_or kept i false ≡ true
-cell_there X kept i cells l o = cells i (ap (λ k. get_or X.values k false) (sym (raster_number-raster_point X.sides i l)) ∙ (and_parts (in_box X.sides (raster_point X.sides i)) _ o).1)
+cell_there X kept i cells l o = cells i
+    (ap (λ k. get_or X.values k false) (sym (raster_number-raster_point X.sides i l)) ∙ (and_parts (in_box X.sides (raster_point X.sides i)) _ o).1)
 
 pub loop-i-init : goal.loop-i-init
 loop-i-init g c =

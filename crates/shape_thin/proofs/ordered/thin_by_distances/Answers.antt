@@ -27,7 +27,8 @@ loop-next-init g c =
     let X = c.args.grid.now in
     record {
       same = search rules;
-      stands = rw c.in_ok-events.ensures.none (subst (λ s. StandsFor rule X [] s c.in_ok-thinner.thinner) (sym c.begin.ensures.opened) (c.in_ok-thinner.ensures.stands rule));
+      stands = rw c.in_ok-events.ensures.none
+          (subst (λ s. StandsFor rule X [] s c.in_ok-thinner.thinner) (sym c.begin.ensures.opened) (c.in_ok-thinner.ensures.stands rule));
       places = rw c.in_ok-events.ensures.none (All-nil (λ (d : Done). d.place < box_count X.sides));
       count = rw c.in_ok-events.ensures.none (let r = c.in_ok-thinner.ensures.room in omega arith);
       room = c.in_ok-events.ensures.room ∙ c.count.ensures;
@@ -49,14 +50,18 @@ loop-next-preserved g c =
     let done : Done = record { place = n.place; tips = c.ask-tips.result } in
     let told = sym (ap (λ (r : Rule). r.marks state (facts_of n.facts)) i.same) ∙ sym c.ask-tips.ensures.answer in
     let moved = c.ask-tips.ensures.moved ∙ ap (λ (r : Rule). r.next state (facts_of n.facts)) i.same in
-    let pushed = events_push X.sides c.loop-next.events.done n.place c.ask-tips.result (g.P.Point.coords n.point) (c.in-Some.ensures.place ∙ ap (λ z. raster_point z n.place) sides) in
+    let pushed = events_push X.sides c.loop-next.events.done n.place c.ask-tips.result (g.P.Point.coords n.point)
+    (c.in-Some.ensures.place ∙ ap (λ z. raster_point z n.place) sides) in
     record {
       same = c.ask-tips.ensures.same_rule ∙ i.same;
       stands = rw (items, moved, pushed) (c.settle.ensures.stands rule X (events_at X.sides c.loop-next.events.done) state i.stands told);
-      places = rw items (All-push (λ (d : Done). d.place < box_count X.sides) c.loop-next.events.done done i.places (subst (λ z. n.place < box_count z) sides c.in-Some.ensures.inside));
+      places = rw items
+          (All-push (λ (d : Done). d.place < box_count X.sides) c.loop-next.events.done done i.places
+          (subst (λ z. n.place < box_count z) sides c.in-Some.ensures.inside));
       count = let m = ap length items ∙ length_push c.loop-next.events.done done in let h = i.count in let r = c.settle.ensures.room in omega arith;
       room = c.in_ok-push.ensures.room ∙ i.room;
-      few = few_more g.P.Pairing.NEAR_COUNT _ (c.loop-next.steps + ahead_of c.loop-next.thinner) _ (length c.loop-next.events.done) _ (ap length items ∙ length_push c.loop-next.events.done done) i.few c.settle.ensures.few;
+      few = few_more g.P.Pairing.NEAR_COUNT _ (c.loop-next.steps + ahead_of c.loop-next.thinner) _ (length c.loop-next.events.done) _
+          (ap length items ∙ length_push c.loop-next.events.done done) i.few c.settle.ensures.few;
     }
 
 pub of-requires : goal.of-requires
@@ -72,7 +77,8 @@ returns-clause-thinning g c =
     let i = c.loop-next.invariant in
     let t = c.loop-next.thinner in
     let sides = ap (λ (Y : Picture). Y.sides) c.into_left.ensures ∙ i.stands.front.stands.sides in
-    let events : c.of.result.events ≡ events_at c.args.grid.now.sides c.loop-next.events.done = c.of.ensures.events ∙ ap (λ n. events_at n c.loop-next.events.done) sides in
+    let events : c.of.result.events ≡ events_at c.args.grid.now.sides c.loop-next.events.done = c.of.ensures.events
+    ∙ ap (λ n. events_at n c.loop-next.events.done) sides in
     rw (events, c.of.ensures.left, c.into_left.ensures)
     (i.stands.marked, (i.stands.thins, going_end _ c.args.grid.now _ _ t.left (reach_of t.front) i.stands c.in_default.ensures.0 c.in_default.ensures.1))
 

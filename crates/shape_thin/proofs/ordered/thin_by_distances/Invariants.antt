@@ -9,7 +9,8 @@ use Rattle.shape_thin.proofs.ordered.thin_by_distances.Given as goal
 abbrev pub invariant-loop-next : goal.invariant-loop-next
 invariant-loop-next g l = record {
   same : (g.dyn-1.0.entry l.rule.vtable).1.means l.rule.value ≡ (g.dyn-1.0.entry l.fn.rule.vtable).1.means l.fn.rule.value;
-  stands : StandsFor ((g.dyn-1.0.entry l.fn.rule.vtable).1.means l.fn.rule.value) l.grid (events_at l.grid.sides l.events.done) ((g.dyn-1.0.entry l.rule.vtable).1.state l.rule.value) l.thinner;
+  stands : StandsFor ((g.dyn-1.0.entry l.fn.rule.vtable).1.means l.fn.rule.value) l.grid (events_at l.grid.sides l.events.done)
+      ((g.dyn-1.0.entry l.rule.vtable).1.state l.rule.value) l.thinner;
   places : All (λ d. d.place < box_count l.grid.sides) l.events.done;
   count : length l.events.done + room_of l.thinner ≡ length (object_points l.grid);
   room : l.events.room ≡ length (object_points l.grid);

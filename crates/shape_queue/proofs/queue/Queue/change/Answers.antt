@@ -20,7 +20,8 @@ pub returns-then-waits-clause-put : goal.returns-then-waits-clause-put
 returns-then-waits-clause-put c =
     let i = c.self.inside in
     let t = subst (λ (q : Queued). HasKey q.distances c.args.ranked.rank c.args.ranked.key) (sym c.self.view_is) c.requires.key in
-    rw (c.if-waits.true, ← c.self.view_is) (put_key (record { distances = distances_of i.spots.values; waiting = i.waiting }) t c.insert.new.self true c.insert.ensures)
+    rw (c.if-waits.true, ← c.self.view_is)
+    (put_key (record { distances = distances_of i.spots.values; waiting = i.waiting }) t c.insert.new.self true c.insert.ensures)
 
 pub remove-requires : goal.remove-requires
 remove-requires c =
@@ -38,4 +39,5 @@ pub returns-else-waits-clause-put : goal.returns-else-waits-clause-put
 returns-else-waits-clause-put c =
     let i = c.self.inside in
     let t = subst (λ (q : Queued). HasKey q.distances c.args.ranked.rank c.args.ranked.key) (sym c.self.view_is) c.requires.key in
-    rw (c.if-waits.false, ← c.self.view_is) (put_key (record { distances = distances_of i.spots.values; waiting = i.waiting }) t c.remove.new.self false c.remove.ensures)
+    rw (c.if-waits.false, ← c.self.view_is)
+    (put_key (record { distances = distances_of i.spots.values; waiting = i.waiting }) t c.remove.new.self false c.remove.ensures)

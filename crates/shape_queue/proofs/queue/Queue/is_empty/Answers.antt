@@ -8,4 +8,5 @@ pub returns : goal.returns
 returns c =
     let i = c.self.inside in
     let e : c.is_none.result ≡ is_none c.least.result = search rules in
-    rw (← c.self.view_is, e) (empty_tells (record { distances = distances_of i.spots.values; waiting = i.waiting }) c.self.invariant.inside c.least.result c.least.ensures)
+    rw (← c.self.view_is, e)
+    (empty_tells (record { distances = distances_of i.spots.values; waiting = i.waiting }) c.self.invariant.inside c.least.result c.least.ensures)

@@ -5,7 +5,8 @@ use Rattle.shape_queue.proofs.QueueSteps.{none_has, none_queued}
 use Rattle.shape_queue.proofs.queue.Queue.new.Goals as goal
 
 pub returns-clause-none : goal.returns-clause-none
-returns-clause-none c = none_has (record { distances = distances_of c.in_ok-spots.spots.values; waiting = c.in_ok-waiting.waiting }) c.in_ok-waiting.ensures.empty
+returns-clause-none c = none_has
+    (record { distances = distances_of c.in_ok-spots.spots.values; waiting = c.in_ok-waiting.waiting }) c.in_ok-waiting.ensures.empty
 
 pub returns-clause-distances : goal.returns-clause-distances
 returns-clause-distances c = distances_back c.args.distances.values c.in_ok-spots.spots c.in_ok-spots.ensures

@@ -20,13 +20,16 @@ pub returns-clause-long : goal.returns-clause-long
 returns-clause-long c =
     let n = c.len-len.ensures in
     let same = same_kept c.args.distances.now c.len-len.result n.places n.marks c.clamp-width.result c.in_ok-objects.objects c.in_ok-objects.ensures in
-    rw c.in_ok-cells.ensures (new_long c.clamp-width.result c.len-len.result c.args.distances.now.kept (n.marks ∙ sym n.places) c.in_ok-objects.objects same c.room_of-room.result ∙ n.places)
+    rw c.in_ok-cells.ensures
+    (new_long c.clamp-width.result c.len-len.result c.args.distances.now.kept
+    (n.marks ∙ sym n.places) c.in_ok-objects.objects same c.room_of-room.result ∙ n.places)
 
 pub returns-clause-none : goal.returns-clause-none
 returns-clause-none c =
     let n = c.len-len.ensures in
     let same = same_kept c.args.distances.now c.len-len.result n.places n.marks c.clamp-width.result c.in_ok-objects.objects c.in_ok-objects.ensures in
-    rw c.in_ok-cells.ensures (new_none c.clamp-width.result c.len-len.result c.args.distances.now.kept (n.marks ∙ sym n.places) c.in_ok-objects.objects same c.room_of-room.result)
+    rw c.in_ok-cells.ensures
+    (new_none c.clamp-width.result c.len-len.result c.args.distances.now.kept (n.marks ∙ sym n.places) c.in_ok-objects.objects same c.room_of-room.result)
 
 pub invariant_of-result : goal.invariant_of-result
 invariant_of-result c =

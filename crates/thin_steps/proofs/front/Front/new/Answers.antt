@@ -6,7 +6,8 @@ use Rattle.thin_steps.proofs.front.Front.new.Goals as goal
 
 pub returns-clause-front : goal.returns-clause-front
 returns-clause-front g c = λ state.
-    front_start g.P.Point.DIM c.args.grid.now c.args.distances.values (has c.in_ok-keys.keys) state c.is_picture.ensures.picture c.requires c.in_ok-keys.ensures.none
+    front_start g.P.Point.DIM c.args.grid.now c.args.distances.values
+    (has c.in_ok-keys.keys) state c.is_picture.ensures.picture c.requires c.in_ok-keys.ensures.none
     _ (c.in_ok-reached.ensures ∙ ap blank c.sides-sides.ensures.value) _ c.in_ok-keys.ensures.distances _ c.count.ensures _ c.first_rank-passed.ensures
 
 pub returns-clause-room : goal.returns-clause-room
