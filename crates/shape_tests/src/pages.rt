@@ -14,7 +14,7 @@ fn desk(alloc: Global, room: usize) -> Result<MemoryDesk, Fail> {
         Vec::new(alloc),
         Vec::new(alloc),
         Vec::new(alloc),
-        1000,
+        999,
         room,
     )?)
 }
