@@ -126,6 +126,7 @@ impl<P: Point> Scans<P> {
     }
 
     /// The squared distance of an object point and a nearest background point of the whole space.
+    #[inline(always)]
     pub fn least(&self, p: P) -> u32
         requires { IsTrue (at self.now (P.coords p)) }
         ensures { IsLeastSquare self.now (P.coords p) result }
