@@ -1,6 +1,6 @@
 -- What is left at a place that was begun is the file with the name.
 -- Laws of what a desk tells, over plain values.
-use Rattle.std.proofs.Common.{◌≡◌, inl, ◌≤◌, ℕ, List}
+use Rattle.std.proofs.Common.{inl, ◌≤◌, ℕ, List}
 use Rattle.std.specs.Prelude.{Option, None, Some, Result, Ok, Err}
 use Rattle.shape_terms.specs.Pictures.{Picture}
 use Rattle.shape_terms.specs.Thinning.{Rule}

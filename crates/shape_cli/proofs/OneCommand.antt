@@ -1,6 +1,6 @@
 -- Words spell one command at most, so what `run` says of the words is said of the command.
 -- That no two first words are the same is found by computing, for all kinds of reports at once.
-use Rattle.std.proofs.Common.{◌≡◌, ◌⊎◌, inl, inr, ℕ, ◌<◌, ◌≤◌, ◌^◌, List, [], ◌∷◌, ◌++◌, None, Some, get_or, refl, ap, sym, subst, ◌∙◌, arith}
+use Rattle.std.proofs.Common.{◌≡◌, ◌⊎◌, inl, inr, ℕ, ◌<◌, ◌≤◌, ◌^◌, List, [], ◌∷◌, ◌++◌, Some, get_or, refl, ap, sym, subst, ◌∙◌, arith}
 use Rattle.std.specs.Prelude.{◌↔◌}
 use Rattle.std.specs.Fmt.{decimal}
 use Rattle.std.proofs.lemmas.Fmt.{decimal_injective}
@@ -8,7 +8,7 @@ use Rattle.shape_terms.specs.Thinning.{Rule}
 use Rattle.shape_terms.specs.Shelves.{Named, names_of}
 use Rattle.shape_desk.specs.Desk.{DeskState}
 use Rattle.shape_cli.specs.Sources.{Kind, Source, HasSides, source_words, kind_word, most_trial_side}
-use Rattle.shape_cli.specs.Kinds.{ReportKind, Wanted, kind_of, last_words}
+use Rattle.shape_cli.specs.Kinds.{Wanted, kind_of, last_words}
 use Rattle.shape_cli.specs.Commands.{Asked, First, first_of, first_word, words_of, begin_with, HasNumbers, AreTrial, IsInRange, IsNoForm, Asks, trial_words}
 use Rattle.shape_cli.specs.Runs.{Ran}
 use Rattle.shape_cli.specs.Complete.{HasRun}

@@ -1,6 +1,6 @@
 -- What the program reads of the words: the one command that they spell, or that they spell none.
 -- Laws of words and of what is read of them, part by part.
-use Rattle.std.proofs.Common.{◌≡◌, ℕ, List, [], ◌∷◌, ◌++◌, append-nil, Option, None, Some, Bool, true, false, refl, ap, sym, subst, ◌∙◌}
+use Rattle.std.proofs.Common.{◌≡◌, ℕ, List, [], ◌∷◌, ◌++◌, Option, None, Some, Bool, true, false, refl, ap, sym, subst, ◌∙◌}
 use Rattle.std.proofs.lemmas.Bool.{false≢true}
 use Rattle.std.specs.Prelude.{◌↔◌, Contains, IsTrue, MatchOption, is_some, not, slice_get}
 use Rattle.std.proofs.lemmas.Option.{slice_get_within, get_or_from_slice_get}
@@ -8,9 +8,8 @@ use Rattle.shape_terms.specs.Thinning.{Rule}
 use Rattle.shape_terms.specs.Shelves.{Named, names_of}
 use Rattle.shape_desk.specs.Desk.{DeskState}
 use Rattle.shape_cli.specs.Sources.{Source, HasSides, kind_at, source_words}
-use Rattle.shape_cli.specs.Further.{FurtherKind}
 use Rattle.shape_cli.specs.Kinds.{ReportKind, Wanted, Takes, IsNamed, IsFound, read_wanted}
-use Rattle.shape_cli.specs.Commands.{Asked, First, first_of, first_word, words_of, rest_of, IsInRange, IsNoForm, IsNoRest, IsNoSourceFor, IsRead, IsAtHand, Asks, read_command}
+use Rattle.shape_cli.specs.Commands.{Asked, First, first_of, first_word, words_of, rest_of, IsInRange, IsNoForm, IsNoRest, IsRead, IsAtHand, Asks, read_command}
 use Rattle.shape_cli.specs.Runs.{Ran}
 use Rattle.shape_cli.specs.declared.command.Command.{Command}
 use Rattle.shape_cli.specs.declared.command.Command.TheVariants as command

@@ -1,8 +1,3 @@
-use Rattle.std.proofs.Common.{[]}
-use Rattle.report_terms.specs.Subjects.{subject_of}
-use Rattle.shape_terms.specs.Shelves.{names_of}
-use Rattle.shape_rules.specs.Ruled.{rules_on}
-use Rattle.shape_cli.specs.Parts.{picture_of}
 use Rattle.shape_cli.proofs.Wrote.{wrote_whole, wrote_front}
 use Rattle.shape_cli.proofs.making.write_analysis.Goals as goal
 

@@ -15,6 +15,6 @@ confirm-requires g c =
 pub returns : goal.returns
 returns g c =
     let r = last_rule _ c.args.shelf.now c.len-last.result c.len-last.ensures.len c.has_names.ensures.some in
-    let tally = c.tally.ensures _ _ _ _ r.0 c.in_ok-analysis.ensures.found r.1 in
-    let right = subst (λ X. IsTallyOf X r.0 c.tally.result) c.in_ok-image.ensures tally in
+    let tally = c.tally-tally.ensures _ _ _ _ r.0 c.in_ok-analysis.ensures.found r.1 in
+    let right = subst (λ X. IsTallyOf X r.0 c.tally-tally.result) c.in_ok-image.ensures tally in
     record { rule = r.0; last = r.2; right = right }
