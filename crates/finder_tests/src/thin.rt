@@ -3,7 +3,7 @@
 ghost use Rattle.std.specs.Prelude.{◌≡◌, ◌≤◌};
 
 use crate::pictures::square;
-use shape_dist::nearest;
+use shape_dist::survey;
 use shape_grid::Grid;
 use shape_rules::{EndRule, NoEnds};
 use shape_space::{NoMemory, P2, Steps};
@@ -30,9 +30,9 @@ fn counted<L: Ledger>(
     requires parts { blank.parts ≡ L.parts }
     requires whole { blank.parts ≡ 1 }
 {
-    let field = nearest(alloc, grid)?;
+    let distances = survey(alloc, grid)?.distances;
     let mut steps = Steps::<L>::new(blank);
-    let thinning = thin(alloc, grid, &field, rule, &mut steps)?;
+    let thinning = thin(alloc, grid, distances, rule, &mut steps)?;
     if grid.count() != 9 || thinning.len() != 8 {
         return Err(NoMemory);
     }

@@ -12,7 +12,7 @@ use Rattle.shape_terms.proofs.Boxes.{raster_below, raster_point_in, raster_point
 use Rattle.shape_terms.proofs.FramedNumbers.{framed_number_below, framed_point-framed_number, framed_number-framed_point}
 use Rattle.shape_terms.proofs.FramedEnds.{in_box_in_frame}
 use Rattle.judge_field.specs.Scanned.{AreObjects}
-use Rattle.judge_field.proofs.NextObjects.{AreBlank, IsNext}
+use Rattle.shape_terms.proofs.NextObjects.{AreBlank, IsNext}
 
 -- each object point with a raster number below n has the value true, and each background point false
 pub record HasFound (X : Picture) (n : ℕ) (values : List Bool) : Type 0 where

@@ -5,7 +5,7 @@ ghost use Rattle.std.specs.Bool.{OnTrue};
 ghost use Rattle.shape_terms.specs.Pictures.{Picture, object_points};
 ghost use Rattle.shape_terms.specs.Thinning.{Rule, Event, Stage, ThinsTo};
 ghost use Rattle.shape_terms.specs.Following.{IsNextEvent, AreAllEvents};
-ghost use Rattle.shape_queue.specs.Distances.{AreDistances};
+ghost use Rattle.shape_terms.specs.Distances.{AreDistances};
 ghost use Rattle.shape_queue.specs.Events.{event_by};
 
 use crate::uncounted::{begun, settled};

@@ -3,7 +3,7 @@
 ghost use Rattle.std.specs.Prelude.{◌≡◌, ◌+◌, [], length, IfOk};
 ghost use Rattle.shape_terms.specs.Pictures.{object_points};
 ghost use Rattle.shape_terms.specs.Thinning.{Rule};
-ghost use Rattle.shape_queue.specs.Distances.{AreDistances};
+ghost use Rattle.shape_terms.specs.Distances.{AreDistances};
 ghost use Rattle.thin_steps.specs.Standing.{StandsFor, room_of, IsNextOf, GoesOn};
 
 use shape_cells::Cells;

@@ -8,7 +8,7 @@ ghost use Rattle.report_text.specs.Telling.{IsTelling, TellsMore};
 use crate::line::ReportLine;
 use crate::report::WriteFault;
 use crate::text::Text;
-use shape_desk::{Desk, put_all, put_word};
+use shape_desk::{Desk, put_all};
 use shape_space::NoMemory;
 use std::alloc::Global;
 use std::marker::Model;
@@ -40,6 +40,7 @@ impl Model for Page {
 }
 
 // Writes bytes that wait, and answers that none waits then; nothing once a write failed.
+#[inline(never)]
 fn write_out<D: Desk>(waiting: &[u8], desk: &mut D) -> Option<usize>
     ensures telling { TellsMore [] (Some waiting.now) (option_map (λ n. []) result)
         (D.state desk.old) (D.state desk.new) }
@@ -52,6 +53,7 @@ fn write_out<D: Desk>(waiting: &[u8], desk: &mut D) -> Option<usize>
 }
 
 // Where so many bytes may stand on a page of which a front waits: behind that, or at the front once that was written.
+#[inline(always)]
 fn place_on<D: Desk>(page: &[u8], filled: usize, count: usize, desk: &mut D) -> Option<usize>
     requires within { filled ≤ length page.now }
     requires fits { count ≤ length page.now }
@@ -66,8 +68,8 @@ fn place_on<D: Desk>(page: &[u8], filled: usize, count: usize, desk: &mut D) -> 
 }
 
 // Puts a line with its LF on a page of which a front waits, and answers how much waits then.
-fn put_line<D: Desk>(line: &[u8], page: &mut [u8], filled: usize, desk: &mut D) -> Option<usize>
-    requires short { length line.now ≤ 1024 }
+#[inline(always)]
+fn put_line<D: Desk>(line: &Text, page: &mut [u8], filled: usize, desk: &mut D) -> Option<usize>
     requires size { length page.old ≡ 65536 }
     requires within { filled ≤ 65536 }
     ensures within { IfSome result (λ n. n ≤ 65536) }
@@ -75,9 +77,8 @@ fn put_line<D: Desk>(line: &[u8], page: &mut [u8], filled: usize, desk: &mut D) 
     ensures telling { TellsMore (line.now ++ 10 ∷ []) (Some (take filled page.old))
         (option_map (λ n. take n page.new) result) (D.state desk.old) (D.state desk.new) }
 {
-    let at = place_on(page, filled, line.len() + 1, desk)?;
-    let end = put_word(line, page, at);
-    Some(put_word(b"\n", page, end))
+    let at = place_on(page, filled, line.bytes().len() + 1, desk)?;
+    Some(line.put_line_on(page, at))
 }
 
 // Writes what waits on a page, and then a text; none of it waits then.
@@ -104,6 +105,7 @@ impl Page {
     }
 
     /// Tells a line.
+    #[inline(always)]
     pub fn line<L: ReportLine, D: Desk>(&mut self, line: &L, desk: &mut D)
         requires { L.form.IsLine (L.seen line.now) }
         ensures { TellsMore (line_text L.form (L.seen line.now)) self.old self.new
@@ -111,7 +113,7 @@ impl Page {
     {
         if let Some(filled) = self.filled {
             line.spell(&mut self.line);
-            self.filled = put_line(self.line.bytes(), &mut self.bytes, filled, desk);
+            self.filled = put_line(&self.line, &mut self.bytes, filled, desk);
         }
     }
 

@@ -11,6 +11,9 @@ use shape_desk::{put_number, put_word};
 use shape_space::Point;
 use std::marker::Model;
 
+// A line that is shorter than this is copied with what stands behind it.
+const SHORT: usize = 64;
+
 /// A text of at most 1024 bytes.
 #[derive(Drop)]
 pub struct Text {
@@ -40,6 +43,7 @@ impl Text {
     }
 
     /// Takes all bytes away.
+    #[inline(always)]
     pub fn clear(&mut self)
         ensures { self.new ≡ [] }
     {
@@ -47,6 +51,7 @@ impl Text {
     }
 
     /// The bytes so far.
+    #[inline(always)]
     pub fn bytes(&self) -> &[u8]
         ensures text { result.now ≡ self.now }
         ensures room { length result.now ≤ 1024 }
@@ -54,7 +59,28 @@ impl Text {
         &self.bytes[..self.len]
     }
 
+    /// Copies the text with an LF to a place of a page, and answers the place behind them.
+    ///
+    /// Most lines are short: so many bytes are copied at once that they are among them, for less than it costs to copy as
+    /// many as there are. What then stands behind the LF counts for nothing.
+    #[inline(always)]
+    pub(crate) fn put_line_on(&self, page: &mut [u8], at: usize) -> usize
+        requires { at + length self.now + 1 ≤ length page.old }
+        ensures place { result ≡ at + length self.now + 1 }
+        ensures line { take result page.new ≡ take at page.old ++ (self.now ++ 10 ∷ []) }
+        ensures length { length page.new ≡ length page.old }
+    {
+        if self.len < SHORT && at + SHORT <= page.len() {
+            page[at..at + SHORT].copy_from_slice(&self.bytes[..SHORT]);
+            page[at + self.len] = b'\n';
+            return at + self.len + 1;
+        }
+        let end = put_word(self.bytes(), page, at);
+        put_word(b"\n", page, end)
+    }
+
     /// Puts bytes behind those before.
+    #[inline(always)]
     pub fn put(&mut self, word: &[u8])
         requires { length self.old + length word.now ≤ 1024 }
         ensures { self.new ≡ self.old ++ word.now }
@@ -63,6 +89,7 @@ impl Text {
     }
 
     // Puts a number behind a blank.
+    #[inline(always)]
     fn number(&mut self, n: i64)
         requires { length self.old + 21 ≤ 1024 }
         ensures text { self.new ≡ self.old ++ 32 ∷ signed_decimal n }
@@ -73,6 +100,7 @@ impl Text {
     }
 
     /// Puts a count behind a blank.
+    #[inline(always)]
     pub fn count(&mut self, n: u32)
         requires { length self.old + 21 ≤ 1024 }
         ensures text { self.new ≡ self.old ++ behind_blanks (count.words n) }
@@ -82,6 +110,7 @@ impl Text {
     }
 
     /// Puts a weight behind a blank.
+    #[inline(always)]
     pub fn weight(&mut self, n: u64)
         requires room { length self.old + 21 ≤ 1024 }
         requires range { weight.InRange n }
@@ -92,6 +121,7 @@ impl Text {
     }
 
     /// Puts each coordinate of a point behind a blank.
+    #[inline(always)]
     pub fn point<P: Point>(&mut self, p: P)
         requires { length self.old + 63 ≤ 1024 }
         ensures text { self.new ≡ self.old ++ behind_blanks ((point P.DIM).words (P.coords p)) }

@@ -4,7 +4,7 @@ use Rattle.std.specs.Prelude.{◌≡◌, ℕ, List, ◌++◌, Some, length, slic
 use Rattle.shape_terms.specs.Pictures.{Picture, object_points}
 use Rattle.shape_terms.specs.Parts.{Counts}
 use Rattle.shape_terms.specs.Points.{Point}
-use Rattle.shape_dist.specs.Features.{AreFeatures}
+use Rattle.shape_terms.specs.Distances.{AreFeatures}
 use Rattle.shape_terms.specs.Thinning.{Rule, Stage, IsThinning}
 use Rattle.shape_terms.specs.Shelves.{Named, rules_of}
 use Rattle.report_terms.specs.Subjects.{IsOnShelf}

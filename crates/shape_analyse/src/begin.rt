@@ -13,7 +13,7 @@ ghost use Rattle.report_terms.specs.Lines.{line_text, IsLineOf};
 ghost use Rattle.report_terms.specs.Subjects.{IsOnShelf};
 ghost use Rattle.shape_desk.specs.Desk.{DeskState};
 ghost use Rattle.report_text.specs.Telling.{Tells, TellsMore};
-ghost use Rattle.shape_dist.specs.Features.{AreFeatures};
+ghost use Rattle.shape_terms.specs.Distances.{AreFeatures};
 ghost use Rattle.shape_rules.specs.Names.{word_of};
 ghost use Rattle.shape_analyse.specs.Growing.{aim_of, IsGrowing, IsTextOf, HasNears, IsNoText, near_line};
 

@@ -19,11 +19,11 @@ use crate::thinning::{tell_thinning, thinned};
 use report_text::Page;
 use shape_adj::{Parts, parts};
 use shape_desk::Desk;
-use shape_dist::{Features, nearest};
+use shape_dist::{Features, Surveyed, survey};
 use shape_grid::Grid;
 use shape_rules::{Name, Shelf};
 use shape_space::{NoMemory, P2, P3, Point};
-use shape_thin::{Thinning, distances_of};
+use shape_thin::Thinning;
 use std::alloc::Global;
 use std::marker::Model;
 
@@ -85,9 +85,10 @@ fn find<'a, P: Outlined>(
 {
     let rule = shelf.name(which);
     let counted = parts(alloc, grid)?;
-    let field = nearest(alloc, grid)?;
-    let distances = distances_of(alloc, grid, &field)?;
-    let features = field.into_features(alloc)?;
+    let Surveyed {
+        features,
+        distances,
+    } = survey(alloc, grid)?;
     let thinning = thinned(alloc, grid, distances, shelf.rule(which))?;
     let outline = P::outline(alloc, grid)?;
     Ok(Findings {

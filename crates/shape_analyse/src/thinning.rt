@@ -6,7 +6,7 @@ ghost use Rattle.shape_terms.specs.Pictures.{object_points};
 ghost use Rattle.shape_terms.specs.Parts.{Counts};
 ghost use Rattle.shape_terms.specs.Thinning.{Stage, IsThinning};
 ghost use Rattle.report_terms.specs.Lines.{line_text, IsLineOf};
-ghost use Rattle.shape_queue.specs.Distances.{AreDistances};
+ghost use Rattle.shape_terms.specs.Distances.{AreDistances};
 ghost use Rattle.shape_thin.specs.Runs.{IsRunOf, event_of, event_point};
 ghost use Rattle.shape_terms.specs.FramedBox.{IsWithin};
 ghost use Rattle.shape_thin.specs.Laws.{KeepsParts};
@@ -23,7 +23,7 @@ use shape_grid::Grid;
 use shape_report::Line;
 use shape_rules::EndRule;
 use shape_space::{NoMemory, Point, Steps};
-use shape_thin::{Event, Thinning, thin_by_distances};
+use shape_thin::{Event, Thinning, thin};
 use shape_topo::SimpleMask;
 use std::alloc::Global;
 use std::marker::Brand;
@@ -46,7 +46,7 @@ fn counted<P: SimpleMask, L: Ledger>(
     ensures same_rule { means rule.new ≡ means rule.old }
 {
     let mut steps = Steps::<L>::new(blank);
-    thin_by_distances(alloc, grid, distances, rule, &mut steps)
+    thin(alloc, grid, distances, rule, &mut steps)
 }
 
 // The thinning of a picture with these squared distances by a rule.

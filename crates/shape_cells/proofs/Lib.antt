@@ -2,3 +2,4 @@ pub mod BitCounts
 pub mod HeldLaws
 pub mod CopiedCells
 pub mod Forms
+pub mod ObjectCells

@@ -1,5 +1,4 @@
 pub mod RowLaws
 pub mod OneLine
 pub mod FirstLine
-pub mod Distances
 pub mod ThinningJudged

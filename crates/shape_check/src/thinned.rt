@@ -6,7 +6,7 @@ ghost use Rattle.shape_terms.specs.Thinning.{Rule, Event};
 ghost use Rattle.report_terms.specs.Lines as Terms;
 ghost use Rattle.report_terms.specs.Sections.{Section};
 ghost use Rattle.report_terms.specs.ThinningLines.{IsKeptLine};
-ghost use Rattle.shape_queue.specs.Distances.{AreDistances};
+ghost use Rattle.shape_terms.specs.Distances.{AreDistances};
 ghost use Rattle.shape_check.specs.Followed.{Thins, HasFollowed};
 
 use crate::counts::PictureCounts;

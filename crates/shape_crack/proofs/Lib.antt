@@ -1,6 +1,5 @@
 pub mod Pixels
 pub mod Rows
-pub mod NextObjects
 pub mod Beginnings
 pub mod MarkSteps
 pub mod CrackValues

@@ -14,7 +14,7 @@ use Rattle.shape_terms.proofs.Numbered.{numbered_back}
 use Rattle.shape_crack.specs.Marked.{IsCycleMarked, IsTaken}
 use Rattle.shape_crack.specs.Terms.{side_of}
 use Rattle.shape_crack.proofs.Rows.{crack_or_not}
-use Rattle.shape_crack.proofs.NextObjects.{AreBlank}
+use Rattle.shape_terms.proofs.NextObjects.{AreBlank}
 use Rattle.shape_crack.proofs.Beginnings.{right_found, left_found}
 use Rattle.shape_terms.proofs.Boxes.{raster_number-raster_point}
 

@@ -19,7 +19,7 @@ fn put_counted(n: u64, count: usize, buf: &mut [u8], at: usize) -> usize
 }
 
 // Puts a digit at a place of the buffer, and answers the place after it.
-#[inline]
+#[inline(always)]
 fn put_digit(d: u64, buf: &mut [u8], at: usize) -> usize
     requires digit { d < 10 }
     requires room { at + 1 ≤ length buf.old }
@@ -30,7 +30,7 @@ fn put_digit(d: u64, buf: &mut [u8], at: usize) -> usize
 }
 
 // Puts both digits of a number below 100, the first of which may be 0, and answers the place after them.
-#[inline]
+#[inline(always)]
 fn put_pair(n: u64, buf: &mut [u8], at: usize) -> usize
     requires short { n < 100 }
     requires room { at + 2 ≤ length buf.old }
@@ -42,6 +42,7 @@ fn put_pair(n: u64, buf: &mut [u8], at: usize) -> usize
 
 // Puts the digits of a number below 10000 at a place of the buffer, and answers the place after them. Most numbers of a
 // report are as short, and a digit of them costs less than a call.
+#[inline(always)]
 pub(crate) fn put_short(n: u64, buf: &mut [u8], at: usize) -> usize
     requires short { n < 10000 }
     requires room { at + 4 ≤ length buf.old }

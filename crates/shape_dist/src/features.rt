@@ -1,14 +1,10 @@
 //! The feature transform of a picture: a nearest background point of each object point.
-//! It is what a field leaves when its object points and distances are told otherwise.
-ghost use Rattle.std.specs.Prelude.{◌≡◌, ◌<◌, ◌^◌, IfOk, Some, length, map, slice_get, negsuc, pos};
+//! How they are found stands in `transform.rt`; how they are kept may be changed here.
+ghost use Rattle.std.specs.Prelude.{◌≡◌, ◌<◌, Some, length, slice_get, negsuc, pos};
 ghost use Rattle.shape_terms.specs.Limits.{most_coordinate};
-ghost use Rattle.shape_terms.specs.Points.{sides_of};
-ghost use Rattle.shape_terms.specs.FramedBox.{framed_point, IsWithin};
-ghost use Rattle.shape_dist.specs.declared.kept.Kept.{Kept};
+ghost use Rattle.shape_terms.specs.FramedBox.{IsWithin};
 
-use crate::kept::Kept;
-use shape_space::{NoMemory, Point, Sides};
-use std::alloc::Global;
+use shape_space::{Point, Sides};
 use std::marker::Model;
 
 /// A nearest background point of each object point of a grid, in raster order of the object points.
@@ -16,8 +12,8 @@ use std::marker::Model;
 /// It takes four bytes for each: a point is kept as its number in the framed box.
 #[derive(Drop)]
 pub struct Features<P: Point> {
-    sides: Sides<P>,
-    numbers: Vec<u32>,
+    pub(crate) sides: Sides<P>,
+    pub(crate) numbers: Vec<u32>,
 }
 
 impl<P: Point> Model for Features<P> {
@@ -33,19 +29,6 @@ impl<P: Point> Model for Features<P> {
 }
 
 impl<P: Point> Features<P> {
-    // The background points of what a field keeps.
-    pub(crate) fn of(alloc: Global, sides: Sides<P>, kept: &[Kept]) -> Result<Features<P>, NoMemory>
-        requires { length kept.now < 2 ^ 32 }
-        ensures { IfOk result (λ qs. qs
-            ≡ map (λ e. framed_point (sides_of (P.coords sides.lengths)) e.q) kept.now) }
-    {
-        let mut numbers = Vec::with_capacity(alloc, kept.len())?;
-        for e in kept {
-            numbers.push(e.q)?;
-        }
-        Ok(Features { sides, numbers })
-    }
-
     /// The number of points, one for each object point.
     pub fn len(&self) -> u32
         ensures { result ≡ length self.now }

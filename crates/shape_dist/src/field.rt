@@ -1,25 +1,22 @@
 //! The field of a picture: a nearest background point for each object point.
-//! Another way of finding them changes nothing above `all_found`.
-ghost use Rattle.std.specs.Prelude.{◌≡◌, ◌<◌, length, map, IfOk, All, Some, slice_get, IsTrue, negsuc, pos};
+//! Another way of finding them changes nothing above `cells_of`.
+ghost use Rattle.std.specs.Prelude.{◌≡◌, ◌<◌, length, IfOk, All, Some, slice_get, IsTrue, negsuc, pos};
 ghost use Rattle.shape_terms.specs.Limits.{most_coordinate};
 ghost use Rattle.shape_terms.specs.Points.{in_box, box_count};
-ghost use Rattle.shape_terms.specs.Pictures.{Picture, Least};
+ghost use Rattle.shape_terms.specs.Pictures.{Least};
 ghost use Rattle.shape_terms.specs.FramedBox.{framed_sides, framed_point, IsWithin};
 ghost use Rattle.shape_terms.specs.AxisLines.{apart};
 ghost use Rattle.shape_terms.specs.Distances.{IsField, IsFramed};
 ghost use Rattle.shape_dist.specs.Spreads.{AreNearestOn};
-ghost use Rattle.shape_dist.specs.Features.{AreFeatures};
 
-use crate::axes::all_found;
-use crate::features::Features;
+use crate::axes::cells_of;
 use crate::found::Found;
 use crate::kept::Kept;
 use shape_cells::Cells;
 use shape_grid::Grid;
-use shape_space::{NoMemory, Point, Sides, Steps, squared_distance};
+use shape_space::{NoMemory, Point, Sides, squared_distance};
 use std::alloc::Global;
-use std::marker::{Brand, Model};
-use std::sync::ledger::{Blank, Ledger};
+use std::marker::Model;
 
 /// A point, a background point that is nearest to it, and the square of their Euclidean distance.
 #[derive(Clone, Copy, Debug, PartialEq, Eq)]
@@ -91,23 +88,6 @@ fn collected<P: Point>(
     Ok(Field { sides, kept })
 }
 
-// The same as `nearest`, with a ledger for the steps.
-fn counted<P: Point, L: Ledger>(
-    alloc: Global,
-    grid: &Grid<P>,
-    blank: Blank,
-) -> Result<Field<P>, NoMemory>
-    requires name { blank.name ≡ L.name }
-    requires parts { blank.parts ≡ L.parts }
-    requires whole { blank.parts ≡ 1 }
-    ensures field { IfOk result (IsField grid.now) }
-    ensures framed { IfOk result (All IsFramed) }
-{
-    let mut steps = Steps::<L>::new(blank);
-    let cells = all_found(alloc, grid, &mut steps)?;
-    collected(alloc, grid, &cells)
-}
-
 /// A nearest background point for each object point.
 ///
 /// Its time is linear in the number of points of the framed box. It takes eight bytes of memory for each object point, or for each framed point where more
@@ -116,7 +96,8 @@ pub fn nearest<P: Point>(alloc: Global, grid: &Grid<P>) -> Result<Field<P>, NoMe
     ensures field { IfOk result (IsField grid.now) }
     ensures framed { IfOk result (All IsFramed) }
 {
-    counted::<P, Brand>(alloc, grid, Blank::new(1))
+    let cells = cells_of(alloc, grid)?;
+    collected(alloc, grid, &cells)
 }
 
 impl<P: Point> Field<P> {
@@ -138,12 +119,5 @@ impl<P: Point> Field<P> {
         let q = self.sides.framed_point(q);
         let s = squared_distance(p, q) as u32;
         Near { p, q, s }
-    }
-    /// The nearest background points alone, in half the memory. While they are copied, both are there.
-    pub fn into_features(self, alloc: Global) -> Result<Features<P>, NoMemory>
-        ensures points { IfOk result (λ qs. qs ≡ map (λ f. f.q) self) }
-        ensures features { (X : Picture) → IsField X self → IfOk result (AreFeatures X) }
-    {
-        Features::of(alloc, self.sides, &self.kept)
     }
 }

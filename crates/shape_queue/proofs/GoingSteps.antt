@@ -19,7 +19,7 @@ use Rattle.shape_queue.specs.Keys.{key_cmp}
 use Rattle.shape_queue.specs.Ranks.{background, key_at}
 use Rattle.shape_queue.specs.Waiting.{Waits, IsQueue, IsQueueBut, Put}
 use Rattle.shape_queue.specs.Standing.{IsAhead, Stands}
-use Rattle.shape_queue.specs.Distances.{AreDistances}
+use Rattle.shape_terms.specs.Distances.{AreDistances}
 use Rattle.shape_queue.specs.Events.{event_by}
 use Rattle.shape_queue.specs.Going.{stage_of, Reach, IsFrontOf, IsGoing}
 use Rattle.shape_queue.proofs.RankLaws.{rank_behind}

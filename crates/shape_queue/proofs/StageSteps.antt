@@ -31,7 +31,7 @@ use Rattle.shape_queue.specs.Standing.{IsPassed, IsAhead, Stands, AreAhead}
 use Rattle.shape_queue.specs.Going.{Reach, IsFrontOf}
 use Rattle.shape_queue.proofs.RankLaws.{rank_small}
 use Rattle.shape_queue.proofs.RankPlaces.{rank_orders}
-use Rattle.shape_queue.proofs.DistanceSteps.{object_listed}
+use Rattle.shape_terms.proofs.ObjectLists.{object_listed}
 use Rattle.shape_queue.proofs.WaitingSteps.{taken_is, taken_least, taken_out}
 
 nat_less : (a b : ℕ) → a < b → nat_cmp a b ≡ Less

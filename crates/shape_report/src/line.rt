@@ -186,6 +186,7 @@ impl<P: Point> ReportLine for Line<P> {
         }
     }
 
+    #[inline(always)]
     fn spell(&self, text: &mut Text) {
         spell(self, text)
     }

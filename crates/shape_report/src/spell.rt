@@ -48,6 +48,7 @@ fn put_parts(points: u32, object: u32, background: u32, text: &mut Text)
 }
 
 // Puts the words of a `near` line.
+#[inline(always)]
 fn put_near<P: Point>(p: P, q: P, s: u64, text: &mut Text)
     requires empty { text.old ≡ [] }
     requires weight { weight.InRange s }
@@ -72,6 +73,7 @@ fn put_contour<P: Point>(p: P, side: u8, points: u32, segments: u32, text: &mut 
 }
 
 // Puts the words of an `at` line.
+#[inline(always)]
 fn put_at<P: Point>(p: P, text: &mut Text)
     requires { text.old ≡ [] }
     ensures { text.new ≡ kind_text P.DIM Kind.At (P.coords p) }
@@ -187,6 +189,7 @@ fn put_off<P: Point>(p: P, why: &Refutation, text: &mut Text)
 }
 
 // Puts the words of a `del` line.
+#[inline(always)]
 fn put_del<P: Point>(p: P, text: &mut Text)
     requires { text.old ≡ [] }
     ensures { text.new ≡ kind_text P.DIM Kind.Del (P.coords p) }
@@ -216,6 +219,7 @@ fn put_kept(points: u32, object: u32, background: u32, text: &mut Text)
 }
 
 // Puts the words of a line.
+#[inline(always)]
 fn put_line<P: Point>(line: &Line<P>, text: &mut Text)
     requires empty { text.old ≡ [] }
     requires range { IsLineOf P.DIM (line_of P.coords line.now) }
@@ -267,6 +271,7 @@ fn put_line<P: Point>(line: &Line<P>, text: &mut Text)
 }
 
 // Spells a line, without its LF, in the place of a text.
+#[inline(always)]
 pub(crate) fn spell<P: Point>(line: &Line<P>, text: &mut Text)
     requires { IsLineOf P.DIM (line_of P.coords line.now) }
     ensures { text.new ≡ spelling (line_of P.coords line.now) }

@@ -77,3 +77,6 @@ pub mod WalkSteps
 pub mod WalkEnds
 pub mod BackArcs
 pub mod ContourCovers
+pub mod NextObjects
+pub mod DistanceLists
+pub mod ObjectLists

@@ -2,16 +2,13 @@
 //! Which point is next, and what waits after it, belongs to `thin_steps`; what an end is belongs to the rule.
 ghost use Rattle.std.specs.Prelude.{◌≡◌, ◌+◌, ◌*◌, ◌≤◌, length, IfOk};
 ghost use Rattle.shape_terms.specs.Pictures.{object_points};
-ghost use Rattle.shape_terms.specs.Distances.{IsField};
-ghost use Rattle.shape_queue.specs.Distances.{AreDistances};
+ghost use Rattle.shape_terms.specs.Distances.{AreDistances};
 ghost use Rattle.shape_thin.specs.Runs.{IsRunOf};
 ghost use Rattle.shape_thin.specs.Laws.{KeepsParts};
 
-use crate::distances::distances_of;
 use crate::events::{Done, Events};
 use crate::thinning::Thinning;
 use shape_cells::Cells;
-use shape_dist::Field;
 use shape_grid::Grid;
 use shape_rules::{EndRule, ask, begin};
 use shape_space::{NoMemory, Steps};
@@ -24,7 +21,7 @@ use thin_steps::Thinner;
 ///
 /// Each object point is tested once, when its turn comes by its key, and after a deletion each near neighbour whose turn has come:
 /// a step each. The rule is asked once for each event, and is in the last state afterwards.
-pub fn thin_by_distances<P: SimpleMask, L: Ledger>(
+pub fn thin<P: SimpleMask, L: Ledger>(
     alloc: Global,
     grid: &Grid<P>,
     distances: Cells<u32>,
@@ -48,25 +45,4 @@ pub fn thin_by_distances<P: SimpleMask, L: Ledger>(
         events.push(Done { place, tips })?;
     }
     Ok(Thinning::of(thinner.into_left(), events))
-}
-
-/// The thinning of a picture by a rule, which begins anew, where a field of the picture is known.
-///
-/// Its steps, and what it asks of the rule, are those of `thin_by_distances`.
-pub fn thin<P: SimpleMask, L: Ledger>(
-    alloc: Global,
-    grid: &Grid<P>,
-    field: &Field<P>,
-    rule: &mut Box<dyn EndRule>,
-    steps: &mut Steps<L>,
-) -> Result<Thinning<P>, NoMemory>
-    requires field { IsField grid.now field.now }
-    ensures thinning { IfOk result (IsRunOf (means rule.old) grid.now (state rule.new)) }
-    ensures kept { IfOk result (λ t. KeepsParts grid.now t.left) }
-    ensures few { IfOk result (λ t. steps.new ≤ steps.old
-        + length (object_points grid.now) + P.NEAR_COUNT * length t.events) }
-    ensures same_rule { means rule.new ≡ means rule.old }
-{
-    let distances = distances_of(alloc, grid, field)?;
-    thin_by_distances(alloc, grid, distances, rule, steps)
 }

@@ -5,7 +5,7 @@ ghost use Rattle.shape_terms.specs.Points.{Point, box_count};
 ghost use Rattle.shape_terms.specs.Pictures.{Picture, object_points};
 ghost use Rattle.shape_queue.specs.declared.key.Key.{Key};
 ghost use Rattle.shape_queue.specs.Keys.{has, IsLeastKey};
-ghost use Rattle.shape_queue.specs.Distances.{AreDistances};
+ghost use Rattle.shape_terms.specs.Distances.{AreDistances};
 ghost use Rattle.shape_queue.specs.Going.{IsFrontOf, stage_of};
 ghost use Rattle.thin_steps.specs.Fitting.{IsSomeFront};
 
@@ -61,6 +61,7 @@ impl<P: SimpleMask> Front<P> {
     }
 
     // Passes the next place. Where its point is left, this is reached and looked at.
+    #[inline(always)]
     fn pass<L: Ledger>(&mut self, left: &MaskedGrid<P>, steps: &mut Steps<L>)
         requires fits { ∥ IsSomeFront left.now (reach_of self.old) ∥₁ }
         requires some { 0 < self.old.ahead }
@@ -85,6 +86,7 @@ impl<P: SimpleMask> Front<P> {
     }
 
     /// Passes places until a key waits, or no point left is ahead.
+    #[inline(always)]
     pub(crate) fn advance<L: Ledger>(&mut self, left: &MaskedGrid<P>, steps: &mut Steps<L>)
         requires { ∥ IsSomeFront left.now (reach_of self.old) ∥₁ }
         ensures front { (X : Picture) (marked : List Point) (state : List ℕ)
@@ -100,6 +102,7 @@ impl<P: SimpleMask> Front<P> {
     }
 
     /// Takes the next point out of those reached.
+    #[inline(always)]
     pub(crate) fn take(&mut self, next: &Next<P>)
         requires there { has self.old.keys (key_of next.now) ≡ true }
         requires least { IsLeastKey (has self.old.keys) (key_of next.now) }

@@ -4,7 +4,7 @@ ghost use Rattle.std.specs.Prelude.{◌≡◌, ◌+◌, ◌≤◌, ◌^◌, [], 
 ghost use Rattle.shape_terms.specs.Points.{box_count};
 ghost use Rattle.shape_terms.specs.Pictures.{IsPicture, object_points};
 ghost use Rattle.shape_terms.specs.Thinning.{Rule};
-ghost use Rattle.shape_queue.specs.Distances.{AreDistances};
+ghost use Rattle.shape_terms.specs.Distances.{AreDistances};
 ghost use Rattle.thin_steps.specs.Fitting.{AreFitting};
 ghost use Rattle.thin_steps.specs.Fronts.{reach_of};
 

@@ -4,7 +4,7 @@ use Rattle.shape_terms.specs.Points.{sides_of, box_count, raster_point}
 use Rattle.shape_terms.specs.FramedBox.{framed_sides}
 use Rattle.shape_terms.specs.Places.{framed_number}
 use Rattle.shape_terms.proofs.FramedEnds.{in_box_in_frame}
-use Rattle.judge_field.proofs.NextObjects.{next_object, blank_to_end}
+use Rattle.shape_terms.proofs.NextObjects.{next_object, blank_to_end}
 use Rattle.judge_field.proofs.FramedObjects.{HasFound, found_below, begun, one_more, all}
 use Rattle.judge_field.proofs.scans.framed_objects.Goals as goal
 

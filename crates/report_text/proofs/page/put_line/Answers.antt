@@ -1,4 +1,4 @@
-use Rattle.std.proofs.Common.{◌≡◌, [], ◌∷◌, ◌++◌, Some, take, ap, sym, ◌∙◌, append_assoc, subst}
+use Rattle.std.proofs.Common.{[], ◌∷◌, ◌++◌, Some, take, sym, subst}
 use Rattle.report_text.specs.Telling.{IsTelling}
 use Rattle.report_text.proofs.Telling.{telling_held, telling_then}
 use Rattle.report_text.proofs.page.put_line.Goals as goal
@@ -8,6 +8,5 @@ returns-clause-telling g c = λ begun text h.
     let now = g.D.Desk.state c.place_on.new.desk in
     let line = c.args.line.now in
     let before = take c.in_ok-at.at c.args.page.now in
-    let put : take c.put_word.result c.put_word.new.buf ≡ before ++ (line ++ 10 ∷ []) = c.put_word.ensures.text ∙ ap (λ t. t ++ 10 ∷ []) c.put_word-end.ensures.text ∙ append_assoc before line (10 ∷ []) in
     let told = telling_held begun now (text ++ []) before (line ++ 10 ∷ []) (c.in_ok-at.ensures.telling begun text h) in
-    subst (λ page. IsTelling begun (text ++ (line ++ 10 ∷ [])) (Some page) now) (sym put) (telling_then begun now text (line ++ 10 ∷ []) _ told)
+    subst (λ page. IsTelling begun (text ++ (line ++ 10 ∷ [])) (Some page) now) (sym c.put_line_on.ensures.line) (telling_then begun now text (line ++ 10 ∷ []) _ told)

@@ -1,14 +1,11 @@
-use Rattle.std.proofs.Common.{◌≡◌, ◌+◌, ◌<◌, ◌≤◌, ◌∙◌, ℕ, Bool, true, false, List, length, get_or, ap, sym, subst, arith, ◌∷◌, []}
-use Rattle.std.proofs.lemmas.Bool.{and_parts}
-use Rattle.shape_terms.specs.Points.{in_box, box_count, raster_point}
+use Rattle.std.proofs.Common.{◌≡◌, ◌+◌, ◌<◌, ◌≤◌, ◌∙◌, ℕ, false, List, length, get_or, ap, sym, subst, arith, ◌∷◌, []}
+use Rattle.shape_terms.specs.Points.{box_count, raster_point}
 use Rattle.shape_terms.specs.Pictures.{Picture, objects_from}
-use Rattle.shape_terms.specs.Parts.{Object}
 use Rattle.shape_terms.specs.Thinning.{HasDistance}
-use Rattle.shape_terms.proofs.Boxes.{raster_number-raster_point}
 use Rattle.shape_cells.specs.Held.{Held, HasCell}
-use Rattle.shape_queue.proofs.DistanceSteps.{cell_put}
-use Rattle.judge_field.proofs.NextObjects.{IsNext, next_object}
-use Rattle.shape_check.proofs.Distances.{none_yet, distances_more, distances_all}
+use Rattle.shape_cells.proofs.ObjectCells.{cell_put, cell_there}
+use Rattle.shape_terms.proofs.NextObjects.{IsNext, next_object}
+use Rattle.shape_terms.proofs.DistanceLists.{none_yet, distances_more, distances_all}
 use Rattle.shape_check.proofs.thinned.distances_of.Goals as goal
 
 -- what the grid finds is the next object point of the picture that was scanned
@@ -18,12 +15,6 @@ found X Y next i e low = subst (λ Z. i < box_count Z.sides → objects_from Z n
 -- its sides are those of that picture
 same_sides : (X Y : Picture) (sides : List ℕ) → sides ≡ Y.sides → Y ≡ X → sides ≡ X.sides
 same_sides X Y sides e f = subst (λ Z. sides ≡ Z.sides) f e
-
--- the place of an object point has a cell
-cell_there : (X : Picture) (kept : List Bool) (i : ℕ) → ((k : ℕ) → get_or X.values k false ≡ true → get_or kept k false ≡ true)
-    → i < box_count X.sides → Object X (raster_point X.sides i) → get_or kept i false ≡ true
-cell_there X kept i cells l o = cells i
-    (ap (λ k. get_or X.values k false) (sym (raster_number-raster_point X.sides i l)) ∙ (and_parts (in_box X.sides (raster_point X.sides i)) _ o).1)
 
 pub loop-i-init : goal.loop-i-init
 loop-i-init g c =

@@ -2,7 +2,7 @@ use Rattle.std.proofs.Common.{◌≡◌, ◌≤◌, ◌-◌, ℕ, true, false}
 use Rattle.std.specs.Prelude.{slice_index_or}
 use Rattle.shape_cells.specs.Held.{HasCell}
 use Rattle.shape_terms.specs.Points.{box_count}
-use Rattle.shape_check.proofs.Distances.{DistancesTo}
+use Rattle.shape_terms.proofs.DistanceLists.{DistancesTo}
 use Rattle.shape_check.proofs.thinned.distances_of.Given as goal
 
 abbrev pub invariant-loop-i : goal.invariant-loop-i

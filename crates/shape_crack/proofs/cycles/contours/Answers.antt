@@ -2,7 +2,7 @@ use Rattle.std.proofs.Common.{arith, ◌≡◌, ◌<◌, ◌≤◌, ◌+◌, ◌
 use Rattle.shape_terms.specs.Points.{box_count}
 use Rattle.shape_crack.specs.MarkBits.{is_marked}
 use Rattle.shape_crack.proofs.Listing.{Listing, listing_none, listing_no_crack, listing_taken, listing_passed, listing_blank, listing_all}
-use Rattle.shape_crack.proofs.NextObjects.{next_object, blank_to_end}
+use Rattle.shape_terms.proofs.NextObjects.{next_object, blank_to_end}
 use Rattle.shape_crack.proofs.cycles.contours.Goals as goal
 use Rattle.shape_crack.proofs.cycles.contours.Goals.{then-is_top+in_ok-take, else-is_top, then-is_bottom+in_ok-take-2, else-is_bottom}
 

@@ -10,8 +10,8 @@ use Rattle.shape_terms.specs.Parts.{Object}
 use Rattle.shape_terms.proofs.Boxes.{raster_below, raster_point-raster_number}
 use Rattle.shape_terms.proofs.ObjectPlaces.{object_in_box}
 use Rattle.shape_terms.specs.Thinning.{HasDistance}
-use Rattle.shape_queue.specs.Distances.{AreDistances}
-use Rattle.judge_field.proofs.NextObjects.{AreBlank, IsNext, blank_to_end}
+use Rattle.shape_terms.specs.Distances.{AreDistances}
+use Rattle.shape_terms.proofs.NextObjects.{AreBlank, IsNext, blank_to_end}
 
 -- there is a place for each point, and the object points before the raster number have their distances
 pub record DistancesTo (X : Picture) (next : ℕ) (distances : List ℕ) : Type 0 where

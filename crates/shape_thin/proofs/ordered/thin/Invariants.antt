@@ -4,7 +4,7 @@ use Rattle.shape_terms.specs.Points.{box_count}
 use Rattle.shape_terms.specs.Pictures.{object_points}
 use Rattle.thin_steps.specs.Standing.{StandsFor, room_of, ahead_of}
 use Rattle.shape_thin.specs.EventLists.{events_at}
-use Rattle.shape_thin.proofs.ordered.thin_by_distances.Given as goal
+use Rattle.shape_thin.proofs.ordered.thin.Given as goal
 
 abbrev pub invariant-loop-next : goal.invariant-loop-next
 invariant-loop-next g l = record {

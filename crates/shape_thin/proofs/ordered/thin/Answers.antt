@@ -13,7 +13,7 @@ use Rattle.thin_steps.specs.Standing.{StandsFor, ahead_of}
 use Rattle.shape_thin.specs.EventLists.{events_at}
 use Rattle.shape_thin.specs.declared.events.Done.{Done}
 use Rattle.shape_thin.proofs.EventSteps.{events_push}
-use Rattle.shape_thin.proofs.ordered.thin_by_distances.Goals as goal
+use Rattle.shape_thin.proofs.ordered.thin.Goals as goal
 
 pub new-requires : goal.new-requires
 new-requires g c = let all = few_objects c.args.grid.now in let small = c.in_ok-thinner.ensures.small in omega (arith, all, small, c.count.ensures)
