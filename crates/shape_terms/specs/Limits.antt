@@ -104,7 +104,7 @@ plane_coefficient = 2 * plane_span
 
 -- a weight by which a plane is refused is less
 abbrev pub plane_weight : ℕ
-plane_weight = 2 ^ 40
+plane_weight = 4 * (plane_row * plane_row)
 
 -- a coefficient of a plane is less
 abbrev pub plane_size : ℕ
