@@ -2,4 +2,4 @@
 
 `bench/limits` compares these numbers with those of the program and of its definitions; all else in Python takes them from here.
 """
-MOST_FLAT, MOST_SOLID, MOST_BYTES = 16384, 512, 2**30
+MOST_FLAT, MOST_SOLID, MOST_BYTES = 16384, 1024, 2**30

@@ -95,7 +95,7 @@ class Checking(InFolder):
         wide = MOST_FLAT + 1
         Path("word.pbm").write_bytes(b"P4 %d 1 " % wide + bytes(wide // 8 + 1))
         status, out = self.found(".")
-        told = f"word: no, a side is above {MOST_FLAT} pixels, or 512 voxels (a side is too large: {wide}); give --fit, which makes it smaller"
+        told = f"word: no, a side is above {MOST_FLAT} pixels, or 1024 voxels (a side is too large: {wide}); give --fit, which makes it smaller"
         self.assertEqual((status, out[1]), (1, told))
 
 

@@ -7,7 +7,7 @@ ghost use Rattle.shape_terms.specs.Limits.{most_flat, most_solid, most_bytes, mo
 pub const MOST_FLAT: i32 = 16384;
 
 /// The greatest side of a solid picture, in voxels.
-pub const MOST_SOLID: i32 = 512;
+pub const MOST_SOLID: i32 = 1024;
 
 /// The most bytes of a picture in a file.
 pub const MOST_BYTES: u64 = 1 << 30;

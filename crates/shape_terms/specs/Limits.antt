@@ -10,23 +10,27 @@ most_flat = 16384
 
 -- the greatest side of a solid one
 abbrev pub most_solid : ℕ
-most_solid = 512
+most_solid = 1024
 
--- a box has no more points
+-- a flat picture has no more points
+abbrev pub most_pixels : ℕ
+most_pixels = most_flat * most_flat
+
+-- no box has more points: a solid one may have more than each flat one
 abbrev pub most_points : ℕ
-most_points = 2 ^ 28
+most_points = most_solid * (most_solid * most_solid)
 
--- nor has a framed box
+-- a framed box has no more points
 abbrev pub most_framed : ℕ
-most_framed = 2 ^ 29
+most_framed = (most_solid + 2) * ((most_solid + 2) * (most_solid + 2))
 
 -- a contour goes by no more points, and a flat picture has no more cracks
 abbrev pub most_round : ℕ
-most_round = 4 * (most_flat * most_flat)
+most_round = 4 * most_pixels
 
 -- a plain picture of so many points spells each with a digit and a space, and has room for its header and comments
 abbrev pub most_bytes : ℕ
-most_bytes = 4 * most_points
+most_bytes = 4 * most_pixels
 
 -- the greatest side of a flat picture that a seed gives
 abbrev pub most_flat_trial : ℕ
@@ -100,7 +104,7 @@ plane_coefficient = 2 * plane_span
 
 -- a weight by which a plane is refused is less
 abbrev pub plane_weight : ℕ
-plane_weight = 2 ^ 40
+plane_weight = 4 * (plane_row * plane_row)
 
 -- a coefficient of a plane is less
 abbrev pub plane_size : ℕ

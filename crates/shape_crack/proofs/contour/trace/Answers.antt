@@ -4,6 +4,7 @@ use Rattle.shape_crack.specs.declared.contour.TheConstants.{GREATEST_SIDE}
 use Rattle.shape_crack.specs.Terms.{point_of, crack_of}
 use Rattle.shape_crack.proofs.CrackValues.{cracks_equal, cracks_differ}
 use Rattle.shape_crack.proofs.Rounds.{few_steps, filled, contour_from, path_from}
+use Rattle.shape_terms.proofs.Boxes.{few_pixels}
 use Rattle.shape_crack.proofs.contour.trace.Goals as goal
 
 pub advance-requires-in-loop-c : goal.advance-requires-in-loop-c
@@ -12,13 +13,13 @@ advance-requires-in-loop-c c = reached_crack c.args.grid.now c.is_picture.ensure
 pub overflow_add-steps : goal.overflow_add-steps
 overflow_add-steps c =
     let away = cracks_differ c.loop-c.c c.args.start c.ne.result c.ne.ensures c.loop-c-test.true in
-    let l = few_steps c.args.grid.now c.is_picture.ensures.picture.axes c.is_picture.ensures.few (crack_of c.args.start) (crack_of c.loop-c.c) c.loop-c.steps c.requires c.loop-c.invariant.reached away in
+    let l = few_steps c.args.grid.now c.is_picture.ensures.picture.axes (few_pixels c.args.grid.now.sides c.is_picture.ensures.picture.axes c.is_picture.ensures.in_range) (crack_of c.args.start) (crack_of c.loop-c.c) c.loop-c.steps c.requires c.loop-c.invariant.reached away in
     omega arith
 
 pub loop-c-smaller : goal.loop-c-smaller
 loop-c-smaller c =
     let away = cracks_differ c.loop-c.c c.args.start c.ne.result c.ne.ensures c.loop-c-test.true in
-    let l = few_steps c.args.grid.now c.is_picture.ensures.picture.axes c.is_picture.ensures.few (crack_of c.args.start) (crack_of c.loop-c.c) c.loop-c.steps c.requires c.loop-c.invariant.reached away in
+    let l = few_steps c.args.grid.now c.is_picture.ensures.picture.axes (few_pixels c.args.grid.now.sides c.is_picture.ensures.picture.axes c.is_picture.ensures.in_range) (crack_of c.args.start) (crack_of c.loop-c.c) c.loop-c.steps c.requires c.loop-c.invariant.reached away in
     omega arith
 
 pub loop-c-preserved : goal.loop-c-preserved

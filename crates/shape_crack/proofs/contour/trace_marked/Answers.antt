@@ -6,6 +6,7 @@ use Rattle.shape_crack.specs.Terms.{point_of, crack_of}
 use Rattle.shape_crack.specs.MarkBits.{is_marked}
 use Rattle.shape_crack.proofs.CrackValues.{cracks_equal, cracks_differ}
 use Rattle.shape_crack.proofs.Rounds.{few_steps, traced_first, filled, contour_from, path_from, cycle_marked}
+use Rattle.shape_terms.proofs.Boxes.{few_pixels}
 use Rattle.shape_crack.proofs.contour.trace_marked.Goals as goal
 
 pub advance-requires-in-loop-c : goal.advance-requires-in-loop-c
@@ -14,13 +15,13 @@ advance-requires-in-loop-c c = reached_crack c.args.grid.now c.is_picture.ensure
 pub overflow_add-steps : goal.overflow_add-steps
 overflow_add-steps c =
     let away = cracks_differ c.loop-c.c c.args.start c.ne.result c.ne.ensures c.loop-c-test.true in
-    let l = few_steps c.args.grid.now c.is_picture.ensures.picture.axes c.is_picture.ensures.few (crack_of c.args.start) (crack_of c.loop-c.c) c.loop-c.steps c.requires.crack c.loop-c.invariant.tracing.reached away in
+    let l = few_steps c.args.grid.now c.is_picture.ensures.picture.axes (few_pixels c.args.grid.now.sides c.is_picture.ensures.picture.axes c.is_picture.ensures.in_range) (crack_of c.args.start) (crack_of c.loop-c.c) c.loop-c.steps c.requires.crack c.loop-c.invariant.tracing.reached away in
     omega arith
 
 pub loop-c-smaller : goal.loop-c-smaller
 loop-c-smaller c =
     let away = cracks_differ c.loop-c.c c.args.start c.ne.result c.ne.ensures c.loop-c-test.true in
-    let l = few_steps c.args.grid.now c.is_picture.ensures.picture.axes c.is_picture.ensures.few (crack_of c.args.start) (crack_of c.loop-c.c) c.loop-c.steps c.requires.crack c.loop-c.invariant.tracing.reached away in
+    let l = few_steps c.args.grid.now c.is_picture.ensures.picture.axes (few_pixels c.args.grid.now.sides c.is_picture.ensures.picture.axes c.is_picture.ensures.in_range) (crack_of c.args.start) (crack_of c.loop-c.c) c.loop-c.steps c.requires.crack c.loop-c.invariant.tracing.reached away in
     omega arith
 
 pub loop-c-init : goal.loop-c-init

@@ -1,5 +1,6 @@
 use Rattle.std.proofs.Common.{arith, ◌≡◌, ◌<◌, ◌≤◌, ◌+◌, ◌*◌, refl, subst, ◌∙◌, ap, length, inl, inr}
 use Rattle.shape_terms.specs.Points.{box_count}
+use Rattle.shape_terms.proofs.Boxes.{few_pixels}
 use Rattle.shape_crack.specs.MarkBits.{is_marked}
 use Rattle.shape_crack.proofs.Listing.{Listing, listing_none, listing_no_crack, listing_taken, listing_passed, listing_blank, listing_all}
 use Rattle.shape_terms.proofs.NextObjects.{next_object, blank_to_end}
@@ -78,6 +79,12 @@ loop-i-preserved c =
       ];
       low = omega arith;
     }
+
+pub from_list-requires : goal.from_list-requires
+from_list-requires c =
+    let few = few_pixels c.args.grid.now.sides c.is_picture.ensures.picture.axes c.is_picture.ensures.in_range in
+    let all : c.count-count.result ≡ box_count c.args.grid.now.sides = c.count-count.ensures.value ∙ ap box_count c.sides.ensures.value in
+    omega (arith, few, all, c.loop-i.invariant.listing.few, c.loop-i.invariant.low)
 
 pub returns : goal.returns
 returns c =
