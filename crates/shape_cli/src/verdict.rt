@@ -23,9 +23,10 @@ use crate::kind::ReportKind;
 use crate::outcome::{Outcome, refused};
 use crate::picture::{Image, open_picture};
 use crate::source::Source;
+use itoa::Buffer;
 use shape_check::law::holding_shows;
 use shape_check::{CheckFault, Judgement, check_flat, check_solid};
-use shape_desk::{Desk, Failed, Place, put_all, put_number, put_word};
+use shape_desk::{Desk, Failed, Place, put_all, put_word};
 use shape_rules::Shelf;
 use std::alloc::Global;
 
@@ -110,8 +111,9 @@ fn put_verdict(verdict: Judgement, buf: &mut [u8]) -> usize
     match verdict {
         Judgement::Yes => put_word(b"yes\n", buf, 0),
         Judgement::No { line } => {
+            let mut digits = Buffer::new();
             let end = put_word(b"no ", buf, 0);
-            let end = put_number(line as i64, buf, end);
+            let end = put_word(digits.format(line).as_bytes(), buf, end);
             put_word(b"\n", buf, end)
         }
     }
