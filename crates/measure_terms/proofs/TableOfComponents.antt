@@ -114,14 +114,16 @@ labels_kept X left squares table s h = refl
 
 -- ---- Feret diameters
 
-has_label : (X : Picture) (labels : List ℕ) (k : ℕ) (p : Point) → Contains (component X labels (k + 1)) p → HasLabel X.sides labels (k + 1) p
+-- a point of a component has its label
+pub has_label : (X : Picture) (labels : List ℕ) (k : ℕ) (p : Point) → Contains (component X labels (k + 1)) p → HasLabel X.sides labels (k + 1) p
 has_label X labels k p c =
     let a = filtered (λ q. label_of X labels q == k + 1) (object_points X) p c in
     let b = filtered (at X) (box_points X.sides) p a.0 in
     let t = a.1 in
     record { inside = (and_parts (in_box X.sides p) _ b.1).0; label = grind (arith, nat_tests) }
 
-in_component : (X : Picture) (labels : List ℕ) (k : ℕ) (p : Point) → LabelsObject X labels → HasLabel X.sides labels (k + 1) p → Contains (component X labels (k + 1)) p
+-- and a point with the label is of the component
+pub in_component : (X : Picture) (labels : List ℕ) (k : ℕ) (p : Point) → LabelsObject X labels → HasLabel X.sides labels (k + 1) p → Contains (component X labels (k + 1)) p
 in_component X labels k p named h =
     let e = h.label in
     let t : (label_of X labels p == k + 1) ≡ true = grind (arith, nat_tests) in
