@@ -12,3 +12,4 @@ pub mod OneCubeMore
 pub mod EulersSeen
 pub mod CrossingSizes
 pub mod OctantComponents
+pub mod CellsOnce

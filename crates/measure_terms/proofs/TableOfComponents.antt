@@ -87,13 +87,17 @@ some_measures object squares left labels (q ∷ ps) p c = measures_are object sq
 
 -- ---- the table
 
+-- it has a row for each label
+pub table_length : (X left : Picture) (squares : List ℕ) (table : List Measures) → (h : IsTable X squares left table) → length table ≡ greatest h.labels
+table_length X left squares table h = ap length h.rows ∙ length-rows (greatest h.labels) (facts X squares left h.labels)
+
 pub table_measures : (X left : Picture) (squares : List ℕ) (table : List Measures) → left.sides ≡ X.sides → IsTable X squares left table → MeasuresComponents X squares left table
 table_measures X left squares table s h =
     let labels = h.labels in
     let fs = facts X squares left labels in
     let n = h.named.parts.0 in
     let names = h.named.parts.1 in
-    let len : length table ≡ greatest labels = ap length h.rows ∙ length-rows (greatest labels) fs in
+    let len = table_length X left squares table h in
     let same : n ≡ length table = omega (arith, len, no_more X labels n h.named names, no_fewer X labels n names) in
     record {
       labels = labels;
@@ -139,7 +143,7 @@ ferets_measure X left squares table ferets h f =
     let fs = facts X squares left labels in
     let n = h.named.parts.0 in
     let names = h.named.parts.1 in
-    let len : length table ≡ greatest labels = ap length h.rows ∙ length-rows (greatest labels) fs in
+    let len = table_length X left squares table h in
     let same : n ≡ length table = omega (arith, len, no_more X labels n h.named names, no_fewer X labels n names) in
     record {
       each = λ k d l.
