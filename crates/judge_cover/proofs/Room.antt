@@ -3,7 +3,7 @@
 use Rattle.std.proofs.Common.{◌≡◌, ℕ, ◌<◌, ◌≤◌, ◌^◌, List, [], ◌∷◌, length, arith}
 use Rattle.std.specs.Prelude.{None, slice_index_or}
 use Rattle.std.proofs.lemmas.List.Sums.{sum_by-cons}
-use Rattle.shape_terms.specs.Limits.{most_points}
+use Rattle.shape_terms.specs.Limits.{most_pixels}
 use Rattle.shape_terms.specs.Points.{box_count}
 use Rattle.shape_terms.specs.Pictures.{Picture}
 use Rattle.shape_terms.specs.Traces.{Contour, AreContours, points_in}
@@ -16,7 +16,7 @@ first_few [] = omega arith
 first_few (k ∷ contours) = omega (arith, sum_by-cons (λ (k : Contour). length k.points) k contours)
 
 -- the lines of all contours
-pub few_lines : (number : ℕ) (X : Picture) (contours : List Contour) → AreContours X contours → box_count X.sides ≤ most_points → room_of (record { number = number; contours = contours; standing = record { begun = 0; points = 0; declared = 0; stretches = []; last = None; gaps = 0 } }) < 2 ^ 60
+pub few_lines : (number : ℕ) (X : Picture) (contours : List Contour) → AreContours X contours → box_count X.sides ≤ most_pixels → room_of (record { number = number; contours = contours; standing = record { begun = 0; points = 0; declared = 0; stretches = []; last = None; gaps = 0 } }) < 2 ^ 60
 few_lines number X contours are few =
     let all = few_in_all X contours are in
     let f = first_few contours in

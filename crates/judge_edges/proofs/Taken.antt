@@ -6,7 +6,7 @@ use Rattle.std.specs.Bool.{OnTrue}
 use Rattle.std.proofs.lemmas.List.{length-append, length-map}
 use Rattle.std.proofs.lemmas.List.Sums.{sum_by-cons}
 use Rattle.std.proofs.lemmas.Option.{slice_get_within}
-use Rattle.shape_terms.specs.Limits.{most_points}
+use Rattle.shape_terms.specs.Limits.{most_pixels}
 use Rattle.shape_terms.specs.Points.{box_count}
 use Rattle.shape_terms.specs.Pictures.{Picture}
 use Rattle.shape_terms.specs.Contours.{Crack}
@@ -51,7 +51,7 @@ corners_of (c ∷ cracks) =
     omega (arith, s, n, length-map c corner, corners_of cracks)
 
 -- the lines of all cycles
-pub few_lines : (X : Picture) (cycles : List EdgeCycle) → AreEdgeCycles X cycles → box_count X.sides ≤ most_points → room_of (record { cycles = cycles; standing = nothing_taken }) < 2 ^ 60
+pub few_lines : (X : Picture) (cycles : List EdgeCycle) → AreEdgeCycles X cycles → box_count X.sides ≤ most_pixels → room_of (record { cycles = cycles; standing = nothing_taken }) < 2 ^ 60
 few_lines X cycles are few =
     let contours = few_in_all X (map (contour_of X) are.cracks) (record { cycles = are.cracks; are = are.are; contours_are = refl }) in
     let cracks = few_cracks X (flat_map (λ c. c) are.cracks) (λ c i. (are.are.each c).1 i) are.are.once in

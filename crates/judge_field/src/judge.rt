@@ -44,7 +44,7 @@ impl<P: Point> FieldJudge<P> {
     pub fn new(alloc: Global, grid: &Grid<P>) -> Result<FieldJudge<P>, NoMemory>
         ensures picture { IfOk result (λ j. j.picture ≡ grid.now) }
         ensures stands { IfOk result (λ j. StandsFor j []) }
-        ensures room { IfOk result (λ j. room_of j < 2 ^ 60) }
+        ensures room { IfOk result (λ j. room_of j < 2 ^ 32) }
     {
         Ok(FieldJudge {
             scans: Scans::new(alloc, grid)?,

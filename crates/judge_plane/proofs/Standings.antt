@@ -116,7 +116,7 @@ off_less s s2 p why true e r l k =
     rw (e, k) (omega (arith, now, before, more))
 
 -- all lines are few
-pub few_lines : (X : Picture) → box_count X.sides ≤ most_points → 6 * ((box_count X.sides + 1) * (box_count X.sides + 2)) + ((length (exposed_at X 0) - 0) * (box_count X.sides + 2) + (1 + (box_count X.sides - 0))) < 2 ^ 60
+pub few_lines : (X : Picture) → box_count X.sides ≤ most_points → 6 * ((box_count X.sides + 1) * (box_count X.sides + 2)) + ((length (exposed_at X 0) - 0) * (box_count X.sides + 2) + (1 + (box_count X.sides - 0))) < 7 * ((most_points + 1) * (most_points + 2))
 few_lines X few =
     let count = box_count X.sides in
     let fits = face_fits count (length (exposed_at X 0) - 0) (let f = few_exposed X 0 in omega arith) in

@@ -2,6 +2,7 @@
 //! Exposed points are told in `face`, and touching ones in `round`.
 ghost use Rattle.std.specs.Prelude.{◌≡◌, ◌+◌, ◌-◌, ◌*◌, ◌<◌, ◌≤◌, ◌^◌, ◌↔◌, [], ◌∷◌, ◌++◌, List, length, take, drop, IsTrue, IfOk, vec_capacity};
 ghost use Rattle.std.specs.Bool.{OnTrue};
+ghost use Rattle.shape_terms.specs.Limits.{most_points};
 ghost use Rattle.shape_terms.specs.Points.{box_count};
 ghost use Rattle.shape_terms.specs.Pictures.{Picture};
 ghost use Rattle.shape_terms.specs.Naive.{IsProper};
@@ -96,7 +97,7 @@ impl PlaneJudge {
     /// object point.
     pub fn new(alloc: Global, grid: &Grid<P3>) -> Result<PlaneJudge, NoMemory>
         ensures stands { IfOk result (λ j. StandsFor grid.now j []) }
-        ensures room { IfOk result (λ j. room_of j < 2 ^ 60) }
+        ensures room { IfOk result (λ j. room_of j < 7 * ((most_points + 1) * (most_points + 2))) }
     {
         grid.is_picture();
         let sides = grid.sides();

@@ -100,7 +100,7 @@ impl Measures {
             skeleton: counted(f.left.is_some(), self.skeleton),
             ends: counted(is_end(f.left), self.ends),
             junctions: counted(is_junction(f.left), self.junctions),
-            exposed: self.exposed + f.exposed,
+            exposed: self.exposed + f.exposed as u64,
             touches: self.touches || f.rim,
         }
     }

@@ -26,7 +26,7 @@ pub struct Measures {
     /// How many points left have three or more near neighbours left.
     pub junctions: u32,
     /// How many sides of its points are exposed: the side neighbours there are not object.
-    pub exposed: u32,
+    pub exposed: u64,
     /// Whether one of its points lies at the border of the box.
     pub touches: bool,
     ghost fits: { Fitting area x y z skeleton ends junctions exposed },

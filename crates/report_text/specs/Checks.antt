@@ -14,7 +14,7 @@ use Rattle.report_text.specs.declared.answer.Judgement.TheVariants.{Yes, No}
 -- the number of a line, as far as lines are counted
 pub record IsLineNumber (k : ℕ) : Type 0 where
   pub some : 1 ≤ k
-  pub few : k ≤ 2 ^ 62
+  pub few : k ≤ 2 ^ 63
 
 -- what is answered
 abbrev pub Answer : Type 0

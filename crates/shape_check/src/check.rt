@@ -30,7 +30,7 @@ fn check_lines<P: Point, R: Row<P>, D: Desk>(
     desk: &mut D,
 ) -> Result<Judgement, CheckFault>
     requires begun { (D.state desk.old).begun Report ≡ true }
-    requires few { R.room row < 2 ^ 62 - 1 }
+    requires few { R.room row < 2 ^ 63 - 1 }
     ensures checked { (X : Subject) (n : ℕ) (text : Option (List ℕ))
         → length X.picture.sides ≡ P.DIM → R.waits X.picture n row
         → HasCome (analysis X) (BehindHeading X n (means rule.old) R.section) text
@@ -70,7 +70,7 @@ fn check_behind<P: Point, R: Row<P>, D: Desk>(
     desk: &mut D,
 ) -> Result<Judgement, CheckFault>
     requires begun { (D.state desk.old).begun Report ≡ true }
-    requires few { R.room row < 2 ^ 62 - 1 }
+    requires few { R.room row < 2 ^ 63 - 1 }
     ensures checked { (X : Subject) (n : ℕ) (text : Option (List ℕ))
         → length X.picture.sides ≡ P.DIM → R.waits X.picture n row
         → HasCome (analysis X) (BehindHeading X n (means rule.old) R.section) text

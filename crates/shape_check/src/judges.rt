@@ -102,7 +102,7 @@ pub trait Row<P: Point>: Judges<P> {
     /// Judges of a picture that have taken no line of a report with this number.
     fn begin(alloc: Global, grid: &Grid<P>, number: u8) -> Result<Self, NoMemory>
         ensures waits { IfOk result (λ r. Self.waits grid.now number r) }
-        ensures room { IfOk result (λ r. Self.room r < 2 ^ 62 - 1) };
+        ensures room { IfOk result (λ r. Self.room r < 2 ^ 63 - 1) };
 
     ghost first: { rank Self.section ≡ 1 };
 }

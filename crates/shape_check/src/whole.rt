@@ -38,12 +38,12 @@ fn wait_for<P: SimpleMask>(alloc: Global, grid: &Grid<P>) -> Result<Common<P>, N
     ensures counts_wait { IfOk result (λ c. c.counts.taken ≡ false) }
     ensures picture { IfOk result (λ c. c.field.picture ≡ grid.now) }
     ensures field { IfOk result (λ c. Field.StandsFor c.field []) }
-    ensures field_room { IfOk result (λ c. Field.room_of c.field < 2 ^ 60) }
+    ensures field_room { IfOk result (λ c. Field.room_of c.field < 2 ^ 32) }
     ensures thinned { IfOk result (λ c. (by : Rule) (now : List ℕ) → Thins grid.now by
         (λ events now. Thin.StandsFor by grid.now events now c.thinned.events) c.thinned.begun
         c.thinned.kept c.thinned.object c.thinned.background now []) }
     ensures thinned_waits { IfOk result (λ c. c.thinned.kept ≡ false) }
-    ensures thinned_room { IfOk result (λ c. Thin.room_of c.thinned.events < 2 ^ 60) }
+    ensures thinned_room { IfOk result (λ c. Thin.room_of c.thinned.events < 2 ^ 32) }
 {
     grid.is_picture();
     let parts = parts(alloc, grid)?;

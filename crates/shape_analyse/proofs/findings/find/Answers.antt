@@ -37,7 +37,7 @@ returns-clause-found g c =
 pub invariant_of-result : goal.invariant_of-result
 invariant_of-result g c = record {
   counts = c.in_ok-counted.ensures;
-  nears = c.in_ok-features.ensures.features c.args.grid.now c.in_ok-field.ensures.field;
+  nears = c.in_ok-features.ensures.features;
   outline = c.in_ok-outline.ensures.text;
   extent = c.in_ok-outline.ensures.extent;
   kept = c.in_ok-thinning.ensures.kept;

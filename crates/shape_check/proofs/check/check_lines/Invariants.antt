@@ -18,7 +18,7 @@ invariant-lines g l = record {
       (ahead_of l.reader.ahead ((g.D.Desk.state l.desk).left Report)) l.line;
   same_rule : (g.dyn-1.0.entry l.rule.now.0).1.means l.rule.now.1 ≡ (g.dyn-1.0.entry l.fn.rule.now.0).1.means l.fn.rule.now.1;
   some : 1 ≤ l.line;
-  few : l.line + g.R.Judges.room l.row ≤ 2 ^ 62;
+  few : l.line + g.R.Judges.room l.row ≤ 2 ^ 63;
   reads : OnlyReadsAt Report (g.D.Desk.state l.fn.desk) (g.D.Desk.state l.desk);
 }
 
