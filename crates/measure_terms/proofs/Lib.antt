@@ -6,3 +6,10 @@ pub mod ComponentPoints
 pub mod ComponentFerets
 pub mod ComponentMeasures
 pub mod TableOfComponents
+pub mod Cubes
+pub mod CellSums
+pub mod OneCubeMore
+pub mod EulersSeen
+pub mod CrossingSizes
+pub mod OctantComponents
+pub mod CellsOnce

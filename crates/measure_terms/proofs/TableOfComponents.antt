@@ -87,13 +87,17 @@ some_measures object squares left labels (q ∷ ps) p c = measures_are object sq
 
 -- ---- the table
 
+-- it has a row for each label
+pub table_length : (X left : Picture) (squares : List ℕ) (table : List Measures) → (h : IsTable X squares left table) → length table ≡ greatest h.labels
+table_length X left squares table h = ap length h.rows ∙ length-rows (greatest h.labels) (facts X squares left h.labels)
+
 pub table_measures : (X left : Picture) (squares : List ℕ) (table : List Measures) → left.sides ≡ X.sides → IsTable X squares left table → MeasuresComponents X squares left table
 table_measures X left squares table s h =
     let labels = h.labels in
     let fs = facts X squares left labels in
     let n = h.named.parts.0 in
     let names = h.named.parts.1 in
-    let len : length table ≡ greatest labels = ap length h.rows ∙ length-rows (greatest labels) fs in
+    let len = table_length X left squares table h in
     let same : n ≡ length table = omega (arith, len, no_more X labels n h.named names, no_fewer X labels n names) in
     record {
       labels = labels;
@@ -114,14 +118,16 @@ labels_kept X left squares table s h = refl
 
 -- ---- Feret diameters
 
-has_label : (X : Picture) (labels : List ℕ) (k : ℕ) (p : Point) → Contains (component X labels (k + 1)) p → HasLabel X.sides labels (k + 1) p
+-- a point of a component has its label
+pub has_label : (X : Picture) (labels : List ℕ) (k : ℕ) (p : Point) → Contains (component X labels (k + 1)) p → HasLabel X.sides labels (k + 1) p
 has_label X labels k p c =
     let a = filtered (λ q. label_of X labels q == k + 1) (object_points X) p c in
     let b = filtered (at X) (box_points X.sides) p a.0 in
     let t = a.1 in
     record { inside = (and_parts (in_box X.sides p) _ b.1).0; label = grind (arith, nat_tests) }
 
-in_component : (X : Picture) (labels : List ℕ) (k : ℕ) (p : Point) → LabelsObject X labels → HasLabel X.sides labels (k + 1) p → Contains (component X labels (k + 1)) p
+-- and a point with the label is of the component
+pub in_component : (X : Picture) (labels : List ℕ) (k : ℕ) (p : Point) → LabelsObject X labels → HasLabel X.sides labels (k + 1) p → Contains (component X labels (k + 1)) p
 in_component X labels k p named h =
     let e = h.label in
     let t : (label_of X labels p == k + 1) ≡ true = grind (arith, nat_tests) in
@@ -137,7 +143,7 @@ ferets_measure X left squares table ferets h f =
     let fs = facts X squares left labels in
     let n = h.named.parts.0 in
     let names = h.named.parts.1 in
-    let len : length table ≡ greatest labels = ap length h.rows ∙ length-rows (greatest labels) fs in
+    let len = table_length X left squares table h in
     let same : n ≡ length table = omega (arith, len, no_more X labels n h.named names, no_fewer X labels n names) in
     record {
       each = λ k d l.

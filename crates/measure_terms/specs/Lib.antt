@@ -6,3 +6,8 @@ pub mod Tables
 pub mod Components
 pub mod Feret
 pub mod Texts
+pub mod Cells
+pub mod Gains
+pub mod Seen
+pub mod Eulers
+pub mod Crossings
