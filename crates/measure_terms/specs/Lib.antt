@@ -11,3 +11,4 @@ pub mod Gains
 pub mod Seen
 pub mod Eulers
 pub mod Crossings
+pub mod Thickness

@@ -1,8 +1,8 @@
 -- The spelling of a table: a header, and a line for each object, its cells with commas between.
 -- A further column is one more piece of `header` and of `cells`, in the same place.
-use Rattle.std.specs.Prelude.{if◌then◌else◌, ℕ, ◌+◌, ◌/◌, ◌%◌, Bool, true, false, Option, Some, None, List, [], ◌∷◌, ◌++◌, codes, take, nat_abs, cond, nat_eq, ℤ}
+use Rattle.std.specs.Prelude.{if◌then◌else◌, ℕ, ◌+◌, ◌/◌, ◌%◌, Bool, true, false, Option, Some, None, List, [], ◌∷◌, ◌++◌, codes, take, nat_abs, cond, nat_eq}
 use Rattle.std.specs.List.{flat_map}
-use Rattle.std.specs.Fmt.{decimal, signed_decimal}
+use Rattle.std.specs.Fmt.{decimal}
 use Rattle.shape_terms.specs.Points.{Point, coordinate}
 use Rattle.measure_terms.specs.Measures.{Measures}
 use Rattle.measure_terms.specs.Rounding.{mean, root}
@@ -12,10 +12,6 @@ use Rattle.measure_terms.specs.Rounding.{mean, root}
 -- a whole number, behind a comma
 abbrev pub whole : ℕ → List ℕ
 whole n = codes "," ++ decimal n
-
--- a whole number with its sign, behind a comma
-abbrev pub signed : ℤ → List ℕ
-signed n = codes "," ++ signed_decimal n
 
 -- three digits
 abbrev pub three_digits : ℕ → List ℕ
@@ -75,6 +71,9 @@ cells d m = size_text d m ++ form_text d m
 pub record Columns : Type 0 where
   pub names : List ℕ
   pub cells : ℕ → List ℕ
+
+abbrev pub no_columns : Columns
+no_columns = record { names = []; cells = λ i. [] }
 
 -- the row with a place, from 0 on: the number of its object, from 1 on, and all cells
 abbrev pub row_text : (d : ℕ) → Columns → (i : ℕ) → Measures → List ℕ

@@ -1,0 +1,4 @@
+pub mod Greatest
+pub mod Centres
+pub mod Painting
+pub mod Laws
