@@ -16,13 +16,15 @@ SUFFIXES = {".png", ".tif", ".tiff", ".jpg", ".jpeg", ".bmp", ".gif", ".pbm", ".
 class Grey:
     """An image of one value a pixel, indexed [y, x], dark where the value is small, and what was done to make it, in words.
 
-    `objects` is `dark` or `light` where the file's format itself says which side is the object, as a PBM does.
+    `objects` is `dark` or `light` where the file's format itself says which side is the object, as a PBM does. `colours` is the image
+    in colours of eight bits, [y, x, 3], where it has some.
     """
 
     name: str
     values: np.ndarray
     notes: tuple[str, ...] = ()
     objects: str | None = None
+    colours: np.ndarray | None = None
 
 
 def pillow():
@@ -128,7 +130,7 @@ def _of_channels(path: Path, values: np.ndarray) -> Grey:
 def _grey(path: Path, image, labels: bool) -> Grey:
     """The grey values of the page that Pillow shows."""
     image_of, ops = pillow()
-    notes = []
+    notes, colours = [], None
     if labels and image.mode == "P":
         return Grey(str(path), np.array(image), ("the numbers of its colours are the labels",))
     if (image.getexif() or {}).get(0x0112, 1) != 1:
@@ -146,8 +148,9 @@ def _grey(path: Path, image, labels: bool) -> Grey:
         red, green, blue = image.convert("RGB").split()
         if red.tobytes() != green.tobytes() or red.tobytes() != blue.tobytes():
             notes.append("colours made grey")
+            colours = np.array(image.convert("RGB"))
         image = image.convert("L")
     if image.mode not in ("1", "L", "I", "F") and not image.mode.startswith("I;16"):
         raise Fault(path, f"an image of the kind {image.mode}", "save it as a grey PNG or TIFF")
     is_pbm = image.mode == "1" and path.suffix.lower() in (".pbm", ".pnm")
-    return Grey(str(path), np.array(image), tuple(notes), "dark" if is_pbm else None)
+    return Grey(str(path), np.array(image), tuple(notes), "dark" if is_pbm else None, colours)

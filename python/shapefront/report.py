@@ -273,3 +273,18 @@ def contours_of(report: Analysis) -> Iterator[np.ndarray]:
     """The contours as closed arrays of points (x, y), the first one again at the end, as drawing programs take them."""
     for contour in report.contours:
         yield np.vstack([contour.points, contour.points[:1]])
+
+
+def borders_of(text: bytes) -> tuple[np.ndarray, np.ndarray]:
+    """The borders of a flat picture's report, by its lines of contours alone: a row (x, y, side, points, segments) for each, and all points (x, y).
+
+    Far faster than `read` where the report is a long one. A Fault where these lines do not fit together.
+    """
+    begin = text.find(b"\ncontour ") + 1
+    if not begin:
+        return np.zeros((0, 5), np.int64), np.zeros((0, 2), np.int64)
+    ends = [end for word in (b"\ndel ", b"\ntip ", b"\nkept ") if (end := text.find(word, begin)) > 0]
+    lines = Lines.of(b"\n" + text[begin : min(ends, default=len(text) - 1) + 1], "the report")
+    heads = lines.numbers("contour", 5)
+    lines_follow(lines, "contour", "at", heads[:, 3])
+    return heads, lines.numbers("at", 2)
