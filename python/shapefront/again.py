@@ -4,10 +4,12 @@ Only the original image tells its own name and sum, the label, the threshold and
 """
 from __future__ import annotations
 
+from dataclasses import asdict
 from pathlib import Path
 from typing import Any
 
 from .batch import Image
+from .filters import Filters
 from .folder import Run
 from .making import Record, key_of, record_of
 from .pictures import told_suffix
@@ -33,7 +35,7 @@ def record_again(record: Record, made: dict[str, Any], report: Path) -> Record:
     heading, options = heading_of(report), made["options"]
     parts, kept = counts_of(report)
     again = {
-        **record, "sides": [int(side) for side in heading[3:-1]], "rule": heading[-1], "gzip": options["gzip"],
+        **record, "channel": options["channel"], "filters": asdict(Filters.told(options)), "sides": [int(side) for side in heading[3:-1]], "rule": heading[-1], "gzip": options["gzip"],
         "masks": list(dict.fromkeys(options["masks"])), "network": options["network"],
         "programs": made["programs"], "parts": parts, "kept": kept,
     }  # fmt: skip

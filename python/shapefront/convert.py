@@ -21,7 +21,8 @@ class Picture:
     """A picture or volume of two values: its image's name, its label where it is one of several, and how it was made, in words.
 
     `fit` is how many of the image's pixels one of its pixels is wide: 1 where the image was not made smaller. `cut` is None where
-    the image's values were taken as labels.
+    the image's values were taken as labels. `grey` are the grey values that the image has there, before any filter; None where it has no more than two values.
+    `settings` are those that a user asked for.
     """
 
     image: str
@@ -30,6 +31,8 @@ class Picture:
     fit: int
     cut: Cut | None
     notes: tuple[str, ...]
+    grey: np.ndarray | None = None
+    settings: Settings = Settings()
 
     @property
     def key(self) -> str:
@@ -39,15 +42,15 @@ class Picture:
 
 def pictures_of(path: Path, name: str, settings: Settings) -> Iterator[Picture]:
     """The pictures that an image's file gives: one, or one for each of its labels. A Fault where it gives none."""
-    yield from _made(load(path, bool(settings.labels)), name, settings, MOST_FLAT)
+    yield from _made(load(path, bool(settings.labels), settings.channel), name, settings, MOST_FLAT)
 
 
 def volumes_of(path: Path, name: str, settings: Settings) -> Iterator[Picture]:
     """The volumes that a folder of slices, a stack or an array gives. A Fault where it gives none."""
-    yield from _made(volume(path, bool(settings.labels)), name, settings, MOST_SOLID)
+    yield from _made(volume(path, bool(settings.labels), settings.channel), name, settings, MOST_SOLID)
 
 
-def volume(path: Path, labels: bool = False) -> Grey:
+def volume(path: Path, labels: bool = False, channel: str | None = None) -> Grey:
     """The grey values [z, y, x] of a folder of slices (in the order of the numbers in their names), of a stack or of an array."""
     if path.suffix.lower() == ".npy":
         values = array_of(path)
@@ -58,10 +61,10 @@ def volume(path: Path, labels: bool = False) -> Grey:
         files = sorted((p for p in path.iterdir() if p.is_file() and not p.name.startswith(".")), key=_numbered)
         if not files:
             raise Fault(path, "an empty folder", "it has to hold the slices, one image each")
-        return _stacked(path, [(file.name, load(file, labels)) for file in files])
+        return _stacked(path, [(file.name, load(file, labels, channel)) for file in files])
     if not path.is_file():
         raise Fault(path, "no such file or folder", "is the name right?")
-    slices = load_stack(path, labels)
+    slices = load_stack(path, labels, channel)
     if len(slices) < 2:
         raise Fault(path, "one image, not a stack", "give the folder of the slices, or `shapes measure` for a flat picture")
     return _stacked(path, [(f"page {k}", page) for k, page in enumerate(slices, 1)])
@@ -94,18 +97,26 @@ def _made(image: Grey, name: str, settings: Settings, limit: int) -> Iterator[Pi
             f"cut it into parts, or give --fit: 1 pixel for {least}",
         )
     if settings.labels:
-        yield from _labelled(image, name, settings.labels, fit)
+        yield from _labelled(image, name, settings, fit)
         return
     if fit > 1:
         notes.append(f"made smaller: 1 pixel for {fit}")
         image = replace(image, values=_smaller(image.values, fit))
-    cut = cut_of(image, settings)
+    values, before = settings.filters.before(image.values)
+    cut = cut_of(replace(image, values=values), settings, image.values.dtype)
+    mask, after = settings.filters.after(cut.mask(values))
     if looks_like_labels(image.values):
         notes.append(f"its values are 0 to {image.values.max()}: if these are labels, give --labels")
-    yield Picture(name, None, cut.mask(image.values), fit, cut, (str(cut), *notes))
+    yield Picture(name, None, mask, fit, cut, (str(cut), *notes, *before, *after), _grey_values(image.values), settings)
 
 
-def _labelled(image: Grey, name: str, how: str, fit: int) -> Iterator[Picture]:
+def _grey_values(values: np.ndarray) -> np.ndarray | None:
+    """The values, where they are more than two, as those of a picture in black and white are not."""
+    least, most = values.min(), values.max()
+    return None if ((values == least) | (values == most)).all() else values
+
+
+def _labelled(image: Grey, name: str, settings: Settings, fit: int) -> Iterator[Picture]:
     values = image.values
     if not (values.dtype == bool or np.issubdtype(values.dtype, np.integer)):
         raise Fault(image.name, "its values are no whole numbers, so no labels", "leave out --labels")
@@ -115,16 +126,20 @@ def _labelled(image: Grey, name: str, how: str, fit: int) -> Iterator[Picture]:
     if fit > 1:
         notes.append(f"made smaller: 1 pixel for {fit}, each the label of its middle")
         values = values[(slice(fit // 2, None, fit),) * values.ndim]
+    if settings.filters.background is not None or settings.filters.smooth is not None:
+        raise Fault(image.name, "labels have no background and cannot be smoothed", "leave out --background and --smooth, or --labels")
+    values, told = settings.filters.on_labels(values)
+    notes += told
     labels = [int(label) for label in np.unique(values) if label != 0]
     if not labels:
         raise Fault(image.name, "no labels: all its values are 0", "is it the right image?")
-    if how == "all":
-        yield Picture(
-            name, None, values != 0, fit, None, (f"the {len(labels)} labels as one picture: those that touch are one object", *notes)
-        )
+    if settings.labels == "all":
+        told = f"the {len(labels)} labels as one picture: those that touch are one object"
+        yield Picture(name, None, values != 0, fit, None, (told, *notes), None, settings)
         return
     for label in labels:
-        yield Picture(name, label, values == label, fit, None, (f"label {label} of {len(labels)}, as a picture of its own", *notes))
+        told = f"label {label} of {len(labels)}, as a picture of its own"
+        yield Picture(name, label, values == label, fit, None, (told, *notes), None, settings)
 
 
 def _smaller(values: np.ndarray, fit: int) -> np.ndarray:

@@ -26,7 +26,7 @@ from .seals import is_sealed, sealed
 Record = dict[str, Any]
 
 # The members of a record, in their order; the sum of its own comes behind them.
-MEMBERS = ("image", "label", "sides", "fit", "cut", "notes", "rule", "gzip", "masks", "network", "picture", "programs", "parts", "kept", "files")
+MEMBERS = ("image", "label", "sides", "fit", "channel", "filters", "cut", "notes", "rule", "gzip", "masks", "network", "picture", "programs", "parts", "kept", "files")
 
 # What the names of the files of all images together begin with: an image cannot be called so.
 OF_ALL = ("made", "pictures", "objects", "networks", "branches")
@@ -78,6 +78,7 @@ def _head(picture: Picture, plan: Plan) -> Record:
     """What says how a picture's files are made: equal heads, equal files."""
     return {
         "image": picture.image, "label": picture.label, "sides": list(sides_of(picture.mask)), "fit": picture.fit,
+        "channel": picture.settings.channel, "filters": asdict(picture.settings.filters),
         "cut": asdict(picture.cut) if picture.cut else None, "notes": list(picture.notes), "rule": plan.rule, "gzip": plan.gzip, "masks": list(plan.masks), "network": plan.network,
         "picture": sum_of_bytes(spelled(picture.mask)), "programs": sums(),
     }  # fmt: skip
