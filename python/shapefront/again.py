@@ -11,6 +11,7 @@ from typing import Any
 from .batch import Image
 from .filters import Filters
 from .folder import Run
+from .layout import evidence
 from .making import Record, key_of, record_of
 from .pictures import told_suffix
 from .products import names_of
@@ -35,13 +36,13 @@ def record_again(record: Record, made: dict[str, Any], report: Path) -> Record:
     heading, options = heading_of(report), made["options"]
     parts, kept = counts_of(report)
     again = {
-        **record, "channel": options["channel"], "filters": asdict(Filters.told(options)), "sides": [int(side) for side in heading[3:-1]], "rule": heading[-1], "gzip": options["gzip"],
+        **record, "channel": options["channel"], "filters": asdict(Filters.told(options)), "sides": [int(side) for side in heading[3:-1]], "rule": heading[-1], "plain": options["plain"],
         "masks": list(dict.fromkeys(options["masks"])), "network": options["network"],
         "programs": made["programs"], "parts": parts, "kept": kept,
     }  # fmt: skip
     if record["cut"]:
         again["notes"] = [str(Cut(**record["cut"])), *record["notes"][1:]]
-    stem = Path(key_of(record)).name
-    again["files"] = {name: record["files"].get(name, "its sum") for name in sorted(names_of(stem, again))}
-    again["picture"] = again["files"][stem + told_suffix(again["sides"])]
+    key = key_of(record)
+    again["files"] = {name: record["files"].get(name, "its sum") for name in sorted(names_of(key, again))}
+    again["picture"] = again["files"][evidence(key, told_suffix(again["sides"]))]
     return record_of(again)

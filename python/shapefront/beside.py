@@ -4,7 +4,7 @@ from __future__ import annotations
 import tempfile
 from collections.abc import Iterator
 from dataclasses import dataclass
-from pathlib import Path
+from pathlib import Path, PurePosixPath
 from typing import Any
 
 from .arrays import verdict
@@ -61,12 +61,13 @@ def stem_of(report: Path) -> Path:
     return report.with_name(report.name.removesuffix(".gz").removesuffix(".report"))
 
 
-def check_beside(report: Path, record: dict[str, Any], judge: Judge) -> Beside:
+def check_beside(report: Path, record: dict[str, Any], judge: Judge, drawing: Path | None = None) -> Beside:
     """What is found of a report and of what was made of it; where no check can be made, that is why.
 
-    The record tells which masks were made, and by which program; it may be empty.
+    The record tells which masks were made, and by which program; it may be empty. The drawing lies beside the report, or has the name that is given.
     """
     stem = stem_of(report)
+    drawing = drawing or stem.with_name(stem.name + ".svg")
     name = shown(stem)
     try:
         source = picture_of(stem.name, report)
@@ -75,7 +76,7 @@ def check_beside(report: Path, record: dict[str, Any], judge: Judge) -> Beside:
             if not found.holds:
                 return Beside(report, [(report, found)])
             table = _made(("measure",), file)
-            wrong = [(path, Finding(name, False, why)) for path, why in _wrong(stem, file, table, record)]
+            wrong = [(path, Finding(name, False, why)) for path, why in _wrong(stem, drawing, file, table, record)]
     except Fault as fault:
         return Beside(report, [(report, refused(name, fault))])
     return Beside(report, wrong or [(report, found)], table or b"")
@@ -86,9 +87,9 @@ def refused(name: str, fault: Fault) -> Finding:
     return Finding(name, False, fault.reason + (f"; {fault.remedy}" if fault.remedy else ""))
 
 
-def _wrong(stem: Path, report: Path, table: bytes | None, record: dict[str, Any]) -> Iterator[tuple[Path, str]]:
-    """The files beside a report that are not what the program makes of it, each with the reason."""
-    for words, path in _products(stem, record):
+def _wrong(stem: Path, drawing: Path, report: Path, table: bytes | None, record: dict[str, Any]) -> Iterator[tuple[Path, str]]:
+    """The files of a report that are not what the program makes of it, each with the reason."""
+    for words, path in _products(stem, drawing, record):
         if not path.is_file():
             continue
         data = path.read_bytes()
@@ -104,14 +105,14 @@ def _not_made(words: tuple[tuple[str, ...], ...], path: Path, record: dict[str, 
     return f"the report holds, but {shown(path)} is not what `{NAME} {words[0][0]}` makes of it{other}"
 
 
-def _products(stem: Path, record: dict[str, Any]) -> Iterator[tuple[tuple[tuple[str, ...], ...], Path]]:
+def _products(stem: Path, drawing: Path, record: dict[str, Any]) -> Iterator[tuple[tuple[tuple[str, ...], ...], Path]]:
     """The files that are made of a report, there or not, each with the words of which any may have made it."""
     yield (("measure",),), stem.with_name(stem.name + ".csv")
-    yield DRAWINGS, stem.with_name(stem.name + ".svg")
+    yield DRAWINGS, drawing
     yield (("mask", "skeleton"),), part(stem, "skeleton", ".pbm")
     for kind in record.get("masks", []):
-        for name in record.get("files", {}):
-            if name.startswith(f"{stem.name}.{kind}.") and "/" not in name:
+        for name in {PurePosixPath(name).name for name in record.get("files", {})}:
+            if name.startswith(f"{stem.name}.{kind}."):
                 yield (("mask", kind),), stem.with_name(name)
 
 

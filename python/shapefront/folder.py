@@ -1,4 +1,4 @@
-"""What a run writes for all its images together: `objects.csv`, `pictures.csv`, `summary.txt` and `made.json`.
+"""What a run writes for all its images together: `objects.csv`, `pictures.csv`, `summary.txt` and `evidence/made.json`.
 
 All of it follows from the records and the tables of its pictures, and from what the run itself was told; so it can be made again.
 """
@@ -7,7 +7,7 @@ from __future__ import annotations
 import platform
 from collections.abc import Callable, Iterator
 from dataclasses import dataclass
-from pathlib import Path, PurePosixPath
+from pathlib import Path
 from typing import Any
 
 import numpy as np
@@ -15,18 +15,15 @@ import numpy as np
 from . import __version__
 from .batch import Image, source_sum
 from .faults import Fault
-from .files import encoded, spelled_json, sum_of_bytes, write, write_json
+from .files import encoded, make_folder, spelled_json, sum_of_bytes, write, write_json
 from .images import pillow_version
+from .layout import JOINED, MADE, PICTURES, SUMMARY, evidence, record_of_key
 from .making import Record, key_of
 from .pictures import told_sides
 from .programs import sums
 from .seals import sealed
 from .tables import Part, Row, joined, spelled_rows
 from .units import Pixel
-
-MADE, SUMMARY, PICTURES = "made.json", "summary.txt", "pictures.csv"
-# The tables of all pictures together, and what the names of a picture's own end in.
-JOINED = {"objects.csv": ".csv", "networks.csv": ".network.csv", "branches.csv": ".branches.csv"}
 
 # The text of a record's own table, by what its name ends in.
 Table = Callable[[Record, str], str]
@@ -49,7 +46,7 @@ class Run:
         """The tables and the summary of all, by the names of their files. A Fault where the tables do not fit together."""
         files = {PICTURES: spelled_rows(pictures(self.records))}
         for name, suffix in JOINED.items():
-            if own := [_part(record, table(record, suffix)) for record in self.records if _named(record, suffix) in record["files"]]:
+            if own := [_part(record, table(record, suffix)) for record in self.records if evidence(key_of(record), suffix) in record["files"]]:
                 files[name] = spelled_rows(joined(own, self.pixel))
         return {**files, SUMMARY: encoded("".join(line + "\n" for line in summary(self)))}
 
@@ -67,12 +64,13 @@ class Run:
 def finish(folder: Path, images: list[Image], pixel: Pixel | None, options: dict[str, Any]) -> dict[str, Any]:
     """Writes the tables, the summary and the record of a run; the record. A Fault where the folder cannot be written."""
     run = Run(options, pixel, images, versions())
-    files = run.of_all(lambda record, suffix: _read(folder / (key_of(record) + suffix)))
+    files = run.of_all(lambda record, suffix: _read(folder / evidence(key_of(record), suffix)))
     for name, data in files.items():
         write(folder / name, data)
     for name in JOINED.keys() - files.keys():
         (folder / name).unlink(missing_ok=True)
     made = run.made(files)
+    make_folder((folder / MADE).parent)
     write_json(folder / MADE, made)
     return made
 
@@ -92,20 +90,14 @@ def versions() -> dict[str, Any]:
 
 
 def _told(image: Image) -> dict[str, Any]:
-    records = [f"{key_of(record)}.json" for record in image.records]
+    records = [record_of_key(key_of(record)) for record in image.records]
     thresholds = [record["cut"]["threshold"] for record in image.records if record["cut"]]
     return {"image": image.name, "sum": image.source, "thresholds": thresholds, "pictures": records, "failure": image.failure}
 
 
 def _files(record: Record) -> dict[str, str]:
     """The sums of a picture's files and of its record, by their names in the folder of the run."""
-    place = PurePosixPath(key_of(record)).parent
-    own = {str(place / name): told for name, told in record["files"].items()}
-    return {**own, f"{key_of(record)}.json": sum_of_bytes(spelled_json(record))}
-
-
-def _named(record: Record, suffix: str) -> str:
-    return PurePosixPath(key_of(record) + suffix).name
+    return {**record["files"], record_of_key(key_of(record)): sum_of_bytes(spelled_json(record))}
 
 
 def _part(record: Record, table: str) -> Part:

@@ -14,12 +14,15 @@ from .beside import SUFFIXES, Asked, Covered, check_beside, network_again, refus
 from .checking import Finding, Judge
 from .faults import Fault
 from .files import read_json, shown
-from .folder import JOINED, MADE, PICTURES
 from .inventory import is_below, lying
+from .layout import JOINED, MADE, PICTURES, root_of
 from .networks import part
 from .report import counts_of
 from .runcheck import findings_of_run
 from .seals import opened, why_not
+
+# Where earlier versions kept the record of a run.
+MADE_BEFORE = "made.json"
 
 
 def check_folder(folder: Path, asked: Asked) -> Iterator[Finding | Covered]:
@@ -39,7 +42,7 @@ def check_folder(folder: Path, asked: Asked) -> Iterator[Finding | Covered]:
 def _runs(names: list[str]) -> list[str]:
     """The folders of runs among these names, without those that lie in the folder of another."""
     runs: list[str] = []
-    for place in sorted((Path(name).parent for name in names if Path(name).name == MADE), key=lambda place: len(place.parts)):
+    for place in sorted((root_of(name) for name in names if name == MADE or name.endswith("/" + MADE)), key=lambda place: len(place.parts)):
         if not is_below(str(place), runs):
             runs.append(str(place))
     return sorted(runs)
@@ -67,18 +70,20 @@ def _of_run(folder: Path, names: list[str], asked: Asked) -> Iterator[Finding | 
 def _by_hand(folder: Path, names: list[str], asked: Asked) -> Iterator[Finding | Covered]:
     """The findings on a folder without a `made.json`."""
     traces = [name for name in names if _is_trace(folder, name)]
-    if traces:
+    if MADE_BEFORE in names:
+        yield Finding(shown(folder / MADE_BEFORE), False, "an earlier version of `shapes` wrote this folder; measure again into an empty one")
+    elif traces:
         why = f"it is missing, and without it nobody can tell whether {_listed(traces)} and all else of the run are as they were made"
         yield Finding(shown(folder / MADE), False, why)
     yield from _reports(folder, names, asked)
 
 
 def _is_trace(folder: Path, name: str) -> bool:
-    """Whether a file is one that a run writes and nobody by hand: a table of all, or the record of a picture."""
+    """Whether a file is one that a run writes and nobody by hand: a table of all, or the record of a picture, or of a run by an earlier version."""
     if Path(name).name in (PICTURES, *JOINED):
         return True
     record = read_json(folder / name) if name.endswith(".json") and (folder / name).is_file() else None
-    return isinstance(record, dict) and "picture" in record and "files" in record
+    return isinstance(record, dict) and "files" in record and ("picture" in record or "images" in record)
 
 
 def _listed(names: list[str]) -> str:

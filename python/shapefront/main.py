@@ -15,9 +15,10 @@ from .convert import pictures_of, volumes_of
 from .exports import dxf, ply
 from .faults import Fault
 from .files import make_folder, shown, write
-from .folder import MADE, finish, originals
+from .folder import finish, originals
 from .foldercheck import check_folder
 from .inventory import others
+from .layout import MADE
 from .making import Plan, clear_aside
 from .original import check_original
 from .programs import find
@@ -44,7 +45,7 @@ def measure(words: argparse.Namespace) -> int:
         raise Fault("-o", "the folder of the images themselves", "choose another one for what is written")
     make_folder(words.folder)
     clear_aside(words.folder)
-    plan = Plan(words.folder, words.rule, words.gzip, tuple(dict.fromkeys(words.masks)), words.network)
+    plan = Plan(words.folder, words.rule, words.plain, tuple(dict.fromkeys(words.masks)), words.network)
     convert = volumes_of if is_volume else pictures_of
     run(images, plan, lambda path, name: convert(path, name, settings), words.jobs)
     made = finish(words.folder, images, pixel, options_of(words))

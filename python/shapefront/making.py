@@ -17,6 +17,7 @@ from typing import Any
 from .convert import Picture
 from .faults import Fault
 from .files import ASIDE, gzipped, read_json, shown, sum_of, sum_of_bytes, write_json
+from .layout import is_own, named, record_of_key
 from .pictures import sides_of, spelled, suffix_of
 from .products import draw, measured, write_mask, write_network
 from .programs import sums
@@ -26,19 +27,19 @@ from .seals import is_sealed, sealed
 Record = dict[str, Any]
 
 # The members of a record, in their order; the sum of its own comes behind them.
-MEMBERS = ("image", "label", "sides", "fit", "channel", "filters", "cut", "notes", "rule", "gzip", "masks", "network", "picture", "programs", "parts", "kept", "files")
+MEMBERS = ("image", "label", "sides", "fit", "channel", "filters", "cut", "notes", "rule", "plain", "masks", "network", "picture", "programs", "parts", "kept", "files")
 
-# What the names of the files of all images together begin with: an image cannot be called so.
-OF_ALL = ("made", "pictures", "objects", "networks", "branches")
+# What the record of a run is called, without its ending: an image cannot be called so.
+OF_ALL = "made"
 
 
 @dataclass(frozen=True)
 class Plan:
-    """Where the files go, the rule of the thinning, whether reports are gzipped, and the masks and the networks that are wanted."""
+    """Where the files go, the rule of the thinning, whether reports stay plain text, and the masks and the networks that are wanted."""
 
     folder: Path
     rule: str
-    gzip: bool = False
+    plain: bool = False
     masks: tuple[str, ...] = ()
     network: bool = False
 
@@ -50,22 +51,23 @@ def key_of(record: Record) -> str:
 
 def make(picture: Picture, plan: Plan) -> Record:
     """Makes what a picture gives, but where its record says that it is there already. The record; a Fault where it fails."""
-    if picture.key in OF_ALL:
-        raise Fault(picture.key, f"its files would have the names of `{picture.key}.csv` or `.json`, which are of all", "rename it")
-    head, told = _head(picture, plan), plan.folder / (picture.key + ".json")
+    if picture.key == OF_ALL:
+        raise Fault(picture.key, f"its record would have the name of that of all, {OF_ALL}.json", "rename it")
+    head, told = _head(picture, plan), plan.folder / record_of_key(picture.key)
     before = read_json(told) or {}
     if is_sealed(told) and _is_made(before, head, plan.folder):
         return before
     with _folder_aside(told.parent) as work:
         counts = _products(picture, plan, work)
-        files = {path.name: sum_of(path) for path in sorted(work.iterdir())}
+        files = dict(sorted((named(picture.key, path.name), sum_of(path)) for path in work.iterdir()))
         for name in files:
-            os.replace(work / name, told.parent / name)
+            (plan.folder / name).parent.mkdir(parents=True, exist_ok=True)
+            os.replace(work / Path(name).name, plan.folder / name)
         record = record_of({**head, **counts, "files": files})
         write_json(told, record)
         for name in before.get("files", {}):
-            if name not in files and name.startswith(Path(picture.key).name + ".") and "/" not in name:
-                (told.parent / name).unlink(missing_ok=True)
+            if name not in files and is_own(picture.key, name):
+                (plan.folder / name).unlink(missing_ok=True)
     return record
 
 
@@ -79,7 +81,7 @@ def _head(picture: Picture, plan: Plan) -> Record:
     return {
         "image": picture.image, "label": picture.label, "sides": list(sides_of(picture.mask)), "fit": picture.fit,
         "channel": picture.settings.channel, "filters": asdict(picture.settings.filters),
-        "cut": asdict(picture.cut) if picture.cut else None, "notes": list(picture.notes), "rule": plan.rule, "gzip": plan.gzip, "masks": list(plan.masks), "network": plan.network,
+        "cut": asdict(picture.cut) if picture.cut else None, "notes": list(picture.notes), "rule": plan.rule, "plain": plan.plain, "masks": list(plan.masks), "network": plan.network,
         "picture": sum_of_bytes(spelled(picture.mask)), "programs": sums(),
     }  # fmt: skip
 
@@ -88,8 +90,7 @@ def _is_made(record: Record, head: Record, folder: Path) -> bool:
     """Whether a record has this head, and its files are there as they were written."""
     if any(record.get(key) != value for key, value in head.items()) or not record.get("files"):
         return False
-    place = (folder / record["image"]).parent
-    return all(sum_of(place / name) == told for name, told in record["files"].items())
+    return all(sum_of(folder / name) == told for name, told in record["files"].items())
 
 
 @contextmanager
@@ -126,7 +127,7 @@ def _products(picture: Picture, plan: Plan, work: Path) -> Record:
     if plan.network:
         write_network(stem, report, picture)
     counts = dict(zip(("parts", "kept"), counts_of(report)))
-    for path in sorted(work.glob("*.report")) if plan.gzip else ():
+    for path in sorted(work.glob("*.report")) if not plan.plain else ():
         path.with_name(path.name + ".gz").write_bytes(gzipped(path.read_bytes()))
         path.unlink()
     return counts

@@ -8,6 +8,7 @@ from typing import Any
 from .arrays import verdict
 from .convert import Picture
 from .faults import Fault
+from .layout import drawing, evidence
 from .networks import MADE as NETWORK_TABLES
 from .networks import PARTS, Network, part, parts_of
 from .pictures import Source, sides_of, told_suffix
@@ -68,17 +69,15 @@ def mask_suffix(kind: str, sides: Sequence[int]) -> str:
     return f".{kind}" + (told_suffix(sides).removesuffix("raw") + "16bit.raw" if kind == "distances" else told_suffix(sides))
 
 
-def names_of(stem: str, record: dict[str, Any]) -> set[str]:
-    """The names of the files that a picture with such a record has; those of a volume have a drawing where the record names it."""
-    packed = ".gz" if record["gzip"] else ""
-    names = {stem + told_suffix(record["sides"]), stem + ".report" + packed, stem + ".csv"}
-    if len(record["sides"]) == 2 or stem + ".svg" in record["files"]:
-        names.add(stem + ".svg")
-    names |= {stem + mask_suffix(kind, record["sides"]) for kind in record["masks"]}
+def names_of(key: str, record: dict[str, Any]) -> set[str]:
+    """The names, in the folder of the run, of the files that a picture with such a record has; a volume has a drawing where the record names it."""
+    packed = "" if record["plain"] else ".gz"
+    suffixes = {told_suffix(record["sides"]), ".report" + packed, ".csv", *(mask_suffix(kind, record["sides"]) for kind in record["masks"])}
     if record["network"]:
-        names |= {part(Path(stem), name, suffix).name for name in PARTS for suffix in (".pbm", ".report" + packed, ".csv")}
-        names |= {f"{stem}.{suffix}" for suffix in NETWORK_TABLES}
-    return names
+        suffixes |= {part(Path("x"), name, suffix).name[1:] for name in PARTS for suffix in (".pbm", ".report" + packed, ".csv")}
+        suffixes |= {f".{suffix}" for suffix in NETWORK_TABLES}
+    is_drawn = len(record["sides"]) == 2 or drawing(key, ".svg") in record["files"]
+    return {evidence(key, suffix) for suffix in suffixes} | ({drawing(key, ".svg")} if is_drawn else set())
 
 
 def write_network(stem: Path, report: Path, picture: Picture) -> None:

@@ -17,8 +17,9 @@ from .checking import Finding
 from .comparing import of_members, of_tables, of_texts
 from .faults import Fault
 from .files import read_json, shown
-from .folder import MADE, SUMMARY, originals
+from .folder import originals
 from .inventory import Inventory
+from .layout import EVIDENCE, MADE, SUMMARY, drawing, evidence, record_of_key
 from .making import Record, key_of
 from .networks import MADE as NETWORK_TABLES
 from .networks import PARTS, part
@@ -125,7 +126,8 @@ class RunCheck:
         if not report.is_file():
             why = f"its report {report.name} is gone: {self.inventory.spoilt[str(report.relative_to(self.folder))]}"
             return Beside(report, [(report, Finding(shown(stem_of(report)), False, why))])
-        beside = check_beside(report, record, self.asked.judge)
+        key = str(stem_of(report).relative_to(self.folder / EVIDENCE))
+        beside = check_beside(report, record, self.asked.judge, self.folder / drawing(key, ".svg"))
         if beside.holds and (kind := heading_of(report)[0]) != "shape":
             why = f"{report.name} is a report of another kind: its first word is `{kind}`"
             return Beside(report, [(report, Finding(shown(stem_of(report)), False, why))])
@@ -157,7 +159,7 @@ class RunCheck:
             return
         try:
             run = run_again(self.made, records)
-            files = run.of_all(lambda record, suffix: self._table(checked[key_of(record) + ".json"], record, suffix))
+            files = run.of_all(lambda record, suffix: self._table(checked[record_of_key(key_of(record))], record, suffix))
         except Fault as fault:
             yield Path(fault.about), refused(shown(fault.about), fault)
             return
@@ -170,7 +172,7 @@ class RunCheck:
 
     def _table(self, one: Checked, record: Record, suffix: str) -> str:
         """A picture's own table as its report gives it; where that does not hold, as it was written. A Fault where it is spoilt, too."""
-        name = key_of(record) + suffix
+        name = evidence(key_of(record), suffix)
         if suffix in one.tables:
             return one.tables[suffix].decode()
         if not self.inventory.is_whole(name):
@@ -189,14 +191,13 @@ class RunCheck:
         """What was checked and what was not, in words."""
         files = len(self.made["files"]) - len(self.inventory.spoilt)
         images = [image for image in self.made["images"] if image["pictures"] or not image["failure"]]
-        good = sum(all(self._is_good(name, checked[name]) for name in image["pictures"]) for image in images)
+        good = sum(all(self._is_good(checked[name]) for name in image["pictures"]) for image in images)
         failed = sum(image["failure"] is not None for image in self.made["images"])
         told = f" ({failed} failed when {'they were' if failed > 1 else 'it was'} measured)" if failed else ""
         other = "" if self.made["programs"] == sums() else "; another build of the program made it, by the sum in made.json"
         return f"checked {good} of {len(images)} images{told}, {self.rows:,} rows, {files:,} files; {_UNTOLD}{other}"
 
-    def _is_good(self, name: str, one: Checked) -> bool:
+    def _is_good(self, one: Checked) -> bool:
         if one.record is None or not all(finding.holds for _, finding in one.findings):
             return False
-        place = (self.folder / name).parent
-        return not self.wrong & {place / own for own in one.record["files"]}
+        return not self.wrong & {self.folder / own for own in one.record["files"]}

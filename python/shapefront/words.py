@@ -93,7 +93,9 @@ def _making(parser: argparse.ArgumentParser) -> None:
     parser.add_argument(
         "--rule", choices=RULES, default="curve", help="what the thinning keeps: ends of curves (curve), the first two (few), or none"
     )
-    parser.add_argument("--gzip", action="store_true", help="gzip the reports: a fifth of their size")
+    packing = parser.add_mutually_exclusive_group()
+    packing.add_argument("--plain", action="store_true", help="keep the reports as text: else they are packed, to a fourth of their size")
+    packing.add_argument("--gzip", dest="plain", action="store_false", default=False, help=argparse.SUPPRESS)
     parser.add_argument(
         "--masks", action="append", choices=MASKS, default=[], help="also write a picture of this; may be given again for another"
     )

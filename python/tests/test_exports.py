@@ -54,7 +54,7 @@ class KnownShapes(InFolder):
     def test_a_square_as_dxf(self):
         Path("square.pbm").write_bytes(shape("bar", 100, 100, 30))
         self.assertEqual(self.shapes("measure", "square.pbm", "-o", "out")[0], 0)
-        self.assertEqual(self.shapes("export", "dxf", "out/square.pbm.report", "--pixel-size", "0.1", "-o", "square.dxf")[0], 0)
+        self.assertEqual(self.shapes("export", "dxf", "out/evidence/square.pbm.report.gz", "--pixel-size", "0.1", "-o", "square.dxf")[0], 0)
         pairs = Path("square.dxf").read_text().split("\n")
         lines = [
             dict(zip(pairs[k : k + 16 : 2], pairs[k + 1 : k + 16 : 2]))

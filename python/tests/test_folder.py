@@ -20,16 +20,17 @@ from .common import STORED, InFolder, installed, needs_pillow, needs_shape, rand
 
 from shapefront import programs
 from shapefront.files import spelled_json
+from shapefront.layout import MADE
 from shapefront.seals import SEAL, opened, sealed
 
 if installed("PIL"):
     from PIL import Image
 
 FOLDERS = {
-    "cells": ("measure", "cells.png", "--labels", "--masks", "object", "--masks", "skeleton", "--masks", "distances"),
-    "lines": ("measure", "one.pbm", "two.pbm", "--network", "--masks", "distances", "--pixel-size", "3", "mm"),
-    "packed": ("measure", "one.pbm", "below/two.pbm", "--network", "--gzip", "--masks", "skeleton"),
-    "solids": ("volume", "one.npy", "two.npy", "--masks", "distances", "--masks", "object"),
+    "cells": ("measure", "cells.png", "--labels", "--plain", "--masks", "object", "--masks", "skeleton", "--masks", "distances"),
+    "lines": ("measure", "one.pbm", "two.pbm", "--plain", "--network", "--masks", "distances", "--pixel-size", "3", "mm"),
+    "packed": ("measure", "one.pbm", "below/two.pbm", "--network", "--masks", "skeleton"),
+    "solids": ("volume", "one.npy", "two.npy", "--plain", "--masks", "distances", "--masks", "object"),
 }
 
 
@@ -204,8 +205,8 @@ def spelled_again(name, change, is_sealed):
 
 
 def set_out_anew(folder):
-    (folder / "made.json").write_text(json.dumps(json.loads((folder / "made.json").read_bytes()), indent=2) + "\n")
-    return ["made.json"]
+    (folder / MADE).write_text(json.dumps(json.loads((folder / MADE).read_bytes()), indent=2) + "\n")
+    return [MADE]
 
 
 def both_tables(stem):
@@ -225,7 +226,7 @@ def whole_image(stem):
     """All files of an image are deleted."""
 
     def edit(folder):
-        names = [name for name in contents(folder) if name.startswith(stem + ".")]
+        names = [name for name in contents(folder) if name.partition("/")[2].startswith(stem.partition("/")[2] + ".")]
         return deleted(*names)(folder)
 
     return edit
@@ -293,7 +294,7 @@ def edits_of(one, other, suffix, report):
         "a picture is deleted": deleted(f"{other}{suffix[1]}"),
         "a picture's own table is deleted": deleted(f"{one}.csv"),
         "a record is deleted": deleted(f"{other}.json"),
-        "made.json is deleted": deleted("made.json"),
+        "made.json is deleted": deleted(MADE),
         "a table of all is deleted": deleted("objects.csv"),
         "the table of pictures is deleted": deleted("pictures.csv"),
         "the summary is deleted": deleted("summary.txt"),
@@ -303,17 +304,18 @@ def edits_of(one, other, suffix, report):
         "a note is added in a folder of its own": added("notes/monday.txt"),
         "a record says another way of making": spelled_again(f"{one}.json", lambda value: value["notes"].append("smoothed"), False),
         "a record says other counts, with a sum": spelled_again(f"{one}.json", lambda value: value.update(kept=[1, 1, 1]), True),
-        "made.json says another image's sum": spelled_again("made.json", lambda value: value["images"][0].update(sum="0" * 64), False),
+        "made.json says another image's sum": spelled_again(MADE, lambda value: value["images"][0].update(sum="0" * 64), False),
         "made.json says another threshold, with a sum": spelled_again(
-            "made.json", lambda value: value["images"][0].update(thresholds=[3.5]), True
+            MADE, lambda value: value["images"][0].update(thresholds=[3.5]), True
         ),
-        "made.json names a file less, with a sum": spelled_again("made.json", lambda value: value["files"].pop(f"{one}.csv"), True),
+        "made.json names a file less, with a sum": spelled_again(MADE, lambda value: value["files"].pop(f"{one}.csv"), True),
         "made.json is set out in another way": set_out_anew,
     }
 
 
 def drawn(one, other):
-    return {"a drawing is deleted": deleted(f"{one}.svg"), "two drawings are exchanged": swapped(f"{one}.svg", f"{other}.svg")}
+    one, other = (name.replace("evidence", "drawings") + ".svg" for name in (one, other))
+    return {"a drawing is deleted": deleted(one), "two drawings are exchanged": swapped(one, other)}
 
 
 def networks(one, other, report):
@@ -333,15 +335,15 @@ def masks(one, other, kind):
     return {"a mask is deleted": deleted(f"{one}.{kind}"), "two masks are exchanged": swapped(f"{one}.{kind}", f"{other}.{kind}")}
 
 
-CELLS, LINES = ("cells.png.label1", "cells.png.label2"), ("one.pbm", "two.pbm")
-PACKED, SOLIDS = ("one.pbm", "below/two.pbm"), ("one.npy", "two.npy")
+CELLS, LINES = ("evidence/cells.png.label1", "evidence/cells.png.label2"), ("evidence/one.pbm", "evidence/two.pbm")
+PACKED, SOLIDS = ("evidence/one.pbm", "evidence/below/two.pbm"), ("evidence/one.npy", "evidence/two.npy")
 PBM = (".pbm", ".pbm")
 EDITS = {
     "cells": edits_of(*CELLS, PBM, "report") | drawn(*CELLS) | masks(*CELLS, "distances.pgm") | {"another report": other_report(CELLS[0])},
     "lines": edits_of(*LINES, PBM, "report") | drawn(*LINES) | networks(*LINES, "report") | masks(*LINES, "distances.pgm")
-    | {"another report": other_report(LINES[1]), "another kind of report": other_kind(LINES[0]), "another pixel": replaced("made.json", b'"size": "3"', b'"size": "2"')},
+    | {"another report": other_report(LINES[1]), "another kind of report": other_kind(LINES[0]), "another pixel": replaced(MADE, b'"size": "3"', b'"size": "2"')},
     "packed": edits_of(*PACKED, PBM, "report.gz") | drawn(*PACKED) | networks(*PACKED, "report.gz") | masks(*PACKED, "skeleton.pbm")
-    | {"another report": other_report(PACKED[1], ".gz"), "packed again": packed_again("one.pbm.report.gz")},
+    | {"another report": other_report(PACKED[1], ".gz"), "packed again": packed_again("evidence/one.pbm.report.gz")},
     "solids": edits_of(*SOLIDS, (".7x6x5.raw", ".8x6x5.raw"), "report"),
 }  # fmt: skip
 
@@ -396,7 +398,7 @@ class Seals(OfFolders):
 
     def test_every_byte_counts(self):
         draw = random.Random(7)
-        for name in ("cells/made.json", "packed/below/two.pbm.json"):
+        for name in ("cells/evidence/made.json", "packed/evidence/below/two.pbm.json"):
             data = (self.made / name).read_bytes()
             self.assertEqual(opened(data), json.loads(data))
             for k in range(len(data)):
@@ -446,29 +448,35 @@ class Told(OfFolders):
 
     def test_what_is_missing_was_changed_or_nothing_made(self):
         for edit, wanted in (
-            (deleted("one.pbm.svg"), ["lines/one.pbm.svg: no, it is missing"]),
+            (deleted("drawings/one.pbm.svg"), ["lines/drawings/one.pbm.svg: no, it is missing"]),
             (added("note.txt"), ["lines/note.txt: no, nothing made it; take it away, or name it by --allow"]),
-            (deleted("two.pbm.report"), [
-                "lines/two.pbm: no, its report two.pbm.report is gone: it is missing", "lines/two.pbm.report: no, it is missing"]),
+            (deleted("evidence/two.pbm.report"), [
+                "lines/evidence/two.pbm: no, its report two.pbm.report is gone: it is missing", "lines/evidence/two.pbm.report: no, it is missing"]),
             (replaced("summary.txt", b"a pixel is 3 mm", b"a pixel is 4 mm"), [
                 "lines/summary.txt: no, line 2: it says `thinned by the rule curve; a pixel is 4 mm wide`; "
                 "the records give `thinned by the rule curve; a pixel is 3 mm wide`"]),
-            (replaced("made.json", b'"size": "3"', b'"size": "2"'), [
-                "lines/made.json: no, it was changed since `shapes` wrote it: its sum is not that of what it says"]),
-            (deleted("made.json"), [
-                "lines/made.json: no, it is missing, and without it nobody can tell whether branches.csv, networks.csv, objects.csv, .. "
+            (replaced(MADE, b'"size": "3"', b'"size": "2"'), [
+                "lines/evidence/made.json: no, it was changed since `shapes` wrote it: its sum is not that of what it says"]),
+            (deleted(MADE), [
+                "lines/evidence/made.json: no, it is missing, and without it nobody can tell whether branches.csv, evidence/one.pbm.json, evidence/two.pbm.json, .. "
                 "and all else of the run are as they were made"]),
-            (spelled_again("one.pbm.json", lambda value: value.update(parts=[1, 2, 3]), False), [
-                "lines/one.pbm.json: no, parts 1: it says 1; the reports and tables give "]),
-            (spelled_again("made.json", lambda value: value.pop(SEAL), False), ["lines/made.json: no, it has no sum of its own: an earlier version"]),
+            (spelled_again("evidence/one.pbm.json", lambda value: value.update(parts=[1, 2, 3]), False), [
+                "lines/evidence/one.pbm.json: no, parts 1: it says 1; the reports and tables give "]),
+            (spelled_again(MADE, lambda value: value.pop(SEAL), False), ["lines/evidence/made.json: no, it has no sum of its own: an earlier version"]),
         ):  # fmt: skip
             files = edit(self.anew("lines"))
             found = self.refused("lines", *files)
             self.assertEqual([line[: len(told)] for line, told in zip(found, wanted, strict=True)], wanted)
 
+    def test_a_folder_of_an_earlier_version(self):
+        folder = self.anew("lines")
+        (folder / MADE).rename(folder / "made.json")
+        found = self.refused("lines", "made.json")
+        self.assertEqual(found, ["lines/made.json: no, an earlier version of `shapes` wrote this folder; measure again into an empty one"])
+
     def test_two_things_at_once(self):
         folder = self.anew("packed")
-        files = [*deleted("one.pbm.svg", "below/two.pbm.network-branches.pbm")(folder), *both_tables("one.pbm")(folder), *added("x")(folder)]
+        files = [*deleted("drawings/one.pbm.svg", "evidence/below/two.pbm.network-branches.pbm")(folder), *both_tables("evidence/one.pbm")(folder), *added("x")(folder)]
         self.refused("packed", *files)
 
     def test_what_may_be_there(self):
@@ -478,8 +486,8 @@ class Told(OfFolders):
             (folder / name).write_text("mine")
         self.assertEqual(self.refused("cells", "notes/a.txt", "notes/b.txt", "list.txt")[0][:12], "cells/list.t")
         self.assertEqual(self.check("cells", "--allow", "notes", "--allow", "list.txt")[0], 0)
-        (folder / "cells.png.label1.csv").unlink()
-        self.assertEqual(self.check("cells", "--allow", "notes", "--allow", "list.txt", "--allow", "cells.png.label1.csv")[0], 1)
+        (folder / "evidence/cells.png.label1.csv").unlink()
+        self.assertEqual(self.check("cells", "--allow", "notes", "--allow", "list.txt", "--allow", "evidence/cells.png.label1.csv")[0], 1)
 
     def test_an_empty_folder_and_a_link_are_things_that_nothing_made(self):
         folder = self.anew("cells")
@@ -500,10 +508,10 @@ class Told(OfFolders):
     def test_what_an_earlier_run_left(self):
         self.anew("lines")
         shutil.copy(self.made / "cells.png", "cells.png")
-        status, _, error = self.shapes("measure", "cells.png", "--labels", "-o", "lines")
-        told = "lines: not of this run, and `shapes check` will not pass over it: one.pbm.branches.csv, one.pbm.csv, one.pbm.distances.pgm, .."
+        status, _, error = self.shapes("measure", "cells.png", "--labels", "--plain", "-o", "lines")
+        told = "lines: not of this run, and `shapes check` will not pass over it: drawings/one.pbm.svg, drawings/two.pbm.svg, evidence/one.pbm.branches.csv, .."
         self.assertEqual((status, error), (0, [told]))
-        self.refused("lines", "one.pbm.report", "two.pbm.json")
+        self.refused("lines", "evidence/one.pbm.report", "evidence/two.pbm.json")
 
     def test_runs_below_a_folder_and_reports_by_hand(self):
         Path("all").mkdir()
@@ -522,15 +530,15 @@ class Told(OfFolders):
         self.assertEqual((status, out[-2]), (0, "all/word: yes"))
         self.assertTrue(out[-1].endswith("whether a file is missing or was exchanged, and 1 other file (note.txt)"), out[-1])
         Path("all/objects.csv").write_text("image\n")
-        self.refused("all", "made.json")
+        self.refused("all", "evidence/made.json")
 
     def test_a_record_that_was_changed_is_made_again(self):
         self.anew("lines")
         os.chdir(self.made)
         words = [*FOLDERS["lines"], "-o", str(self.folder / "lines")]
         for edit in (
-            spelled_again("one.pbm.json", lambda value: value.update(parts=[1, 2, 3]), False),
-            replaced("one.pbm.json", b'"kept"', b'"kepd"'),
+            spelled_again("evidence/one.pbm.json", lambda value: value.update(parts=[1, 2, 3]), False),
+            replaced("evidence/one.pbm.json", b'"kept"', b'"kepd"'),
         ):
             edit(self.folder / "lines")
             self.assertEqual(self.shapes(*words)[0], 0)
@@ -542,20 +550,18 @@ class Told(OfFolders):
             status, out = self.check("cells")
         self.assertEqual((status, out[-1].rpartition("; ")[2]), (0, "another build of the program made it, by the sum in made.json"))
 
-    def test_names_of_all_are_no_names_of_images(self):
-        np.save("objects", np.eye(5, dtype=bool))
-        Path("objects.npy").rename("objects")
+    def test_the_name_of_the_record_of_all_is_no_name_of_an_image(self):
         Image.fromarray(np.eye(9, dtype=np.uint8) * 255).save("made.png")
         Path("made.png").rename("made")
         status, out, error = self.shapes("measure", "made", "-o", "out")
         self.assertEqual((status, out), (1, ["0 of 1 measured, in out: summary.txt tells how"]))
-        self.assertIn("made: its files would have the names of `made.csv` or `.json`, which are of all; rename it", error[0])
+        self.assertIn("made: its record would have the name of that of all, made.json; rename it", error[0])
 
     def test_a_record_of_a_stranger(self):
         for value in ({"files": {}}, {"files": {"../word.pbm": "0"}, "images": []}, {"files": [], "images": 3}, {"images": [{"pictures": ["x"]}], "files": {}}):
             folder = self.anew("cells")
-            (folder / "made.json").write_bytes(spelled_json(sealed(value)))
-            self.assertIn("cells/made.json: no, it, or a record that it names, is none that `shapes` wrote", self.refused("cells"))
+            (folder / MADE).write_bytes(spelled_json(sealed(value)))
+            self.assertIn("cells/evidence/made.json: no, it, or a record that it names, is none that `shapes` wrote", self.refused("cells"))
 
 
 if __name__ == "__main__":

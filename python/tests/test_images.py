@@ -242,7 +242,7 @@ class Filtered(InFolder):
         wanted = {"background": None, "smooth": 1.0, "fill_holes": True, "exclude_border": True, "min_size": 13}
         self.assertEqual((record["filters"], record["channel"]), (wanted, None))
         self.assertEqual(self.shapes("check", "out")[0], 0)
-        report = next(path for path in Path("out").rglob("x.png.report*"))
+        report = next(Path("out").rglob("x.png.report*"))
         self.assertEqual(self.shapes("check", "x.png", report)[0], 0)
         for word in ("0", "x", "-1"):
             self.assertEqual(self.shapes("measure", "x.png", "--min-size", word, "-o", "out")[0], 2)

@@ -78,11 +78,11 @@ class KnownNetworks(InFolder):
     def test_every_number_is_one_of_a_report_or_a_table(self):
         self.assertEqual(self.shapes("measure", STORED / "granite.pbm", STORED / "cross.pbm", "--network", "-o", "out")[0], 0)
         for name in ("granite.pbm", "cross.pbm"):
-            own, total = table(f"out/{name}.branches.csv"), table(f"out/{name}.network.csv")[0]
-            rows = {part: table(f"out/{name}.network-{part}.csv") for part in ("skeleton", "branches", "junctions")}
-            report = read(f"out/{name}.report")
+            own, total = table(f"out/evidence/{name}.branches.csv"), table(f"out/evidence/{name}.network.csv")[0]
+            rows = {part: table(f"out/evidence/{name}.network-{part}.csv") for part in ("skeleton", "branches", "junctions")}
+            report = read(f"out/evidence/{name}.report.gz")
             widths = {f"{2 * float(square) ** 0.5:.3f}" for square in report.squares}
-            tips = {tuple(map(str, point)) for point in read(f"out/{name}.network-branches.report").tips}
+            tips = {tuple(map(str, point)) for point in read(f"out/evidence/{name}.network-branches.report.gz").tips}
             self.assertEqual([(row["branch"], row["points"]) for row in own], [(row["object"], row["area"]) for row in rows["branches"]])
             for row, measured in zip(own, rows["branches"]):
                 line = (float(measured["border"]) + float(measured["hole_border"]) - 8**0.5 * (1 - int(measured["holes"]))) / 2
@@ -96,21 +96,21 @@ class KnownNetworks(InFolder):
             self.assertEqual((int(total["pieces"]), int(total["area"])), (len(rows["skeleton"]), report.parts.points))
 
     def test_it_is_checked_and_made_again(self):
-        self.assertEqual(self.shapes("measure", STORED / "cross.pbm", "--network", "--gzip", "-o", "out")[0], 0)
+        self.assertEqual(self.shapes("measure", STORED / "cross.pbm", "--network", "-o", "out")[0], 0)
         names = ["cross.pbm", *(f"cross.pbm.network-{part}" for part in ("branches", "junctions", "skeleton"))]
-        of_all = ["pictures.csv", "objects.csv", "networks.csv", "branches.csv", "summary.txt", "made.json"]
+        of_all = ["pictures.csv", "objects.csv", "networks.csv", "branches.csv", "summary.txt", "evidence/made.json"]
         status, out, _ = self.shapes("check", "out")
-        self.assertEqual((status, out[:-1]), (0, [f"out/{name}: yes" for name in names + of_all]))
-        path = Path("out/cross.pbm.branches.csv")
+        self.assertEqual((status, out[:-1]), (0, [f"out/evidence/{name}: yes" for name in names] + [f"out/{name}: yes" for name in of_all]))
+        path = Path("out/evidence/cross.pbm.branches.csv")
         text = path.read_text()
         path.write_text(text.replace(",1,1,", ",2,1,", 1))
         status, out, _ = self.shapes("check", "out")
-        told = f"out/cross.pbm: no, the report holds, but {path} is not what the reports and tables of its parts say: row 1 (branch 1): "
+        told = f"out/evidence/cross.pbm: no, the report holds, but {path} is not what the reports and tables of its parts say: row 1 (branch 1): "
         self.assertEqual((status, any(line.startswith(told) for line in out)), (1, True), out)
-        self.assertEqual(self.shapes("measure", STORED / "cross.pbm", "--network", "--gzip", "-o", "out")[0], 0)
+        self.assertEqual(self.shapes("measure", STORED / "cross.pbm", "--network", "-o", "out")[0], 0)
         self.assertEqual(path.read_text(), text)
         self.assertEqual(self.shapes("measure", STORED / "cross.pbm", "-o", "out")[0], 0)
-        self.assertFalse([path for path in Path("out").iterdir() if "network" in path.name or "branches" in path.name])
+        self.assertFalse([path for path in Path("out").rglob("*") if "network" in path.name or "branches" in path.name])
 
     def test_another_rule_is_refused(self):
         status, _, error = self.shapes("measure", STORED / "cross.pbm", "--network", "--rule", "none", "-o", "out")

@@ -1,0 +1,48 @@
+"""Where the files of a run lie, by their names below its folder: what people open on top, drawings in `drawings/`, all else in `evidence/`.
+
+The names of a picture's files begin with its key: the image's name and, where it is one of several, its label.
+"""
+from __future__ import annotations
+
+from pathlib import Path, PurePosixPath
+
+EVIDENCE, DRAWINGS = "evidence", "drawings"
+MADE = f"{EVIDENCE}/made.json"
+SUMMARY, PICTURES = "summary.txt", "pictures.csv"
+# The tables of all pictures together, and what the names of a picture's own end in.
+JOINED = {"objects.csv": ".csv", "networks.csv": ".network.csv", "branches.csv": ".branches.csv"}
+
+# What the names of a picture's drawings end in: the program's of its report, and the original image with the borders over it.
+DRAWN = (".svg", ".png")
+
+
+def evidence(key: str, suffix: str) -> str:
+    """The name of a file of a picture's evidence: `evidence/coins.png.pbm`."""
+    return f"{EVIDENCE}/{key}{suffix}"
+
+
+def drawing(key: str, suffix: str) -> str:
+    """The name of a drawing of a picture: `drawings/coins.png.svg`."""
+    return f"{DRAWINGS}/{key}{suffix}"
+
+
+def record_of_key(key: str) -> str:
+    """The name of the record of how a picture was made."""
+    return evidence(key, ".json")
+
+
+def named(key: str, name: str) -> str:
+    """The name of a picture's file, whose own name, without folders, is this, in the folder of the run."""
+    stem = PurePosixPath(key).name
+    folder = DRAWINGS if name.removeprefix(stem) in DRAWN else EVIDENCE
+    return str(PurePosixPath(folder) / PurePosixPath(key).parent / name)
+
+
+def is_own(key: str, name: str) -> bool:
+    """Whether a name is one that a file of this picture may have."""
+    return name == named(key, PurePosixPath(name).name) and PurePosixPath(name).name.startswith(PurePosixPath(key).name + ".")
+
+
+def root_of(made: str) -> Path:
+    """The folder of a run whose record has this name: `.` for `evidence/made.json`."""
+    return Path(made).parent.parent
