@@ -17,17 +17,19 @@ from typing import Any
 from .convert import Picture
 from .faults import Fault
 from .files import ASIDE, gzipped, read_json, shown, sum_of, sum_of_bytes, write_json
-from .layout import is_own, named, record_of_key
+from .intensities import intensities
+from .layout import FURTHER, is_own, named, record_of_key
 from .pictures import sides_of, spelled, suffix_of
 from .products import draw, measured, write_mask, write_network
 from .programs import sums
 from .report import counts_of
 from .seals import is_sealed, sealed
+from .tables import spelled_rows
 
 Record = dict[str, Any]
 
 # The members of a record, in their order; the sum of its own comes behind them.
-MEMBERS = ("image", "label", "sides", "fit", "channel", "filters", "cut", "notes", "rule", "plain", "masks", "network", "picture", "programs", "parts", "kept", "files")
+MEMBERS = ("image", "label", "sides", "fit", "channel", "filters", "cut", "notes", "rule", "plain", "masks", "network", "grey", "picture", "programs", "parts", "kept", "files")
 
 # What the record of a run is called, without its ending: an image cannot be called so.
 OF_ALL = "made"
@@ -82,6 +84,7 @@ def _head(picture: Picture, plan: Plan) -> Record:
         "image": picture.image, "label": picture.label, "sides": list(sides_of(picture.mask)), "fit": picture.fit,
         "channel": picture.settings.channel, "filters": asdict(picture.settings.filters),
         "cut": asdict(picture.cut) if picture.cut else None, "notes": list(picture.notes), "rule": plan.rule, "plain": plan.plain, "masks": list(plan.masks), "network": plan.network,
+        "grey": None if picture.grey is None else sum_of_bytes(picture.grey.tobytes()),
         "picture": sum_of_bytes(spelled(picture.mask)), "programs": sums(),
     }  # fmt: skip
 
@@ -126,6 +129,8 @@ def _products(picture: Picture, plan: Plan, work: Path) -> Record:
         write_mask(kind, report, stem, picture)
     if plan.network:
         write_network(stem, report, picture)
+    if picture.grey is not None:
+        stem.with_name(stem.name + FURTHER["objects.csv"]).write_bytes(spelled_rows(intensities(picture.mask, picture.grey)))
     counts = dict(zip(("parts", "kept"), counts_of(report)))
     for path in sorted(work.glob("*.report")) if not plan.plain else ():
         path.with_name(path.name + ".gz").write_bytes(gzipped(path.read_bytes()))

@@ -8,7 +8,7 @@ from typing import Any
 from .arrays import verdict
 from .convert import Picture
 from .faults import Fault
-from .layout import drawing, evidence
+from .layout import FURTHER, drawing, evidence
 from .networks import MADE as NETWORK_TABLES
 from .networks import PARTS, Network, part, parts_of
 from .pictures import Source, sides_of, told_suffix
@@ -73,6 +73,8 @@ def names_of(key: str, record: dict[str, Any]) -> set[str]:
     """The names, in the folder of the run, of the files that a picture with such a record has; a volume has a drawing where the record names it."""
     packed = "" if record["plain"] else ".gz"
     suffixes = {told_suffix(record["sides"]), ".report" + packed, ".csv", *(mask_suffix(kind, record["sides"]) for kind in record["masks"])}
+    if record["grey"]:
+        suffixes.add(FURTHER["objects.csv"])
     if record["network"]:
         suffixes |= {part(Path("x"), name, suffix).name[1:] for name in PARTS for suffix in (".pbm", ".report" + packed, ".csv")}
         suffixes |= {f".{suffix}" for suffix in NETWORK_TABLES}

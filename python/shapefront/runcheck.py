@@ -28,7 +28,7 @@ from .report import heading_of
 from .seals import SEAL
 from .tables import rows_of
 
-_UNTOLD = "not checked: what only the original images tell (names, labels, thresholds, what was done to them), and the pixel's size"
+_UNTOLD = "not checked: what only the original images tell (names, labels, thresholds, intensities, what was done to them), and the pixel's size"
 _FOREIGN = "it, or a record that it names, is none that `shapes` wrote"
 _NOT_RECORDS = (KeyError, TypeError, ValueError, AttributeError, IndexError)
 

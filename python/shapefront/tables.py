@@ -18,12 +18,13 @@ Row = list[str]
 
 @dataclass(frozen=True)
 class Part:
-    """One picture's table, with what the rows of all of them say of the picture."""
+    """One picture's table, with what the rows of all of them say of the picture, and the rest of each row where a further table has it."""
 
     image: str
     label: int | None
     fit: int
     table: str
+    rest: str | None = None
 
 
 def rows_of(table: str) -> list[Row]:
@@ -42,14 +43,15 @@ def spelled_rows(rows: Iterable[Row]) -> bytes:
 
 
 def joined(parts: Iterable[Part], pixel: Pixel | None) -> Iterator[Row]:
-    """The rows of all tables, the header first. A Fault where a picture's table has another header than the first one's."""
+    """The rows of all tables, the header first. A Fault where a picture's table has another header than the first one's, or its further table other rows."""
     parts, header = list(parts), None
     labels, fits = any(part.label is not None for part in parts), any(part.fit > 1 for part in parts)
+    further = next((rows_of(part.rest)[0] for part in parts if part.rest), [])
     for part in parts:
         first, *rest = rows_of(part.table) or [[]]
         if header is None:
             header = first
-            yield ["image", *(["label"] if labels else []), *(["fit"] if fits else []), *header, *_converted_header(header, pixel)]
+            yield ["image", *(["label"] if labels else []), *(["fit"] if fits else []), *header, *_converted_header(header, pixel), *further]
         if first != header:
             raise Fault(
                 part.image,
@@ -57,8 +59,18 @@ def joined(parts: Iterable[Part], pixel: Pixel | None) -> Iterator[Row]:
                 "was it made by another version? measure again into an empty folder",
             )
         own = [part.image, *([str(part.label)] if labels else []), *([str(part.fit)] if fits else [])]
-        for row in rest:
-            yield [*own, *row, *_converted(header, row, pixel, part.fit)]
+        for row, more in zip(rest, _further(part, further, len(rest))):
+            yield [*own, *row, *_converted(header, row, pixel, part.fit), *more]
+
+
+def _further(part: Part, header: Row, count: int) -> list[Row]:
+    """The rest of each of so many rows of a picture: empty cells where it has none. A Fault where its further table has others."""
+    if part.rest is None:
+        return [[""] * len(header)] * count
+    own, *rows = rows_of(part.rest)
+    if own != header or len(rows) != count:
+        raise Fault(part.image, "its further table does not fit to its table", "measure again into an empty folder")
+    return rows
 
 
 def _converted_header(header: Row, pixel: Pixel | None) -> Row:
