@@ -55,7 +55,7 @@ def make(picture: Picture, plan: Plan) -> Record:
     """Makes what a picture gives, but where its record says that it is there already. The record; a Fault where it fails."""
     if picture.key == OF_ALL:
         raise Fault(picture.key, f"its record would have the name of that of all, {OF_ALL}.json", "rename it")
-    head, told = _head(picture, plan), plan.folder / record_of_key(picture.key)
+    head, told = head_of(picture, plan), plan.folder / record_of_key(picture.key)
     before = read_json(told) or {}
     if is_sealed(told) and _is_made(before, head, plan.folder):
         return before
@@ -78,7 +78,7 @@ def record_of(members: Record) -> Record:
     return sealed({name: members[name] for name in MEMBERS})
 
 
-def _head(picture: Picture, plan: Plan) -> Record:
+def head_of(picture: Picture, plan: Plan) -> Record:
     """What says how a picture's files are made: equal heads, equal files."""
     return {
         "image": picture.image, "label": picture.label, "sides": list(sides_of(picture.mask)), "fit": picture.fit,

@@ -113,6 +113,12 @@ def _checking(words: argparse._SubParsersAction) -> argparse.ArgumentParser:
         help="check FOLDER, or reports that lie beside their pictures, by a second reading in Python, without the proved program",
     )
     check.add_argument(
+        "--originals",
+        type=Path,
+        metavar="IMAGES",
+        help="the folder of the images that FOLDER was made of: each is made black and white again and compared",
+    )
+    check.add_argument(
         "--allow",
         action="append",
         default=[],

@@ -108,7 +108,7 @@ class Regionprops(InFolder):
         path.write_text(path.read_text().replace(",255,", ",254,", 1))
         status, out, _ = self.shapes("check", "out")
         self.assertEqual(status, 1)
-        self.assertTrue(any("out/objects.csv: no, row" in line and "intensity_max 254; the report gives 255" in line for line in out), out)
+        self.assertTrue(any("out/objects.csv: no, row" in line and "intensity_max 254; the table of intensities gives 255" in line for line in out), out)
 
 
 if __name__ == "__main__":
