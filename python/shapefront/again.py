@@ -5,10 +5,12 @@ Only the original image tells its own name and sum, the label, the threshold and
 from __future__ import annotations
 
 from collections.abc import Sequence
+from dataclasses import asdict
 from pathlib import Path
 from typing import Any
 
 from .batch import Image
+from .filters import Filters
 from .folder import Run
 from .labelled import total
 from .layout import evidence
@@ -50,7 +52,8 @@ def _again(record: Record, made: dict[str, Any], told: dict[str, Any]) -> Record
     """The members of a record, with what is told of it, and what the run's options and its own members give."""
     options = made["options"]
     again = {
-        **record, **told, "plain": options["plain"], "masks": list(dict.fromkeys(options["masks"])), "network": options["network"], "programs": made["programs"],
+        **record, **told, "channel": options["channel"], "filters": asdict(Filters.told(options)), "plain": options["plain"],
+        "masks": list(dict.fromkeys(options["masks"])), "network": options["network"], "programs": made["programs"],
     }  # fmt: skip
     if record["cut"]:
         again["notes"] = [str(Cut(**record["cut"])), *record["notes"][1:]]

@@ -23,11 +23,13 @@ _NO_NETWORK = "the reports and tables of its network do not fit together; measur
 
 @dataclass(frozen=True)
 class Asked:
-    """How a folder is to be checked: how many reports at once, what may lie there though nothing made it, and who judges reports."""
+    """How a folder is to be checked: how many reports at once, what may lie there though nothing made it, who judges reports, and where
+    the original images lie, if they are to be looked at."""
 
     jobs: int = 1
     allowed: tuple[str, ...] = ()
     judge: Judge = verdict
+    originals: Path | None = None
 
 
 @dataclass(frozen=True)

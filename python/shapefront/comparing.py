@@ -52,7 +52,7 @@ def _of_rows(names: Row, rows: list[Row], true: list[Row], k: int) -> str:
     if len(rows[k]) != len(true[k]):
         return f"row {k + 1}{_whose(names, true[k])} has {len(rows[k])} cells in place of {len(true[k])}"
     column = next(column for column, (one, other) in enumerate(zip(rows[k], true[k])) if one != other)
-    giver = "record" if names[column] in _RECORDED else "report"
+    giver = "record" if names[column] in _RECORDED else "table of intensities" if names[column].startswith("intensity_") else "report"
     told = f"{names[column]} {_short(rows[k][column]) or 'nothing'}; the {giver} gives {true[k][column] or 'nothing'}"
     return f"row {k + 1}{_whose(names, true[k])}: {told}"
 

@@ -21,7 +21,8 @@ class Picture:
 
     `fit` is how many of the image's pixels one of its pixels is wide: 1 where the image was not made smaller. `cut` is None where
     the image's values were taken as labels; `labels` has the label of each pixel where each is a picture of its own.
-    `original` is the image as it was before it was made smaller, [y, x] or in colours [y, x, 3].
+    `original` is the image as it was before it was made smaller, [y, x] or in colours [y, x, 3]. `grey` are the grey values that the image
+    has where the picture is, before any filter; None where it has no more than two values. `settings` are those that a user asked for.
     """
 
     image: str
@@ -31,24 +32,26 @@ class Picture:
     notes: tuple[str, ...]
     original: np.ndarray
     labels: np.ndarray | None = None
+    grey: np.ndarray | None = None
+    settings: Settings = Settings()
 
     @property
-    def key(self) -> str:
-        """What the names of its files begin with."""
-        return self.image
+    def original_sides(self) -> tuple[int, ...]:
+        """The sides of the image as it was before it was made smaller, x first."""
+        return tuple(reversed(self.original.shape[: self.mask.ndim]))
 
 
 def picture_of(path: Path, name: str, settings: Settings) -> Picture:
     """The picture that an image's file gives. A Fault where it gives none."""
-    return _made(load(path, bool(settings.labels)), name, settings, MOST_FLAT)
+    return _made(load(path, bool(settings.labels), settings.channel), name, settings, MOST_FLAT)
 
 
 def volume_of(path: Path, name: str, settings: Settings) -> Picture:
     """The volume that a folder of slices, a stack or an array gives. A Fault where it gives none."""
-    return _made(volume(path, bool(settings.labels)), name, settings, MOST_SOLID)
+    return _made(volume(path, bool(settings.labels), settings.channel), name, settings, MOST_SOLID)
 
 
-def volume(path: Path, labels: bool = False) -> Grey:
+def volume(path: Path, labels: bool = False, channel: str | None = None) -> Grey:
     """The grey values [z, y, x] of a folder of slices (in the order of the numbers in their names), of a stack or of an array."""
     if path.suffix.lower() == ".npy":
         values = array_of(path)
@@ -59,10 +62,10 @@ def volume(path: Path, labels: bool = False) -> Grey:
         files = sorted((p for p in path.iterdir() if p.is_file() and not p.name.startswith(".")), key=_numbered)
         if not files:
             raise Fault(path, "an empty folder", "it has to hold the slices, one image each")
-        return _stacked(path, [(file.name, load(file, labels)) for file in files])
+        return _stacked(path, [(file.name, load(file, labels, channel)) for file in files])
     if not path.is_file():
         raise Fault(path, "no such file or folder", "is the name right?")
-    slices = load_stack(path, labels)
+    slices = load_stack(path, labels, channel)
     if len(slices) < 2:
         raise Fault(path, "one image, not a stack", "give the folder of the slices, or `shapes measure` for a flat picture")
     return _stacked(path, [(f"page {k}", page) for k, page in enumerate(slices, 1)])
@@ -95,14 +98,16 @@ def _made(image: Grey, name: str, settings: Settings, limit: int) -> Picture:
             f"cut it into parts, or give --fit: {smaller(least)}",
         )
     if settings.labels:
-        return _labelled(image, name, settings.labels, fit)
+        return _labelled(image, name, settings, fit)
     if fit > 1:
         notes.append(f"made smaller: {smaller(fit)}")
         image = replace(image, values=_smaller(image.values, fit))
-    cut = cut_of(image, settings)
+    values, before = settings.filters.before(image.values)
+    cut = cut_of(replace(image, values=values), settings, image.values.dtype)
+    mask, after = settings.filters.after(cut.mask(values))
     if looks_like_labels(image.values):
         notes.append(f"its values are 0 to {image.values.max()}: if these are labels, give --labels")
-    return Picture(name, cut.mask(image.values), fit, cut, (str(cut), *notes), original)
+    return Picture(name, mask, fit, cut, (str(cut), *notes, *before, *after), original, None, _grey_values(image.values), settings)
 
 
 def smaller(fit: int) -> str:
@@ -110,7 +115,13 @@ def smaller(fit: int) -> str:
     return f"{fit} by {fit} pixels are one"
 
 
-def _labelled(image: Grey, name: str, how: str, fit: int) -> Picture:
+def _grey_values(values: np.ndarray) -> np.ndarray | None:
+    """The values, where they are more than two, as those of a picture in black and white are not."""
+    least, most = values.min(), values.max()
+    return None if ((values == least) | (values == most)).all() else values
+
+
+def _labelled(image: Grey, name: str, settings: Settings, fit: int) -> Picture:
     values = image.values
     if not (values.dtype == bool or np.issubdtype(values.dtype, np.integer)):
         raise Fault(image.name, "its values are no whole numbers, so no labels", "leave out --labels")
@@ -120,13 +131,17 @@ def _labelled(image: Grey, name: str, how: str, fit: int) -> Picture:
     if fit > 1:
         notes.append(f"made smaller: {smaller(fit)}, each the label of its middle")
         values = values[(slice(fit // 2, None, fit),) * values.ndim]
+    if settings.filters.background is not None or settings.filters.smooth is not None:
+        raise Fault(image.name, "labels have no background and cannot be smoothed", "leave out --background and --smooth, or --labels")
+    values, told = settings.filters.on_labels(values)
     count = np.unique(values[values != 0]).size
     if not count:
         raise Fault(image.name, "no labels: all its values are 0", "is it the right image?")
-    if how == "all":
-        told = f"the {count} labels as one picture: those that touch are one object"
-        return Picture(name, values != 0, fit, None, (told, *notes), image.values)
-    return Picture(name, values != 0, fit, None, (f"{count} labels, each as a picture of its own", *notes), image.values, values)
+    if settings.labels == "all":
+        how = f"the {count} labels as one picture: those that touch are one object"
+        return Picture(name, values != 0, fit, None, (how, *notes, *told), image.values, None, None, settings)
+    how = f"{count} labels, each as a picture of its own"
+    return Picture(name, values != 0, fit, None, (how, *notes, *told), image.values, values, None, settings)
 
 
 def _smaller(values: np.ndarray, fit: int) -> np.ndarray:

@@ -17,7 +17,7 @@ from .batch import Image, source_sum
 from .faults import Fault
 from .files import encoded, make_folder, spelled_json, sum_of_bytes, write, write_json
 from .images import pillow_version
-from .layout import JOINED, MADE, PICTURES, SUMMARY, evidence, record_of_key
+from .layout import FURTHER, JOINED, MADE, PICTURES, SUMMARY, evidence, record_of_key
 from .making import Record
 from .pictures import told_sides
 from .programs import sums
@@ -46,7 +46,7 @@ class Run:
         """The tables and the summary of all, by the names of their files. A Fault where the tables do not fit together."""
         files = {PICTURES: spelled_rows(pictures(self.records))}
         for name, suffix in JOINED.items():
-            if own := [_part(record, table(record, suffix)) for record in self.records if evidence(record["image"], suffix) in record["files"]]:
+            if own := [_part(record, table, suffix, FURTHER.get(name)) for record in self.records if _has(record, suffix)]:
                 files[name] = spelled_rows(joined(own, self.pixel))
         return {**files, SUMMARY: encoded("".join(line + "\n" for line in summary(self)))}
 
@@ -100,8 +100,13 @@ def _files(record: Record) -> dict[str, str]:
     return {**record["files"], record_of_key(record["image"]): sum_of_bytes(spelled_json(record))}
 
 
-def _part(record: Record, table: str) -> Part:
-    return Part(record["image"], record["fit"], record["original"], table)
+def _has(record: Record, suffix: str) -> bool:
+    return evidence(record["image"], suffix) in record["files"]
+
+
+def _part(record: Record, table: Table, suffix: str, further: str | None) -> Part:
+    rest = table(record, further) if further and _has(record, further) else None
+    return Part(record["image"], record["fit"], record["original"], table(record, suffix), rest)
 
 
 def _read(path: Path) -> str:

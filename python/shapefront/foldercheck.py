@@ -29,6 +29,8 @@ def check_folder(folder: Path, asked: Asked) -> Iterator[Finding | Covered]:
     """The findings on a folder: on each run in it, and on reports that lie there by hand. A Fault where there is nothing to check."""
     names = [name for name in lying(folder) if not is_below(name, asked.allowed)]
     runs = _runs(names)
+    if asked.originals and not runs:
+        raise Fault(shown(folder), "no run of shapes is in this folder, so nothing tells of which images it was made", "leave out --originals")
     for run in runs:
         own = replace(asked, allowed=tuple(_below(run, asked.allowed)))
         yield from _of_run(folder / run, [name for name in lying(folder / run) if not is_below(name, own.allowed)], own)

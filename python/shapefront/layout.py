@@ -11,6 +11,8 @@ MADE = f"{EVIDENCE}/made.json"
 SUMMARY, PICTURES = "summary.txt", "pictures.csv"
 # The tables of all pictures together, and what the names of a picture's own end in.
 JOINED = {"objects.csv": ".csv", "networks.csv": ".network.csv", "branches.csv": ".branches.csv"}
+# What the names of tables end in that have the rest of the rows of another: the grey values of objects.
+FURTHER = {"objects.csv": ".intensities.csv"}
 
 # What the names of a picture's drawings end in: the program's of its report, and the original image with the borders over it; and of what the page shows.
 DRAWN = (".svg", ".png")

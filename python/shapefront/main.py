@@ -70,10 +70,12 @@ def check(words: argparse.Namespace) -> int:
     find()
     if len(words.report) > 1:
         raise Fault("--second", "only it takes more than one report", "give an image and one report, or a folder")
+    if words.originals and (words.report or not words.originals.is_dir()):
+        raise Fault("--originals", "it takes the folder of the images of a measured folder", "shapes check MEASURED --originals IMAGES")
     if not words.report:
         if not words.image.is_dir():
             raise Fault(shown(words.image), "not a folder", "give a folder, or an image and its report")
-        findings = list(_printed(check_folder(words.image, Asked(words.jobs, tuple(words.allow)))))
+        findings = list(_printed(check_folder(words.image, Asked(words.jobs, tuple(words.allow), originals=words.originals))))
     else:
         findings = list(_printed([check_original(words.image, words.report[0], settings_of(words))]))
     return DONE if all(finding.holds for finding in findings) else FAILED

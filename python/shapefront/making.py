@@ -19,9 +19,10 @@ import numpy as np
 from .convert import Picture
 from .faults import Fault
 from .files import ASIDE, gzipped, read_json, shown, sum_of, sum_of_bytes, write_json
+from .intensities import intensities
 from .labelled import make_labels
 from .labels import boxes
-from .layout import is_own, named, record_of_key
+from .layout import FURTHER, is_own, named, record_of_key
 from .overlay import Overlay, borders, numbers
 from .pictures import sides_of, spelled
 from .plan import Plan
@@ -29,12 +30,14 @@ from .products import draw, evidence_of, write_shown
 from .programs import sums
 from .report import counts_of
 from .seals import is_sealed, sealed
-from .tables import dicts_of
+from .tables import dicts_of, spelled_rows
 
 Record = dict[str, Any]
 
 # The members of a record, in their order; the sum of its own comes behind them.
-MEMBERS = ("image", "labels", "sides", "fit", "original", "cut", "notes", "rule", "plain", "masks", "network", "picture", "programs", "parts", "kept", "files")
+MEMBERS = (
+    "image", "labels", "sides", "fit", "original", "channel", "filters", "cut", "notes", "rule", "plain", "masks", "network", "grey", "picture", "programs", "parts", "kept", "files",
+)  # fmt: skip
 
 # What the record of a run is called, without its ending: an image cannot be called so.
 OF_ALL = "made"
@@ -44,7 +47,7 @@ def make(picture: Picture, plan: Plan) -> Record:
     """Makes what a picture gives, but where its record says that it is there already. The record; a Fault where it fails."""
     if picture.image == OF_ALL:
         raise Fault(picture.image, f"its record would have the name of that of all, {OF_ALL}.json", "rename it")
-    head, told = _head(picture, plan), plan.folder / record_of_key(picture.image)
+    head, told = head_of(picture, plan), plan.folder / record_of_key(picture.image)
     before = read_json(told) or {}
     if is_sealed(told) and _is_made(before, head, plan.folder):
         return before
@@ -67,14 +70,15 @@ def record_of(members: Record) -> Record:
     return sealed({name: members[name] for name in MEMBERS})
 
 
-def _head(picture: Picture, plan: Plan) -> Record:
+def head_of(picture: Picture, plan: Plan) -> Record:
     """What says how a picture's files are made: equal heads, equal files."""
     labels = None if picture.labels is None else [[box.label, *box.place] for box in boxes(picture.labels)]
     told = spelled(picture.mask) if picture.labels is None else np.ascontiguousarray(picture.labels).data
     return {
-        "image": picture.image, "labels": labels, "sides": list(sides_of(picture.mask)), "fit": picture.fit, "original": list(picture.original.shape[1::-1] if picture.mask.ndim == 2 else sides_of(picture.original)),
+        "image": picture.image, "labels": labels, "sides": list(sides_of(picture.mask)), "fit": picture.fit, "original": list(picture.original_sides),
+        "channel": picture.settings.channel, "filters": asdict(picture.settings.filters),
         "cut": asdict(picture.cut) if picture.cut else None, "notes": list(picture.notes), "rule": plan.rule, "plain": plan.plain, "masks": list(plan.masks), "network": plan.network,
-        "picture": sum_of_bytes(told), "programs": sums(),
+        "grey": None if picture.grey is None else sum_of_bytes(picture.grey.tobytes()), "picture": sum_of_bytes(told), "programs": sums(),
     }  # fmt: skip
 
 
@@ -117,6 +121,8 @@ def _products(picture: Picture, plan: Plan, work: Path) -> Record:
     if is_flat:
         rows = dicts_of(stem.with_name(stem.name + ".csv").read_text())
         write_shown(Overlay(picture.original, borders(report.read_bytes()), numbers(rows), picture.fit), stem)
+    if picture.grey is not None:
+        stem.with_name(stem.name + FURTHER["objects.csv"]).write_bytes(spelled_rows(intensities(picture.mask, picture.grey)))
     counts = dict(zip(("parts", "kept"), counts_of(report)))
     for path in sorted(work.glob("*.report")) if not plan.plain else ():
         path.with_name(path.name + ".gz").write_bytes(gzipped(path.read_bytes()))

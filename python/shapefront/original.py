@@ -13,6 +13,7 @@ from .checking import Finding, Judge, check_report
 from .convert import Picture, picture_of, volume_of
 from .faults import Fault
 from .files import read_json, shown
+from .filters import Filters
 from .labelcheck import Labels
 from .labels import boxes
 from .making import Record
@@ -75,7 +76,7 @@ def _picture_of(image: Path, report: Path, settings: Settings, is_volume: bool) 
 
 def _recorded(record: dict) -> Settings:
     """The settings that a record tells: with them the same image gives the same picture."""
-    cut = record["cut"]
+    cut, same = record["cut"], {"fit": record["fit"], "channel": record["channel"], "filters": Filters(**record["filters"])}
     if cut is None:
-        return Settings(labels="all" if record["labels"] is None else "each", fit=record["fit"])
-    return Settings(repr(cut["threshold"]), cut["objects"], None, record["fit"])
+        return Settings(labels="all" if record["labels"] is None else "each", **same)
+    return Settings(repr(cut["threshold"]), cut["objects"], **same)

@@ -10,8 +10,8 @@ import numpy as np
 from .archives import SUFFIX as ARCHIVE
 from .arrays import verdict
 from .faults import Fault
-from .layout import PLACES, THUMBNAIL, drawing, evidence
 from .images import pillow_version
+from .layout import FURTHER, PLACES, THUMBNAIL, drawing, evidence
 from .networks import MADE as NETWORK_TABLES
 from .networks import PARTS, Network, part, parts_of
 from .overlay import Overlay
@@ -94,6 +94,8 @@ def mask_suffix(kind: str, sides: Sequence[int]) -> str:
 def suffixes_of(record: dict[str, Any], sides: Sequence[int], packed: str) -> set[str]:
     """What the names of the evidence end in of a picture with such a record and these sides, whose reports end in `.report` and what is given."""
     suffixes = {told_suffix(sides), ".report" + packed, ".csv", *(mask_suffix(kind, sides) for kind in record["masks"])}
+    if record["grey"]:
+        suffixes.add(FURTHER["objects.csv"])
     if record["network"]:
         suffixes |= {part(Path("x"), name, suffix).name[1:] for name in PARTS for suffix in (".pbm", ".report" + packed, ".csv")}
         suffixes |= tables_of(record) - {".csv"}

@@ -20,6 +20,7 @@ from .comparing import of_members, of_tables, of_texts
 from .faults import Fault
 from .files import read_json, shown
 from .folder import originals
+from .imagecheck import ImageCheck
 from .inventory import Inventory
 from .labelcheck import Labels
 from .layout import EVIDENCE, MADE, SUMMARY, drawing, evidence, record_of_key
@@ -31,7 +32,8 @@ from .report import heading_of
 from .seals import SEAL
 from .tables import rows_of
 
-_UNTOLD = "not checked: what only the original images tell (names, labels, thresholds, what was done to them), and the pixel's size"
+_BY_ORIGINALS = "what only the original images tell (names, labels, thresholds, intensities, what was done to them), and "
+_UNTOLD = "the pixel's size"
 _FOREIGN = "it, or a record that it names, is none that `shapes` wrote"
 _NOT_RECORDS = (KeyError, TypeError, ValueError, AttributeError, IndexError)
 
@@ -82,6 +84,8 @@ class RunCheck:
             for name, one in zip(names, pool.map(self._picture, names)):
                 checked[name] = one
                 yield from self._said(one.findings)
+        if self.asked.originals:
+            yield from self._said(self._of_originals(self.asked.originals, checked))
         yield from self._said(self._of_all(checked))
         yield from self._said(self._of_inventory())
         yield Covered(self._covered(checked))
@@ -179,6 +183,12 @@ class RunCheck:
         tables = {f".{suffix}": again[stem.with_name(f"{stem.name}.{suffix}")] for suffix in NETWORK_TABLES}
         return list(wrong_in_network(stem, again)), tables
 
+    def _of_originals(self, originals: Path, checked: dict[str, Checked]) -> Iterator[Told]:
+        """The findings on the images that were measured, each by the record of its first picture, or by `made.json` where it has none."""
+        records = {name: one.record for name, one in checked.items() if one.record is not None}
+        for told, finding in ImageCheck(originals, self.folder, self.made, records).findings(self.asked.jobs):
+            yield self.folder / (told["record"] or MADE), finding
+
     def _of_all(self, checked: dict[str, Checked]) -> Iterator[Told]:
         """The findings on the tables of all, on the summary and on `made.json`; none where a record is not as it was written."""
         records = {name: one.record for name, one in checked.items() if one.record is not None}
@@ -221,10 +231,11 @@ class RunCheck:
         good = sum(self._is_good(checked[image["record"]]) for image in images)
         failed = sum(image["failure"] is not None for image in self.made["images"])
         told = f" ({failed} failed when {'they were' if failed > 1 else 'it was'} measured)" if failed else ""
+        untold = _UNTOLD if self.asked.originals else _BY_ORIGINALS + _UNTOLD
         other = "" if self.made["programs"] == sums() else "; another build of the program made it, by the sum in made.json"
-        return f"checked {good} of {len(images)} images{told}, {self.rows:,} rows, {files:,} files; {_UNTOLD}{other}"
+        return f"checked {good} of {len(images)} images{told}, {self.rows:,} rows, {files:,} files; not checked: {untold}{other}"
 
     def _is_good(self, one: Checked) -> bool:
         if one.record is None or not all(finding.holds for _, finding in one.findings):
             return False
-        return not self.wrong & {self.folder / own for own in one.record["files"]}
+        return not self.wrong & {self.folder / own for own in (*one.record["files"], record_of_key(one.record["image"]))}

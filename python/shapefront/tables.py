@@ -20,12 +20,16 @@ Row = list[str]
 
 @dataclass(frozen=True)
 class Part:
-    """One picture's table, with what the rows of all of them say of the picture: how many of the image's pixels one is wide, and the image's sides."""
+    """One picture's table, with what the rows of all of them say of the picture: how many of the image's pixels one is wide, and the image's sides.
+
+    `rest` is a further table with the rest of each row, where there is one.
+    """
 
     image: str
     fit: int
     original: Sequence[int]
     table: str
+    rest: str | None = None
 
 
 def rows_of(table: str) -> list[Row]:
@@ -44,15 +48,16 @@ def spelled_rows(rows: Iterable[Row]) -> bytes:
 
 
 def joined(parts: Iterable[Part], pixel: Pixel | None) -> Iterator[Row]:
-    """The rows of all tables, the header first. A Fault where a picture's table has another header than the first one's."""
+    """The rows of all tables, the header first. A Fault where a picture's table has another header than the first one's, or its further table other rows."""
     parts, header = list(parts), None
     fits = any(part.fit > 1 for part in parts)
+    more = next((rows_of(part.rest)[0] for part in parts if part.rest), [])
     for part in parts:
         first, *rest = rows_of(part.table) or [[]]
         further = list(_further(first, part, pixel, fits))
         if header is None:
             header = first
-            yield ["image", *(["fit"] if fits else []), *header, *(column.name for column in further)]
+            yield ["image", *(["fit"] if fits else []), *header, *(column.name for column in further), *more]
         if first != header:
             raise Fault(
                 part.image,
@@ -60,8 +65,18 @@ def joined(parts: Iterable[Part], pixel: Pixel | None) -> Iterator[Row]:
                 "was it made by another version? measure again into an empty folder",
             )
         own = [part.image, *([str(part.fit)] if fits else [])]
-        for row in rest:
-            yield [*own, *row, *(column.of(row[column.at]) if row[column.at] else "" for column in further)]
+        for row, others in zip(rest, _rest(part, more, len(rest))):
+            yield [*own, *row, *(column.of(row[column.at]) if row[column.at] else "" for column in further), *others]
+
+
+def _rest(part: Part, header: Row, count: int) -> list[Row]:
+    """The rest of each of so many rows of a picture: empty cells where it has none. A Fault where its further table has others."""
+    if part.rest is None:
+        return [[""] * len(header)] * count
+    own, *rows = rows_of(part.rest)
+    if own != header or len(rows) != count:
+        raise Fault(part.image, "its further table does not fit to its table", "measure again into an empty folder")
+    return rows
 
 
 @dataclass(frozen=True)

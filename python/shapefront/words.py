@@ -3,11 +3,14 @@ from __future__ import annotations
 
 import argparse
 from pathlib import Path
+from typing import Any
 
 from secondreading.limits import MOST_FLAT, MOST_SOLID
 
 from . import __version__
 from .arrays import RULES
+from .channels import NAMES as CHANNELS
+from .filters import Filters
 from .thresholds import Settings
 
 MASKS = ("object", "skeleton", "distances", "squares")
@@ -30,10 +33,16 @@ def _size(word: str) -> float:
     return float(word)
 
 
-def _jobs(word: str) -> int:
+def _count(word: str) -> int:
     if int(word) < 1:
         raise ValueError(word)
     return int(word)
+
+
+def _channel(word: str) -> str:
+    if word not in CHANNELS and _count(word) < 1:
+        raise ValueError(word)
+    return word
 
 
 def _conversion(parser: argparse.ArgumentParser) -> None:
@@ -63,6 +72,14 @@ def _conversion(parser: argparse.ArgumentParser) -> None:
         const="all",
         help="the same, all labels as one picture: those that touch are one object",
     )
+    parser.add_argument(
+        "--channel", type=_channel, metavar="C", help="which channel of an image: red, green, blue or alpha, or its number from 1 on; of a TIFF whose pages are channels its page"
+    )
+    parser.add_argument("--background", type=_size, metavar="N", help="take the background off before the threshold: the Gaussian mean of N pixels (standard deviation)")
+    parser.add_argument("--smooth", type=_size, metavar="N", help="smooth before the threshold, by a Gaussian of N pixels (standard deviation)")
+    parser.add_argument("--fill-holes", action="store_true", help="fill the holes of objects")
+    parser.add_argument("--exclude-border", action="store_true", help="leave out objects that touch the border of the image")
+    parser.add_argument("--min-size", type=_count, metavar="N", help="leave out objects of fewer than N pixels")
     parser.add_argument("--fit", action="store_true", help=f"make images that are too large smaller, by whole numbers of pixels: sides go up to {MOST_FLAT} pixels, or {MOST_SOLID} voxels")
 
 
@@ -94,6 +111,12 @@ def _checking(words: argparse._SubParsersAction) -> argparse.ArgumentParser:
         "--second",
         action="store_true",
         help="check FOLDER, or reports that lie beside their pictures, by a second reading in Python, without the proved program",
+    )
+    check.add_argument(
+        "--originals",
+        type=Path,
+        metavar="IMAGES",
+        help="the folder of the images that FOLDER was made of: each is made black and white again and compared",
     )
     check.add_argument(
         "--allow",
@@ -129,7 +152,7 @@ def parser() -> argparse.ArgumentParser:
     check = _checking(words)
     for part in (measure, volume, check):
         _conversion(part)
-        part.add_argument("--jobs", type=_jobs, default=1, metavar="N", help="how many images at once")
+        part.add_argument("--jobs", type=_count, default=1, metavar="N", help="how many images at once")
     export = words.add_parser(
         "export", help="straight sides and corners as DXF, or a volume's surface with its normals as PLY", epilog=_STATUS
     )
@@ -144,7 +167,13 @@ def parser() -> argparse.ArgumentParser:
 
 
 def settings_of(words: argparse.Namespace) -> Settings:
-    return Settings(words.threshold, words.objects, words.labels, None if words.fit else 1)
+    return settings_told(vars(words))
+
+
+def settings_told(options: dict[str, Any]) -> Settings:
+    """How images are made black and white, by the options of a command or of a run."""
+    fit = None if options["fit"] else 1
+    return Settings(options["threshold"], options["objects"], options["labels"], fit, options["channel"], Filters.told(options))
 
 
 def options_of(words: argparse.Namespace) -> dict[str, object]:

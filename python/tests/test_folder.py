@@ -457,7 +457,7 @@ class Seals(OfFolders):
 class Told(OfFolders):
     """What is said of a folder: why it is not right, and what a `yes` covers."""
 
-    UNTOLD = "not checked: what only the original images tell (names, labels, thresholds, what was done to them), and the pixel's size"
+    UNTOLD = "not checked: what only the original images tell (names, labels, thresholds, intensities, what was done to them), and the pixel's size"
 
     def test_what_a_yes_covers(self):
         for name, count in (("cells", "2 of 2 images, 6 rows, 15 files"), ("solids", "2 of 2 images, ")):
