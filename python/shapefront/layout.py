@@ -8,7 +8,7 @@ from pathlib import Path, PurePosixPath
 
 EVIDENCE, DRAWINGS = "evidence", "drawings"
 MADE = f"{EVIDENCE}/made.json"
-SUMMARY, PICTURES = "summary.txt", "pictures.csv"
+PAGE, SUMMARY, PICTURES = "index.html", "summary.txt", "pictures.csv"
 # The tables of all pictures together, and what the names of a picture's own end in.
 JOINED = {"objects.csv": ".csv", "networks.csv": ".network.csv", "branches.csv": ".branches.csv"}
 # What the names of tables end in that have the rest of the rows of another: the grey values of objects.
