@@ -21,8 +21,9 @@ from .inventory import others
 from .layout import MADE
 from .making import Plan, clear_aside
 from .original import check_original
+from .outlines import outlines_of, summary
 from .programs import find
-from .report import Analysis, read
+from .report import Analysis, contours_in, read
 from .second import Second, reports_of
 from .units import Pixel
 from .words import options_of, parser, settings_of
@@ -96,10 +97,17 @@ def _printed(findings: Iterable[Finding | Covered]) -> Iterator[Finding | Covere
 
 def export(words: argparse.Namespace) -> int:
     """`shapes export`: what a report says, for another program."""
+    size = 25.4 / words.dpi if words.dpi else words.pixel_size
+    if words.format == "dxf":
+        sides, contours = contours_in(words.report)
+        outlines = outlines_of(contours, words.long)
+        write(words.out, dxf(shown(words.report), sides[1], outlines, size))
+        print(f"{shown(words.out)}: {summary(outlines)}")
+        return DONE
     report = read(words.report)
     if not isinstance(report, Analysis):
         raise Fault(shown(words.report), "a report of another kind", "take one of `shape analyse`")
-    write(words.out, ply(report, words.pixel_size) if words.format == "ply" else dxf(report, words.pixel_size, words.long))
+    write(words.out, ply(report, size))
     return DONE
 
 

@@ -273,3 +273,21 @@ def contours_of(report: Analysis) -> Iterator[np.ndarray]:
     """The contours as closed arrays of points (x, y), the first one again at the end, as drawing programs take them."""
     for contour in report.contours:
         yield np.vstack([contour.points, contour.points[:1]])
+
+
+def contours_in(report: str | Path | bytes) -> tuple[tuple[int, ...], Contours]:
+    """The sides and the contours of a flat picture's report, given as for `read`, by its lines of contours alone: far faster than `read` of a long one.
+
+    A Fault where it is none, or these lines do not fit together.
+    """
+    text, name = text_of(report)
+    heading = text[:200].split(b"\n", 1)[0].decode("ascii", "replace").split(" ")
+    if heading[0] != "shape" or heading[2:3] != ["pbm"] or len(heading) != 6:
+        raise Fault(name, "not the report of `shape analyse` of a flat picture", "is it the right file?")
+    begin = text.find(b"\ncontour ") + 1
+    ends = [end + 1 for word in (b"\ndel ", b"\ntip ", b"\nkept ") if (end := text.find(word, begin)) > 0]
+    part = text[begin : min(ends, default=len(text))] if begin else b""
+    try:
+        return (int(heading[3]), int(heading[4])), _contours(Lines.of(b"\n" + part, name))
+    except (ValueError, IndexError) as error:
+        raise Fault(name, "not a report: its lines do not fit together", REMEDY) from error

@@ -158,9 +158,11 @@ def parser() -> argparse.ArgumentParser:
     )
     export.add_argument("format", choices=("dxf", "ply"))
     export.add_argument("report", type=Path, metavar="REPORT")
-    export.add_argument(
+    size = export.add_mutually_exclusive_group()
+    size.add_argument(
         "--pixel-size", type=_size, default=1.0, metavar="L", help="how wide a pixel or voxel is, in the unit of the file: mm for DXF (1)"
     )
+    size.add_argument("--dpi", type=_size, metavar="N", help="the dots per inch of a scan, in place of it")
     export.add_argument("--long", type=int, default=20, metavar="STEPS", help="a straight side has at least so many steps (20)")
     export.add_argument("-o", dest="out", type=Path, required=True, metavar="FILE", help="the file to write")
     return top
