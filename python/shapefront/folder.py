@@ -18,7 +18,7 @@ from .faults import Fault
 from .files import encoded, make_folder, spelled_json, sum_of_bytes, write, write_json
 from .images import pillow_version
 from .layout import FURTHER, JOINED, MADE, PICTURES, SUMMARY, evidence, record_of_key
-from .making import Record, key_of
+from .making import Record
 from .pictures import told_sides
 from .programs import sums
 from .seals import sealed
@@ -40,7 +40,7 @@ class Run:
 
     @property
     def records(self) -> list[Record]:
-        return [record for image in self.images for record in image.records]
+        return [image.record for image in self.images if image.record is not None]
 
     def of_all(self, table: Table) -> dict[str, bytes]:
         """The tables and the summary of all, by the names of their files. A Fault where the tables do not fit together."""
@@ -64,7 +64,7 @@ class Run:
 def finish(folder: Path, images: list[Image], pixel: Pixel | None, options: dict[str, Any]) -> dict[str, Any]:
     """Writes the tables, the summary and the record of a run; the record. A Fault where the folder cannot be written."""
     run = Run(options, pixel, images, versions())
-    files = run.of_all(lambda record, suffix: _read(folder / evidence(key_of(record), suffix)))
+    files = run.of_all(lambda record, suffix: _read(folder / evidence(record["image"], suffix)))
     for name, data in files.items():
         write(folder / name, data)
     for name in JOINED.keys() - files.keys():
@@ -90,23 +90,23 @@ def versions() -> dict[str, Any]:
 
 
 def _told(image: Image) -> dict[str, Any]:
-    records = [record_of_key(key_of(record)) for record in image.records]
-    thresholds = [record["cut"]["threshold"] for record in image.records if record["cut"]]
-    return {"image": image.name, "sum": image.source, "thresholds": thresholds, "pictures": records, "failure": image.failure}
+    record = image.record
+    threshold = record["cut"]["threshold"] if record and record["cut"] else None
+    return {"image": image.name, "sum": image.source, "threshold": threshold, "record": record and record_of_key(record["image"]), "failure": image.failure}
 
 
 def _files(record: Record) -> dict[str, str]:
     """The sums of a picture's files and of its record, by their names in the folder of the run."""
-    return {**record["files"], record_of_key(key_of(record)): sum_of_bytes(spelled_json(record))}
+    return {**record["files"], record_of_key(record["image"]): sum_of_bytes(spelled_json(record))}
 
 
 def _has(record: Record, suffix: str) -> bool:
-    return evidence(key_of(record), suffix) in record["files"]
+    return evidence(record["image"], suffix) in record["files"]
 
 
 def _part(record: Record, table: Table, suffix: str, further: str | None) -> Part:
     rest = table(record, further) if further and _has(record, further) else None
-    return Part(record["image"], record["label"], record["fit"], table(record, suffix), rest)
+    return Part(record["image"], record["fit"], record["original"], table(record, suffix), rest)
 
 
 def _read(path: Path) -> str:
@@ -118,14 +118,14 @@ def _read(path: Path) -> str:
 
 def pictures(records: list[Record]) -> Iterator[Row]:
     """The rows of `pictures.csv`: for each picture what the lines `parts` and `kept` of its report say, holes with the outside."""
-    labels = any(record["label"] is not None for record in records)
+    labels = any(record["labels"] is not None for record in records)
     axes = max([len(record["sides"]) for record in records], default=2)
     counts = ["points", "pieces", "background", "skeleton"]
-    yield ["image", *(["label"] if labels else []), *"xyz"[:axes], "fit", "threshold", *counts]
+    yield ["image", *(["labels"] if labels else []), *"xyz"[:axes], "fit", "threshold", *counts]
     for record in records:
         cut = record["cut"]
         own = [*record["sides"], record["fit"], f"{cut['threshold']:.12g}" if cut else ""]
-        label = [record["label"]] if labels else []
+        label = [len(record["labels"])] if labels else []
         yield [str(word) for word in (record["image"], *label, *own, *record["parts"], record["kept"][0])]
 
 
@@ -138,7 +138,7 @@ def summary(run: Run) -> Iterator[str]:
     for record in run.records:
         points, pieces, background = record["parts"]
         yield ""
-        yield f"{key_of(record)}: {told_sides(tuple(record['sides']))}"
+        yield f"{record['image']}: {told_sides(tuple(record['sides']))}"
         yield f"  object points {points}, pieces {pieces}, pieces of the background {background}, points of the skeleton {record['kept'][0]}"
         yield from (f"  {note}" for note in record["notes"])
     if failed:

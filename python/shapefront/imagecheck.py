@@ -15,13 +15,14 @@ import numpy as np
 from .batch import source_sum
 from .checking import Finding
 from .comparing import of_members, of_tables
-from .convert import Picture, pictures_of, volumes_of
+from .convert import Picture, picture_of, volume_of
 from .faults import Fault
 from .files import shown
 from .intensities import intensities
 from .layout import FURTHER, evidence
-from .making import Plan, Record, head_of, key_of
+from .making import Record, head_of
 from .pictures import pbm_mask, suffix_of
+from .plan import Plan
 from .tables import spelled_rows
 from .words import settings_told
 
@@ -46,29 +47,23 @@ class ImageCheck:
             return Finding(shown(path), False, "it is missing")
         own = source_sum(path)
         is_same = own == told["sum"] and own is not None
-        why = self._of_pictures(path, told)
+        why = self._of_own_picture(path, told)
         if not is_same:
             other = "it is another file than was measured: its sum is not the one in made.json"
             return Finding(shown(path), False, f"{other}; {why or 'but it gives the same'}")
         return Finding(shown(path), why is None, why or "")
 
-    def _of_pictures(self, path: Path, told: dict[str, Any]) -> str | None:
+    def _of_own_picture(self, path: Path, told: dict[str, Any]) -> str | None:
         """Where what an image gives is not what its records say, in words; None where it is."""
         settings, is_volume = settings_told(self.made["options"]), self.made["options"]["command"] == "volume"
-        missing = {name: self.records[name] for name in told["pictures"] if name in self.records}
         try:
-            for picture in (volumes_of if is_volume else pictures_of)(path, told["image"], settings):
-                record = next((record for record in missing.values() if key_of(record) == picture.key), None)
-                if record is None:
-                    return None if told["failure"] else f"it gives the picture {picture.key}, of which there is no record"
-                if why := self._of_picture(picture, record):
-                    return why if record["label"] is None else f"label {record['label']}: {why}"
-                missing = {name: one for name, one in missing.items() if one is not record}
+            picture = (volume_of if is_volume else picture_of)(path, told["image"], settings)
         except Fault as fault:
             return None if told["failure"] else f"it gives no picture any more: {fault.reason}"
         if told["failure"]:
-            return f"it gives all its pictures, while made.json says that it failed ({told['failure']})"
-        return f"it does not give the picture {key_of(next(iter(missing.values())))}" if missing else None
+            return f"it gives a picture, while made.json says that it failed ({told['failure']})"
+        record = self.records.get(told["record"])
+        return self._of_picture(picture, record) if record else "it gives a picture of which there is no record"
 
     def _of_picture(self, picture: Picture, record: Record) -> str | None:
         """Where a picture of the image is not the one of the record, in words."""
@@ -86,7 +81,9 @@ class ImageCheck:
 
     def _of_pixels(self, picture: Picture) -> str:
         """How a picture of the image is not the one in the folder."""
-        path = self.folder / evidence(picture.key, suffix_of(picture.mask))
+        if picture.labels is not None:
+            return "its labels are others than those that were measured"
+        path = self.folder / evidence(picture.image, suffix_of(picture.mask))
         try:
             data = path.read_bytes()
             own = pbm_mask(data) if picture.mask.ndim == 2 else np.frombuffer(data, np.uint8).reshape(picture.mask.shape) > 0
@@ -96,7 +93,7 @@ class ImageCheck:
 
     def _of_intensities(self, picture: Picture, record: Record) -> str | None:
         """Where the grey values of the objects, as they lie in the folder, are not those of the image."""
-        path = self.folder / evidence(key_of(record), FURTHER["objects.csv"])
+        path = self.folder / evidence(record["image"], FURTHER["objects.csv"])
         if picture.grey is None or not path.is_file():
             return None
         again, own = spelled_rows(intensities(picture.mask, picture.grey)), path.read_bytes()

@@ -19,13 +19,15 @@ SUFFIXES = {".png", ".tif", ".tiff", ".jpg", ".jpeg", ".bmp", ".gif", ".pbm", ".
 class Grey:
     """An image of one value a pixel, indexed [y, x], dark where the value is small, and what was done to make it, in words.
 
-    `objects` is `dark` or `light` where the file's format itself says which side is the object, as a PBM does.
+    `objects` is `dark` or `light` where the file's format itself says which side is the object, as a PBM does. `colours` is the image
+    in colours of eight bits, [y, x, 3], where it has some.
     """
 
     name: str
     values: np.ndarray
     notes: tuple[str, ...] = ()
     objects: str | None = None
+    colours: np.ndarray | None = None
 
 
 def pillow():
@@ -143,7 +145,8 @@ def _grey(path: Path, image, labels: bool, channel: str | None) -> Grey:
     is_pbm = image.mode == "1" and path.suffix.lower() in (".pbm", ".pnm")
     bands = np.array(image)
     grey, more = grey_of(str(path), np.atleast_3d(bands), bands.ndim == 3, channel)
-    return Grey(str(path), np.ascontiguousarray(grey), (*notes, *more), "dark" if is_pbm else None)
+    colours = bands if image.mode == "RGB" and channel is None and "colours made grey" in more else None
+    return Grey(str(path), np.ascontiguousarray(grey), (*notes, *more), "dark" if is_pbm else None, colours)
 
 
 def _on_white(image, notes: list[str]):

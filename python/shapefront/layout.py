@@ -1,6 +1,6 @@
 """Where the files of a run lie, by their names below its folder: what people open on top, drawings in `drawings/`, all else in `evidence/`.
 
-The names of a picture's files begin with its key: the image's name and, where it is one of several, its label.
+The names of a picture's files begin with its key, which is the name of its image.
 """
 from __future__ import annotations
 
@@ -14,8 +14,9 @@ JOINED = {"objects.csv": ".csv", "networks.csv": ".network.csv", "branches.csv":
 # What the names of tables end in that have the rest of the rows of another: the grey values of objects.
 FURTHER = {"objects.csv": ".intensities.csv"}
 
-# What the names of a picture's drawings end in: the program's of its report, and the original image with the borders over it.
+# What the names of a picture's drawings end in: the program's of its report, and the original image with the borders over it; and of what the page shows.
 DRAWN = (".svg", ".png")
+THUMBNAIL, PLACES = ".thumbnail.jpg", ".places.png"
 
 
 def evidence(key: str, suffix: str) -> str:

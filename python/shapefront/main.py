@@ -11,7 +11,7 @@ from typing import Any
 from .batch import images_of, run
 from .beside import Asked, Covered
 from .checking import Finding
-from .convert import pictures_of, volumes_of
+from .convert import picture_of, volume_of
 from .exports import dxf, ply
 from .faults import Fault
 from .files import make_folder, shown, write
@@ -19,9 +19,10 @@ from .folder import finish, originals
 from .foldercheck import check_folder
 from .inventory import others
 from .layout import MADE
-from .making import Plan, clear_aside
+from .making import clear_aside
 from .original import check_original
 from .outlines import outlines_of, summary
+from .plan import Plan
 from .programs import find
 from .report import Analysis, contours_in, read
 from .second import Second, reports_of
@@ -47,7 +48,7 @@ def measure(words: argparse.Namespace) -> int:
     make_folder(words.folder)
     clear_aside(words.folder)
     plan = Plan(words.folder, words.rule, words.plain, tuple(dict.fromkeys(words.masks)), words.network)
-    convert = volumes_of if is_volume else pictures_of
+    convert = volume_of if is_volume else picture_of
     run(images, plan, lambda path, name: convert(path, name, settings), words.jobs)
     made = finish(words.folder, images, pixel, options_of(words))
     _tell_of_others(words.folder, made)

@@ -1,4 +1,4 @@
-"""Makes all that one picture gives: its file, its report, checked, its table and its drawing; and a record of how.
+"""Makes all that one picture gives: its file, its report, checked, its table and its drawings; and a record of how.
 
 Everything is made in a folder aside and then renamed, the record last. So what has a record is whole, and a second run with the
 same picture, rule and program leaves it as it is.
@@ -10,65 +10,57 @@ import shutil
 import tempfile
 from collections.abc import Iterator
 from contextlib import contextmanager
-from dataclasses import asdict, dataclass
+from dataclasses import asdict
 from pathlib import Path
 from typing import Any
+
+import numpy as np
 
 from .convert import Picture
 from .faults import Fault
 from .files import ASIDE, gzipped, read_json, shown, sum_of, sum_of_bytes, write_json
 from .intensities import intensities
+from .labelled import make_labels
+from .labels import boxes
 from .layout import FURTHER, is_own, named, record_of_key
-from .pictures import sides_of, spelled, suffix_of
-from .products import draw, measured, write_mask, write_network
+from .overlay import Overlay, borders, numbers
+from .pictures import sides_of, spelled
+from .plan import Plan
+from .products import draw, evidence_of, write_shown
 from .programs import sums
 from .report import counts_of
 from .seals import is_sealed, sealed
-from .tables import spelled_rows
+from .tables import dicts_of, spelled_rows
 
 Record = dict[str, Any]
 
 # The members of a record, in their order; the sum of its own comes behind them.
-MEMBERS = ("image", "label", "sides", "fit", "channel", "filters", "cut", "notes", "rule", "plain", "masks", "network", "grey", "picture", "programs", "parts", "kept", "files")
+MEMBERS = (
+    "image", "labels", "sides", "fit", "original", "channel", "filters", "cut", "notes", "rule", "plain", "masks", "network", "grey", "picture", "programs", "parts", "kept", "files",
+)  # fmt: skip
 
 # What the record of a run is called, without its ending: an image cannot be called so.
 OF_ALL = "made"
 
 
-@dataclass(frozen=True)
-class Plan:
-    """Where the files go, the rule of the thinning, whether reports stay plain text, and the masks and the networks that are wanted."""
-
-    folder: Path
-    rule: str
-    plain: bool = False
-    masks: tuple[str, ...] = ()
-    network: bool = False
-
-
-def key_of(record: Record) -> str:
-    """What the names of the files of a record's picture begin with."""
-    return record["image"] if record["label"] is None else f"{record['image']}.label{record['label']}"
-
-
 def make(picture: Picture, plan: Plan) -> Record:
     """Makes what a picture gives, but where its record says that it is there already. The record; a Fault where it fails."""
-    if picture.key == OF_ALL:
-        raise Fault(picture.key, f"its record would have the name of that of all, {OF_ALL}.json", "rename it")
-    head, told = head_of(picture, plan), plan.folder / record_of_key(picture.key)
+    if picture.image == OF_ALL:
+        raise Fault(picture.image, f"its record would have the name of that of all, {OF_ALL}.json", "rename it")
+    head, told = head_of(picture, plan), plan.folder / record_of_key(picture.image)
     before = read_json(told) or {}
     if is_sealed(told) and _is_made(before, head, plan.folder):
         return before
     with _folder_aside(told.parent) as work:
         counts = _products(picture, plan, work)
-        files = dict(sorted((named(picture.key, path.name), sum_of(path)) for path in work.iterdir()))
+        files = dict(sorted((named(picture.image, path.name), sum_of(path)) for path in work.iterdir()))
         for name in files:
             (plan.folder / name).parent.mkdir(parents=True, exist_ok=True)
             os.replace(work / Path(name).name, plan.folder / name)
         record = record_of({**head, **counts, "files": files})
         write_json(told, record)
         for name in before.get("files", {}):
-            if name not in files and is_own(picture.key, name):
+            if name not in files and is_own(picture.image, name):
                 (plan.folder / name).unlink(missing_ok=True)
     return record
 
@@ -80,12 +72,13 @@ def record_of(members: Record) -> Record:
 
 def head_of(picture: Picture, plan: Plan) -> Record:
     """What says how a picture's files are made: equal heads, equal files."""
+    labels = None if picture.labels is None else [[box.label, *box.place] for box in boxes(picture.labels)]
+    told = spelled(picture.mask) if picture.labels is None else np.ascontiguousarray(picture.labels).data
     return {
-        "image": picture.image, "label": picture.label, "sides": list(sides_of(picture.mask)), "fit": picture.fit,
+        "image": picture.image, "labels": labels, "sides": list(sides_of(picture.mask)), "fit": picture.fit, "original": list(picture.original_sides),
         "channel": picture.settings.channel, "filters": asdict(picture.settings.filters),
         "cut": asdict(picture.cut) if picture.cut else None, "notes": list(picture.notes), "rule": plan.rule, "plain": plan.plain, "masks": list(plan.masks), "network": plan.network,
-        "grey": None if picture.grey is None else sum_of_bytes(picture.grey.tobytes()),
-        "picture": sum_of_bytes(spelled(picture.mask)), "programs": sums(),
+        "grey": None if picture.grey is None else sum_of_bytes(picture.grey.tobytes()), "picture": sum_of_bytes(told), "programs": sums(),
     }  # fmt: skip
 
 
@@ -120,15 +113,14 @@ def clear_aside(folder: Path) -> None:
 
 def _products(picture: Picture, plan: Plan, work: Path) -> Record:
     """Writes the files of a picture into the folder `work`; what the record says of them."""
-    stem = work / Path(picture.key).name
-    image = stem.with_name(stem.name + suffix_of(picture.mask))
-    image.write_bytes(spelled(picture.mask))
-    report = measured(image, stem, plan.rule, picture.key)
-    draw(report, stem, picture)
-    for kind in plan.masks:
-        write_mask(kind, report, stem, picture)
-    if plan.network:
-        write_network(stem, report, picture)
+    stem = work / Path(picture.image).name
+    if picture.labels is not None:
+        return make_labels(picture, plan, stem)
+    report, is_flat = evidence_of(picture.mask, stem, plan, picture.image), picture.mask.ndim == 2
+    draw(report, stem, picture.image, is_flat)
+    if is_flat:
+        rows = dicts_of(stem.with_name(stem.name + ".csv").read_text())
+        write_shown(Overlay(picture.original, borders(report.read_bytes()), numbers(rows), picture.fit), stem)
     if picture.grey is not None:
         stem.with_name(stem.name + FURTHER["objects.csv"]).write_bytes(spelled_rows(intensities(picture.mask, picture.grey)))
     counts = dict(zip(("parts", "kept"), counts_of(report)))

@@ -1,17 +1,22 @@
-"""What the proved program makes of a picture and its report: the report, the table, the drawing, the masks and the network's parts."""
+"""What is made of a picture: its file and, by the proved program, the report, the table, the drawing, the masks and the network's parts; and the names of all that."""
 from __future__ import annotations
 
 from collections.abc import Sequence
 from pathlib import Path
 from typing import Any
 
+import numpy as np
+
+from .archives import SUFFIX as ARCHIVE
 from .arrays import verdict
-from .convert import Picture
 from .faults import Fault
-from .layout import FURTHER, drawing, evidence
+from .images import pillow_version
+from .layout import FURTHER, PLACES, THUMBNAIL, drawing, evidence
 from .networks import MADE as NETWORK_TABLES
 from .networks import PARTS, Network, part, parts_of
-from .pictures import Source, sides_of, told_suffix
+from .overlay import Overlay
+from .pictures import Source, sides_of, spelled, suffix_of, told_suffix
+from .plan import Plan
 from .programs import Answer, call, explained, made
 
 # The words for a drawing, the best one first: with the numbers of the objects, where the program knows this word; and of the contours alone, where any other is too large.
@@ -34,14 +39,30 @@ def measured(image: Path, stem: Path, rule: str, about: str) -> Path:
     return report
 
 
-def draw(report: Path, stem: Path, picture: Picture) -> None:
-    """Draws a report. A volume that the program refuses has no drawing; a Fault of a flat picture."""
+def evidence_of(mask: np.ndarray, stem: Path, plan: Plan, about: str) -> Path:
+    """Writes a picture's file and its evidence: the report, checked, the table, and the masks and the network that are wanted. The report's file.
+
+    The names of the files begin with `stem`. A Fault about the image `about` where the program refuses.
+    """
+    image = stem.with_name(stem.name + suffix_of(mask))
+    image.write_bytes(spelled(mask))
+    report = measured(image, stem, plan.rule, about)
+    for kind in plan.masks:
+        with open(stem.with_name(stem.name + mask_suffix(kind, sides_of(mask))), "wb") as out:
+            made("mask", kind, report, out=out, about=about)
+    if plan.network:
+        write_network(stem, report, about)
+    return report
+
+
+def draw(report: Path, stem: Path, about: str, is_flat: bool) -> None:
+    """Draws a report. A volume that the program refuses has no drawing; a Fault about the image `about` of a flat picture."""
     drawing = stem.with_name(stem.name + ".svg")
     answer = _drawn(report, drawing)
     if answer.status:
         drawing.unlink()
-        if picture.mask.ndim == 2:
-            raise explained(picture.key, answer)
+        if is_flat:
+            raise explained(about, answer)
 
 
 def _drawn(report: Path, drawing: Path) -> Answer:
@@ -54,14 +75,15 @@ def _drawn(report: Path, drawing: Path) -> Answer:
     return answer
 
 
-def write_mask(kind: str, report: Path, stem: Path, picture: Picture) -> None:
-    """Writes a picture of what a report says: a PBM or a PGM, or of a volume and of squares raw bytes, whose sides its name tells."""
-    with open(stem.with_name(stem.name + mask_suffix(kind, sides_of(picture.mask))), "wb") as out:
-        made("mask", kind, report, out=out, about=picture.key)
+def write_shown(overlay: Overlay, stem: Path) -> None:
+    """Writes the original image with what was found in it, for people and for the page; nothing where Pillow is not installed."""
+    if pillow_version() is not None:
+        for suffix, data in ((".png", overlay.drawing), (THUMBNAIL, overlay.thumbnail), (PLACES, overlay.places)):
+            stem.with_name(stem.name + suffix).write_bytes(data())
 
 
 def mask_suffix(kind: str, sides: Sequence[int]) -> str:
-    """What the name of a mask of a picture with these sides ends in."""
+    """What the name of a mask of a picture with these sides ends in: a PBM or a PGM, or of a volume and of squares raw bytes, whose sides it tells."""
     if kind == "squares":
         return f".{kind}.{'x'.join(map(str, sides))}.32bit.raw"
     if len(sides) == 2:
@@ -69,30 +91,45 @@ def mask_suffix(kind: str, sides: Sequence[int]) -> str:
     return f".{kind}" + (told_suffix(sides).removesuffix("raw") + "16bit.raw" if kind == "distances" else told_suffix(sides))
 
 
-def names_of(key: str, record: dict[str, Any]) -> set[str]:
-    """The names, in the folder of the run, of the files that a picture with such a record has; a volume has a drawing where the record names it."""
-    packed = "" if record["plain"] else ".gz"
-    suffixes = {told_suffix(record["sides"]), ".report" + packed, ".csv", *(mask_suffix(kind, record["sides"]) for kind in record["masks"])}
+def suffixes_of(record: dict[str, Any], sides: Sequence[int], packed: str) -> set[str]:
+    """What the names of the evidence end in of a picture with such a record and these sides, whose reports end in `.report` and what is given."""
+    suffixes = {told_suffix(sides), ".report" + packed, ".csv", *(mask_suffix(kind, sides) for kind in record["masks"])}
     if record["grey"]:
         suffixes.add(FURTHER["objects.csv"])
     if record["network"]:
         suffixes |= {part(Path("x"), name, suffix).name[1:] for name in PARTS for suffix in (".pbm", ".report" + packed, ".csv")}
-        suffixes |= {f".{suffix}" for suffix in NETWORK_TABLES}
-    is_drawn = len(record["sides"]) == 2 or drawing(key, ".svg") in record["files"]
-    return {evidence(key, suffix) for suffix in suffixes} | ({drawing(key, ".svg")} if is_drawn else set())
+        suffixes |= tables_of(record) - {".csv"}
+    return suffixes
 
 
-def write_network(stem: Path, report: Path, picture: Picture) -> None:
+def tables_of(record: dict[str, Any]) -> set[str]:
+    """What the names of the tables end in that a picture with such a record has."""
+    return {".csv", *(f".{suffix}" for suffix in NETWORK_TABLES if record["network"])}
+
+
+def names_of(key: str, record: dict[str, Any]) -> set[str]:
+    """The names, in the folder of the run, of the files that a picture with such a record has.
+
+    Those that show the original image, and the drawing of a volume, are there where the record names them.
+    """
+    shown = {drawing(key, ".png"), evidence(key, THUMBNAIL), evidence(key, PLACES), drawing(key, ".svg")} & record["files"].keys()
+    if record["labels"] is not None:
+        return shown | {evidence(key, suffix) for suffix in {ARCHIVE, *tables_of(record)}}
+    drawn = {drawing(key, ".svg")} if len(record["sides"]) == 2 else set()
+    return shown | drawn | {evidence(key, suffix) for suffix in suffixes_of(record, record["sides"], "" if record["plain"] else ".gz")}
+
+
+def write_network(stem: Path, report: Path, about: str) -> None:
     """Writes the pictures of the parts of a network, their reports and their tables, and the tables arranged from these.
 
-    A Fault where the program refuses.
+    A Fault about the image `about` where the program refuses.
     """
     skeleton = part(stem, "skeleton", ".pbm")
     with open(skeleton, "wb") as out:
-        made("mask", "skeleton", report, out=out, about=picture.key)
+        made("mask", "skeleton", report, out=out, about=about)
     for name, data in parts_of(skeleton.read_bytes()).items():
         image = part(stem, name, ".pbm")
         image.write_bytes(data)
-        measured(image, part(stem, name, ""), "curve", picture.key)
+        measured(image, part(stem, name, ""), "curve", about)
     for suffix, table in Network.of(stem).arranged().items():
         stem.with_name(f"{stem.name}.{suffix}").write_bytes(table)

@@ -11,7 +11,9 @@ from dataclasses import dataclass, field
 from pathlib import Path
 from typing import Any
 
-from .again import record_again, run_again
+from .again import record_again, record_of_labels_again, run_again
+from .archives import SUFFIX as ARCHIVE
+from .archives import unpacked
 from .beside import Asked, Beside, Covered, check_beside, network_again, refused, stem_of, wrong_in_network
 from .checking import Finding
 from .comparing import of_members, of_tables, of_texts
@@ -20,8 +22,9 @@ from .files import read_json, shown
 from .folder import originals
 from .imagecheck import ImageCheck
 from .inventory import Inventory
+from .labelcheck import Labels
 from .layout import EVIDENCE, MADE, SUMMARY, drawing, evidence, record_of_key
-from .making import Record, key_of
+from .making import Record
 from .networks import MADE as NETWORK_TABLES
 from .networks import PARTS, part
 from .programs import sums
@@ -75,7 +78,7 @@ class RunCheck:
 
     def findings(self) -> Iterator[Finding | Covered]:
         """All findings: on pictures, on files of all, and on what is missing, changed or added; and what they cover."""
-        names = sorted((name for image in self.made["images"] for name in image["pictures"]), key=lambda name: Path(name).with_suffix(""))
+        names = sorted((image["record"] for image in self.made["images"] if image["record"]), key=lambda name: Path(name).with_suffix(""))
         checked = {}
         with ThreadPoolExecutor(self.asked.jobs) as pool:
             for name, one in zip(names, pool.map(self._picture, names)):
@@ -107,6 +110,8 @@ class RunCheck:
         stem = path.with_name(path.name.removesuffix(".json"))
         record = read_json(path) if path.is_file() else None
         record = record if isinstance(record, dict) else {}
+        if str((archive := stem.with_name(stem.name + ARCHIVE)).relative_to(self.folder)) in self.made["files"]:
+            return self._labels(archive, record)
         besides = [self._report(report, record) for report in self._reports(stem)]
         findings = [told for beside in besides for told in beside.findings]
         if not besides:
@@ -119,6 +124,28 @@ class RunCheck:
             found, own = self._network(stem, besides[1:])
             findings, tables = findings + found, tables | own
         return Checked(findings, again if self.inventory.is_whole(name) else None, tables)
+
+    def _labels(self, archive: Path, record: Record) -> Checked:
+        """What is found of a label image, whose record is this, by the archive of its labels."""
+        stem, path = archive.with_name(archive.name.removesuffix(ARCHIVE)), archive.with_name(archive.name.removesuffix(ARCHIVE) + ".json")
+        if not record or not archive.is_file():
+            gone = path if not record else archive
+            why = self.inventory.spoilt.get(str(gone.relative_to(self.folder)), "it names no labels")
+            return Checked([(gone, Finding(shown(gone), False, why))], None, {})
+        try:
+            with unpacked(archive) as folder:
+                labels = Labels.of(folder, record, self.asked.judge)
+                again = record if labels.wrong else record_of_labels_again(record, self.made, labels.reports)
+        except Fault as fault:
+            return Checked([(archive, refused(shown(archive), fault))], None, {})
+        findings = [(archive, Finding(shown(archive), False, why)) for why in labels.wrong] or [(stem, Finding(shown(stem), True))]
+        if why := of_members({**record, SEAL: again[SEAL]}, again):
+            findings.append((path, Finding(shown(path), False, why)))
+        for suffix, table in labels.tables.items():
+            own = stem.with_name(stem.name + suffix)
+            if own.is_file() and (data := own.read_bytes()) != table:
+                findings.append((own, Finding(shown(own), False, of_tables(data, table))))
+        return Checked(findings, again if self.inventory.is_whole(str(path.relative_to(self.folder))) else None, labels.tables)
 
     def _reports(self, stem: Path) -> list[Path]:
         """The reports of a picture that `made.json` names: its own, and those of the parts of its network."""
@@ -160,7 +187,7 @@ class RunCheck:
         """The findings on the images that were measured, each by the record of its first picture, or by `made.json` where it has none."""
         records = {name: one.record for name, one in checked.items() if one.record is not None}
         for told, finding in ImageCheck(originals, self.folder, self.made, records).findings(self.asked.jobs):
-            yield self.folder / (told["pictures"][0] if told["pictures"] else MADE), finding
+            yield self.folder / (told["record"] or MADE), finding
 
     def _of_all(self, checked: dict[str, Checked]) -> Iterator[Told]:
         """The findings on the tables of all, on the summary and on `made.json`; none where a record is not as it was written."""
@@ -169,7 +196,7 @@ class RunCheck:
             return
         try:
             run = run_again(self.made, records)
-            files = run.of_all(lambda record, suffix: self._table(checked[record_of_key(key_of(record))], record, suffix))
+            files = run.of_all(lambda record, suffix: self._table(checked[record_of_key(record["image"])], record, suffix))
         except Fault as fault:
             yield Path(fault.about), refused(shown(fault.about), fault)
             return
@@ -182,7 +209,7 @@ class RunCheck:
 
     def _table(self, one: Checked, record: Record, suffix: str) -> str:
         """A picture's own table as its report gives it; where that does not hold, as it was written. A Fault where it is spoilt, too."""
-        name = evidence(key_of(record), suffix)
+        name = evidence(record["image"], suffix)
         if suffix in one.tables:
             return one.tables[suffix].decode()
         if not self.inventory.is_whole(name):
@@ -200,8 +227,8 @@ class RunCheck:
     def _covered(self, checked: dict[str, Checked]) -> str:
         """What was checked and what was not, in words."""
         files = len(self.made["files"]) - len(self.inventory.spoilt)
-        images = [image for image in self.made["images"] if image["pictures"] or not image["failure"]]
-        good = sum(all(self._is_good(checked[name]) for name in image["pictures"]) for image in images)
+        images = [image for image in self.made["images"] if image["record"]]
+        good = sum(self._is_good(checked[image["record"]]) for image in images)
         failed = sum(image["failure"] is not None for image in self.made["images"])
         told = f" ({failed} failed when {'they were' if failed > 1 else 'it was'} measured)" if failed else ""
         untold = _UNTOLD if self.asked.originals else _BY_ORIGINALS + _UNTOLD
@@ -211,4 +238,4 @@ class RunCheck:
     def _is_good(self, one: Checked) -> bool:
         if one.record is None or not all(finding.holds for _, finding in one.findings):
             return False
-        return not self.wrong & {self.folder / own for own in (*one.record["files"], record_of_key(key_of(one.record)))}
+        return not self.wrong & {self.folder / own for own in (*one.record["files"], record_of_key(one.record["image"]))}

@@ -10,7 +10,7 @@ import numpy as np
 from .common import ROOT, STORED, InFolder, needs_shape
 
 from shapefront import analyse, read
-from shapefront.convert import pictures_of
+from shapefront.convert import picture_of
 from shapefront.exports import ply
 from shapefront.sides import sides_of
 from shapefront.thresholds import Settings
@@ -44,7 +44,7 @@ class KnownShapes(InFolder):
             true = [
                 tuple(map(float, pair)) for pair in re.findall(r"\(([\d.]+), ([\d.]+)\)", text.decode().split("corners")[1].split("\n")[0])
             ]
-            (picture,) = pictures_of(Path("square.pbm"), "square", Settings())
+            picture = picture_of(Path("square.pbm"), "square", Settings())
             report = analyse(picture.mask)
             sides = sides_of(report.contours[0])
             self.assertEqual([side.is_corner for side in sides], [True] * 4)

@@ -12,6 +12,7 @@ import tempfile
 import types
 import unittest
 import unittest.mock
+import zipfile
 from pathlib import Path
 
 import numpy as np
@@ -27,7 +28,7 @@ if installed("PIL"):
     from PIL import Image
 
 FOLDERS = {
-    "cells": ("measure", "cells.png", "--labels", "--plain", "--masks", "object", "--masks", "skeleton", "--masks", "distances"),
+    "cells": ("measure", "cells.png", "more.png", "--labels", "--masks", "object", "--masks", "skeleton", "--masks", "distances"),
     "lines": ("measure", "one.pbm", "two.pbm", "--plain", "--network", "--masks", "distances", "--pixel-size", "3", "mm"),
     "packed": ("measure", "one.pbm", "below/two.pbm", "--network", "--masks", "skeleton"),
     "solids": ("volume", "one.npy", "two.npy", "--plain", "--masks", "distances", "--masks", "object"),
@@ -40,6 +41,7 @@ def save_images():
     labels[1:6, 1:6], labels[6:10, 1:6], labels[2:9, 8:13] = 1, 2, 2
     labels[4, 10] = 0
     Image.fromarray(labels).save("cells.png")
+    Image.fromarray(labels[::-1] * 3).save("more.png")
     Path("below").mkdir()
     for name, seed in (("one", 4), ("two", 5)):
         lines = np.zeros((16, 15 + seed), bool)
@@ -271,7 +273,49 @@ def ends_of_lines(name):
     return edit
 
 
-def edits_of(one, other, suffix, report):
+def in_archive(name, change):
+    """An edit of an archive: what the function makes of its members, by their names."""
+
+    def edit(folder):
+        with zipfile.ZipFile(folder / name) as archive:
+            members = change({member: archive.read(member) for member in archive.namelist()})
+        with zipfile.ZipFile(folder / name, "w") as archive:
+            for member, data in members.items():
+                archive.writestr(member, data)
+        return [name]
+
+    return edit
+
+
+def labels(one, other):
+    """Edits of the archives of two label images."""
+    one, other = f"{one}.labels.zip", f"{other}.labels.zip"
+    return {
+        "two archives are exchanged": swapped(one, other),
+        "an archive is deleted": deleted(other),
+        "a label is taken out": in_archive(one, lambda members: {name: data for name, data in members.items() if not name.startswith("1.")}),
+        "a label's table is taken out": in_archive(one, lambda members: {name: data for name, data in members.items() if name != "2.csv"}),
+        "two labels are exchanged": in_archive(one, lambda members: {name.translate({49: 50, 50: 49}): data for name, data in members.items()}),
+        "a label's report is changed": in_archive(one, lambda members: members | {"2.report": members["2.report"].replace(b"near 2 1 ", b"near 3 1 ")}),
+        "a label's table is changed": in_archive(one, lambda members: members | {"2.csv": members["2.csv"].replace(b"2,", b"3,", 1)}),
+        "a label's mask is changed": in_archive(one, lambda members: members | {"1.skeleton.pbm": members["2.skeleton.pbm"]}),
+        "a member is added": in_archive(one, lambda members: members | {"3.txt": b"mine"}),
+        "a member with a way out is added": in_archive(one, lambda members: members | {"../3.txt": b"mine"}),
+        "a label is said to lie elsewhere": spelled_again(one.replace("labels.zip", "json"), lambda value: value["labels"][0].__setitem__(1, 99), True),
+    }
+
+
+def evidence(one, other, suffix, report):
+    """Edits of the pictures and the reports of two images."""
+    return {
+        "two reports are exchanged": swapped(f"{one}.{report}", f"{other}.{report}"),
+        "two pictures are exchanged": swapped(f"{one}{suffix[0]}", f"{other}{suffix[1]}"),
+        "a report is deleted": deleted(f"{one}.{report}"),
+        "a picture is deleted": deleted(f"{other}{suffix[1]}"),
+    }
+
+
+def edits_of(one, other):
     """Edits, as a person makes them, of a folder of two pictures whose files' names begin so; each gives the files that it changes."""
     return {
         "a row is taken out": with_rows("objects.csv", taken_out(1)),
@@ -286,12 +330,8 @@ def edits_of(one, other, suffix, report):
         "a number of a picture's own table is changed": with_rows(f"{one}.csv", cell(1, 1, "99999")),
         "a number is changed in both tables": both_tables(one),
         "a table with ends of lines as on Windows": ends_of_lines("objects.csv"),
-        "two reports are exchanged": swapped(f"{one}.{report}", f"{other}.{report}"),
-        "two pictures are exchanged": swapped(f"{one}{suffix[0]}", f"{other}{suffix[1]}"),
         "two tables are exchanged": swapped(f"{one}.csv", f"{other}.csv"),
         "two records are exchanged": swapped(f"{one}.json", f"{other}.json"),
-        "a report is deleted": deleted(f"{one}.{report}"),
-        "a picture is deleted": deleted(f"{other}{suffix[1]}"),
         "a picture's own table is deleted": deleted(f"{one}.csv"),
         "a record is deleted": deleted(f"{other}.json"),
         "made.json is deleted": deleted(MADE),
@@ -306,7 +346,7 @@ def edits_of(one, other, suffix, report):
         "a record says other counts, with a sum": spelled_again(f"{one}.json", lambda value: value.update(kept=[1, 1, 1]), True),
         "made.json says another image's sum": spelled_again(MADE, lambda value: value["images"][0].update(sum="0" * 64), False),
         "made.json says another threshold, with a sum": spelled_again(
-            MADE, lambda value: value["images"][0].update(thresholds=[3.5]), True
+            MADE, lambda value: value["images"][0].update(threshold=3.5), True
         ),
         "made.json names a file less, with a sum": spelled_again(MADE, lambda value: value["files"].pop(f"{one}.csv"), True),
         "made.json is set out in another way": set_out_anew,
@@ -335,16 +375,16 @@ def masks(one, other, kind):
     return {"a mask is deleted": deleted(f"{one}.{kind}"), "two masks are exchanged": swapped(f"{one}.{kind}", f"{other}.{kind}")}
 
 
-CELLS, LINES = ("evidence/cells.png.label1", "evidence/cells.png.label2"), ("evidence/one.pbm", "evidence/two.pbm")
+CELLS, LINES = ("evidence/cells.png", "evidence/more.png"), ("evidence/one.pbm", "evidence/two.pbm")
 PACKED, SOLIDS = ("evidence/one.pbm", "evidence/below/two.pbm"), ("evidence/one.npy", "evidence/two.npy")
 PBM = (".pbm", ".pbm")
 EDITS = {
-    "cells": edits_of(*CELLS, PBM, "report") | drawn(*CELLS) | masks(*CELLS, "distances.pgm") | {"another report": other_report(CELLS[0])},
-    "lines": edits_of(*LINES, PBM, "report") | drawn(*LINES) | networks(*LINES, "report") | masks(*LINES, "distances.pgm")
+    "cells": edits_of(*CELLS) | labels(*CELLS),
+    "lines": edits_of(*LINES) | evidence(*LINES, PBM, "report") | drawn(*LINES) | networks(*LINES, "report") | masks(*LINES, "distances.pgm")
     | {"another report": other_report(LINES[1]), "another kind of report": other_kind(LINES[0]), "another pixel": replaced(MADE, b'"size": "3"', b'"size": "2"')},
-    "packed": edits_of(*PACKED, PBM, "report.gz") | drawn(*PACKED) | networks(*PACKED, "report.gz") | masks(*PACKED, "skeleton.pbm")
+    "packed": edits_of(*PACKED) | evidence(*PACKED, PBM, "report.gz") | drawn(*PACKED) | networks(*PACKED, "report.gz") | masks(*PACKED, "skeleton.pbm")
     | {"another report": other_report(PACKED[1], ".gz"), "packed again": packed_again("evidence/one.pbm.report.gz")},
-    "solids": edits_of(*SOLIDS, (".7x6x5.raw", ".8x6x5.raw"), "report"),
+    "solids": edits_of(*SOLIDS) | evidence(*SOLIDS, (".7x6x5.raw", ".8x6x5.raw"), "report"),
 }  # fmt: skip
 
 
@@ -420,22 +460,22 @@ class Told(OfFolders):
     UNTOLD = "not checked: what only the original images tell (names, labels, thresholds, intensities, what was done to them), and the pixel's size"
 
     def test_what_a_yes_covers(self):
-        for name, count in (("cells", "1 of 1 images, 5 rows, 19 files"), ("solids", "2 of 2 images, ")):
+        for name, count in (("cells", "2 of 2 images, 6 rows, 15 files"), ("solids", "2 of 2 images, ")):
             status, out = self.check(self.anew(name))
             self.assertEqual((status, {line.rpartition(": ")[2] for line in out[:-1]}), (0, {"yes"}))
             self.assertTrue(out[-1].startswith(f"checked {count}") and out[-1].endswith(self.UNTOLD), out[-1])
 
     def test_rows(self):
         folder, table = self.anew("cells"), rows(self.made / "cells" / "objects.csv")
-        whose = "image cells.png, label {}, object {}".format
-        second = (*table[2][1:3],)
+        whose = "image {}, label {}".format
+        first, second, last = ((*table[k][:2],) for k in (1, 2, -1))
         for change, why in (
-            (cell(1, 3, "99999"), f"row 1 ({whose(1, 1)}): area 99999; the report gives {table[1][3]}"),
-            (cell(1, 1, "2"), f"row 1 ({whose(1, 1)}): label 2; the record gives 1"),
+            (cell(1, 3, "99999"), f"row 1 ({whose(*first)}): area 99999; the report gives {table[1][3]}"),
+            (cell(1, 1, "2"), f"row 1 ({whose(*first)}): label 2; the record gives 1"),
             (taken_out(2), f"row 2 ({whose(*second)}) is missing"),
-            (taken_out(-1), f"row {len(table) - 1} ({whose(*table[-1][1:3])}) is missing"),
+            (taken_out(-1), f"row {len(table) - 1} ({whose(*last)}) is missing"),
             (exchanged(1, 2), f"row 1 ({whose(*second)}) stands in the place of another: it is row 2"),
-            (lambda all_: [*all_[:2], all_[1], *all_[2:]], f"row 2 ({whose(1, 1)}) is one that nothing gives"),
+            (lambda all_: [*all_[:2], all_[1], *all_[2:]], f"row 2 ({whose(*first)}) is one that nothing gives"),
             (lambda all_: [*all_[:2], all_[2][:-1], *all_[3:]], f"row 2 ({whose(*second)}) has {len(table[0]) - 1} cells in place of {len(table[0])}"),
             (cell(0, 3, "size"), "column 4 is called `size`, and has to be `area`"),
             (lambda all_: [row[:3] + row[4:] for row in all_], "of its columns `area` is missing"),
@@ -486,8 +526,8 @@ class Told(OfFolders):
             (folder / name).write_text("mine")
         self.assertEqual(self.refused("cells", "notes/a.txt", "notes/b.txt", "list.txt")[0][:12], "cells/list.t")
         self.assertEqual(self.check("cells", "--allow", "notes", "--allow", "list.txt")[0], 0)
-        (folder / "evidence/cells.png.label1.csv").unlink()
-        self.assertEqual(self.check("cells", "--allow", "notes", "--allow", "list.txt", "--allow", "evidence/cells.png.label1.csv")[0], 1)
+        (folder / "evidence/cells.png.csv").unlink()
+        self.assertEqual(self.check("cells", "--allow", "notes", "--allow", "list.txt", "--allow", "evidence/cells.png.csv")[0], 1)
 
     def test_an_empty_folder_and_a_link_are_things_that_nothing_made(self):
         folder = self.anew("cells")
@@ -509,7 +549,7 @@ class Told(OfFolders):
         self.anew("lines")
         shutil.copy(self.made / "cells.png", "cells.png")
         status, _, error = self.shapes("measure", "cells.png", "--labels", "--plain", "-o", "lines")
-        told = "lines: not of this run, and `shapes check` will not pass over it: drawings/one.pbm.svg, drawings/two.pbm.svg, evidence/one.pbm.branches.csv, .."
+        told = "lines: not of this run, and `shapes check` will not pass over it: drawings/one.pbm.png, drawings/one.pbm.svg, drawings/two.pbm.png, .."
         self.assertEqual((status, error), (0, [told]))
         self.refused("lines", "evidence/one.pbm.report", "evidence/two.pbm.json")
 

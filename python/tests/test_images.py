@@ -14,7 +14,7 @@ from .common import InFolder, installed, needs_pillow, needs_shape, random_mask
 from shapefront import Fault, Missing
 from shapefront.channels import luminance
 from shapefront.components import numbered
-from shapefront.convert import pictures_of, volume
+from shapefront.convert import picture_of, volume
 from shapefront.filters import Filters, holes_of
 from shapefront.images import load
 from shapefront.thresholds import Settings
@@ -31,7 +31,7 @@ needs_scipy = unittest.skipUnless(installed("scipy"), "scipy is not installed")
 
 
 def one(path, filters=None, **settings):
-    (picture,) = pictures_of(Path(path), str(path), Settings(**settings, filters=Filters(**filters or {})))
+    picture = picture_of(Path(path), str(path), Settings(**settings, filters=Filters(**filters or {})))
     return picture
 
 
@@ -202,12 +202,12 @@ class Filtered(InFolder):
         labels = numbered(self.mask, True)
         Image.fromarray(labels.astype(np.uint8)).save("labels.png")
         filters = Filters(fill_holes=True, exclude_border=True, min_size=10)
-        pictures = list(pictures_of(Path("labels.png"), "labels.png", Settings(labels="each", filters=filters)))
-        self.assertEqual([picture.label for picture in pictures], [1, 3])
-        np.testing.assert_array_equal(pictures[0].mask, disc(radius=20) & (labels != 2))
-        self.assertIn("left out as they touch the border: 1 label", pictures[0].notes)
+        picture = picture_of(Path("labels.png"), "labels.png", Settings(labels="each", filters=filters))
+        self.assertEqual(np.unique(picture.labels).tolist(), [0, 1, 3])
+        np.testing.assert_array_equal(picture.labels == 1, disc(radius=20) & (labels != 2))
+        self.assertIn("left out as they touch the border: 1 label", picture.notes)
         with self.assertRaisesRegex(Fault, "labels have no background"):
-            list(pictures_of(Path("labels.png"), "labels.png", Settings(labels="each", filters=Filters(smooth=1))))
+            picture_of(Path("labels.png"), "labels.png", Settings(labels="each", filters=Filters(smooth=1)))
 
     @needs_scipy
     def test_uneven_light(self):

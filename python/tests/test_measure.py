@@ -139,13 +139,10 @@ class Measuring(InFolder):
         Image.fromarray(labels).save("cells.png")
         self.assertEqual(self.shapes("measure", "cells.png", "--labels", "-o", "out")[0], 0)
         self.assertEqual(
-            [(row["label"], row["points"], row["pieces"]) for row in table("out/pictures.csv")], [("1", "36", "1"), ("2", "24", "1")]
+            [(row["label"], row["pieces"], row["area"]) for row in table("out/objects.csv")], [("1", "1", "36"), ("2", "1", "24")]
         )
-        self.assertTrue(Path("out/evidence/cells.png.label2.report.gz").exists())
+        self.assertTrue(Path("out/evidence/cells.png.labels.zip").exists())
         self.assertEqual(self.shapes("check", "out")[0], 0)
-        self.assertEqual(
-            self.shapes("check", "cells.png", "out/evidence/cells.png.label2.report.gz")[:2], (0, ["out/evidence/cells.png.label2.report.gz: yes"])
-        )
 
     def test_masks(self):
         self.save(1)

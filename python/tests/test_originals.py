@@ -29,7 +29,7 @@ def sealed_again(folder, name, change):
         path.write_bytes(spelled_json(record))
     else:
         path.write_bytes(change(path.read_bytes()))
-        record_name = next(own for image in made["images"] for own in image["pictures"] if name.startswith(own.removesuffix(".json")))
+        record_name = next(image["record"] for image in made["images"] if name.startswith(image["record"].removesuffix(".json")))
         sealed_again(folder, record_name, lambda record: record["files"].update({name: sum_of_bytes(path.read_bytes())}))
         made = json.loads((folder / MADE).read_text())
     made["files"][name] = sum_of_bytes(path.read_bytes())
