@@ -47,7 +47,8 @@ class Run:
         files = {PICTURES: spelled_rows(pictures(self.records))}
         for name, suffix in JOINED.items():
             if own := [_part(record, table, suffix, FURTHER.get(name)) for record in self.records if _has(record, suffix)]:
-                files[name] = spelled_rows(joined(own, self.pixel))
+                rows = list(joined(own, self.pixel))
+                files |= {name: spelled_rows(rows)} if len(rows) > 1 or suffix == ".csv" else {}
         return {**files, SUMMARY: encoded("".join(line + "\n" for line in summary(self)))}
 
     def made(self, of_all: dict[str, bytes]) -> dict[str, Any]:

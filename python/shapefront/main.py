@@ -38,6 +38,8 @@ def measure(words: argparse.Namespace) -> int:
     find()
     if words.network and words.rule != "curve":
         raise Fault("--network", f"the rule {words.rule} does not keep the ends of branches", "leave out --rule")
+    if not words.network and (words.prune is not None or words.classes is not None):
+        raise Fault("--prune, --classes", "they are about a network", "give --network, too")
     images, passed = images_of(words.images, is_volume)
     if passed:
         print(f"passed over, as their names are not those of images: {passed} of the files", file=sys.stderr)
@@ -47,7 +49,7 @@ def measure(words: argparse.Namespace) -> int:
         raise Fault("-o", "the folder of the images themselves", "choose another one for what is written")
     make_folder(words.folder)
     clear_aside(words.folder)
-    plan = Plan(words.folder, words.rule, words.plain, tuple(dict.fromkeys(words.masks)), words.network)
+    plan = Plan.told(words.folder, options_of(words))
     convert = volume_of if is_volume else picture_of
     run(images, plan, lambda path, name: convert(path, name, settings), words.jobs)
     made = finish(words.folder, images, pixel, options_of(words))

@@ -14,7 +14,7 @@ from typing import Any
 from .again import record_again, record_of_labels_again, run_again
 from .archives import SUFFIX as ARCHIVE
 from .archives import unpacked
-from .beside import Asked, Beside, Covered, check_beside, network_again, refused, stem_of, wrong_in_network
+from .beside import Asked, Beside, Covered, check_beside, refused, stem_of, wrong_in_parts
 from .checking import Finding
 from .comparing import of_members, of_tables, of_texts
 from .faults import Fault
@@ -23,10 +23,10 @@ from .folder import originals
 from .imagecheck import ImageCheck
 from .inventory import Inventory
 from .labelcheck import Labels
-from .layout import EVIDENCE, MADE, SUMMARY, drawing, evidence, record_of_key
+from .layout import EVIDENCE, HOLES, MADE, SUMMARY, drawing, evidence, part, record_of_key
 from .making import Record
-from .networks import MADE as NETWORK_TABLES
-from .networks import PARTS, part
+from .parts import Again, names_in
+from .plan import Wanted
 from .programs import sums
 from .report import heading_of
 from .seals import SEAL
@@ -113,15 +113,15 @@ class RunCheck:
         if str((archive := stem.with_name(stem.name + ARCHIVE)).relative_to(self.folder)) in self.made["files"]:
             return self._labels(archive, record)
         besides = [self._report(report, record) for report in self._reports(stem)]
-        findings = [told for beside in besides for told in beside.findings]
+        findings = [told for beside in besides for told in beside.findings if beside is besides[0] or not told[1].holds]
         if not besides:
             return Checked([(stem, Finding(shown(stem), False, "made.json names no report of it"))], None, {})
         again, why = self._record(record, besides[0])
         if why:
             findings.append((path, Finding(shown(path), False, why)))
         tables = {".csv": besides[0].table} if besides[0].holds else {}
-        if len(besides) > 1 and all(beside.holds for beside in besides):
-            found, own = self._network(stem, besides[1:])
+        if again is not None and all(beside.holds for beside in besides):
+            found, own = self._parts(stem, Wanted.of(again), besides[1:])
             findings, tables = findings + found, tables | own
         return Checked(findings, again if self.inventory.is_whole(name) else None, tables)
 
@@ -148,8 +148,8 @@ class RunCheck:
         return Checked(findings, again if self.inventory.is_whole(str(path.relative_to(self.folder))) else None, labels.tables)
 
     def _reports(self, stem: Path) -> list[Path]:
-        """The reports of a picture that `made.json` names: its own, and those of the parts of its network."""
-        stems = [stem, *(part(stem, name, "") for name in sorted(PARTS))]
+        """The reports of a picture that `made.json` names: its own, and those of its parts."""
+        stems = [stem, *(part(stem, name, "") for name in self._names(stem))]
         names = [one.with_name(one.name + suffix) for one in stems for suffix in (".report", ".report.gz")]
         return [path for path in names if str(path.relative_to(self.folder)) in self.made["files"]]
 
@@ -174,14 +174,24 @@ class RunCheck:
         except _NOT_RECORDS:
             return None, "it is no record that `shapes` wrote of this report"
 
-    def _network(self, stem: Path, parts: list[Beside]) -> tuple[list[Told], dict[str, bytes]]:
-        """What is wrong in a picture's network, whose reports all hold; and the tables that these give."""
+    def _names(self, stem: Path) -> list[str]:
+        """The names of the parts of a picture, by the files that `made.json` names in its folder."""
+        return names_in(stem, (name for name in self.made["files"] if (self.folder / name).parent == stem.parent))
+
+    def _parts(self, stem: Path, wanted: Wanted, parts: list[Beside]) -> tuple[list[Told], dict[str, bytes]]:
+        """What is wrong in a picture's parts, whose reports all hold; and the tables that these give."""
+        names = self._names(stem)
         try:
-            again = network_again(stem, {name: beside.table.decode() for name, beside in zip(sorted(PARTS), parts)})
+            again = Again.of(stem, wanted, {name: beside.table.decode() for name, beside in zip(names, parts)})
         except Fault as fault:
             return [(stem, refused(shown(stem), fault))], {}
-        tables = {f".{suffix}": again[stem.with_name(f"{stem.name}.{suffix}")] for suffix in NETWORK_TABLES}
-        return list(wrong_in_network(stem, again)), tables
+        wrong = list(wrong_in_parts(stem, again))
+        told = {stem.with_name(stem.name + suffix): suffix in again.tables for suffix in (HOLES,)}
+        told |= {part(stem, name, ".pbm"): name in again.pictures for name in again.pictures.keys() | set(names)}
+        for path, is_made in told.items():
+            if is_made != (str(path.relative_to(self.folder)) in self.made["files"]):
+                wrong.append((path, Finding(shown(path), False, "made.json does not name it" if is_made else "nothing made it")))
+        return wrong, again.tables
 
     def _of_originals(self, originals: Path, checked: dict[str, Checked]) -> Iterator[Told]:
         """The findings on the images that were measured, each by the record of its first picture, or by `made.json` where it has none."""
