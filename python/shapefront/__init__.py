@@ -6,9 +6,9 @@
     shapefront.check(image < 100, report)                 # true where every line of it holds
     shapefront.read("page.report")                        # a report that was written before
 """
-from .arrays import RULES, Verdict, analyse, check
+from .arrays import RULES, Verdict, analyse, check, table
 from .faults import Fault, Missing
 from .report import Analysis, Contour, Counts, Patch, contours_of, read
 
 __version__ = "0.1"
-__all__ = ["RULES", "Analysis", "Contour", "Counts", "Fault", "Missing", "Patch", "Verdict", "analyse", "check", "contours_of", "read"]
+__all__ = ["RULES", "Analysis", "Contour", "Counts", "Fault", "Missing", "Patch", "Verdict", "analyse", "check", "contours_of", "read", "table"]

@@ -16,6 +16,7 @@ from .labelled import total
 from .layout import evidence
 from .making import Record, record_of
 from .pictures import told_suffix
+from .plan import Wanted
 from .products import names_of
 from .report import counts_of, heading_of
 from .thresholds import Cut
@@ -53,7 +54,7 @@ def _again(record: Record, made: dict[str, Any], told: dict[str, Any]) -> Record
     options = made["options"]
     again = {
         **record, **told, "channel": options["channel"], "filters": asdict(Filters.told(options)), "plain": options["plain"],
-        "masks": list(dict.fromkeys(options["masks"])), "network": options["network"], "programs": made["programs"],
+        "masks": list(dict.fromkeys(options["masks"])), "wanted": Wanted.told(options, record["fit"]).record, "programs": made["programs"],
     }  # fmt: skip
     if record["cut"]:
         again["notes"] = [str(Cut(**record["cut"])), *record["notes"][1:]]

@@ -1,4 +1,4 @@
-"""Checks a report against its picture, and the table, the drawing, the masks and the network beside it against the report."""
+"""Checks a report against its picture, and the table, the drawing, the masks and the parts beside it against the report."""
 from __future__ import annotations
 
 import tempfile
@@ -12,13 +12,14 @@ from .checking import Finding, Judge, check_report, picture_of, plain
 from .comparing import of_tables
 from .faults import Fault
 from .files import shown
-from .networks import Network, part, parts_of
+from .layout import part
+from .networks import SKELETON
+from .parts import Again
 from .products import DRAWINGS
 from .programs import NAME, call, sums
 from .report import text_of
 
 SUFFIXES = (".report", ".report.gz")
-_NO_NETWORK = "the reports and tables of its network do not fit together; measure again into an empty folder"
 
 
 @dataclass(frozen=True)
@@ -111,7 +112,7 @@ def _products(stem: Path, drawing: Path, record: dict[str, Any]) -> Iterator[tup
     """The files that are made of a report, there or not, each with the words of which any may have made it."""
     yield (("measure",),), stem.with_name(stem.name + ".csv")
     yield DRAWINGS, drawing
-    yield (("mask", "skeleton"),), part(stem, "skeleton", ".pbm")
+    yield (("mask", "skeleton"),), part(stem, SKELETON, ".pbm")
     for kind in record.get("masks", []):
         for name in {PurePosixPath(name).name for name in record.get("files", {})}:
             if name.startswith(f"{stem.name}.{kind}."):
@@ -127,24 +128,10 @@ def _made(words: tuple[str, ...], report: Path) -> bytes | None:
         return out.read()
 
 
-def network_again(stem: Path, tables: dict[str, str] | None = None) -> dict[Path, bytes]:
-    """The pictures and the tables of a picture's network, as its reports and the tables of its parts give them: these, or those
-    that lie there.
-
-    A Fault where one of these cannot be read, or they do not fit together.
-    """
-    try:
-        pictures = {part(stem, name, ".pbm"): data for name, data in parts_of(part(stem, "skeleton", ".pbm").read_bytes()).items()}
-        return pictures | {stem.with_name(f"{stem.name}.{suffix}"): data for suffix, data in Network.of(stem, tables).arranged().items()}
-    except OSError as error:
-        raise Fault(error.filename, f"{shown(error.filename)} cannot be read ({error.strerror})") from error
-    except (KeyError, ValueError, ArithmeticError, AttributeError) as error:
-        raise Fault(stem, _NO_NETWORK) from error
-
-
-def wrong_in_network(stem: Path, again: dict[Path, bytes]) -> Iterator[tuple[Path, Finding]]:
-    """The pictures and the tables of a picture's network that are there and are others."""
-    for path, data in again.items():
+def wrong_in_parts(stem: Path, again: Again) -> Iterator[tuple[Path, Finding]]:
+    """The pictures and the tables of a picture's parts that are there and are others than what is made again."""
+    files = {part(stem, name, ".pbm"): data for name, data in again.pictures.items()}
+    for path, data in {**files, **{stem.with_name(stem.name + suffix): data for suffix, data in again.tables.items()}}.items():
         if path.is_file() and (own := path.read_bytes()) != data:
             row = f": {of_tables(own, data)}" if path.suffix == ".csv" else ""
             why = f"the report holds, but {shown(path)} is not what the reports and tables of its parts say{row}"

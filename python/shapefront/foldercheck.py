@@ -9,14 +9,17 @@ from collections.abc import Iterable, Iterator
 from concurrent.futures import ThreadPoolExecutor
 from dataclasses import replace
 from pathlib import Path, PurePosixPath
+from typing import Any
 
-from .beside import SUFFIXES, Asked, Covered, check_beside, network_again, refused, stem_of, wrong_in_network
+from .beside import SUFFIXES, Asked, Covered, check_beside, refused, stem_of, wrong_in_parts
 from .checking import Finding, Judge
 from .faults import Fault
 from .files import read_json, shown
 from .inventory import is_below, lying
-from .layout import JOINED, MADE, PICTURES, root_of
-from .networks import part
+from .layout import JOINED, MADE, PICTURES, part, root_of
+from .networks import PRUNED, SKELETON
+from .parts import Again, tables_of
+from .plan import Wanted
 from .report import counts_of
 from .runcheck import findings_of_run
 from .seals import opened, why_not
@@ -121,11 +124,17 @@ def _of_report(report: Path, judge: Judge) -> list[Finding]:
     if "parts" in record and (record["parts"], record.get("kept")) != counts_of(report):
         return [Finding(shown(stem), False, f"the report holds, but its record {stem.name}.json says other counts")]
     try:
-        if part(stem, "skeleton", ".pbm").exists():
-            findings = [finding for _, finding in wrong_in_network(stem, network_again(stem))] or findings
+        findings = [finding for _, finding in wrong_in_parts(stem, Again.of(stem, _wanted(stem, record)))] or findings
     except Fault as fault:
         findings = [refused(shown(stem), fault)]
     return findings
+
+
+def _wanted(stem: Path, record: dict[str, Any]) -> Wanted:
+    """What was wanted of a picture, by its record; without one what lies there tells whether its network was."""
+    if "wanted" in record:
+        return Wanted.of(record)
+    return Wanted(network=part(stem, SKELETON, ".pbm").exists() and not part(stem, PRUNED, ".pbm").exists())
 
 
 def _beside(report: Path) -> Iterator[Path]:
@@ -134,6 +143,5 @@ def _beside(report: Path) -> Iterator[Path]:
     yield report
     yield from report.parent.glob(glob.escape(stem.name) + ".pbm")
     yield from report.parent.glob(glob.escape(stem.name) + ".*x*x*.raw")
-    yield from (stem.with_name(stem.name + suffix) for suffix in (".csv", ".svg"))
-    if part(stem, "skeleton", ".pbm").exists():
-        yield from (stem.with_name(f"{stem.name}.{name}.csv") for name in ("network", "branches"))
+    made = tables_of(Wanted(network=part(stem, SKELETON, ".pbm").exists(), sides=0), is_flat=True)
+    yield from (stem.with_name(stem.name + suffix) for suffix in (".svg", *made))

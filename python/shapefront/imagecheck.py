@@ -67,9 +67,7 @@ class ImageCheck:
 
     def _of_picture(self, picture: Picture, record: Record) -> str | None:
         """Where a picture of the image is not the one of the record, in words."""
-        options = self.made["options"]
-        plan = Plan(self.folder, options["rule"], options["plain"], tuple(dict.fromkeys(options["masks"])), options["network"])
-        head = head_of(picture, plan)
+        head = head_of(picture, Plan.told(self.folder, self.made["options"]))
         made = {name: value for name, value in head.items() if name not in ("programs", "picture", "grey")}
         if why := of_members({name: record.get(name) for name in made}, made, "its record"):
             return why.replace("the reports and tables give", "the image gives")

@@ -8,14 +8,16 @@ from typing import Any
 
 import numpy as np
 
-from .beside import Beside, check_beside, network_again, wrong_in_network
+from .beside import Beside, check_beside, wrong_in_parts
 from .checking import Judge, picture_of
 from .faults import Fault
 from .labels import Box, tables
-from .networks import MADE as NETWORK_TABLES
-from .networks import PARTS, part
+from .layout import part
+from .parts import Again, names_in, tables_of
+from .parts import suffixes_of as part_suffixes
 from .pictures import pbm_mask
-from .products import suffixes_of, tables_of
+from .plan import Wanted
+from .products import suffixes_of
 
 
 @dataclass(frozen=True)
@@ -29,15 +31,15 @@ class Labels:
     @classmethod
     def of(cls, folder: Path, record: dict[str, Any], judge: Judge) -> Labels:
         """What is found of the labels that a record names. A Fault where a picture cannot be read."""
-        wrong, own, made = [], [], {}
+        wrong, own, made, names = [], [], {}, set()
         for label, *place in record["labels"]:
             stem = folder / str(label)
-            whys, its = _label(stem, record, judge)
+            whys, again = _label(stem, record, judge)
             wrong += [f"label {label}: {why}".replace(f"{folder}/", "") for why in whys]
-            if its:
+            if again:
                 own.append(Box(label, tuple(place), _mask(stem)))
-                made |= {(label, suffix): table for suffix, table in its.items()}
-        names = {f"{box.label}{suffix}" for box in own for suffix in suffixes_of(record, box.mask.shape[::-1], "")}
+                made |= {(label, suffix): table for suffix, table in again.tables.items()}
+                names |= {f"{label}{suffix}" for suffix in suffixes_of(record, own[-1].mask.shape[::-1], "") | part_suffixes(again.pictures, "") | set(again.tables)}
         lying = {path.name for path in folder.iterdir()}
         if not wrong:
             wrong = [f"it holds {name}, which nothing made" for name in sorted(lying - names)] + [f"{name} is missing in it" for name in sorted(names - lying)]
@@ -45,25 +47,21 @@ class Labels:
         reports = [folder / f"{label}.report" for label, *_ in record["labels"]]
         if wrong:
             return cls(wrong, reports, {})
-        return cls(wrong, reports, tables(own, record["sides"], lambda box, suffix: made[box.label, suffix].decode(), tables_of(record)))
+        return cls(wrong, reports, tables(own, record["sides"], lambda box, suffix: made.get((box.label, suffix), b"").decode(), tables_of(Wanted.of(record), len(record["sides"]) == 2)))
 
 
-def _label(stem: Path, record: dict[str, Any], judge: Judge) -> tuple[list[str], dict[str, bytes]]:
-    """Why what lies there of a label is wrong; and where nothing is, its tables by what their names end in."""
-    stems = [stem, *(part(stem, name, "") for name in sorted(PARTS) if record["network"])]
-    besides = [_beside(one.with_name(one.name + ".report"), record, judge) for one in stems]
+def _label(stem: Path, record: dict[str, Any], judge: Judge) -> tuple[list[str], Again | None]:
+    """Why what lies there of a label is wrong; and where its reports hold, the pictures of its parts and its tables."""
+    names = names_in(stem, (path.name for path in stem.parent.iterdir()))
+    besides = [_beside(one.with_name(one.name + ".report"), record, judge) for one in (stem, *(part(stem, name, "") for name in names))]
     whys = [finding.why for beside in besides for _, finding in beside.findings if not finding.holds]
     if whys:
-        return whys, {}
-    own = {".csv": besides[0].table}
-    if record["network"]:
-        try:
-            again = network_again(stem, {name: beside.table.decode() for name, beside in zip(sorted(PARTS), besides[1:])})
-        except Fault as fault:
-            return [fault.reason], {}
-        whys = [finding.why for _, finding in wrong_in_network(stem, again)]
-        own |= {f".{suffix}": again[stem.with_name(f"{stem.name}.{suffix}")] for suffix in NETWORK_TABLES}
-    return whys, own
+        return whys, None
+    try:
+        again = Again.of(stem, Wanted.of(record), {name: beside.table.decode() for name, beside in zip(names, besides[1:])})
+    except Fault as fault:
+        return [fault.reason], None
+    return [finding.why for _, finding in wrong_in_parts(stem, again)], Again(again.pictures, {".csv": besides[0].table, **again.tables})
 
 
 def _beside(report: Path, record: dict[str, Any], judge: Judge) -> Beside:

@@ -13,20 +13,21 @@ from .archives import pack
 from .convert import Picture
 from .labels import Box, boxes, tables
 from .overlay import Border, Overlay, borders, coloured, numbers
+from .parts import tables_of
 from .pictures import sides_of
 from .plan import Plan
-from .products import evidence_of, tables_of, write_shown
+from .products import evidence_of, write_shown
 from .report import counts_of
 from .tables import dicts_of
 
 
 def make_labels(picture: Picture, plan: Plan, stem: Path) -> dict[str, Any]:
     """Writes the files of a label image, whose names begin with `stem`; what the record says of them."""
-    own, sides = boxes(picture.labels), sides_of(picture.labels)
+    own, sides, wanted = boxes(picture.labels), sides_of(picture.labels), plan.wanted(picture.fit)
     with tempfile.TemporaryDirectory(dir=stem.parent) as place:
         folder = Path(place)
-        reports = [evidence_of(box.mask, folder / str(box.label), plan, f"{picture.image}, label {box.label}") for box in own]
-        made = tables(own, sides, lambda box, suffix: Path(folder, f"{box.label}{suffix}").read_text(), tables_of({"network": plan.network}))
+        reports = [evidence_of(box.mask, folder / str(box.label), plan, wanted, f"{picture.image}, label {box.label}") for box in own]
+        made = tables(own, sides, lambda box, suffix: _text(folder / f"{box.label}{suffix}"), tables_of(wanted, picture.labels.ndim == 2))
         pack(folder, stem.with_name(stem.name + ARCHIVE))
         for suffix, table in made.items():
             stem.with_name(stem.name + suffix).write_bytes(table)
@@ -35,6 +36,11 @@ def make_labels(picture: Picture, plan: Plan, stem: Path) -> dict[str, Any]:
             write_shown(Overlay(coloured(picture.original), lines, numbers(dicts_of(made[".csv"].decode()), "label"), picture.fit), stem)
         counts = [counts_of(report) for report in reports]
     return {"parts": total([parts for parts, _ in counts]), "kept": total([kept for _, kept in counts])}
+
+
+def _text(path: Path) -> str:
+    """The text of a file; none where it is not there."""
+    return path.read_text() if path.is_file() else ""
 
 
 def total(counts: Sequence[Sequence[int]]) -> list[int]:

@@ -11,6 +11,7 @@ from decimal import ROUND_HALF_UP, Decimal
 
 import numpy as np
 
+from .layout import HOLES
 from .places import moved
 from .tables import Row, rows_of, spelled_rows
 
@@ -143,8 +144,10 @@ def joined_rows(tables: Sequence[tuple[Box, str]]) -> Iterator[Row]:
 def tables(own: Sequence[Box], sides: Sequence[int], table_of: Callable[[Box, str], str], suffixes: Iterable[str]) -> dict[str, bytes]:
     """The tables of a label image, by what their names end in: a row for each label, and of further tables the rows of all labels' own.
 
-    `table_of` gives the table of a label's picture whose name ends so; `sides` are those of the image.
+    `table_of` gives the table of a label's picture whose name ends so, or nothing where it has none; `sides` are those of the image.
     """
     made = {".csv": [header_of(table_of(own[0], ".csv")), *(row_of(box, table_of(box, ".csv"), sides) for box in own)]}
-    made |= {suffix: joined_rows([(box, table_of(box, suffix)) for box in own]) for suffix in suffixes if suffix != ".csv"}
+    for suffix in ({HOLES, *suffixes} - {".csv"}):
+        if given := [(box, table) for box in own if (table := table_of(box, suffix))]:
+            made[suffix] = joined_rows(given)
     return {suffix: spelled_rows(rows) for suffix, rows in made.items()}

@@ -8,9 +8,14 @@ from pathlib import Path, PurePosixPath
 
 EVIDENCE, DRAWINGS = "evidence", "drawings"
 MADE = f"{EVIDENCE}/made.json"
-PAGE, SUMMARY, PICTURES = "index.html", "summary.txt", "pictures.csv"
+PAGE, SUMMARY, PICTURES, WORKBOOK = "index.html", "summary.txt", "pictures.csv", "objects.xlsx"
+# What the name of a table ends in that a picture has which has holes.
+HOLES = ".holes.csv"
 # The tables of all pictures together, and what the names of a picture's own end in.
-JOINED = {"objects.csv": ".csv", "networks.csv": ".network.csv", "branches.csv": ".branches.csv"}
+JOINED = {
+    "objects.csv": ".csv", "holes.csv": HOLES, "networks.csv": ".network.csv", "branches.csv": ".branches.csv", "widths.csv": ".widths.csv",
+    "sides.csv": ".sides.csv", "corners.csv": ".corners.csv", "circles.csv": ".circles.csv",
+}  # fmt: skip
 # What the names of tables end in that have the rest of the rows of another: the grey values of objects.
 FURTHER = {"objects.csv": ".intensities.csv"}
 
@@ -27,6 +32,11 @@ def evidence(key: str, suffix: str) -> str:
 def drawing(key: str, suffix: str) -> str:
     """The name of a drawing of a picture: `drawings/coins.png.svg`."""
     return f"{DRAWINGS}/{key}{suffix}"
+
+
+def part(stem: Path, name: str, suffix: str) -> Path:
+    """A file of a part of the picture whose files' names begin with `stem`: `x.png.network-branches.pbm`."""
+    return stem.with_name(f"{stem.name}.{name}{suffix}")
 
 
 def record_of_key(key: str) -> str:

@@ -21,9 +21,10 @@ from .inventory import others
 from .layout import MADE, PAGE
 from .making import clear_aside
 from .original import check_original
+from .outlines import outlines_of, summary
 from .plan import Plan
 from .programs import find
-from .report import Analysis, read
+from .report import Analysis, contours_in, read
 from .second import Second, reports_of
 from .units import Pixel
 from .words import options_of, parser, settings_of
@@ -37,6 +38,8 @@ def measure(words: argparse.Namespace) -> int:
     find()
     if words.network and words.rule != "curve":
         raise Fault("--network", f"the rule {words.rule} does not keep the ends of branches", "leave out --rule")
+    if not words.network and (words.prune is not None or words.classes is not None):
+        raise Fault("--prune, --classes", "they are about a network", "give --network, too")
     images, passed = images_of(words.images, is_volume)
     if passed:
         print(f"passed over, as their names are not those of images: {passed} of the files", file=sys.stderr)
@@ -46,7 +49,7 @@ def measure(words: argparse.Namespace) -> int:
         raise Fault("-o", "the folder of the images themselves", "choose another one for what is written")
     make_folder(words.folder)
     clear_aside(words.folder)
-    plan = Plan(words.folder, words.rule, words.plain, tuple(dict.fromkeys(words.masks)), words.network)
+    plan = Plan.told(words.folder, options_of(words))
     convert = volume_of if is_volume else picture_of
     run(images, plan, lambda path, name: convert(path, name, settings), words.jobs)
     made = finish(words.folder, images, pixel, options_of(words))
@@ -99,10 +102,17 @@ def _printed(findings: Iterable[Finding | Covered]) -> Iterator[Finding | Covere
 
 def export(words: argparse.Namespace) -> int:
     """`shapes export`: what a report says, for another program."""
+    size = 25.4 / words.dpi if words.dpi else words.pixel_size
+    if words.format == "dxf":
+        sides, contours = contours_in(words.report)
+        outlines = outlines_of(contours, words.long)
+        write(words.out, dxf(shown(words.report), sides[1], outlines, size))
+        print(f"{shown(words.out)}: {summary(outlines)}")
+        return DONE
     report = read(words.report)
     if not isinstance(report, Analysis):
         raise Fault(shown(words.report), "a report of another kind", "take one of `shape analyse`")
-    write(words.out, ply(report, words.pixel_size) if words.format == "ply" else dxf(report, words.pixel_size, words.long))
+    write(words.out, ply(report, size))
     return DONE
 
 

@@ -36,7 +36,7 @@ Record = dict[str, Any]
 
 # The members of a record, in their order; the sum of its own comes behind them.
 MEMBERS = (
-    "image", "labels", "sides", "fit", "original", "channel", "filters", "cut", "notes", "rule", "plain", "masks", "network", "grey", "picture", "programs", "parts", "kept", "files",
+    "image", "labels", "sides", "fit", "original", "channel", "filters", "cut", "notes", "rule", "plain", "masks", "wanted", "grey", "picture", "programs", "parts", "kept", "files",
 )  # fmt: skip
 
 # What the record of a run is called, without its ending: an image cannot be called so.
@@ -77,7 +77,7 @@ def head_of(picture: Picture, plan: Plan) -> Record:
     return {
         "image": picture.image, "labels": labels, "sides": list(sides_of(picture.mask)), "fit": picture.fit, "original": list(picture.original_sides),
         "channel": picture.settings.channel, "filters": asdict(picture.settings.filters),
-        "cut": asdict(picture.cut) if picture.cut else None, "notes": list(picture.notes), "rule": plan.rule, "plain": plan.plain, "masks": list(plan.masks), "network": plan.network,
+        "cut": asdict(picture.cut) if picture.cut else None, "notes": list(picture.notes), "rule": plan.rule, "plain": plan.plain, "masks": list(plan.masks), "wanted": plan.wanted(picture.fit).record,
         "grey": None if picture.grey is None else sum_of_bytes(picture.grey.tobytes()), "picture": sum_of_bytes(told), "programs": sums(),
     }  # fmt: skip
 
@@ -116,7 +116,7 @@ def _products(picture: Picture, plan: Plan, work: Path) -> Record:
     stem = work / Path(picture.image).name
     if picture.labels is not None:
         return make_labels(picture, plan, stem)
-    report, is_flat = evidence_of(picture.mask, stem, plan, picture.image), picture.mask.ndim == 2
+    report, is_flat = evidence_of(picture.mask, stem, plan, plan.wanted(picture.fit), picture.image), picture.mask.ndim == 2
     draw(report, stem, picture.image, is_flat)
     if is_flat:
         rows = dicts_of(stem.with_name(stem.name + ".csv").read_text())

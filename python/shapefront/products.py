@@ -1,4 +1,4 @@
-"""What is made of a picture: its file and, by the proved program, the report, the table, the drawing, the masks and the network's parts; and the names of all that."""
+"""What is made of a picture: its file and, by the proved program, the report, the table, the drawing, the masks and the parts; and the names of all that."""
 from __future__ import annotations
 
 from collections.abc import Sequence
@@ -11,12 +11,13 @@ from .archives import SUFFIX as ARCHIVE
 from .arrays import verdict
 from .faults import Fault
 from .images import pillow_version
-from .layout import FURTHER, PLACES, THUMBNAIL, drawing, evidence
-from .networks import MADE as NETWORK_TABLES
-from .networks import PARTS, Network, part, parts_of
+from .layout import FURTHER, HOLES, PLACES, THUMBNAIL, drawing, evidence, part
+from .networks import SKELETON
 from .overlay import Overlay
+from .parts import names_in, tables_of, works
+from .parts import suffixes_of as part_suffixes
 from .pictures import Source, sides_of, spelled, suffix_of, told_suffix
-from .plan import Plan
+from .plan import Plan, Wanted
 from .programs import Answer, call, explained, made
 
 # The words for a drawing, the best one first: with the numbers of the objects, where the program knows this word; and of the contours alone, where any other is too large.
@@ -39,8 +40,8 @@ def measured(image: Path, stem: Path, rule: str, about: str) -> Path:
     return report
 
 
-def evidence_of(mask: np.ndarray, stem: Path, plan: Plan, about: str) -> Path:
-    """Writes a picture's file and its evidence: the report, checked, the table, and the masks and the network that are wanted. The report's file.
+def evidence_of(mask: np.ndarray, stem: Path, plan: Plan, wanted: Wanted, about: str) -> Path:
+    """Writes a picture's file and its evidence: the report, checked, the table, the masks that are wanted, and what is made of its parts. The report's file.
 
     The names of the files begin with `stem`. A Fault about the image `about` where the program refuses.
     """
@@ -50,8 +51,7 @@ def evidence_of(mask: np.ndarray, stem: Path, plan: Plan, about: str) -> Path:
     for kind in plan.masks:
         with open(stem.with_name(stem.name + mask_suffix(kind, sides_of(mask))), "wb") as out:
             made("mask", kind, report, out=out, about=about)
-    if plan.network:
-        write_network(stem, report, about)
+    write_parts(stem, report, wanted, about)
     return report
 
 
@@ -92,44 +92,40 @@ def mask_suffix(kind: str, sides: Sequence[int]) -> str:
 
 
 def suffixes_of(record: dict[str, Any], sides: Sequence[int], packed: str) -> set[str]:
-    """What the names of the evidence end in of a picture with such a record and these sides, whose reports end in `.report` and what is given."""
-    suffixes = {told_suffix(sides), ".report" + packed, ".csv", *(mask_suffix(kind, sides) for kind in record["masks"])}
+    """What the names of the evidence end in of a picture with such a record and these sides, whose reports end in `.report` and what is given; without its parts."""
+    suffixes = {told_suffix(sides), ".report" + packed, *(mask_suffix(kind, sides) for kind in record["masks"])}
     if record["grey"]:
         suffixes.add(FURTHER["objects.csv"])
-    if record["network"]:
-        suffixes |= {part(Path("x"), name, suffix).name[1:] for name in PARTS for suffix in (".pbm", ".report" + packed, ".csv")}
-        suffixes |= tables_of(record) - {".csv"}
-    return suffixes
-
-
-def tables_of(record: dict[str, Any]) -> set[str]:
-    """What the names of the tables end in that a picture with such a record has."""
-    return {".csv", *(f".{suffix}" for suffix in NETWORK_TABLES if record["network"])}
+    return suffixes | tables_of(Wanted.of(record), len(sides) == 2)
 
 
 def names_of(key: str, record: dict[str, Any]) -> set[str]:
     """The names, in the folder of the run, of the files that a picture with such a record has.
 
-    Those that show the original image, and the drawing of a volume, are there where the record names them.
+    Those that show the original image, the drawing of a volume, and what is about holes and other parts are there where the record names them.
     """
-    shown = {drawing(key, ".png"), evidence(key, THUMBNAIL), evidence(key, PLACES), drawing(key, ".svg")} & record["files"].keys()
+    shown = {drawing(key, ".png"), evidence(key, THUMBNAIL), evidence(key, PLACES), evidence(key, HOLES), drawing(key, ".svg")} & record["files"].keys()
     if record["labels"] is not None:
-        return shown | {evidence(key, suffix) for suffix in {ARCHIVE, *tables_of(record)}}
-    drawn = {drawing(key, ".svg")} if len(record["sides"]) == 2 else set()
-    return shown | drawn | {evidence(key, suffix) for suffix in suffixes_of(record, record["sides"], "" if record["plain"] else ".gz")}
+        return shown | {evidence(key, suffix) for suffix in {ARCHIVE, *tables_of(Wanted.of(record), len(record["sides"]) == 2)}}
+    drawn, packed = {drawing(key, ".svg")} if len(record["sides"]) == 2 else set(), "" if record["plain"] else ".gz"
+    suffixes = suffixes_of(record, record["sides"], packed) | part_suffixes(names_in(Path(key), record["files"]), packed)
+    return shown | drawn | {evidence(key, suffix) for suffix in suffixes}
 
 
-def write_network(stem: Path, report: Path, about: str) -> None:
-    """Writes the pictures of the parts of a network, their reports and their tables, and the tables arranged from these.
+def write_parts(stem: Path, report: Path, wanted: Wanted, about: str) -> None:
+    """Writes the pictures of a picture's parts, their reports and their tables, and the tables arranged from these.
 
     A Fault about the image `about` where the program refuses.
     """
-    skeleton = part(stem, "skeleton", ".pbm")
-    with open(skeleton, "wb") as out:
-        made("mask", "skeleton", report, out=out, about=about)
-    for name, data in parts_of(skeleton.read_bytes()).items():
-        image = part(stem, name, ".pbm")
-        image.write_bytes(data)
-        measured(image, part(stem, name, ""), "curve", about)
-    for suffix, table in Network.of(stem).arranged().items():
-        stem.with_name(f"{stem.name}.{suffix}").write_bytes(table)
+    if wanted.network:
+        with open(part(stem, SKELETON, ".pbm"), "wb") as out:
+            made("mask", "skeleton", report, out=out, about=about)
+    for work in works(stem, wanted):
+        tables = {}
+        for name, data in work.pictures.items():
+            image = part(stem, name, ".pbm")
+            image.write_bytes(data)
+            measured(image, part(stem, name, ""), work.rule, about)
+            tables[name] = part(stem, name, ".csv").read_text()
+        for suffix, table in work.tables(tables).items():
+            stem.with_name(stem.name + suffix).write_bytes(table)

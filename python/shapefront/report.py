@@ -275,16 +275,31 @@ def contours_of(report: Analysis) -> Iterator[np.ndarray]:
         yield np.vstack([contour.points, contour.points[:1]])
 
 
-def borders_of(text: bytes) -> tuple[np.ndarray, np.ndarray]:
-    """The borders of a flat picture's report, by its lines of contours alone: a row (x, y, side, points, segments) for each, and all points (x, y).
+def contours_in(report: str | Path | bytes) -> tuple[tuple[int, ...], Contours]:
+    """The sides and the contours of a flat picture's report, given as for `read`, by its lines of contours alone: far faster than `read` of a long one.
 
-    Far faster than `read` where the report is a long one. A Fault where these lines do not fit together.
+    A Fault where it is none, or these lines do not fit together.
     """
-    begin = text.find(b"\ncontour ") + 1
-    if not begin:
-        return np.zeros((0, 5), np.int64), np.zeros((0, 2), np.int64)
-    ends = [end for word in (b"\ndel ", b"\ntip ", b"\nkept ") if (end := text.find(word, begin)) > 0]
-    lines = Lines.of(b"\n" + text[begin : min(ends, default=len(text) - 1) + 1], "the report")
+    text, name = text_of(report)
+    heading = text[:200].split(b"\n", 1)[0].decode("ascii", "replace").split(" ")
+    if heading[0] != "shape" or heading[2:3] != ["pbm"] or len(heading) != 6:
+        raise Fault(name, "not the report of `shape analyse` of a flat picture", "is it the right file?")
+    try:
+        return (int(heading[3]), int(heading[4])), _contours(_lines_of_contours(text, name))
+    except (ValueError, IndexError) as error:
+        raise Fault(name, "not a report: its lines do not fit together", REMEDY) from error
+
+
+def borders_of(text: bytes) -> tuple[np.ndarray, np.ndarray]:
+    """The same without segments, of the text of a report: a row (x, y, side, points, segments) for each contour, and all points (x, y)."""
+    lines = _lines_of_contours(text, "the report")
     heads = lines.numbers("contour", 5)
     lines_follow(lines, "contour", "at", heads[:, 3])
     return heads, lines.numbers("at", 2)
+
+
+def _lines_of_contours(text: bytes, name: str) -> Lines:
+    """Of a flat picture's report the lines of contours, behind an empty one in the place of the heading."""
+    begin = text.find(b"\ncontour ") + 1
+    ends = [end + 1 for word in (b"\ndel ", b"\ntip ", b"\nkept ") if (end := text.find(word, begin)) > 0]
+    return Lines.of(b"\n" + (text[begin : min(ends, default=len(text))] if begin else b""), name)

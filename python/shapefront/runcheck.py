@@ -5,7 +5,7 @@ The proved program gives each verdict on a report, a table, a drawing or a mask;
 """
 from __future__ import annotations
 
-from collections.abc import Iterable, Iterator
+from collections.abc import Callable, Iterable, Iterator
 from concurrent.futures import ThreadPoolExecutor
 from dataclasses import dataclass, field
 from pathlib import Path
@@ -14,7 +14,7 @@ from typing import Any
 from .again import record_again, record_of_labels_again, run_again
 from .archives import SUFFIX as ARCHIVE
 from .archives import unpacked
-from .beside import Asked, Beside, Covered, check_beside, network_again, refused, stem_of, wrong_in_network
+from .beside import Asked, Beside, Covered, check_beside, refused, stem_of, wrong_in_parts
 from .checking import Finding
 from .comparing import of_members, of_tables, of_texts
 from .faults import Fault
@@ -23,15 +23,16 @@ from .folder import originals
 from .imagecheck import ImageCheck
 from .inventory import Inventory
 from .labelcheck import Labels
-from .layout import EVIDENCE, MADE, PAGE, SUMMARY, drawing, evidence, record_of_key
+from .layout import EVIDENCE, HOLES, MADE, PAGE, SUMMARY, WORKBOOK, drawing, evidence, part, record_of_key
 from .making import Record
-from .networks import MADE as NETWORK_TABLES
-from .networks import PARTS, part
 from .page import jinja_version, tell, without_verdict
+from .parts import Again, names_in
+from .plan import Wanted
 from .programs import sums
 from .report import heading_of
 from .seals import SEAL
-from .tables import rows_of
+from .tables import rows_of, text_of
+from .workbook import is_same, openpyxl_version
 
 _BY_ORIGINALS = "what only the original images tell (names, labels, thresholds, intensities, what was done to them), and "
 _UNTOLD = "the pixel's size"
@@ -124,15 +125,15 @@ class RunCheck:
         if str((archive := stem.with_name(stem.name + ARCHIVE)).relative_to(self.folder)) in self.made["files"]:
             return self._labels(archive, record)
         besides = [self._report(report, record) for report in self._reports(stem)]
-        findings = [told for beside in besides for told in beside.findings]
+        findings = [told for beside in besides for told in beside.findings if beside is besides[0] or not told[1].holds]
         if not besides:
             return Checked([(stem, Finding(shown(stem), False, "made.json names no report of it"))], None, {})
         again, why = self._record(record, besides[0])
         if why:
             findings.append((path, Finding(shown(path), False, why)))
         tables = {".csv": besides[0].table} if besides[0].holds else {}
-        if len(besides) > 1 and all(beside.holds for beside in besides):
-            found, own = self._network(stem, besides[1:])
+        if again is not None and all(beside.holds for beside in besides):
+            found, own = self._parts(stem, Wanted.of(again), besides[1:])
             findings, tables = findings + found, tables | own
         return Checked(findings, again if self.inventory.is_whole(name) else None, tables)
 
@@ -159,8 +160,8 @@ class RunCheck:
         return Checked(findings, again if self.inventory.is_whole(str(path.relative_to(self.folder))) else None, labels.tables)
 
     def _reports(self, stem: Path) -> list[Path]:
-        """The reports of a picture that `made.json` names: its own, and those of the parts of its network."""
-        stems = [stem, *(part(stem, name, "") for name in sorted(PARTS))]
+        """The reports of a picture that `made.json` names: its own, and those of its parts."""
+        stems = [stem, *(part(stem, name, "") for name in self._names(stem))]
         names = [one.with_name(one.name + suffix) for one in stems for suffix in (".report", ".report.gz")]
         return [path for path in names if str(path.relative_to(self.folder)) in self.made["files"]]
 
@@ -185,14 +186,24 @@ class RunCheck:
         except _NOT_RECORDS:
             return None, "it is no record that `shapes` wrote of this report"
 
-    def _network(self, stem: Path, parts: list[Beside]) -> tuple[list[Told], dict[str, bytes]]:
-        """What is wrong in a picture's network, whose reports all hold; and the tables that these give."""
+    def _names(self, stem: Path) -> list[str]:
+        """The names of the parts of a picture, by the files that `made.json` names in its folder."""
+        return names_in(stem, (name for name in self.made["files"] if (self.folder / name).parent == stem.parent))
+
+    def _parts(self, stem: Path, wanted: Wanted, parts: list[Beside]) -> tuple[list[Told], dict[str, bytes]]:
+        """What is wrong in a picture's parts, whose reports all hold; and the tables that these give."""
+        names = self._names(stem)
         try:
-            again = network_again(stem, {name: beside.table.decode() for name, beside in zip(sorted(PARTS), parts)})
+            again = Again.of(stem, wanted, {name: beside.table.decode() for name, beside in zip(names, parts)})
         except Fault as fault:
             return [(stem, refused(shown(stem), fault))], {}
-        tables = {f".{suffix}": again[stem.with_name(f"{stem.name}.{suffix}")] for suffix in NETWORK_TABLES}
-        return list(wrong_in_network(stem, again)), tables
+        wrong = list(wrong_in_parts(stem, again))
+        told = {stem.with_name(stem.name + suffix): suffix in again.tables for suffix in (HOLES,)}
+        told |= {part(stem, name, ".pbm"): name in again.pictures for name in again.pictures.keys() | set(names)}
+        for path, is_made in told.items():
+            if is_made != (str(path.relative_to(self.folder)) in self.made["files"]):
+                wrong.append((path, Finding(shown(path), False, "made.json does not name it" if is_made else "nothing made it")))
+        return wrong, again.tables
 
     def _of_originals(self, originals: Path, checked: dict[str, Checked]) -> Iterator[Told]:
         """The findings on the images that were measured, each by the record of its first picture, or by `made.json` where it has none."""
@@ -215,27 +226,32 @@ class RunCheck:
             path = self.folder / name
             if path.is_file():
                 yield path, self._compared(path, data)
-        kept = {name: self.made["files"][name] for name in self._kept()}
+        kept = {name: sum_ for name, sum_ in self.made["files"].items() if name == WORKBOOK or name in self._untold()}
+        if WORKBOOK in kept and WORKBOOK not in self._untold():
+            book = run.workbook(files)
+            yield from self._same(WORKBOOK, lambda own: book is not None and is_same(own, book), "its cells are not those of the tables")
         if PAGE in self.made["files"] and PAGE not in kept:
-            files[PAGE] = run.page(files, self._shown)
-            yield from self._of_page(files[PAGE])
+            files[PAGE] = page = run.page([*files, *kept], files.get("objects.csv", b""), self._shown)
+            yield from self._same(PAGE, lambda own: without_verdict(own) == page, "it is not the page that the tables and the records give")
         why = of_members(self.made, run.made(files, kept))
         yield self.folder / MADE, Finding(shown(self.folder / MADE), why is None, why or "")
 
-    def _kept(self) -> list[str]:
-        """The files of all that are not made again, and compared by their sums alone."""
-        return [PAGE] if PAGE in self.made["files"] and not jinja_version() else []
+    def _untold(self) -> list[str]:
+        """The files of all that are compared by their sums alone, as a package that makes them is not here, or another version of it."""
+        is_there = {PAGE: bool(jinja_version()), WORKBOOK: openpyxl_version() == self.made["versions"].get("openpyxl")}
+        return [name for name, here in is_there.items() if name in self.made["files"] and not here]
 
     def _shown(self, record: Record, suffix: str) -> bytes | None:
         """What the page shows of an image, as it lies there."""
         name = evidence(record["image"], suffix)
         return (self.folder / name).read_bytes() if name in self.made["files"] and self.inventory.is_whole(name) else None
 
-    def _of_page(self, data: bytes) -> Iterator[Told]:
-        path = self.folder / PAGE
+    def _same(self, name: str, is_right: Callable[[bytes], bool], why: str) -> Iterator[Told]:
+        """The finding on a file of all, where it is there: whether it is right, and else why not."""
+        path = self.folder / name
         if path.is_file():
-            is_same = without_verdict(path.read_bytes()) == data
-            yield path, Finding(shown(path), is_same, "" if is_same else "it is not the page that the tables and the records give")
+            holds = is_right(path.read_bytes())
+            yield path, Finding(shown(path), holds, "" if holds else why)
 
     def _table(self, one: Checked, record: Record, suffix: str) -> str:
         """A picture's own table as its report gives it; where that does not hold, as it was written. A Fault where it is spoilt, too."""
@@ -251,7 +267,7 @@ class RunCheck:
         if own != data:
             return Finding(shown(path), False, of_texts(own, data) if path.name == SUMMARY else of_tables(own, data))
         if path.name != SUMMARY:
-            self.rows += len(rows_of(data.decode("utf-8", "surrogateescape"))) - 1
+            self.rows += len(rows_of(text_of(data))) - 1
         return Finding(shown(path), True)
 
     def _covered(self, checked: dict[str, Checked]) -> str:
@@ -262,11 +278,9 @@ class RunCheck:
         failed = sum(image["failure"] is not None for image in self.made["images"])
         told = f" ({failed} failed when {'they were' if failed > 1 else 'it was'} measured)" if failed else ""
         untold = _UNTOLD if self.asked.originals else _BY_ORIGINALS + _UNTOLD
+        by_sums = f"; by sums alone, as Jinja2 or openpyxl is not here as it was: {', '.join(names)}" if (names := self._untold()) else ""
         other = "" if self.made["programs"] == sums() else "; another build of the program made it, by the sum in made.json"
-        return f"checked {good} of {len(images)} images{told}, {self.rows:,} rows, {files:,} files; not checked: {untold}{self._untold()}{other}"
-
-    def _untold(self) -> str:
-        return f"; compared by sums alone, as Jinja2 or openpyxl is not installed: {', '.join(kept)}" if (kept := self._kept()) else ""
+        return f"checked {good} of {len(images)} images{told}, {self.rows:,} rows, {files:,} files; not checked: {untold}{by_sums}{other}"
 
     def _is_good(self, one: Checked) -> bool:
         if one.record is None or not all(finding.holds for _, finding in one.findings):

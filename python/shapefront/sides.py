@@ -1,58 +1,139 @@
 """Straight sides and corners of a contour, off the digital lines of its segments.
 
-A side is a segment of at least so many steps. Its line is known far better than to a pixel: moved outwards by the half pixel that
-contours lie inside, sides meet in corners that are right within some hundredths of a pixel (docs/MEASURING.md has the error).
+A side is a segment of at least so many steps, or several one behind the other on one line. Its line is known far better than to a pixel: moved
+outwards by the half pixel that contours lie inside, sides meet in corners that are right within some hundredths of a pixel (docs/MEASURING.md has
+the error).
 """
 from __future__ import annotations
 
 import math
-from collections.abc import Iterator
-from dataclasses import dataclass
+from dataclasses import dataclass, replace
 
 import numpy as np
 
 from .report import Contour
 
 Point = tuple[float, float]
+Line = tuple[float, float, float]
+
+# How far the middles of the pixels of several segments may lie from one line for these to be one side, in pixels: 19 of 20, and all.
+MOSTLY_WITHIN, WITHIN = 1.0, 2.0
 
 
 @dataclass(frozen=True)
 class Side:
     """A straight side: from its beginning to its end, on the line `a x + b y = c`; in pixels, y downwards.
 
-    `degrees` is its direction with the object on the right hand; `is_corner` tells whether it ends in a corner with the next one.
+    `degrees` is its direction with the object on the right hand, `distance` the greatest distance of the middle of a border pixel from the
+    line in their middle; `is_corner` tells whether it ends in a corner with the next one.
     """
 
     begin: Point
     end: Point
-    line: tuple[float, float, float]
+    line: Line
     degrees: float
+    distance: float
     is_corner: bool = False
+
+    @property
+    def length(self) -> float:
+        return math.dist(self.begin, self.end)
+
+
+@dataclass(frozen=True)
+class _Stretch:
+    """A stretch of a contour, from one place to another, counted on round it; and the row of its segment where it is one alone."""
+
+    begin: int
+    end: int
+    degrees: float
+    row: tuple[int, ...] | None
 
 
 def sides_of(contour: Contour, steps: int = 20, turn: float = 20.0) -> list[Side]:
-    """The sides of a contour, segments of at least so many steps, in order; where the next turns by more than so many degrees
+    """The sides of a contour, of segments of at least so many steps, in order; where the next turns by more than so many degrees
     the two end and begin in their corner, else each where its segment does."""
-    alone = list(_alone(contour, steps))
+    alone = [_side(contour, stretch) for stretch in _merged(contour, _long(contour, steps), turn)]
     count = len(alone)
     corners = [_corner(alone[k], alone[(k + 1) % count], turn) if count > 1 else None for k in range(count)]
     return [
-        Side(corners[k - 1] or side.begin, corners[k] or side.end, side.line, side.degrees, corners[k] is not None)
+        replace(side, begin=corners[k - 1] or side.begin, end=corners[k] or side.end, is_corner=corners[k] is not None)
         for k, side in enumerate(alone)
     ]
 
 
-def _alone(contour: Contour, steps: int) -> Iterator[Side]:
-    points, count = contour.points, len(contour.points)
-    for begin, end, axis, a, b, mu in contour.segments.rows.tolist():
-        if end - begin >= steps:
-            first, last = points[begin], points[end % count]
-            way = 1 if b * (last[0] - first[0]) - a * (last[1] - first[1]) > 0 else -1
-            line = (a, b, mu - 0.5 + (0 if way > 0 else (a, b)[axis]))
-            yield Side(_onto(first, line), _onto(last, line), line, math.degrees(math.atan2(-way * a, way * b)))
+def _long(contour: Contour, steps: int) -> list[_Stretch]:
+    """The segments of at least so many steps."""
+    rows = (row for row in contour.segments.rows.tolist() if row[1] - row[0] >= steps)
+    return [_Stretch(row[0], row[1], _direction(contour, row)[1], tuple(row)) for row in rows]
 
 
-def _onto(point: np.ndarray, line: tuple[float, float, float]) -> Point:
+def _direction(contour: Contour, row: list[int] | tuple[int, ...]) -> tuple[int, float]:
+    """Of a segment's line whether the object lies where `a x + b y` grows (1) or not (-1), and its direction in degrees."""
+    begin, end, _, a, b, _ = row
+    first, last = contour.points[begin], contour.points[end % len(contour.points)]
+    way = 1 if b * (last[0] - first[0]) - a * (last[1] - first[1]) > 0 else -1
+    return way, math.degrees(math.atan2(-way * a, way * b))
+
+
+def _merged(contour: Contour, found: list[_Stretch], turn: float) -> list[_Stretch]:
+    """The stretches with those in one that follow one another on one line."""
+    count = len(contour.points)
+    joints = [k for k in range(len(found)) if _joined(contour, found[k - 1], found[k], turn) is None]
+    first = joints[0] if joints else 0
+    merged: list[_Stretch] = []
+    for stretch in found[first:] + [replace(one, begin=one.begin + count, end=one.end + count) for one in found[:first]]:
+        both = _joined(contour, merged[-1], stretch, turn) if merged else None
+        merged = [*merged[:-1], both] if both else [*merged, stretch]
+    return merged
+
+
+def _joined(contour: Contour, one: _Stretch, other: _Stretch, turn: float) -> _Stretch | None:
+    """Two stretches as one, with what is between them; None where they are on no line, or go round."""
+    count = len(contour.points)
+    length = (other.end - one.begin) % count
+    if _turn(one.degrees, other.degrees) > turn or not one.end - one.begin <= length < count / 2:
+        return None
+    line, distances, degrees = _fitted(contour, one.begin, one.begin + length)
+    is_one = distances.max() <= WITHIN and np.quantile(distances, 0.95) <= MOSTLY_WITHIN
+    return _Stretch(one.begin, one.begin + length, degrees, None) if is_one else None
+
+
+def _turn(degrees: float, other: float) -> float:
+    """By how much two directions differ, from 0 to 180."""
+    return abs((other - degrees + 540) % 360 - 180)
+
+
+def _side(contour: Contour, stretch: _Stretch) -> Side:
+    """A stretch as a side, not yet cut by the next ones."""
+    points = contour.points[np.arange(stretch.begin, stretch.end + 1) % len(contour.points)]
+    line, distances, degrees = _of_segment(contour, stretch.row, points) if stretch.row else _fitted(contour, stretch.begin, stretch.end)
+    return Side(_onto(points[0], line), _onto(points[-1], line), line, degrees, float(distances.max()))
+
+
+def _of_segment(contour: Contour, row: tuple[int, ...], points: np.ndarray) -> tuple[Line, np.ndarray, float]:
+    """The line of a segment's own digital line, moved outwards, the distances of its points from the line in their middle, and its direction."""
+    _, _, axis, a, b, mu = row
+    way, degrees = _direction(contour, row)
+    main = (a, b)[axis]
+    middle = mu + (main - 1) / 2
+    distances = np.abs(points @ (a, b) - middle) / math.hypot(a, b)
+    return (a, b, mu - 0.5 + (0 if way > 0 else main)), distances, degrees
+
+
+def _fitted(contour: Contour, begin: int, end: int) -> tuple[Line, np.ndarray, float]:
+    """The same for the line of least squares through the points of a stretch."""
+    points = contour.points[np.arange(begin, end + 1) % len(contour.points)].astype(float)
+    middle = points.mean(0)
+    _, axes = np.linalg.eigh((points - middle).T @ (points - middle))
+    along = axes[:, 1] if axes[:, 1] @ (points[-1] - points[0]) > 0 else -axes[:, 1]
+    out = np.array([along[1], -along[0]])
+    distances = np.abs((points - middle) @ out)
+    line = (float(out[0]), float(out[1]), float(middle @ out + 0.5 * np.abs(out).max()))
+    return line, distances, math.degrees(math.atan2(along[1], along[0]))
+
+
+def _onto(point: np.ndarray, line: Line) -> Point:
     """The point of the line that is nearest to a point."""
     a, b, c = line
     far = (c - a * point[0] - b * point[1]) / (a * a + b * b)
@@ -62,7 +143,7 @@ def _onto(point: np.ndarray, line: tuple[float, float, float]) -> Point:
 def _corner(one: Side, other: Side, turn: float) -> Point | None:
     """Where two sides meet, and None where the second turns too little for a corner."""
     (a, b, c), (d, e, f) = one.line, other.line
-    if abs((other.degrees - one.degrees + 540) % 360 - 180) <= turn:
+    if _turn(one.degrees, other.degrees) <= turn:
         return None
     across = a * e - d * b
     return (c * e - f * b) / across, (a * f - d * c) / across

@@ -33,6 +33,13 @@ def _size(word: str) -> float:
     return float(word)
 
 
+def _classes(word: str) -> list[float]:
+    edges = [_size(part) for part in word.split(",")]
+    if edges != sorted(set(edges)):
+        raise ValueError(word)
+    return edges
+
+
 def _count(word: str) -> int:
     if int(word) < 1:
         raise ValueError(word)
@@ -140,13 +147,21 @@ def parser() -> argparse.ArgumentParser:
     measure.add_argument(
         "--network",
         action="store_true",
-        help="also measure each skeleton as a network: networks.csv, and branches.csv with a row for each branch",
+        help="also measure each skeleton as a network: networks.csv, branches.csv with a row for each branch, and widths.csv",
     )
+    measure.add_argument(
+        "--prune", type=_size, metavar="L", help="with --network, leave out branches shorter than L: in the unit of the pixel's size if that is given, else in pixels"
+    )
+    measure.add_argument(
+        "--classes", type=_classes, metavar="W,W,..", help="with --network, the widths between the classes of widths.csv, in the same unit (else some 2 pixels each)"
+    )
+    measure.add_argument("--sides", action="store_true", help="also find straight sides, corners and circles: sides.csv, corners.csv, circles.csv")
+    measure.add_argument("--long", type=_count, default=20, metavar="STEPS", help="a straight side has at least so many steps (20)")
     volume = words.add_parser("volume", help="the same for volumes", epilog=_STATUS)
     volume.add_argument(
         "images", nargs="+", type=Path, metavar="VOLUME", help="a folder of slices, a TIFF of several pages, or a .npy file [z, y, x]"
     )
-    volume.set_defaults(network=False)
+    volume.set_defaults(network=False, prune=None, classes=None, sides=False, long=20)
     for part in (measure, volume):
         _making(part)
     check = _checking(words)
@@ -158,10 +173,12 @@ def parser() -> argparse.ArgumentParser:
     )
     export.add_argument("format", choices=("dxf", "ply"))
     export.add_argument("report", type=Path, metavar="REPORT")
-    export.add_argument(
+    size = export.add_mutually_exclusive_group()
+    size.add_argument(
         "--pixel-size", type=_size, default=1.0, metavar="L", help="how wide a pixel or voxel is, in the unit of the file: mm for DXF (1)"
     )
-    export.add_argument("--long", type=int, default=20, metavar="STEPS", help="a straight side has at least so many steps (20)")
+    size.add_argument("--dpi", type=_size, metavar="N", help="the dots per inch of a scan, in place of it")
+    export.add_argument("--long", type=_count, default=20, metavar="STEPS", help="a straight side has at least so many steps (20)")
     export.add_argument("-o", dest="out", type=Path, required=True, metavar="FILE", help="the file to write")
     return top
 

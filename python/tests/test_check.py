@@ -13,6 +13,7 @@ from shapefront.convert import picture_of
 from shapefront.making import make
 from shapefront.plan import Plan
 from shapefront.thresholds import Settings
+from shapefront.words import parser
 
 if installed("PIL"):
     from PIL import Image
@@ -111,9 +112,9 @@ class CheckingAFolder(InFolder):
 
     def test_it_is_right(self):
         status, out, _ = self.shapes("check", "out")
-        names = ["evidence/cross.pbm", "evidence/word.pbm", "pictures.csv", "objects.csv", "summary.txt", *PAGE, "evidence/made.json"]
+        names = ["evidence/cross.pbm", "evidence/word.pbm", "pictures.csv", "objects.csv", "holes.csv", "summary.txt", *PAGE, "evidence/made.json"]
         self.assertEqual((status, out[:-1]), (0, [f"out/{name}: yes" for name in names]))
-        self.assertTrue(out[-1].startswith(f"checked 2 of 2 images, 8 rows, {19 + len(PAGE)} files; not checked: what only the original images tell"), out[-1])
+        self.assertTrue(out[-1].startswith(f"checked 2 of 2 images, 12 rows, {24 + len(PAGE)} files; not checked: what only the original images tell"), out[-1])
 
     def test_changed_tables(self):
         path = Path("out/objects.csv")
@@ -142,6 +143,6 @@ class CheckingAFolder(InFolder):
     def test_the_original_image_is_made_as_small_as_its_record_tells(self):
         Image.fromarray(random_mask(4, 30, 40).astype(np.uint8) * 255).save("half.png")
         picture = picture_of(Path("half.png"), "half.png", Settings(fit=2))
-        make(picture, Plan(Path("half"), "curve"))
+        make(picture, Plan.told(Path("half"), vars(parser().parse_args(["measure", "half.png"]))))
         for words in ((), ("--fit", "--threshold", repr(picture.cut.threshold), f"--{picture.cut.objects}")):
             self.assertEqual(self.shapes("check", "half.png", "half/evidence/half.png.report.gz", *words)[:2], (0, ["half/evidence/half.png.report.gz: yes"]))

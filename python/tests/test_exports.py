@@ -68,8 +68,8 @@ class KnownShapes(InFolder):
 
     def test_refusals(self):
         self.assertEqual(self.shapes("export", "dxf", STORED / "word.report", "-o", "x")[0], 3)
-        self.assertIn("no straight side of 20 steps", self.shapes("export", "dxf", STORED / "word.report", "-o", "x")[2][0])
-        self.assertIn("DXF is for flat pictures", self.shapes("export", "dxf", STORED / "pores.report", "-o", "x")[2][0])
+        self.assertIn("no straight side that is so long, and no circle", self.shapes("export", "dxf", STORED / "word.report", "-o", "x")[2][0])
+        self.assertIn("not the report of `shape analyse` of a flat picture", self.shapes("export", "dxf", STORED / "pores.report", "-o", "x")[2][0])
         self.assertIn("PLY is for volumes", self.shapes("export", "ply", STORED / "word.report", "-o", "x")[2][0])
 
     def test_normals_of_a_turned_box(self):

@@ -460,7 +460,7 @@ class Told(OfFolders):
     UNTOLD = "not checked: what only the original images tell (names, labels, thresholds, intensities, what was done to them), and the pixel's size"
 
     def test_what_a_yes_covers(self):
-        for name, count in (("cells", f"2 of 2 images, 6 rows, {15 + len(PAGE)} files"), ("solids", "2 of 2 images, ")):
+        for name, count in (("cells", f"2 of 2 images, 8 rows, {18 + len(PAGE)} files"), ("solids", "2 of 2 images, ")):
             status, out = self.check(self.anew(name))
             self.assertEqual((status, {line.rpartition(": ")[2] for line in out[:-1]}), (0, {"yes"}))
             self.assertTrue(out[-1].startswith(f"checked {count}") and out[-1].endswith(self.UNTOLD), out[-1])

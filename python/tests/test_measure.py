@@ -86,7 +86,7 @@ class Measuring(InFolder):
         status, out, error = self.shapes("measure", "in", "-o", "out", "--jobs", "2")
         self.assertEqual((status, out), (1, ["11 of 12 measured, in out: summary.txt tells how"]))
         self.assertEqual(sum("005.png: a broken image" in line for line in error), 1)
-        self.assertEqual(len(list(Path("out").rglob("*.report.gz"))), 11)
+        self.assertEqual(len(list(Path("out").rglob("*.png.report.gz"))), 11)
         self.assertIn("in/005.png", json.loads(Path("out/evidence/made.json").read_text())["images"][5]["failure"])
 
     def test_stopped_and_begun_again(self):

@@ -73,7 +73,7 @@ class Originals(InFolder):
         self.assertIn("checked 2 of 3 images", out[-1])
 
     def test_what_is_as_it_was(self):
-        rows = sum(len(Path("out", name).read_text().splitlines()) - 1 for name in ("objects.csv", "pictures.csv"))
+        rows = sum(len(Path("out", name).read_text().splitlines()) - 1 for name in ("objects.csv", "pictures.csv", "holes.csv"))
         status, out = self.check()
         self.assertEqual(status, 0, out)
         self.assertLessEqual({f"in/{name}: yes" for name in ("one.png", "two.png", "b/three.png")}, set(out))
