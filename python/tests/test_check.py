@@ -114,7 +114,7 @@ class CheckingAFolder(InFolder):
         status, out, _ = self.shapes("check", "out")
         names = ["evidence/cross.pbm", "evidence/word.pbm", "pictures.csv", "objects.csv", "holes.csv", "summary.txt", "evidence/made.json"]
         self.assertEqual((status, out[:-1]), (0, [f"out/{name}: yes" for name in names]))
-        self.assertTrue(out[-1].startswith("checked 2 of 2 images, 9 rows, 24 files; not checked: what only the original images tell"), out[-1])
+        self.assertTrue(out[-1].startswith("checked 2 of 2 images, 12 rows, 24 files; not checked: what only the original images tell"), out[-1])
 
     def test_changed_tables(self):
         path = Path("out/objects.csv")
