@@ -25,7 +25,7 @@ def table(path):
 def picture(seed):
     """A picture with many holes, some of which touch at corners and some of which have objects in them."""
     mask = random_mask(seed, 40, 50)
-    return mask | (np.random.default_rng(seed).random(mask.shape) < 0.6)
+    return mask | (np.random.default_rng(100 + seed).random(mask.shape) < 0.5)
 
 
 class Widths(unittest.TestCase):
