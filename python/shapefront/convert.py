@@ -9,6 +9,7 @@ import numpy as np
 
 from secondreading.limits import MOST_FLAT, MOST_SOLID
 
+from .evenness import unevenness
 from .faults import Fault
 from .images import Grey, array_of, load, load_stack
 from .pictures import sides_of, told_sides
@@ -105,6 +106,8 @@ def _made(image: Grey, name: str, settings: Settings, limit: int) -> Picture:
     values, before = settings.filters.before(image.values)
     cut = cut_of(replace(image, values=values), settings, image.values.dtype)
     mask, after = settings.filters.after(cut.mask(values))
+    if ends := unevenness(values, cut.mask(values)):
+        notes.append("the background is uneven: in parts of the image its median goes from %g to %g, see --background" % ends)
     if looks_like_labels(image.values):
         notes.append(f"its values are 0 to {image.values.max()}: if these are labels, give --labels")
     return Picture(name, mask, fit, cut, (str(cut), *notes, *before, *after), original, None, _grey_values(image.values), settings)

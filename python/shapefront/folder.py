@@ -1,4 +1,4 @@
-"""What a run writes for all its images together: `objects.csv`, `pictures.csv`, `summary.txt` and `evidence/made.json`.
+"""What a run writes for all its images together: `index.html`, `objects.csv`, `pictures.csv`, `summary.txt` and `evidence/made.json`.
 
 All of it follows from the records and the tables of its pictures, and from what the run itself was told; so it can be made again.
 """
@@ -17,12 +17,13 @@ from .batch import Image, source_sum
 from .faults import Fault
 from .files import encoded, make_folder, spelled_json, sum_of_bytes, write, write_json
 from .images import pillow_version
-from .layout import FURTHER, JOINED, MADE, PICTURES, SUMMARY, evidence, record_of_key
+from .layout import FURTHER, JOINED, MADE, PAGE, PICTURES, SUMMARY, evidence, record_of_key
 from .making import Record
+from .page import Page, Shown, jinja_version
 from .pictures import told_sides
 from .programs import sums
 from .seals import sealed
-from .tables import Part, Row, joined, spelled_rows
+from .tables import Part, Row, joined, rows_of, spelled_rows
 from .units import Pixel
 
 # The text of a record's own table, by what its name ends in.
@@ -51,9 +52,15 @@ class Run:
                 files |= {name: spelled_rows(rows)} if len(rows) > 1 or suffix == ".csv" else {}
         return {**files, SUMMARY: encoded("".join(line + "\n" for line in summary(self)))}
 
-    def made(self, of_all: dict[str, bytes]) -> dict[str, Any]:
-        """What `made.json` says, where these are the files of all."""
-        files = {name: sum_of_bytes(data) for name, data in of_all.items()}
+    def page(self, of_all: dict[str, bytes], shown: Shown) -> bytes:
+        """The page, where these are the tables of all, and `shown` gives what it shows of an image. Missing where Jinja2 is not installed."""
+        images = [(image.name, image.record, image.failure) for image in self.images]
+        rows = rows_of(of_all.get("objects.csv", b"").decode("utf-8", "surrogateescape"))
+        return Page(images, self.options, self.pixel, self.versions, list(_warnings(self.records)), list(of_all), rows, shown).spelled()
+
+    def made(self, of_all: dict[str, bytes], kept: dict[str, str] | None = None) -> dict[str, Any]:
+        """What `made.json` says, where these are the files of all, and these the sums of such as are not made again."""
+        files = {name: sum_of_bytes(data) for name, data in of_all.items()} | (kept or {})
         for record in self.records:
             files |= _files(record)
         return sealed({
@@ -66,9 +73,11 @@ def finish(folder: Path, images: list[Image], pixel: Pixel | None, options: dict
     """Writes the tables, the summary and the record of a run; the record. A Fault where the folder cannot be written."""
     run = Run(options, pixel, images, versions())
     files = run.of_all(lambda record, suffix: _read(folder / evidence(record["image"], suffix)))
+    if jinja_version():
+        files[PAGE] = run.page(files, lambda record, suffix: _bytes(folder / evidence(record["image"], suffix)))
     for name, data in files.items():
         write(folder / name, data)
-    for name in JOINED.keys() - files.keys():
+    for name in {*JOINED, PAGE} - files.keys():
         (folder / name).unlink(missing_ok=True)
     made = run.made(files)
     make_folder((folder / MADE).parent)
@@ -86,7 +95,7 @@ def originals(folder: Path, made: dict[str, Any]) -> Iterator[str]:
 
 def versions() -> dict[str, Any]:
     """What made a run: the versions of this package and of those that it stands on, and the sum of the program."""
-    packages = {"Python": platform.python_version(), "numpy": np.__version__, "Pillow": pillow_version()}
+    packages = {"Python": platform.python_version(), "numpy": np.__version__, "Pillow": pillow_version(), "Jinja2": jinja_version()}
     return {"shapefront": __version__, "versions": packages, "programs": sums()}
 
 
@@ -115,6 +124,10 @@ def _read(path: Path) -> str:
         return path.read_text()
     except (OSError, UnicodeDecodeError) as error:
         raise Fault(path, "cannot be read", "measure again into an empty folder") from error
+
+
+def _bytes(path: Path) -> bytes | None:
+    return path.read_bytes() if path.is_file() else None
 
 
 def pictures(records: list[Record]) -> Iterator[Row]:

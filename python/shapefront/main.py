@@ -18,7 +18,7 @@ from .files import make_folder, shown, write
 from .folder import finish, originals
 from .foldercheck import check_folder
 from .inventory import others
-from .layout import MADE
+from .layout import MADE, PAGE
 from .making import clear_aside
 from .original import check_original
 from .outlines import outlines_of, summary
@@ -53,6 +53,8 @@ def measure(words: argparse.Namespace) -> int:
     convert = volume_of if is_volume else picture_of
     run(images, plan, lambda path, name: convert(path, name, settings), words.jobs)
     made = finish(words.folder, images, pixel, options_of(words))
+    if PAGE not in made["files"]:
+        print(f"no {PAGE}, as Jinja2 is not installed: `apt install python3-jinja2`, or `pip install jinja2`", file=sys.stderr)
     _tell_of_others(words.folder, made)
     failed = sum(image.failure is not None for image in images)
     print(f"{len(images) - failed} of {len(images)} measured, in {words.folder}: summary.txt tells how")

@@ -18,13 +18,14 @@ from .beside import Asked, Beside, Covered, check_beside, refused, stem_of, wron
 from .checking import Finding
 from .comparing import of_members, of_tables, of_texts
 from .faults import Fault
-from .files import read_json, shown
+from .files import read_json, shown, sum_of, sum_of_bytes
 from .folder import originals
 from .imagecheck import ImageCheck
 from .inventory import Inventory
 from .labelcheck import Labels
-from .layout import EVIDENCE, HOLES, MADE, SUMMARY, drawing, evidence, part, record_of_key
+from .layout import EVIDENCE, HOLES, MADE, PAGE, SUMMARY, drawing, evidence, part, record_of_key
 from .making import Record
+from .page import jinja_version, tell, without_verdict
 from .parts import Again, names_in
 from .plan import Wanted
 from .programs import sums
@@ -38,6 +39,11 @@ _FOREIGN = "it, or a record that it names, is none that `shapes` wrote"
 _NOT_RECORDS = (KeyError, TypeError, ValueError, AttributeError, IndexError)
 
 Told = tuple[Path, Finding]
+
+
+def _sum(path: Path) -> str | None:
+    """The sum of a file; that of a page without what an earlier check said in it."""
+    return sum_of_bytes(without_verdict(path.read_bytes())) if path.name == PAGE and path.is_file() else sum_of(path)
 
 
 def findings_of_run(folder: Path, made: dict[str, Any], asked: Asked) -> Iterator[Finding | Covered]:
@@ -62,19 +68,20 @@ class Checked:
 
 @dataclass
 class RunCheck:
-    """The check of a run's folder; `wrong` are the files of which something was found, `rows` how many rows are right in tables of all."""
+    """The check of a run's folder; `wrong` are the files of which something was found, `said` what of them, and `rows` how many rows are right in tables of all."""
 
     folder: Path
     made: dict[str, Any]
     asked: Asked
     inventory: Inventory
     wrong: set[Path] = field(default_factory=set)
+    said: list[str] = field(default_factory=list)
     rows: int = 0
 
     @classmethod
     def of(cls, folder: Path, made: dict[str, Any], asked: Asked) -> RunCheck:
         allowed = [*asked.allowed, MADE, *originals(folder, made)]
-        return cls(folder, made, asked, Inventory.of(folder, made["files"], allowed))
+        return cls(folder, made, asked, Inventory.of(folder, made["files"], allowed, _sum))
 
     def findings(self) -> Iterator[Finding | Covered]:
         """All findings: on pictures, on files of all, and on what is missing, changed or added; and what they cover."""
@@ -88,12 +95,16 @@ class RunCheck:
             yield from self._said(self._of_originals(self.asked.originals, checked))
         yield from self._said(self._of_all(checked))
         yield from self._said(self._of_inventory())
-        yield Covered(self._covered(checked))
+        covers = self._covered(checked)
+        if self.inventory.is_whole(PAGE) and self.folder / PAGE not in self.wrong:
+            tell(self.folder / PAGE, not self.said, covers, self.said)
+        yield Covered(covers)
 
     def _said(self, findings: Iterable[Told]) -> Iterator[Finding]:
         for path, finding in findings:
             if not finding.holds:
                 self.wrong.add(path)
+                self.said.append(str(finding))
             yield finding
 
     def _of_inventory(self) -> Iterator[Told]:
@@ -214,8 +225,27 @@ class RunCheck:
             path = self.folder / name
             if path.is_file():
                 yield path, self._compared(path, data)
-        why = of_members(self.made, run.made(files))
+        kept = {name: self.made["files"][name] for name in self._kept()}
+        if PAGE in self.made["files"] and PAGE not in kept:
+            files[PAGE] = run.page(files, self._shown)
+            yield from self._of_page(files[PAGE])
+        why = of_members(self.made, run.made(files, kept))
         yield self.folder / MADE, Finding(shown(self.folder / MADE), why is None, why or "")
+
+    def _kept(self) -> list[str]:
+        """The files of all that are not made again, and compared by their sums alone."""
+        return [PAGE] if PAGE in self.made["files"] and not jinja_version() else []
+
+    def _shown(self, record: Record, suffix: str) -> bytes | None:
+        """What the page shows of an image, as it lies there."""
+        name = evidence(record["image"], suffix)
+        return (self.folder / name).read_bytes() if name in self.made["files"] and self.inventory.is_whole(name) else None
+
+    def _of_page(self, data: bytes) -> Iterator[Told]:
+        path = self.folder / PAGE
+        if path.is_file():
+            is_same = without_verdict(path.read_bytes()) == data
+            yield path, Finding(shown(path), is_same, "" if is_same else "it is not the page that the tables and the records give")
 
     def _table(self, one: Checked, record: Record, suffix: str) -> str:
         """A picture's own table as its report gives it; where that does not hold, as it was written. A Fault where it is spoilt, too."""
@@ -243,7 +273,10 @@ class RunCheck:
         told = f" ({failed} failed when {'they were' if failed > 1 else 'it was'} measured)" if failed else ""
         untold = _UNTOLD if self.asked.originals else _BY_ORIGINALS + _UNTOLD
         other = "" if self.made["programs"] == sums() else "; another build of the program made it, by the sum in made.json"
-        return f"checked {good} of {len(images)} images{told}, {self.rows:,} rows, {files:,} files; not checked: {untold}{other}"
+        return f"checked {good} of {len(images)} images{told}, {self.rows:,} rows, {files:,} files; not checked: {untold}{self._untold()}{other}"
+
+    def _untold(self) -> str:
+        return f"; compared by sums alone, as Jinja2 or openpyxl is not installed: {', '.join(kept)}" if (kept := self._kept()) else ""
 
     def _is_good(self, one: Checked) -> bool:
         if one.record is None or not all(finding.holds for _, finding in one.findings):

@@ -24,6 +24,9 @@ def installed(*packages: str) -> bool:
     return all(importlib.util.find_spec(package) for package in packages)
 
 
+# The page of a run, where it is made.
+PAGE = ["index.html"] if installed("jinja2") else []
+
 needs_shape = unittest.skipUnless(programs.has(), "the program shape is not built")
 slow = unittest.skipUnless(os.environ.get("SHAPES_SLOW"), "it takes minutes: set SHAPES_SLOW=1")
 needs_pillow = unittest.skipUnless(installed("PIL"), "Pillow is not installed")

@@ -5,7 +5,7 @@ from pathlib import Path
 
 import numpy as np
 
-from .common import STORED, InFolder, installed, needs_pillow, needs_shape, random_mask
+from .common import PAGE, STORED, InFolder, installed, needs_pillow, needs_shape, random_mask
 
 from secondreading.limits import MOST_FLAT
 from shapefront import programs
@@ -112,9 +112,9 @@ class CheckingAFolder(InFolder):
 
     def test_it_is_right(self):
         status, out, _ = self.shapes("check", "out")
-        names = ["evidence/cross.pbm", "evidence/word.pbm", "pictures.csv", "objects.csv", "holes.csv", "summary.txt", "evidence/made.json"]
+        names = ["evidence/cross.pbm", "evidence/word.pbm", "pictures.csv", "objects.csv", "holes.csv", "summary.txt", *PAGE, "evidence/made.json"]
         self.assertEqual((status, out[:-1]), (0, [f"out/{name}: yes" for name in names]))
-        self.assertTrue(out[-1].startswith("checked 2 of 2 images, 12 rows, 24 files; not checked: what only the original images tell"), out[-1])
+        self.assertTrue(out[-1].startswith(f"checked 2 of 2 images, 12 rows, {24 + len(PAGE)} files; not checked: what only the original images tell"), out[-1])
 
     def test_changed_tables(self):
         path = Path("out/objects.csv")

@@ -17,7 +17,7 @@ from pathlib import Path
 
 import numpy as np
 
-from .common import STORED, InFolder, installed, needs_pillow, needs_shape, random_mask, slow
+from .common import PAGE, STORED, InFolder, installed, needs_pillow, needs_shape, random_mask, slow
 
 from shapefront import programs
 from shapefront.files import spelled_json
@@ -483,7 +483,7 @@ class Told(OfFolders):
     UNTOLD = "not checked: what only the original images tell (names, labels, thresholds, intensities, what was done to them), and the pixel's size"
 
     def test_what_a_yes_covers(self):
-        for name, count in (("cells", "2 of 2 images, 8 rows, 18 files"), ("solids", "2 of 2 images, ")):
+        for name, count in (("cells", f"2 of 2 images, 8 rows, {18 + len(PAGE)} files"), ("solids", "2 of 2 images, ")):
             status, out = self.check(self.anew(name))
             self.assertEqual((status, {line.rpartition(": ")[2] for line in out[:-1]}), (0, {"yes"}))
             self.assertTrue(out[-1].startswith(f"checked {count}") and out[-1].endswith(self.UNTOLD), out[-1])

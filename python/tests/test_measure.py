@@ -14,7 +14,7 @@ from pathlib import Path
 
 import numpy as np
 
-from .common import HERE, InFolder, installed, needs_pillow, needs_shape, random_mask
+from .common import HERE, PAGE, InFolder, installed, needs_pillow, needs_shape, random_mask
 
 from secondreading.limits import MOST_SOLID
 from shapefront import programs, read
@@ -131,7 +131,7 @@ class Measuring(InFolder):
             Image.fromarray(np.where(random_mask(5, 9, 9), 0, 255).astype(np.uint8)).save(name)
         self.assertEqual(self.shapes("measure", "-o", "out", "./-minus.png", "two words.png", "ümlaut [1].png", "a.b.c.png")[0], 0)
         status, out, _ = self.shapes("check", "out")
-        self.assertEqual((status, len(out), {line.rpartition(": ")[2] for line in out[:-1]}), (0, 9, {"yes"}))
+        self.assertEqual((status, len(out), {line.rpartition(": ")[2] for line in out[:-1]}), (0, 9 + len(PAGE), {"yes"}))
 
     def test_labels(self):
         labels = np.zeros((20, 20), np.uint8)

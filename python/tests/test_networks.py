@@ -8,7 +8,7 @@ from pathlib import Path
 
 import numpy as np
 
-from .common import ROOT, STORED, InFolder, needs_pillow, needs_shape
+from .common import PAGE, ROOT, STORED, InFolder, needs_pillow, needs_shape
 
 from shapefront import read
 from shapefront.networks import length
@@ -99,7 +99,7 @@ class KnownNetworks(InFolder):
     def test_it_is_checked_and_made_again(self):
         self.assertEqual(self.shapes("measure", STORED / "cross.pbm", "--network", "-o", "out")[0], 0)
         names = ["cross.pbm"]
-        of_all = ["pictures.csv", "objects.csv", "networks.csv", "branches.csv", "widths.csv", "summary.txt", "evidence/made.json"]
+        of_all = ["pictures.csv", "objects.csv", "networks.csv", "branches.csv", "widths.csv", "summary.txt", *PAGE, "evidence/made.json"]
         status, out, _ = self.shapes("check", "out")
         self.assertEqual((status, out[:-1]), (0, [f"out/evidence/{name}: yes" for name in names] + [f"out/{name}: yes" for name in of_all]))
         path = Path("out/evidence/cross.pbm.branches.csv")

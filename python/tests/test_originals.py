@@ -32,7 +32,18 @@ def sealed_again(folder, name, change):
         record_name = next(image["record"] for image in made["images"] if name.startswith(image["record"].removesuffix(".json")))
         sealed_again(folder, record_name, lambda record: record["files"].update({name: sum_of_bytes(path.read_bytes())}))
         made = json.loads((folder / MADE).read_text())
-    made["files"][name] = sum_of_bytes(path.read_bytes())
+    _seal(folder, made, name)
+
+
+def sealed_again_of_all(folder, name, change):
+    """Changes a file of all images as a forger would: with its sum made anew."""
+    path = folder / name
+    path.write_bytes(change(path.read_bytes()))
+    _seal(folder, json.loads((folder / MADE).read_text()), name)
+
+
+def _seal(folder, made, name):
+    made["files"][name] = sum_of_bytes((folder / name).read_bytes())
     (folder / MADE).write_bytes(spelled_json(sealed({key: value for key, value in made.items() if key != SEAL})))
 
 

@@ -16,7 +16,7 @@ from pathlib import Path
 
 import numpy as np
 
-from .common import HERE, InFolder, installed, needs_pillow, needs_shape, random_mask, slow
+from .common import HERE, PAGE, InFolder, installed, needs_pillow, needs_shape, random_mask, slow
 
 import shapefront
 from secondreading.limits import MOST_FLAT
@@ -97,7 +97,7 @@ class TwelveImages(InFolder):
             self.assertEqual((int(pictures[name]["points"]), int(pictures[name]["pieces"])), (mask.sum(), count))
             self.assertEqual(sorted(areas), sorted(np.bincount(labels.ravel())[1:]))
         status, out, _ = self.shapes("check", "out", "--jobs", "4")
-        self.assertEqual((status, {line.rpartition(": ")[2] for line in out[:-1]}, len(out)), (0, {"yes"}, 15))
+        self.assertEqual((status, {line.rpartition(": ")[2] for line in out[:-1]}, len(out)), (0, {"yes"}, 15 + len(PAGE)))
         self.assertIn("checked 10 of 10 images (2 failed when they were measured)", out[-1])
 
     def cut(self, name, row, said):
