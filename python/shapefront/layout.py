@@ -19,8 +19,9 @@ JOINED = {
 # What the names of tables end in that have the rest of the rows of another: the grey values of objects.
 FURTHER = {"objects.csv": ".intensities.csv"}
 
-# What the names of a picture's drawings end in: the program's of its report, and the original image with the borders over it; and of what the page shows.
-DRAWN = (".svg", ".png")
+# What the names of a picture's drawings end in: the program's of its report, the original image with the borders over it, and with the branches of its
+# network; and of what the page shows.
+DRAWN = (".svg", ".png", ".network.png")
 THUMBNAIL, PLACES = ".thumbnail.jpg", ".places.png"
 
 

@@ -22,11 +22,12 @@ from .files import ASIDE, gzipped, read_json, shown, sum_of, sum_of_bytes, write
 from .intensities import intensities
 from .labelled import make_labels
 from .labels import boxes
-from .layout import FURTHER, is_own, named, record_of_key
-from .overlay import Overlay, borders, numbers
+from .layout import FURTHER, is_own, named, part, record_of_key
+from .networks import BRANCHES_OF
+from .overlay import Overlay, borders, branches, numbers
 from .pictures import sides_of, spelled
 from .plan import Plan
-from .products import draw, evidence_of, write_shown
+from .products import draw, evidence_of, write_network_shown, write_shown
 from .programs import sums
 from .report import counts_of
 from .seals import is_sealed, sealed
@@ -121,6 +122,9 @@ def _products(picture: Picture, plan: Plan, work: Path) -> Record:
     if is_flat:
         rows = dicts_of(stem.with_name(stem.name + ".csv").read_text())
         write_shown(Overlay(picture.original, borders(report.read_bytes()), numbers(rows), picture.fit), stem)
+        if plan.wanted(picture.fit).network:
+            own = Overlay(picture.original, *branches(part(stem, BRANCHES_OF, ".report").read_bytes()), picture.fit)
+            write_network_shown(own, stem)
     if picture.grey is not None:
         stem.with_name(stem.name + FURTHER["objects.csv"]).write_bytes(spelled_rows(intensities(picture.mask, picture.grey)))
     counts = dict(zip(("parts", "kept"), counts_of(report)))

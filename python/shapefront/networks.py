@@ -82,7 +82,7 @@ class Network:
         whole = _report(self.stem.with_name(self.stem.name + ".report"))
         branches = self._branches(whole, measured)
         pieces = dicts_of(measured[SKELETON if self.wanted.prune is None else PRUNED])
-        widths = Widths.of(self.own.skeleton, [float(length(row)) for row in pieces], whole.square_image)
+        widths = Widths.of(self.own.skeleton, [float(length(row)) for row in pieces], whole.square_image, whole.parts.points)
         total = self._total(whole, pieces, branches, len(dicts_of(measured[JUNCTIONS_OF])), widths)
         rows = {
             ".network.csv": total, ".branches.csv": [BRANCHES, *(branch.row for branch in branches)],

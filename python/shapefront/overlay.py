@@ -57,6 +57,13 @@ def numbers(rows: Iterable[dict[str, str]], name: str = "object") -> list[Number
     return [Number(row[name], float(row["cx"]), float(row["cy"]), float(row["radius"]), float(row["area"])) for row in rows if "cx" in row]
 
 
+def branches(report: bytes) -> tuple[list[Border], list[Number]]:
+    """The branches of a network, by the report of their picture, as lines; and their numbers, each at the point next to the middle of its branch."""
+    found = [border for border in borders(report) if not border.is_hole]
+    places = [border.points[np.argmin(((border.points - border.points.mean(0)) ** 2).sum(1))] for border in found]
+    return found, [Number(str(border.number), *map(float, place), 0.0, len(border.points)) for border, place in zip(found, places)]
+
+
 @dataclass(frozen=True)
 class Overlay:
     """An image [y, x] or, in colours, [y, x, 3], with the borders and numbers of its picture, of which one pixel is `fit` of the image's wide."""
@@ -66,13 +73,14 @@ class Overlay:
     numbers: list[Number]
     fit: int = 1
 
-    def drawing(self) -> bytes:
-        """The drawing as a PNG: the image, enlarged by whole numbers where it is small, its borders, and as many numbers as find room."""
+    def drawing(self, thick: int = 1) -> bytes:
+        """The drawing as a PNG: the image, enlarged by whole numbers where it is small, its borders so many times as thick as they are usually, and as many
+        numbers as find room."""
         image_of, _ = pillow()
         longest = max(self.image.shape[:2])
         scale = max(1, round(WANTED / longest)) if longest <= LONGEST else LONGEST / longest
         sheet = self._sheet(scale, image_of.NEAREST if scale > 1 else image_of.BOX)
-        self._draw_borders(sheet, scale, max(1, round(longest * scale / WANTED)))
+        self._draw_borders(sheet, scale, thick * max(1, round(longest * scale / WANTED)))
         self._draw_numbers(sheet, scale)
         return _saved(sheet, "PNG", compress_level=2)
 

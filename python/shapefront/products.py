@@ -82,6 +82,12 @@ def write_shown(overlay: Overlay, stem: Path) -> None:
             stem.with_name(stem.name + suffix).write_bytes(data())
 
 
+def write_network_shown(overlay: Overlay, stem: Path) -> None:
+    """Writes the original image with the branches of its network and their numbers; nothing where Pillow is not installed."""
+    if pillow_version() is not None:
+        stem.with_name(stem.name + ".network.png").write_bytes(overlay.drawing(thick=3))
+
+
 def mask_suffix(kind: str, sides: Sequence[int]) -> str:
     """What the name of a mask of a picture with these sides ends in: a PBM or a PGM, or of a volume and of squares raw bytes, whose sides it tells."""
     if kind == "squares":
@@ -104,7 +110,7 @@ def names_of(key: str, record: dict[str, Any]) -> set[str]:
 
     Those that show the original image, the drawing of a volume, and what is about holes and other parts are there where the record names them.
     """
-    shown = {drawing(key, ".png"), evidence(key, THUMBNAIL), evidence(key, PLACES), evidence(key, HOLES), drawing(key, ".svg")} & record["files"].keys()
+    shown = {drawing(key, ".png"), drawing(key, ".network.png"), evidence(key, THUMBNAIL), evidence(key, PLACES), evidence(key, HOLES), drawing(key, ".svg")} & record["files"].keys()
     if record["labels"] is not None:
         return shown | {evidence(key, suffix) for suffix in {ARCHIVE, *tables_of(Wanted.of(record), len(record["sides"]) == 2)}}
     drawn, packed = {drawing(key, ".svg")} if len(record["sides"]) == 2 else set(), "" if record["plain"] else ".gz"

@@ -258,8 +258,8 @@ class RunCheck:
         name = evidence(record["image"], suffix)
         if suffix in one.tables:
             return one.tables[suffix].decode()
-        if not self.inventory.is_whole(name):
-            raise Fault(self.folder / name, self.inventory.spoilt[name], "and its report does not give it")
+        if name not in self.made["files"] or not self.inventory.is_whole(name):
+            raise Fault(self.folder / name, self.inventory.spoilt.get(name, "made.json does not name it"), "and its report does not give it")
         return (self.folder / name).read_text()
 
     def _compared(self, path: Path, data: bytes) -> Finding:

@@ -1,6 +1,7 @@
 """Length, volume and surface of a network by classes of width: each point of the skeleton has its share of the length, and a width of its own.
 
-A stroke is taken for a tube as thick as it is wide. A point's width is twice its distance to the background.
+A stroke is taken for a tube as thick as it is wide. A point's width is twice its distance to the background less a part of a pixel, since
+distances go to the middle of a background pixel: as much for all points as makes the mean width the area over the length, from 0 to 1.
 """
 from __future__ import annotations
 
@@ -23,12 +24,16 @@ class Widths:
     widths: np.ndarray
 
     @classmethod
-    def of(cls, skeleton: np.ndarray, piece_lengths: Sequence[float], squares: np.ndarray) -> Widths:
-        """Those of a skeleton whose pieces have these lengths, by the squares of the distances to the background at all points of the picture."""
+    def of(cls, skeleton: np.ndarray, piece_lengths: Sequence[float], squares: np.ndarray, area: float) -> Widths:
+        """Those of a skeleton whose pieces have these lengths, by the squares of the distances to the background at all points of the picture, and
+        the area of its object."""
         steps, numbers = _steps(skeleton)[skeleton], numbered(skeleton, by_corners=True)[skeleton]
         total = np.bincount(numbers, steps, len(piece_lengths) + 1)
         factors = np.divide([0.0, *piece_lengths], total, out=np.zeros(len(total)), where=total > 0)
-        return cls(steps * factors[numbers], 2 * np.sqrt(squares[skeleton]))
+        lengths, widths = steps * factors[numbers], 2 * np.sqrt(squares[skeleton])
+        length = float(lengths.sum())
+        excess = float(np.clip(((lengths * widths).sum() - area) / length, 0, 1)) if length else 0.0
+        return cls(lengths, widths - excess)
 
     @property
     def volume(self) -> float:

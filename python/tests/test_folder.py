@@ -30,7 +30,7 @@ if installed("PIL"):
 FOLDERS = {
     "cells": ("measure", "cells.png", "more.png", "--labels", "--masks", "object", "--masks", "skeleton", "--masks", "distances"),
     "lines": ("measure", "one.pbm", "two.pbm", "--plain", "--network", "--masks", "distances", "--pixel-size", "3", "mm"),
-    "packed": ("measure", "one.pbm", "below/two.pbm", "--network", "--masks", "skeleton"),
+    "packed": ("measure", "one.pbm", "below/two.pbm", "--network", "--prune", "3", "--classes", "2,3", "--sides", "--long", "4", "--masks", "skeleton"),
     "solids": ("volume", "one.npy", "two.npy", "--plain", "--masks", "distances", "--masks", "object"),
 }
 
@@ -45,7 +45,8 @@ def save_images():
     Path("below").mkdir()
     for name, seed in (("one", 4), ("two", 5)):
         lines = np.zeros((16, 15 + seed), bool)
-        lines[2 + seed, 1:-1] = lines[1:-1, 3 + seed] = lines[12:14, 1:3] = True
+        lines[2 + seed, 1:-1] = lines[1:-1, 3 + seed] = lines[12:14, 1:3] = lines[12:15, -4:-1] = True
+        lines[13, -3] = False
         for folder in (".", "below"):
             Image.fromarray(np.where(lines, 0, 255).astype(np.uint8)).convert("1").save(f"{folder}/{name}.ppm")
             Path(folder, name + ".ppm").rename(Path(folder, name + ".pbm"))
@@ -371,6 +372,28 @@ def networks(one, other, report):
     }
 
 
+def holes(one, other, report):
+    return {
+        "a hole's row is taken out": with_rows("holes.csv", taken_out(1)),
+        "a hole is made larger": with_rows("holes.csv", cell(1, 3, "99999")),
+        "the picture of holes is deleted": deleted(f"{one}.holes-1.pbm"),
+        "the report of holes is deleted": deleted(f"{one}.holes-1.{report}"),
+        "a picture's table of holes is deleted": deleted(f"{other}.holes.csv"),
+        "a picture's table of holes is changed": with_rows(f"{other}.holes.csv", cell(1, 9, "99999")),
+        "a length of a class of widths is changed": with_rows("widths.csv", cell(1, 3, "99999")),
+    }
+
+
+def outlines(one):
+    return {
+        "a side is made longer": with_rows("sides.csv", cell(1, 4, "99999")),
+        "a picture's own side is made longer": with_rows(f"{one}.sides.csv", cell(1, 3, "99999")),
+        "the table of corners is deleted": deleted("corners.csv"),
+        "the pruned skeleton is deleted": deleted(f"{one}.network-pruned.pbm"),
+        "the count of what was left out is changed": with_rows("networks.csv", lambda table: cell(1, len(table[0]) - 1, "7")(table)),
+    }
+
+
 def masks(one, other, kind):
     return {"a mask is deleted": deleted(f"{one}.{kind}"), "two masks are exchanged": swapped(f"{one}.{kind}", f"{other}.{kind}")}
 
@@ -380,9 +403,9 @@ PACKED, SOLIDS = ("evidence/one.pbm", "evidence/below/two.pbm"), ("evidence/one.
 PBM = (".pbm", ".pbm")
 EDITS = {
     "cells": edits_of(*CELLS) | labels(*CELLS),
-    "lines": edits_of(*LINES) | evidence(*LINES, PBM, "report") | drawn(*LINES) | networks(*LINES, "report") | masks(*LINES, "distances.pgm")
+    "lines": edits_of(*LINES) | evidence(*LINES, PBM, "report") | drawn(*LINES) | networks(*LINES, "report") | holes(*LINES, "report") | masks(*LINES, "distances.pgm")
     | {"another report": other_report(LINES[1]), "another kind of report": other_kind(LINES[0]), "another pixel": replaced(MADE, b'"size": "3"', b'"size": "2"')},
-    "packed": edits_of(*PACKED) | evidence(*PACKED, PBM, "report.gz") | drawn(*PACKED) | networks(*PACKED, "report.gz") | masks(*PACKED, "skeleton.pbm")
+    "packed": edits_of(*PACKED) | evidence(*PACKED, PBM, "report.gz") | drawn(*PACKED) | networks(*PACKED, "report.gz") | holes(*PACKED, "report.gz") | outlines(PACKED[0]) | masks(*PACKED, "skeleton.pbm")
     | {"another report": other_report(PACKED[1], ".gz"), "packed again": packed_again("evidence/one.pbm.report.gz")},
     "solids": edits_of(*SOLIDS) | evidence(*SOLIDS, (".7x6x5.raw", ".8x6x5.raw"), "report"),
 }  # fmt: skip
@@ -549,7 +572,7 @@ class Told(OfFolders):
         self.anew("lines")
         shutil.copy(self.made / "cells.png", "cells.png")
         status, _, error = self.shapes("measure", "cells.png", "--labels", "--plain", "-o", "lines")
-        told = "lines: not of this run, and `shapes check` will not pass over it: drawings/one.pbm.png, drawings/one.pbm.svg, drawings/two.pbm.png, .."
+        told = "lines: not of this run, and `shapes check` will not pass over it: drawings/one.pbm.network.png, drawings/one.pbm.png, drawings/one.pbm.svg, .."
         self.assertEqual((status, error), (0, [told]))
         self.refused("lines", "evidence/one.pbm.report", "evidence/two.pbm.json")
 
