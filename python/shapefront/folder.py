@@ -1,11 +1,11 @@
-"""What a run writes for all its images together: `index.html`, `objects.csv`, `pictures.csv`, `summary.txt` and `evidence/made.json`.
+"""What a run writes for all its images together: `index.html`, `objects.csv`, `objects.xlsx`, `pictures.csv`, `summary.txt` and `evidence/made.json`.
 
 All of it follows from the records and the tables of its pictures, and from what the run itself was told; so it can be made again.
 """
 from __future__ import annotations
 
 import platform
-from collections.abc import Callable, Iterator
+from collections.abc import Callable, Iterable, Iterator
 from dataclasses import dataclass
 from pathlib import Path
 from typing import Any
@@ -17,14 +17,15 @@ from .batch import Image, source_sum
 from .faults import Fault
 from .files import encoded, make_folder, spelled_json, sum_of_bytes, write, write_json
 from .images import pillow_version
-from .layout import FURTHER, JOINED, MADE, PAGE, PICTURES, SUMMARY, evidence, record_of_key
+from .layout import FURTHER, JOINED, MADE, PAGE, PICTURES, SUMMARY, WORKBOOK, evidence, record_of_key
 from .making import Record
 from .page import Page, Shown, jinja_version
 from .pictures import told_sides
 from .programs import sums
 from .seals import sealed
-from .tables import Part, Row, joined, rows_of, spelled_rows
+from .tables import Part, Row, joined, marked, rows_of, spelled_rows, text_of
 from .units import Pixel
+from .workbook import openpyxl_version, workbook
 
 # The text of a record's own table, by what its name ends in.
 Table = Callable[[Record, str], str]
@@ -45,17 +46,24 @@ class Run:
 
     def of_all(self, table: Table) -> dict[str, bytes]:
         """The tables and the summary of all, by the names of their files. A Fault where the tables do not fit together."""
-        files = {PICTURES: spelled_rows(pictures(self.records))}
+        files = {PICTURES: marked(spelled_rows(pictures(self.records)))}
         for name, suffix in JOINED.items():
             if own := [_part(record, table, suffix, FURTHER.get(name)) for record in self.records if _has(record, suffix)]:
                 rows = list(joined(own, self.pixel))
-                files |= {name: spelled_rows(rows)} if len(rows) > 1 or suffix == ".csv" else {}
+                files |= {name: marked(spelled_rows(rows))} if len(rows) > 1 or suffix == ".csv" else {}
         return {**files, SUMMARY: encoded("".join(line + "\n" for line in summary(self)))}
 
-    def page(self, of_all: dict[str, bytes], shown: Shown) -> bytes:
-        """The page, where these are the tables of all, and `shown` gives what it shows of an image. Missing where Jinja2 is not installed."""
+    def workbook(self, of_all: dict[str, bytes]) -> bytes | None:
+        """The workbook of these tables of all; None where they are too long. Missing where openpyxl is not installed."""
+        return workbook({name: data for name, data in of_all.items() if name.endswith(".csv")})
+
+    def page(self, of_all: Iterable[str], objects: bytes, shown: Shown) -> bytes:
+        """The page, where these are the names of the files of all, this is the table of all objects, and `shown` gives what the page shows of an image.
+
+        Missing where Jinja2 is not installed.
+        """
         images = [(image.name, image.record, image.failure) for image in self.images]
-        rows = rows_of(of_all.get("objects.csv", b"").decode("utf-8", "surrogateescape"))
+        rows = rows_of(text_of(objects))
         return Page(images, self.options, self.pixel, self.versions, list(_warnings(self.records)), list(of_all), rows, shown).spelled()
 
     def made(self, of_all: dict[str, bytes], kept: dict[str, str] | None = None) -> dict[str, Any]:
@@ -73,11 +81,13 @@ def finish(folder: Path, images: list[Image], pixel: Pixel | None, options: dict
     """Writes the tables, the summary and the record of a run; the record. A Fault where the folder cannot be written."""
     run = Run(options, pixel, images, versions())
     files = run.of_all(lambda record, suffix: _read(folder / evidence(record["image"], suffix)))
+    if openpyxl_version() and (book := run.workbook(files)):
+        files[WORKBOOK] = book
     if jinja_version():
-        files[PAGE] = run.page(files, lambda record, suffix: _bytes(folder / evidence(record["image"], suffix)))
+        files[PAGE] = run.page(files, files.get("objects.csv", b""), lambda record, suffix: _bytes(folder / evidence(record["image"], suffix)))
     for name, data in files.items():
         write(folder / name, data)
-    for name in {*JOINED, PAGE} - files.keys():
+    for name in {*JOINED, PAGE, WORKBOOK} - files.keys():
         (folder / name).unlink(missing_ok=True)
     made = run.made(files)
     make_folder((folder / MADE).parent)
@@ -95,7 +105,7 @@ def originals(folder: Path, made: dict[str, Any]) -> Iterator[str]:
 
 def versions() -> dict[str, Any]:
     """What made a run: the versions of this package and of those that it stands on, and the sum of the program."""
-    packages = {"Python": platform.python_version(), "numpy": np.__version__, "Pillow": pillow_version(), "Jinja2": jinja_version()}
+    packages = {"Python": platform.python_version(), "numpy": np.__version__, "Pillow": pillow_version(), "Jinja2": jinja_version(), "openpyxl": openpyxl_version()}
     return {"shapefront": __version__, "versions": packages, "programs": sums()}
 
 

@@ -8,7 +8,7 @@ from pathlib import Path, PurePosixPath
 
 EVIDENCE, DRAWINGS = "evidence", "drawings"
 MADE = f"{EVIDENCE}/made.json"
-PAGE, SUMMARY, PICTURES = "index.html", "summary.txt", "pictures.csv"
+PAGE, SUMMARY, PICTURES, WORKBOOK = "index.html", "summary.txt", "pictures.csv", "objects.xlsx"
 # What the name of a table ends in that a picture has which has holes.
 HOLES = ".holes.csv"
 # The tables of all pictures together, and what the names of a picture's own end in.

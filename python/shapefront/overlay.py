@@ -17,6 +17,8 @@ from .report import borders_of
 # The longest side of a drawing is at most the first, small images are enlarged to about the second, and that of a thumbnail is the third.
 LONGEST, WANTED, THUMBNAIL = 4096, 1200, 512
 OUTER, INNER, INK = (255, 64, 32), (0, 153, 255), (120, 0, 160)
+# How wide the white rim of a number is.
+_RIM = 2
 
 
 @dataclass(frozen=True)
@@ -30,11 +32,12 @@ class Border:
 
 @dataclass(frozen=True)
 class Number:
-    """The number of an object, its place in pixels of the picture, and its area: numbers of greater objects are drawn first."""
+    """The number of an object, its deepest point in pixels of the picture, how far it is from the background there, and its area."""
 
     text: str
     x: float
     y: float
+    radius: float
     area: float
 
 
@@ -51,14 +54,14 @@ def borders(report: bytes) -> list[Border]:
 
 def numbers(rows: Iterable[dict[str, str]], name: str = "object") -> list[Number]:
     """The numbers of the objects of a table, each at the deepest point of its object; none where the table has no such column."""
-    return [Number(row[name], float(row["cx"]), float(row["cy"]), float(row["area"])) for row in rows if "cx" in row]
+    return [Number(row[name], float(row["cx"]), float(row["cy"]), float(row["radius"]), float(row["area"])) for row in rows if "cx" in row]
 
 
 def branches(report: bytes) -> tuple[list[Border], list[Number]]:
     """The branches of a network, by the report of their picture, as lines; and their numbers, each at the point next to the middle of its branch."""
     found = [border for border in borders(report) if not border.is_hole]
     places = [border.points[np.argmin(((border.points - border.points.mean(0)) ** 2).sum(1))] for border in found]
-    return found, [Number(str(border.number), *map(float, place), len(border.points)) for border, place in zip(found, places)]
+    return found, [Number(str(border.number), *map(float, place), 0.0, len(border.points)) for border, place in zip(found, places)]
 
 
 @dataclass(frozen=True)
@@ -126,17 +129,23 @@ class Overlay:
                 pen.line(np.vstack([points, points[:1]]).ravel().tolist(), colour, width)
 
     def _draw_numbers(self, sheet, scale: float) -> None:
-        """The numbers, those of the greatest objects first; one that would lie over another is left out."""
-        pen, font, taken = _pen(sheet), _font(max(11, max(sheet.size) // 90)), np.zeros((sheet.size[1] // 4 + 1, sheet.size[0] // 4 + 1), bool)
+        """The numbers, those of the greatest objects first, beside an object that is smaller; one that would lie over another is left out."""
+        size = max(11, max(sheet.size) // 90)
+        taken = np.zeros((sheet.size[1] // 4 + 1, sheet.size[0] // 4 + 1), bool)
         for number in sorted(self.numbers, key=lambda number: -number.area):
+            signs = [_sign(sign, size) for sign in number.text]
+            width, height = sum(sign.width - 2 * _RIM for sign in signs), signs[0].height
             x, y = self._placed(np.array([number.x, number.y]), scale).tolist()
-            left, top, right, bottom = font.getbbox(number.text)
-            width, height = right - left, bottom - top
-            place = tuple(slice(max(0, int(at - size / 2)) // 4, int(at + size / 2) // 4 + 1) for at, size in ((y, height + 4), (x, width + 4)))
+            if (radius := number.radius * self.fit * scale) < width / 2:
+                x += radius + width / 2 + 1
+            left, top = (int(min(max(at - own / 2, 0), side - own)) for at, own, side in ((x, width, sheet.size[0]), (y, height, sheet.size[1])))
+            place = slice(max(0, top) // 4, (top + height) // 4 + 1), slice(max(0, left) // 4, (left + width) // 4 + 1)
             if taken[place].any():
                 continue
             taken[place] = True
-            _write(pen, (x - width / 2 - left, y - height / 2 - top), number.text, font)
+            for sign in signs:
+                sheet.paste(sign, (left - _RIM, top), sign)
+                left += sign.width - 2 * _RIM
 
 
 def coloured(labels: np.ndarray) -> np.ndarray:
@@ -171,14 +180,19 @@ def _fill(pen, points: np.ndarray, number: int, own: int) -> None:
     pen.point(points[0].tolist(), own)
 
 
-def _write(pen, place: tuple[float, float], text: str, font) -> None:
-    """A number on a rim of white, by hand where the font is one of dots, which has no rims."""
-    try:
-        pen.text(place, text, INK, font, stroke_width=2, stroke_fill="white")
-    except (OSError, ValueError, TypeError, NotImplementedError):
-        for x, y in ((-1, 0), (1, 0), (0, -1), (0, 1)):
-            pen.text((place[0] + x, place[1] + y), text, "white", font)
-        pen.text(place, text, INK, font)
+@lru_cache
+def _sign(text: str, size: int):
+    """A sign of a number as a small picture, on a rim of white: signs are drawn once and then copied, since that is far quicker."""
+    image_of, _ = pillow()
+    font = _font(size)
+    left, top, right, bottom = font.getbbox("0")
+    width = font.getbbox(text)[2] - left
+    sheet = image_of.new("RGBA", (width + 2 * _RIM, bottom - top + 2 * _RIM), (255, 255, 255, 0))
+    pen, ring = _pen(sheet), [(x, y) for x in range(-_RIM, _RIM + 1) for y in range(-_RIM, _RIM + 1) if x * x + y * y <= _RIM * _RIM]
+    for x, y in ring:
+        pen.text((_RIM - left + x, _RIM - top + y), text, "white", font)
+    pen.text((_RIM - left, _RIM - top), text, INK, font)
+    return sheet
 
 
 @lru_cache

@@ -20,7 +20,7 @@ from .badges import Badge, badges_of
 from .columns import columns_of
 from .faults import Fault
 from .files import parsed, write
-from .layout import JOINED, MADE, PICTURES, PLACES, SUMMARY, THUMBNAIL, drawing
+from .layout import JOINED, MADE, PICTURES, PLACES, SUMMARY, THUMBNAIL, WORKBOOK, drawing
 from .overlay import THUMBNAIL as LONGEST
 from .tables import Row, rows_of
 from .units import Pixel
@@ -159,7 +159,7 @@ def _template():
 
 _FILES = [
     ("objects.csv", "a row for each object"), (PICTURES, "a row for each image"), (SUMMARY, "what was made of each image, and how"),
-    *((name, "further rows") for name in JOINED if name != "objects.csv"), ("objects.xlsx", "the tables for Excel"),
+    *((name, "further rows") for name in JOINED if name != "objects.csv"), (WORKBOOK, "all tables for Excel"),
 ]  # fmt: skip
 
 

@@ -5,7 +5,7 @@ The proved program gives each verdict on a report, a table, a drawing or a mask;
 """
 from __future__ import annotations
 
-from collections.abc import Iterable, Iterator
+from collections.abc import Callable, Iterable, Iterator
 from concurrent.futures import ThreadPoolExecutor
 from dataclasses import dataclass, field
 from pathlib import Path
@@ -23,7 +23,7 @@ from .folder import originals
 from .imagecheck import ImageCheck
 from .inventory import Inventory
 from .labelcheck import Labels
-from .layout import EVIDENCE, HOLES, MADE, PAGE, SUMMARY, drawing, evidence, part, record_of_key
+from .layout import EVIDENCE, HOLES, MADE, PAGE, SUMMARY, WORKBOOK, drawing, evidence, part, record_of_key
 from .making import Record
 from .page import jinja_version, tell, without_verdict
 from .parts import Again, names_in
@@ -31,7 +31,8 @@ from .plan import Wanted
 from .programs import sums
 from .report import heading_of
 from .seals import SEAL
-from .tables import rows_of
+from .tables import rows_of, text_of
+from .workbook import is_same, openpyxl_version
 
 _BY_ORIGINALS = "what only the original images tell (names, labels, thresholds, intensities, what was done to them), and "
 _UNTOLD = "the pixel's size"
@@ -225,27 +226,32 @@ class RunCheck:
             path = self.folder / name
             if path.is_file():
                 yield path, self._compared(path, data)
-        kept = {name: self.made["files"][name] for name in self._kept()}
+        kept = {name: sum_ for name, sum_ in self.made["files"].items() if name == WORKBOOK or name in self._untold()}
+        if WORKBOOK in kept and WORKBOOK not in self._untold():
+            book = run.workbook(files)
+            yield from self._same(WORKBOOK, lambda own: book is not None and is_same(own, book), "its cells are not those of the tables")
         if PAGE in self.made["files"] and PAGE not in kept:
-            files[PAGE] = run.page(files, self._shown)
-            yield from self._of_page(files[PAGE])
+            files[PAGE] = page = run.page([*files, *kept], files.get("objects.csv", b""), self._shown)
+            yield from self._same(PAGE, lambda own: without_verdict(own) == page, "it is not the page that the tables and the records give")
         why = of_members(self.made, run.made(files, kept))
         yield self.folder / MADE, Finding(shown(self.folder / MADE), why is None, why or "")
 
-    def _kept(self) -> list[str]:
-        """The files of all that are not made again, and compared by their sums alone."""
-        return [PAGE] if PAGE in self.made["files"] and not jinja_version() else []
+    def _untold(self) -> list[str]:
+        """The files of all that are compared by their sums alone, as a package that makes them is not here, or another version of it."""
+        is_there = {PAGE: bool(jinja_version()), WORKBOOK: openpyxl_version() == self.made["versions"].get("openpyxl")}
+        return [name for name, here in is_there.items() if name in self.made["files"] and not here]
 
     def _shown(self, record: Record, suffix: str) -> bytes | None:
         """What the page shows of an image, as it lies there."""
         name = evidence(record["image"], suffix)
         return (self.folder / name).read_bytes() if name in self.made["files"] and self.inventory.is_whole(name) else None
 
-    def _of_page(self, data: bytes) -> Iterator[Told]:
-        path = self.folder / PAGE
+    def _same(self, name: str, is_right: Callable[[bytes], bool], why: str) -> Iterator[Told]:
+        """The finding on a file of all, where it is there: whether it is right, and else why not."""
+        path = self.folder / name
         if path.is_file():
-            is_same = without_verdict(path.read_bytes()) == data
-            yield path, Finding(shown(path), is_same, "" if is_same else "it is not the page that the tables and the records give")
+            holds = is_right(path.read_bytes())
+            yield path, Finding(shown(path), holds, "" if holds else why)
 
     def _table(self, one: Checked, record: Record, suffix: str) -> str:
         """A picture's own table as its report gives it; where that does not hold, as it was written. A Fault where it is spoilt, too."""
@@ -261,7 +267,7 @@ class RunCheck:
         if own != data:
             return Finding(shown(path), False, of_texts(own, data) if path.name == SUMMARY else of_tables(own, data))
         if path.name != SUMMARY:
-            self.rows += len(rows_of(data.decode("utf-8", "surrogateescape"))) - 1
+            self.rows += len(rows_of(text_of(data))) - 1
         return Finding(shown(path), True)
 
     def _covered(self, checked: dict[str, Checked]) -> str:
@@ -272,11 +278,9 @@ class RunCheck:
         failed = sum(image["failure"] is not None for image in self.made["images"])
         told = f" ({failed} failed when {'they were' if failed > 1 else 'it was'} measured)" if failed else ""
         untold = _UNTOLD if self.asked.originals else _BY_ORIGINALS + _UNTOLD
+        by_sums = f"; by sums alone, as Jinja2 or openpyxl is not here as it was: {', '.join(names)}" if (names := self._untold()) else ""
         other = "" if self.made["programs"] == sums() else "; another build of the program made it, by the sum in made.json"
-        return f"checked {good} of {len(images)} images{told}, {self.rows:,} rows, {files:,} files; not checked: {untold}{self._untold()}{other}"
-
-    def _untold(self) -> str:
-        return f"; compared by sums alone, as Jinja2 or openpyxl is not installed: {', '.join(kept)}" if (kept := self._kept()) else ""
+        return f"checked {good} of {len(images)} images{told}, {self.rows:,} rows, {files:,} files; not checked: {untold}{by_sums}{other}"
 
     def _is_good(self, one: Checked) -> bool:
         if one.record is None or not all(finding.holds for _, finding in one.findings):

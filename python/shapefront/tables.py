@@ -17,6 +17,8 @@ from .units import POWERS, Pixel
 
 Row = list[str]
 
+_MARK = b"\xef\xbb\xbf"
+
 
 @dataclass(frozen=True)
 class Part:
@@ -45,6 +47,16 @@ def spelled_rows(rows: Iterable[Row]) -> bytes:
     out = io.StringIO()
     csv.writer(out, lineterminator="\n").writerows(rows)
     return encoded(out.getvalue())
+
+
+def marked(table: bytes) -> bytes:
+    """A table as a spreadsheet opens it right: with the mark of UTF-8 before it where it has other letters than those of ASCII."""
+    return table if table.isascii() else _MARK + table
+
+
+def text_of(table: bytes) -> str:
+    """The text of a table's file, without that mark."""
+    return table.removeprefix(_MARK).decode("utf-8", "surrogateescape")
 
 
 def joined(parts: Iterable[Part], pixel: Pixel | None) -> Iterator[Row]:

@@ -296,7 +296,7 @@ class Files(InFolder):
             self.assertFalse(Path("plain/index.html").exists())
             status, out, _ = self.shapes("check", "out")
             self.assertEqual(status, 0, out)
-            self.assertIn("compared by sums alone, as Jinja2 or openpyxl is not installed: index.html", out[-1])
+            self.assertIn("by sums alone, as Jinja2 or openpyxl is not here as it was: index.html", out[-1])
         self.assertEqual(self.shapes("check", "plain")[0], 0)
 
 
