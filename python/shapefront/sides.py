@@ -53,7 +53,8 @@ class _Stretch:
 def sides_of(contour: Contour, steps: int = 20, turn: float = 20.0) -> list[Side]:
     """The sides of a contour, of segments of at least so many steps, in order; where the next turns by more than so many degrees
     the two end and begin in their corner, else each where its segment does."""
-    alone = [_side(contour, stretch) for stretch in _merged(contour, _long(contour, steps), turn)]
+    found = [_grown(contour, stretch, steps) for stretch in _merged(contour, _long(contour, steps), turn)]
+    alone = [_side(contour, stretch) for stretch in _merged(contour, found, turn)]
     count = len(alone)
     corners = [_corner(alone[k], alone[(k + 1) % count], turn) if count > 1 else None for k in range(count)]
     return [
@@ -88,15 +89,30 @@ def _merged(contour: Contour, found: list[_Stretch], turn: float) -> list[_Stret
     return merged
 
 
+def _grown(contour: Contour, stretch: _Stretch, steps: int) -> _Stretch:
+    """A stretch with as many further points before and behind it, so many at a time, as lie on its line, too: a rough side has short segments there."""
+    reach = (steps, 0), (0, steps)
+    while any(grown := [_one(contour, stretch.begin - before, stretch.end + behind) for before, behind in reach]):
+        stretch = next(filter(None, grown))
+    return stretch
+
+
 def _joined(contour: Contour, one: _Stretch, other: _Stretch, turn: float) -> _Stretch | None:
     """Two stretches as one, with what is between them; None where they are on no line, or go round."""
     count = len(contour.points)
     length = (other.end - one.begin) % count
-    if _turn(one.degrees, other.degrees) > turn or not one.end - one.begin <= length < count / 2:
+    if _turn(one.degrees, other.degrees) > turn or length < one.end - one.begin:
         return None
-    line, distances, degrees = _fitted(contour, one.begin, one.begin + length)
+    return _one(contour, one.begin, one.begin + length)
+
+
+def _one(contour: Contour, begin: int, end: int) -> _Stretch | None:
+    """The stretch between two places; None where its points are on no line, or go half round."""
+    if end - begin >= len(contour.points) / 2:
+        return None
+    _, distances, degrees = _fitted(contour, begin, end)
     is_one = distances.max() <= WITHIN and np.quantile(distances, 0.95) <= MOSTLY_WITHIN
-    return _Stretch(one.begin, one.begin + length, degrees, None) if is_one else None
+    return _Stretch(begin, end, degrees, None) if is_one else None
 
 
 def _turn(degrees: float, other: float) -> float:
