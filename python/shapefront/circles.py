@@ -5,10 +5,11 @@ from dataclasses import dataclass
 
 import numpy as np
 
+from .fitting import fits
 from .report import Contour
 
-# A contour is a circle where none of its pixels' edges lies further from it than this, in pixels; and only from this radius on, as a small square is one too.
-WITHIN, LEAST_RADIUS = 1.0, 6.0
+# A contour is a circle only from this radius on, in pixels, as a small square is within a pixel of one, too.
+LEAST_RADIUS = 6.0
 
 
 @dataclass(frozen=True)
@@ -22,7 +23,7 @@ class Circle:
 
 
 def circle_of(contour: Contour) -> Circle | None:
-    """The circle that a contour is within a pixel; None where there is none, or it is too small to tell.
+    """The circle that a contour is; None where there is none, or it is too small to tell.
 
     The border is taken where the pixels end: by half of a pixel along the axis outside of their middles, of a hole inside.
     """
@@ -37,9 +38,9 @@ def circle_of(contour: Contour) -> Circle | None:
     unit = away / lengths[:, None]
     border = points + unit * np.abs(unit).max(1, keepdims=True) * (-0.5 if contour.is_hole else 0.5)
     x, y, radius = _fitted(border)
-    distance = float(np.abs(np.hypot(*(border - (x, y)).T) - radius).max())
+    distances = np.abs(np.hypot(*(border - (x, y)).T) - radius)
     goes_round = np.abs(_gaps(border - (x, y))).max() < np.pi / 4
-    return Circle(x, y, radius, distance) if distance <= WITHIN and radius >= LEAST_RADIUS and goes_round else None
+    return Circle(x, y, radius, float(distances.max())) if radius >= LEAST_RADIUS and goes_round and fits(distances) else None
 
 
 def _fitted(points: np.ndarray) -> tuple[float, float, float]:

@@ -106,7 +106,7 @@ def _made(image: Grey, name: str, settings: Settings, limit: int) -> Picture:
     values, before = settings.filters.before(image.values)
     cut = cut_of(replace(image, values=values), settings, image.values.dtype)
     mask, after = settings.filters.after(cut.mask(values))
-    if ends := unevenness(values, cut.mask(values)):
+    if settings.filters.background is None and (ends := unevenness(values, cut.mask(values))):
         notes.append("the background is uneven: in parts of the image its median goes from %g to %g, see --background" % ends)
     if looks_like_labels(image.values):
         notes.append(f"its values are 0 to {image.values.max()}: if these are labels, give --labels")

@@ -36,14 +36,14 @@ class Holes:
         """The holes of the objects of a flat picture."""
         background = numbered(np.pad(~mask, 1, constant_values=True), by_corners=False)[1:-1, 1:-1]
         numbers = np.maximum(background - 1, 0)
-        _, first = np.unique(numbers, return_index=True)
-        above = [int(place) - mask.shape[1] for place in first[1:]]
-        objects = numbered(mask, by_corners=True).ravel()[above].tolist()
+        places = np.flatnonzero(numbers)
+        first = places[np.diff(np.maximum.accumulate(numbers.ravel()[places]), prepend=0) > 0]
+        objects = numbered(mask, by_corners=True).ravel()[first - mask.shape[1]].tolist()
         return cls(numbers, objects, _layers(numbers, len(objects)))
 
     def pictures(self) -> list[np.ndarray]:
         """The holes as objects of pictures, no two of which touch at a corner."""
-        layer = np.array([-1, *self.layers])[self.numbers]
+        layer = np.array([-1, *self.layers], np.int16)[self.numbers]
         return [layer == k for k in range(max(self.layers, default=-1) + 1)]
 
     def rows(self, tables: Sequence[str]) -> list[Row]:

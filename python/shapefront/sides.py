@@ -11,14 +11,11 @@ from dataclasses import dataclass, replace
 
 import numpy as np
 
+from .fitting import fits
 from .report import Contour
 
 Point = tuple[float, float]
 Line = tuple[float, float, float]
-
-# How far the middles of the pixels of several segments may lie from one line for these to be one side, in pixels: 19 of 20, and all.
-MOSTLY_WITHIN, WITHIN = 1.0, 2.0
-
 
 @dataclass(frozen=True)
 class Side:
@@ -51,12 +48,12 @@ class _Stretch:
 
 
 def sides_of(contour: Contour, steps: int = 20, turn: float = 20.0) -> list[Side]:
-    """The sides of a contour, of segments of at least so many steps, in order; where the next turns by more than so many degrees
-    the two end and begin in their corner, else each where its segment does."""
+    """The sides of a contour, of segments of at least so many steps, in order. Where the next turns by more than so many degrees the two end and
+    begin in their corner, if it lies no further than so many pixels from their ends; else each where its segment does."""
     found = [_grown(contour, stretch, steps) for stretch in _merged(contour, _long(contour, steps), turn)]
     alone = [_side(contour, stretch) for stretch in _merged(contour, found, turn)]
     count = len(alone)
-    corners = [_corner(alone[k], alone[(k + 1) % count], turn) if count > 1 else None for k in range(count)]
+    corners = [_corner(alone[k], alone[(k + 1) % count], turn, steps) if count > 1 else None for k in range(count)]
     return [
         replace(side, begin=corners[k - 1] or side.begin, end=corners[k] or side.end, is_corner=corners[k] is not None)
         for k, side in enumerate(alone)
@@ -111,8 +108,7 @@ def _one(contour: Contour, begin: int, end: int) -> _Stretch | None:
     if end - begin >= len(contour.points) / 2:
         return None
     _, distances, degrees = _fitted(contour, begin, end)
-    is_one = distances.max() <= WITHIN and np.quantile(distances, 0.95) <= MOSTLY_WITHIN
-    return _Stretch(begin, end, degrees, None) if is_one else None
+    return _Stretch(begin, end, degrees, None) if fits(distances) else None
 
 
 def _turn(degrees: float, other: float) -> float:
@@ -156,10 +152,11 @@ def _onto(point: np.ndarray, line: Line) -> Point:
     return float(point[0] + a * far), float(point[1] + b * far)
 
 
-def _corner(one: Side, other: Side, turn: float) -> Point | None:
-    """Where two sides meet, and None where the second turns too little for a corner."""
+def _corner(one: Side, other: Side, turn: float, reach: float) -> Point | None:
+    """Where two sides meet, and None where the second turns too little for a corner, or that is too far from their ends."""
     (a, b, c), (d, e, f) = one.line, other.line
     if _turn(one.degrees, other.degrees) <= turn:
         return None
     across = a * e - d * b
-    return (c * e - f * b) / across, (a * f - d * c) / across
+    corner = (c * e - f * b) / across, (a * f - d * c) / across
+    return corner if max(math.dist(corner, one.end), math.dist(corner, other.begin)) <= reach else None

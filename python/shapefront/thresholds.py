@@ -107,5 +107,7 @@ def looks_like_labels(values: np.ndarray) -> bool:
     """Whether the values are 0 to n without a gap, n at least 2, and mostly those of their neighbours, as labels are."""
     if not np.issubdtype(values.dtype, np.integer) or values.min() != 0 or not 2 <= values.max() < 1 << 20:
         return False
+    if values.dtype == np.uint8 and values.max() == 255:  # rather an image that uses all its values
+        return False
     present = np.bincount(values.ravel().astype(np.int64)) > 0
     return bool(present.all()) and bool((values[..., 1:] == values[..., :-1]).mean() > 0.8)
