@@ -85,7 +85,7 @@ class ImageCheck:
         try:
             data = path.read_bytes()
             own = pbm_mask(data) if picture.mask.ndim == 2 else np.frombuffer(data, np.uint8).reshape(picture.mask.shape) > 0
-            return f"{int((own != picture.mask).sum()):,} pixels of {path.name} are others than the image gives"
+            return f"pixels of {path.name} that the image does not give: {int((own != picture.mask).sum()):,}"
         except (OSError, Fault, ValueError):
             return f"{path.name} is not the picture that the image gives"
 
