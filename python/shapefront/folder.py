@@ -6,7 +6,7 @@ from __future__ import annotations
 
 import platform
 from collections.abc import Callable, Iterable, Iterator
-from dataclasses import dataclass
+from dataclasses import dataclass, replace
 from pathlib import Path
 from typing import Any
 
@@ -165,6 +165,8 @@ def summary(run: Run) -> Iterator[str]:
         yield f"{record['image']}: {told_sides(tuple(record['sides']))}"
         yield f"  object points {points}, pieces {pieces}, pieces of the background {background}, points of the skeleton {record['kept'][0]}"
         yield from (f"  {note}" for note in record["notes"])
+        if run.pixel and record["fit"] > 1:
+            yield f"  a pixel of this picture is {replace(run.pixel, size=run.pixel.size * record['fit'])} wide"
     if failed:
         yield ""
         yield from (f"failed: {image.failure}" for image in failed)

@@ -27,7 +27,7 @@ from .networks import BRANCHES_OF
 from .overlay import Overlay, borders, branches, numbers
 from .pictures import sides_of, spelled
 from .plan import Plan
-from .products import draw, evidence_of, write_network_shown, write_shown
+from .products import draw, evidence_of, write_network_shown, write_shown, write_slice
 from .programs import sums
 from .report import counts_of
 from .seals import is_sealed, sealed
@@ -125,6 +125,8 @@ def _products(picture: Picture, plan: Plan, work: Path) -> Record:
         if plan.wanted(picture.fit).network:
             own = Overlay(picture.original, *branches(part(stem, BRANCHES_OF, ".report").read_bytes()), picture.fit)
             write_network_shown(own, stem)
+    else:
+        write_slice(picture.original, picture.mask, picture.fit, stem)
     if picture.grey is not None:
         stem.with_name(stem.name + FURTHER["objects.csv"]).write_bytes(spelled_rows(intensities(picture.mask, picture.grey)))
     counts = dict(zip(("parts", "kept"), counts_of(report)))

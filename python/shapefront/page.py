@@ -116,7 +116,7 @@ class Page:
                 continue
             links = [(told, target) for told, target in (("over the image", drawing(name, ".png")), ("lines and skeleton", drawing(name, ".svg"))) if target in record["files"]]
             why = "no small picture: the drawings show it" if k >= MOST_PICTURES else "it has no small picture"
-            yield Card(name, self._picture(k, record, THUMBNAIL, "jpeg"), why, _counts(record), " × ".join(map(str, record["original"])), badges_of(record, records, areas.get(name, [])), record["notes"], links)
+            yield Card(name, self._picture(k, record, THUMBNAIL, "jpeg"), why, _counts(record), _sides(record), badges_of(record, records, areas.get(name, [])), record["notes"], links)
 
     def _areas(self) -> dict[str, list[int]]:
         """The areas of the objects of each image."""
@@ -168,6 +168,10 @@ def _counts(record: dict[str, Any]) -> str:
     _, pieces, background = record["parts"]
     things = _count(pieces, "object") if record["labels"] is None else _count(len(record["labels"]), "label")
     return f"{things} · {_count(background - 1, 'hole')}"
+
+
+def _sides(record: dict[str, Any]) -> str:
+    return " × ".join(map(str, record["original"])) + (" pixels" if len(record["original"]) == 2 else " voxels")
 
 
 def _count(count: int, thing: str) -> str:

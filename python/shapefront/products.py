@@ -13,7 +13,7 @@ from .faults import Fault
 from .images import pillow_version
 from .layout import FURTHER, HOLES, PLACES, THUMBNAIL, drawing, evidence, part
 from .networks import SKELETON
-from .overlay import Overlay
+from .overlay import Overlay, middle_slice
 from .parts import names_in, tables_of, works
 from .parts import suffixes_of as part_suffixes
 from .pictures import Source, sides_of, spelled, suffix_of, told_suffix
@@ -73,6 +73,12 @@ def _drawn(report: Path, drawing: Path) -> Answer:
         if not answer.status:
             break
     return answer
+
+
+def write_slice(original: np.ndarray, mask: np.ndarray, fit: int, stem: Path) -> None:
+    """Writes the middle slice of a volume for the page, with what was found in it; nothing where Pillow is not installed."""
+    if pillow_version() is not None:
+        stem.with_name(stem.name + THUMBNAIL).write_bytes(Overlay(middle_slice(original, mask, fit), [], []).thumbnail())
 
 
 def write_shown(overlay: Overlay, stem: Path) -> None:

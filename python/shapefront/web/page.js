@@ -75,6 +75,7 @@ function filtered() {
 function update() {
   state.rows = filtered();
   at("count").textContent = state.rows.length === imageOf.length ? `${imageOf.length}` : `${state.rows.length} of ${imageOf.length}`;
+  at("scroll").style.setProperty("--rows", `${state.rows.length * HEIGHT + 60}px`);
   chips();
   head();
   body();
