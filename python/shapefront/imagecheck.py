@@ -16,7 +16,7 @@ from .batch import source_sum
 from .checking import Finding
 from .comparing import of_members, of_tables
 from .convert import Picture, picture_of, volume_of
-from .faults import Fault
+from .faults import Fault, Missing
 from .files import shown
 from .intensities import intensities
 from .layout import FURTHER, evidence
@@ -58,6 +58,8 @@ class ImageCheck:
         settings, is_volume = settings_told(self.made["options"]), self.made["options"]["command"] == "volume"
         try:
             picture = (volume_of if is_volume else picture_of)(path, told["image"], settings)
+        except Missing:
+            raise
         except Fault as fault:
             return None if told["failure"] else f"it gives no picture any more: {fault.reason}"
         if told["failure"]:

@@ -9,7 +9,7 @@ import numpy as np
 
 from .channels import grey_of
 from .faults import Fault, Missing
-from .tiffs import Pages, is_whole, pages
+from .tiffs import Pages, better_read, pages
 
 TIFF = (".tif", ".tiff")
 SUFFIXES = {".png", ".tif", ".tiff", ".jpg", ".jpeg", ".bmp", ".gif", ".pbm", ".pgm", ".ppm", ".pnm", ".webp", ".npy"}
@@ -100,7 +100,7 @@ def _frames(path: Path, most: int | None, labels: bool, channel: str | None) -> 
         yield from _of_tiff(path, found, most, channel)
         return
     with image:
-        if image.format == "TIFF" and not is_whole(image) and (found := pages(path)):
+        if image.format == "TIFF" and (found := better_read(path, image)):
             yield from _of_tiff(path, found, most, channel)
             return
         for k in range(min(getattr(image, "n_frames", 1), most or 1 << 30)):

@@ -114,7 +114,7 @@ class Page:
             if record is None:
                 yield Card(name, None, "not measured", "", "", [Badge("failed", failure or "")], [failure or ""], [])
                 continue
-            links = [(told, target) for told, target in (("over the image", drawing(name, ".png")), ("lines and skeleton", drawing(name, ".svg"))) if target in record["files"]]
+            links = [(told, target) for told, suffix in _DRAWINGS if (target := drawing(name, suffix)) in record["files"]]
             why = "no small picture: the drawings show it" if k >= MOST_PICTURES else "it has no small picture"
             yield Card(name, self._picture(k, record, THUMBNAIL, "jpeg"), why, _counts(record), _sides(record), badges_of(record, records, areas.get(name, [])), record["notes"], links)
 
@@ -157,9 +157,14 @@ def _template():
     return Environment(loader=FileSystemLoader(WEB), autoescape=True, undefined=StrictUndefined, trim_blocks=True, keep_trailing_newline=True).get_template("page.html")
 
 
+_DRAWINGS = (("over the image", ".png"), ("its branches", ".network.png"), ("lines and skeleton", ".svg"))
+_ROWS = {
+    "holes.csv": "a row for each hole", "networks.csv": "a row for each network", "branches.csv": "a row for each branch", "widths.csv": "a row for each class of width",
+    "sides.csv": "a row for each straight side", "corners.csv": "a row for each corner", "circles.csv": "a row for each circle",
+}  # fmt: skip
 _FILES = [
     ("objects.csv", "a row for each object"), (PICTURES, "a row for each image"), (SUMMARY, "what was made of each image, and how"),
-    *((name, "further rows") for name in JOINED if name != "objects.csv"), (WORKBOOK, "all tables for Excel"),
+    *((name, _ROWS[name]) for name in JOINED if name != "objects.csv"), (WORKBOOK, "all tables for Excel"),
 ]  # fmt: skip
 
 
