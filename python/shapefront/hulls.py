@@ -27,14 +27,19 @@ def least_widths(numbers: np.ndarray, x: np.ndarray, y: np.ndarray) -> Iterator[
 def _chain(numbers: np.ndarray, t: np.ndarray, v: np.ndarray) -> Iterator[tuple[np.ndarray, np.ndarray]]:
     """For each set the points (t, v), in order of their t, at which the greatest convex function below them turns, with the first and the last."""
     while True:
-        before, after = np.roll(numbers, 1) == numbers, np.roll(numbers, -1) == numbers
-        back, ahead = np.arange(len(t)) - 1, (np.arange(len(t)) + 1) % max(len(t), 1)
-        goes = before & after & ((v - v[back]) * (t[ahead] - t[back]) >= (v[ahead] - v[back]) * (t - t[back])) if len(t) > 2 else np.zeros(len(t), bool)
+        (before_t, after_t), (before_v, after_v) = _beside(t), _beside(v)
+        is_between = np.logical_and.reduce([beside == numbers for beside in _beside(numbers)])
+        goes = is_between & ((v - before_v) * (after_t - before_t) >= (after_v - before_v) * (t - before_t))
         if not goes.any():
             break
         numbers, t, v = numbers[~goes], t[~goes], v[~goes]
     ends = np.flatnonzero(np.diff(numbers)) + 1
     yield from zip(np.split(t, ends), np.split(v, ends)) if len(t) else ()
+
+
+def _beside(values: np.ndarray) -> tuple[np.ndarray, np.ndarray]:
+    """For each value the one before it and the one after it; 0 where there is none."""
+    return np.append(0, values[:-1])[: len(values)], np.append(values[1:], 0)[: len(values)]
 
 
 def _width(corners: list[tuple[int, int]]) -> Decimal:

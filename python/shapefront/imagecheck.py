@@ -29,7 +29,7 @@ from .words import settings_told
 
 @dataclass(frozen=True)
 class ImageCheck:
-    """The originals of a run: where they lie, the folder of the run, what its `made.json` says, and its records by the names of their pictures' files."""
+    """The originals of a run: where they lie, the folder of the run, what its `made.json` says, and its records by the names of their files."""
 
     originals: Path
     folder: Path

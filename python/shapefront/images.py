@@ -50,7 +50,7 @@ def pillow_version() -> str | None:
 
 
 def load(path: Path, labels: bool = False, channel: str | None = None) -> Grey:
-    """The grey values of an image's file, of one channel where that is named; of one with a palette the numbers of its colours where labels are wanted.
+    """The grey values of an image's file, of one channel where that is named; of a palette the numbers of its colours where labels are wanted.
 
     `channel` is one of `channels.NAMES` or a number from 1 on; where the channels are pages it is the page. A Fault where it is no image,
     a stack, or one of a kind that is not known.
@@ -61,7 +61,8 @@ def load(path: Path, labels: bool = False, channel: str | None = None) -> Grey:
         return _array(path)
     frames = list(_frames(path, 2, labels, channel))
     if len(frames) > 1:
-        raise Fault(path, "it has several pages or frames", "`shapes volume` takes a stack; of a TIFF --channel 1 takes the first page; else save the one page as a PNG")
+        remedy = "`shapes volume` takes a stack; of a TIFF --channel 1 takes the first page; else save the one page as a PNG"
+        raise Fault(path, "it has several pages or frames", remedy)
     return frames[0]
 
 
