@@ -5,6 +5,7 @@
     report.parts.pieces, report.distances, report.skeleton, report.contours[0].points
     shapefront.check(image < 100, report)                 # true where every line of it holds
     shapefront.read("page.report")                        # a report that was written before
+    shapefront.table(image < 100)                         # the table of its objects, as CSV
 """
 from .arrays import RULES, Verdict, analyse, check, table
 from .faults import Fault, Missing

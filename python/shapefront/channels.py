@@ -16,7 +16,9 @@ def grey_of(name: str, bands: np.ndarray, is_colour: bool, channel: str | None) 
     """One value a pixel out of several, indexed [y, x, channel], and in words how.
 
     `is_colour` tells that the first three channels are red, green and blue. `channel` is one of `NAMES` or a number from 1 on; None
-    takes the only channel that has values, or makes colours grey. A Fault where there is no such channel, or none is named of several that are no colours.
+    takes the only channel that has values, or makes colours grey.
+
+    A Fault where there is no such channel, or none is named of several that are no colours.
     """
     count = bands.shape[2]
     if channel is not None and count == 1 and channel in NAMES:

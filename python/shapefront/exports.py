@@ -32,9 +32,11 @@ def _outline(outline: Outline, height: int, size: float) -> Iterator[str]:
     for one in [outline.circle] if outline.circle else outline.sides:
         yield from ("999", f"greatest distance {one.distance * size:.6f}")
         if isinstance(one, Circle):
-            yield from ("0", "CIRCLE", "8", "circles", *_place(("10", "20", "30"), (one.x, one.y), height, size), "40", f"{one.radius * size:.6f}")
+            middle = _place(("10", "20", "30"), (one.x, one.y), height, size)
+            yield from ("0", "CIRCLE", "8", "circles", *middle, "40", f"{one.radius * size:.6f}")
         else:
-            yield from ("0", "LINE", "8", "sides", *_place(("10", "20", "30"), one.begin, height, size), *_place(("11", "21", "31"), one.end, height, size))
+            begin, end = _place(("10", "20", "30"), one.begin, height, size), _place(("11", "21", "31"), one.end, height, size)
+            yield from ("0", "LINE", "8", "sides", *begin, *end)
 
 
 def _place(codes: tuple[str, str, str], point: Point, height: int, size: float) -> Iterator[str]:

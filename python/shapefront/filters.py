@@ -1,4 +1,4 @@
-"""What is done to an image before its threshold, and to its picture after it, where a user asks for it. All of it comes before the proved part, and is told.
+"""What is done to an image before its threshold, and to its picture after it, where a user asks for it. It comes before the proved part, and is told.
 
 Lengths are in pixels of the picture, sizes in as many of its pixels.
 """

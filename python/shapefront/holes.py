@@ -5,14 +5,14 @@ Objects that touch at a corner are one, and holes are not. So holes that touch a
 from __future__ import annotations
 
 from collections import defaultdict
-from collections.abc import Iterator, Sequence
+from collections.abc import Sequence
 from dataclasses import dataclass
 from decimal import Decimal
 
 import numpy as np
 
 from .components import numbered
-from .hulls import least_width
+from .hulls import least_widths
 from .tables import Row, dicts_of
 
 _MEASURED = ("area", "left", "top", "right", "bottom", "x", "y", "feret", "border")
@@ -49,7 +49,8 @@ class Holes:
     def rows(self, tables: Sequence[str]) -> list[Row]:
         """A row for each hole, the header first, by the program's tables of the pictures."""
         measured = [iter(dicts_of(table)) for table in tables]
-        widths = _widths(self.numbers, len(self.objects))
+        y, x = np.nonzero(self.numbers)
+        widths = least_widths(self.numbers[y, x], x, y)
         found = [COLUMNS]
         for k, (of, layer, width) in enumerate(zip(self.objects, self.layers, widths), 1):
             row = next(measured[layer])
@@ -71,13 +72,3 @@ def _layers(numbers: np.ndarray, count: int) -> list[int]:
         taken = {layers[other - 1] for other in beside[k]}
         layers.append(next(layer for layer in range(len(taken) + 1) if layer not in taken))
     return layers
-
-
-def _widths(numbers: np.ndarray, count: int) -> Iterator[Decimal]:
-    """The least Feret diameter of each hole, between the middles of pixels."""
-    y, x = np.nonzero(numbers)
-    order = np.argsort(numbers[y, x], kind="stable")
-    points = np.column_stack([x, y])[order]
-    ends = np.cumsum(np.bincount(numbers[y, x], minlength=count + 1)[1:])
-    for begin, end in zip([0, *ends[:-1].tolist()], ends.tolist()):
-        yield least_width(points[begin:end])

@@ -1,51 +1,56 @@
-"""The least width of a set of points between two parallel lines: its least Feret diameter, by the convex hull."""
+"""The least width of sets of points between two parallel lines, their least Feret diameter, by their convex hulls; of many sets at once."""
 from __future__ import annotations
 
+from collections.abc import Iterator
 from decimal import Decimal
 
 import numpy as np
 
 _THOUSANDTH = Decimal("0.001")
-_NONE = Decimal("0.000")
 
 
-def least_width(points: np.ndarray) -> Decimal:
-    """The least distance of two parallel lines that have all points (x, y), whole numbers, between them, rounded to the nearest thousandth.
+def least_widths(numbers: np.ndarray, x: np.ndarray, y: np.ndarray) -> Iterator[Decimal]:
+    """For each set of points the least distance of two parallel lines that have all of them between them, rounded to the nearest thousandth.
 
-    One of the two holds an edge of the convex hull, so it is the least over these edges of the greatest distance of a corner from the edge.
+    Points have the numbers of their sets, from 1 on without a gap, and whole coordinates. One of the two lines holds an edge of the convex
+    hull, so it is the least over these edges of the greatest distance of a corner from the edge.
     """
-    if (points == points[0]).all(0).any():
-        return _NONE
-    hull = _hull(points)
-    if len(hull) < 3:
-        return _NONE
-    edges = np.roll(hull, -1, 0) - hull
-    across = edges[:, :1] * (hull[:, 1] - hull[:, 1:]) - edges[:, 1:] * (hull[:, 0] - hull[:, :1])
-    heights, squares = across.max(1), (edges**2).sum(1)
-    k = int(np.argmin(heights**2 / squares))
-    return (int(heights[k]) / Decimal(int(squares[k])).sqrt()).quantize(_THOUSANDTH)
+    order = np.lexsort((x, y, numbers))
+    numbers, x, y = numbers[order], x[order], y[order]
+    is_first = np.append(True, (numbers[1:] != numbers[:-1]) | (y[1:] != y[:-1]))[: len(x)]
+    is_last = np.append(is_first[1:], True)[: len(x)]
+    left, right = _chain(numbers[is_first], y[is_first], x[is_first]), _chain(numbers[is_last], y[is_last], -x[is_last])
+    for (own_y, own_x), (other_y, other_x) in zip(left, right):
+        yield _width([*zip(own_x.tolist(), own_y.tolist()), *zip((-other_x[::-1]).tolist(), other_y[::-1].tolist())])
 
 
-def _hull(points: np.ndarray) -> np.ndarray:
-    """The corners of the convex hull, in order, each once, with those inside on the same hand."""
-    rows = _row_ends(points)
-    lower, upper = _chain(rows), _chain(rows[::-1])
-    return np.array(lower[:-1] + upper[:-1] or lower, np.int64)
+def _chain(numbers: np.ndarray, t: np.ndarray, v: np.ndarray) -> Iterator[tuple[np.ndarray, np.ndarray]]:
+    """For each set the points (t, v), in order of their t, at which the greatest convex function below them turns, with the first and the last."""
+    while True:
+        (before_t, after_t), (before_v, after_v) = _beside(t), _beside(v)
+        is_between = np.logical_and.reduce([beside == numbers for beside in _beside(numbers)])
+        goes = is_between & ((v - before_v) * (after_t - before_t) >= (after_v - before_v) * (t - before_t))
+        if not goes.any():
+            break
+        numbers, t, v = numbers[~goes], t[~goes], v[~goes]
+    ends = np.flatnonzero(np.diff(numbers)) + 1
+    yield from zip(np.split(t, ends), np.split(v, ends)) if len(t) else ()
 
 
-def _row_ends(points: np.ndarray) -> list[tuple[int, int]]:
-    """Of the points in each row the first and the last, row by row: all corners of the hull are among them."""
-    points = points[np.lexsort(points.T)]
-    is_first = np.append(True, points[1:, 1] != points[:-1, 1])
-    kept = is_first | np.append(is_first[1:], True)
-    return list(map(tuple, points[kept].tolist()))
+def _beside(values: np.ndarray) -> tuple[np.ndarray, np.ndarray]:
+    """For each value the one before it and the one after it; 0 where there is none."""
+    return np.append(0, values[:-1])[: len(values)], np.append(values[1:], 0)[: len(values)]
 
 
-def _chain(points: list[tuple[int, int]]) -> list[tuple[int, int]]:
-    """One side of the hull of points in order: without those at which it would turn the other way, or not at all."""
-    chain: list[tuple[int, int]] = []
-    for x, y in points:
-        while len(chain) > 1 and (chain[-1][0] - chain[-2][0]) * (y - chain[-2][1]) <= (chain[-1][1] - chain[-2][1]) * (x - chain[-2][0]):
-            chain.pop()
-        chain.append((x, y))
-    return chain
+def _width(corners: list[tuple[int, int]]) -> Decimal:
+    """The least width of a polygon with these corners, of which some may be told twice; it lies on one hand of each edge."""
+    least = (0, 1)
+    for k, (x, y) in enumerate(corners):
+        edge_x, edge_y = corners[k - 1][0] - x, corners[k - 1][1] - y
+        if square := edge_x * edge_x + edge_y * edge_y:
+            across = max([abs(edge_x * (other_y - y) - edge_y * (other_x - x)) for other_x, other_y in corners])
+            if least == (0, 1) or across * across * least[1] < least[0] * least[0] * square:
+                least = across, square
+            if not across:
+                break
+    return (least[0] / Decimal(least[1]).sqrt()).quantize(_THOUSANDTH)

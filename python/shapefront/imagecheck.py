@@ -16,7 +16,7 @@ from .batch import source_sum
 from .checking import Finding
 from .comparing import of_members, of_tables
 from .convert import Picture, picture_of, volume_of
-from .faults import Fault
+from .faults import Fault, Missing
 from .files import shown
 from .intensities import intensities
 from .layout import FURTHER, evidence
@@ -29,7 +29,7 @@ from .words import settings_told
 
 @dataclass(frozen=True)
 class ImageCheck:
-    """The originals of a run: where they lie, the folder of the run, what its `made.json` says, and its records by the names of their pictures' files."""
+    """The originals of a run: where they lie, the folder of the run, what its `made.json` says, and its records by the names of their files."""
 
     originals: Path
     folder: Path
@@ -58,6 +58,8 @@ class ImageCheck:
         settings, is_volume = settings_told(self.made["options"]), self.made["options"]["command"] == "volume"
         try:
             picture = (volume_of if is_volume else picture_of)(path, told["image"], settings)
+        except Missing:
+            raise
         except Fault as fault:
             return None if told["failure"] else f"it gives no picture any more: {fault.reason}"
         if told["failure"]:
@@ -85,7 +87,7 @@ class ImageCheck:
         try:
             data = path.read_bytes()
             own = pbm_mask(data) if picture.mask.ndim == 2 else np.frombuffer(data, np.uint8).reshape(picture.mask.shape) > 0
-            return f"{int((own != picture.mask).sum()):,} pixels of {path.name} are others than the image gives"
+            return f"pixels of {path.name} that the image does not give: {int((own != picture.mask).sum()):,}"
         except (OSError, Fault, ValueError):
             return f"{path.name} is not the picture that the image gives"
 

@@ -9,7 +9,7 @@ import numpy as np
 
 from .channels import grey_of
 from .faults import Fault, Missing
-from .tiffs import Pages, is_whole, pages
+from .tiffs import Pages, better_read, pages
 
 TIFF = (".tif", ".tiff")
 SUFFIXES = {".png", ".tif", ".tiff", ".jpg", ".jpeg", ".bmp", ".gif", ".pbm", ".pgm", ".ppm", ".pnm", ".webp", ".npy"}
@@ -50,7 +50,7 @@ def pillow_version() -> str | None:
 
 
 def load(path: Path, labels: bool = False, channel: str | None = None) -> Grey:
-    """The grey values of an image's file, of one channel where that is named; of one with a palette the numbers of its colours where labels are wanted.
+    """The grey values of an image's file, of one channel where that is named; of a palette the numbers of its colours where labels are wanted.
 
     `channel` is one of `channels.NAMES` or a number from 1 on; where the channels are pages it is the page. A Fault where it is no image,
     a stack, or one of a kind that is not known.
@@ -61,7 +61,8 @@ def load(path: Path, labels: bool = False, channel: str | None = None) -> Grey:
         return _array(path)
     frames = list(_frames(path, 2, labels, channel))
     if len(frames) > 1:
-        raise Fault(path, "it has several pages or frames", "`shapes volume` takes a stack; of a TIFF --channel 1 takes the first page; else save the one page as a PNG")
+        remedy = "`shapes volume` takes a stack; of a TIFF --channel 1 takes the first page; else save the one page as a PNG"
+        raise Fault(path, "it has several pages or frames", remedy)
     return frames[0]
 
 
@@ -100,7 +101,7 @@ def _frames(path: Path, most: int | None, labels: bool, channel: str | None) -> 
         yield from _of_tiff(path, found, most, channel)
         return
     with image:
-        if image.format == "TIFF" and not is_whole(image) and (found := pages(path)):
+        if image.format == "TIFF" and (found := better_read(path, image)):
             yield from _of_tiff(path, found, most, channel)
             return
         for k in range(min(getattr(image, "n_frames", 1), most or 1 << 30)):

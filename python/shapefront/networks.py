@@ -73,7 +73,7 @@ class Network:
 
     @property
     def pictures(self) -> dict[str, bytes]:
-        """The pictures of its parts, by their names: the skeleton, without short branches where these are left out, its branches and its junctions."""
+        """The pictures of its parts, by their names: the skeleton, that without short branches where these are left out, branches and junctions."""
         shorter = {} if self.wanted.prune is None else {PRUNED: spelled(self.own.skeleton)}
         return {SKELETON: spelled(self.whole), **shorter, BRANCHES_OF: spelled(self.own.branches), JUNCTIONS_OF: spelled(self.own.junctions)}
 

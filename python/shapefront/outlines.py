@@ -56,7 +56,11 @@ def summary(outlines: list[Outline]) -> str:
 
 def arranged(outlines: list[Outline]) -> dict[str, bytes]:
     """The tables of sides, corners and circles, by the ends of their files' names."""
-    tables = {".sides.csv": [SIDES, *_sides(outlines)], ".corners.csv": [CORNERS, *_corners(outlines)], ".circles.csv": [CIRCLES, *_circles(outlines)]}
+    tables = {
+        ".sides.csv": [SIDES, *_sides(outlines)],
+        ".corners.csv": [CORNERS, *_corners(outlines)],
+        ".circles.csv": [CIRCLES, *_circles(outlines)],
+    }
     return {suffix: spelled_rows(rows) for suffix, rows in tables.items()}
 
 

@@ -22,7 +22,7 @@ from .faults import Fault
 from .files import parsed, write
 from .layout import JOINED, MADE, PICTURES, PLACES, SUMMARY, THUMBNAIL, WORKBOOK, drawing
 from .overlay import THUMBNAIL as LONGEST
-from .tables import Row, rows_of
+from .tables import Row
 from .units import Pixel
 
 WEB = Path(__file__).parent / "web"
@@ -158,16 +158,20 @@ def _template() -> Any:
     return Environment(loader=FileSystemLoader(WEB), autoescape=True, undefined=StrictUndefined, trim_blocks=True, keep_trailing_newline=True).get_template("page.html")
 
 
+_DRAWINGS = (("over the image", ".png"), ("its branches", ".network.png"), ("lines and skeleton", ".svg"))
+_ROWS = {
+    "holes.csv": "a row for each hole", "networks.csv": "a row for each network", "branches.csv": "a row for each branch", "widths.csv": "a row for each class of width",
+    "sides.csv": "a row for each straight side", "corners.csv": "a row for each corner", "circles.csv": "a row for each circle",
+}  # fmt: skip
 _FILES = [
     ("objects.csv", "a row for each object"), (PICTURES, "a row for each image"), (SUMMARY, "what was made of each image, and how"),
-    *((name, "further rows") for name in JOINED if name != "objects.csv"), (WORKBOOK, "all tables for Excel"),
+    *((name, _ROWS[name]) for name in JOINED if name != "objects.csv"), (WORKBOOK, "all tables for Excel"),
 ]  # fmt: skip
 
 
 def _links(name: str, record: dict[str, Any]) -> list[tuple[str, str]]:
     """The drawings of an image, each with what it is called on the page."""
-    drawn = [("over the image", drawing(name, ".png")), ("lines and skeleton", drawing(name, ".svg")), ("network", drawing(name, ".network.png"))]
-    return [(told, target) for told, target in drawn if target in record["files"]]
+    return [(told, target) for told, suffix in _DRAWINGS if (target := drawing(name, suffix)) in record["files"]]
 
 
 def _counts(record: dict[str, Any]) -> str:

@@ -27,7 +27,8 @@ _UNFIT = "the reports and tables of its parts do not fit together; measure again
 
 
 class Made(Protocol):
-    """What one kind of work gives of a picture: pictures of parts by their names, the rule by which these are thinned, and tables by what their names end in."""
+    """What one kind of work gives of a picture: pictures of parts by their names, the rule by which these are thinned, and tables by what their
+    names end in."""
 
     rule: str
     suffixes: tuple[str, ...]

@@ -25,7 +25,7 @@ class Wanted:
 
     @classmethod
     def told(cls, options: dict[str, Any], fit: int) -> Wanted:
-        """What the options of a run tell, where a pixel of the picture is `fit` of the image's wide. Lengths there are in the unit, if there is one."""
+        """What the options of a run tell, where a pixel of the picture is `fit` of the image's wide. Lengths are told in the unit, if there is one."""
         pixel = Pixel.told(options)
         scale = float(pixel.size * fit) if pixel else 1.0
         prune, classes = options["prune"], options["classes"]
@@ -48,7 +48,8 @@ class Wanted:
 
 @dataclass(frozen=True)
 class Plan:
-    """Where the files go, the rule of the thinning, whether reports stay plain text, the masks that are wanted, and the options that tell what else."""
+    """Where the files go, the rule of the thinning, whether reports stay plain text, the masks that are wanted, and the options that tell
+    what else."""
 
     folder: Path
     rule: str

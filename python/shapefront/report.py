@@ -276,7 +276,7 @@ def contours_of(report: Analysis) -> Iterator[np.ndarray]:
 
 
 def contours_in(report: str | Path | bytes) -> tuple[tuple[int, ...], Contours]:
-    """The sides and the contours of a flat picture's report, given as for `read`, by its lines of contours alone: far faster than `read` of a long one.
+    """The sides and the contours of a flat picture's report, given as for `read`, by its lines of contours alone: of a long one far faster.
 
     A Fault where it is none, or these lines do not fit together.
     """

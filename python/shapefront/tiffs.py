@@ -31,12 +31,24 @@ class Pages:
     notes: tuple[str, ...]
 
 
-def is_whole(image: Any) -> bool:
-    """Whether Pillow keeps all of the TIFF that it opened: one page, and one channel or several of 8 bits that lie pixel by pixel."""
+def better_read(path: Path, image: Any) -> Pages | None:
+    """The pages of a TIFF that Pillow opened, where tifffile reads it better: of several pages, or of which Pillow would keep a part.
+
+    None where Pillow reads it whole, as it does pages one by one that tifffile cannot. Missing or a Fault where neither does.
+    """
     tags = image.tag_v2
-    if getattr(image, "n_frames", 1) > 1:
-        return False
-    return tags.get(_SAMPLES, 1) == 1 or max(tags.get(_BITS, (1,))) <= 8 and tags.get(_PLANES, 1) == 1
+    is_whole = tags.get(_SAMPLES, 1) == 1 or max(tags.get(_BITS, (1,))) <= 8 and tags.get(_PLANES, 1) == 1
+    if is_whole and getattr(image, "n_frames", 1) == 1:
+        return None
+    try:
+        found = pages(path)
+    except Fault:
+        if not is_whole:
+            raise
+        return None
+    if found is None and not is_whole:
+        raise Fault(path, "a TIFF of which Pillow would read a part, and tifffile nothing", "open it in another program and save it as PNG or TIFF")
+    return found
 
 
 def pages(path: Path) -> Pages | None:

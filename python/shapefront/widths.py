@@ -61,7 +61,8 @@ class Widths:
 
 
 def _steps(mask: np.ndarray) -> np.ndarray:
-    """For each point half of the lengths of the steps to its neighbours, 1 along a row or a column, and the root of 2 aslant where there is no way round."""
+    """For each point half of the lengths of the steps to its neighbours: 1 along a row or a column, and the root of 2 aslant, where there is
+    no way round."""
     half = np.zeros(mask.shape)
     for one, other, step in (
         (mask[:, :-1], mask[:, 1:], (0, 1)),

@@ -80,9 +80,17 @@ def _conversion(parser: argparse.ArgumentParser) -> None:
         help="the same, all labels as one picture: those that touch are one object",
     )
     parser.add_argument(
-        "--channel", type=_channel, metavar="C", help="which channel of an image: red, green, blue or alpha, or its number from 1 on; of a TIFF whose pages are channels its page"
+        "--channel",
+        type=_channel,
+        metavar="C",
+        help="which channel of an image: red, green, blue or alpha, or its number from 1 on; of a TIFF whose pages are channels its page",
     )
-    parser.add_argument("--background", type=_size, metavar="N", help="take the background off before the threshold: the Gaussian mean of N pixels (standard deviation)")
+    parser.add_argument(
+        "--background",
+        type=_size,
+        metavar="N",
+        help="take the background off before the threshold: the Gaussian mean of N pixels (standard deviation)",
+    )
     parser.add_argument("--smooth", type=_size, metavar="N", help="smooth before the threshold, by a Gaussian of N pixels (standard deviation)")
     parser.add_argument("--fill-holes", action="store_true", help="fill the holes of objects")
     parser.add_argument("--exclude-border", action="store_true", help="leave out objects that touch the border of the image")
@@ -107,6 +115,31 @@ def _making(parser: argparse.ArgumentParser) -> None:
         "--masks", action="append", choices=MASKS, default=[], help="also write a picture of this; may be given again for another"
     )
     parser.add_argument("-o", dest="folder", type=Path, default=Path("measured"), metavar="FOLDER", help="where all is written (measured)")
+
+
+def _further(measure: argparse.ArgumentParser) -> None:
+    """The words of `shapes measure` alone: what is made of a picture beside its table."""
+    measure.add_argument(
+        "--network",
+        action="store_true",
+        help="also measure each skeleton as a network: networks.csv, branches.csv with a row for each branch, and widths.csv",
+    )
+    measure.add_argument(
+        "--prune",
+        type=_size,
+        metavar="L",
+        help="with --network, leave out branches shorter than L: in the unit of the pixel's size if that is given, else in pixels",
+    )
+    measure.add_argument(
+        "--classes",
+        type=_classes,
+        metavar="W,W,..",
+        help="with --network, the widths between the classes of widths.csv, in the same unit (else some 2 pixels each)",
+    )
+    measure.add_argument(
+        "--sides", action="store_true", help="also find straight sides, corners and circles: sides.csv, corners.csv, circles.csv"
+    )
+    measure.add_argument("--long", type=_count, default=20, metavar="STEPS", help="a straight side has at least so many steps (20)")
 
 
 def _checking(words: argparse._SubParsersAction) -> argparse.ArgumentParser:
@@ -144,19 +177,7 @@ def parser() -> argparse.ArgumentParser:
     words = top.add_subparsers(dest="command", required=True, metavar="COMMAND")
     measure = words.add_parser("measure", help="images to tables, drawings and reports", epilog=_STATUS)
     measure.add_argument("images", nargs="+", type=Path, metavar="IMAGE", help="an image, or a folder of images")
-    measure.add_argument(
-        "--network",
-        action="store_true",
-        help="also measure each skeleton as a network: networks.csv, branches.csv with a row for each branch, and widths.csv",
-    )
-    measure.add_argument(
-        "--prune", type=_size, metavar="L", help="with --network, leave out branches shorter than L: in the unit of the pixel's size if that is given, else in pixels"
-    )
-    measure.add_argument(
-        "--classes", type=_classes, metavar="W,W,..", help="with --network, the widths between the classes of widths.csv, in the same unit (else some 2 pixels each)"
-    )
-    measure.add_argument("--sides", action="store_true", help="also find straight sides, corners and circles: sides.csv, corners.csv, circles.csv")
-    measure.add_argument("--long", type=_count, default=20, metavar="STEPS", help="a straight side has at least so many steps (20)")
+    _further(measure)
     volume = words.add_parser("volume", help="the same for volumes", epilog=_STATUS)
     volume.add_argument(
         "images", nargs="+", type=Path, metavar="VOLUME", help="a folder of slices, a TIFF of several pages, or a .npy file [z, y, x]"

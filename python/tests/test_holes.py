@@ -11,7 +11,7 @@ from .common import InFolder, installed, needs_pillow, needs_shape, random_mask
 from shapefront.components import numbered
 from shapefront.filters import holes_of
 from shapefront.holes import Holes
-from shapefront.hulls import least_width
+from shapefront.hulls import least_widths
 
 if installed("PIL"):
     from PIL import Image
@@ -31,11 +31,15 @@ def picture(seed):
 class Widths(unittest.TestCase):
     def test_it_is_the_least_over_all_directions_between_two_points(self):
         draw = np.random.default_rng(4)
-        for _ in range(200):
-            points = np.unique(draw.integers(0, draw.integers(2, 15), (draw.integers(1, 20), 2)), axis=0)
+        sets = [np.unique(draw.integers(0, draw.integers(2, 15), (draw.integers(1, 20), 2)), axis=0) for _ in range(200)]
+        numbers, places = np.repeat(np.arange(1, 201), list(map(len, sets))), draw.permutation(sum(map(len, sets)))
+        x, y = np.concatenate(sets).T
+        found = list(least_widths(numbers[places], x[places], y[places]))
+        self.assertEqual(len(found), 200)
+        for points, width in zip(sets, found):
             pairs = [b - a for a, b in itertools.permutations(points, 2)]
             widths = [np.ptp(points @ [-b, a]) / np.hypot(a, b) for a, b in pairs]
-            self.assertLess(abs(float(least_width(points)) - min(widths, default=0)), 0.00051)
+            self.assertLess(abs(float(width) - min(widths, default=0)), 0.00051)
 
     def test_holes_of_pictures_are_told_apart(self):
         layers = 0

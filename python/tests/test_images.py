@@ -112,6 +112,13 @@ class Channels(InFolder):
         np.testing.assert_array_equal(grey.values, self.colours[0])
         self.assertEqual(grey.notes, ("1 other image in its file, of another size or kind: not used",))
 
+    def test_a_stack_that_tifffile_cannot_unpack(self):
+        pages = [Image.fromarray((own >> 8).astype(np.uint8)) for own in self.colours]
+        pages[0].save("packed.tif", save_all=True, append_images=pages[1:], compression="tiff_lzw")
+        np.testing.assert_array_equal(volume(Path("packed.tif")).values, self.colours >> 8)
+        with self.assertRaisesRegex(Fault, "it has several pages or frames"):
+            load(Path("packed.tif"))
+
     def test_a_stack_in_colours(self):
         stack = np.stack([np.moveaxis(self.colours, 0, 2)] * 4)
         tifffile.imwrite("stack.tif", stack, photometric="rgb")
@@ -137,6 +144,7 @@ class Channels(InFolder):
     def test_without_tifffile_the_package_is_named(self):
         tifffile.imwrite("planes.tif", self.colours, photometric="rgb", planarconfig="separate")
         tifffile.imwrite("one.tif", self.colours[0])
+        tifffile.imwrite("stack.tif", self.colours, photometric="minisblack")
         own = builtins.__import__
 
         def refuse(name, *rest):
@@ -148,6 +156,7 @@ class Channels(InFolder):
             with self.assertRaisesRegex(Missing, "tifffile: this Python package is not installed; `apt install python3-tifffile`"):
                 load(Path("planes.tif"))
             np.testing.assert_array_equal(load(Path("one.tif")).values, self.colours[0])
+            np.testing.assert_array_equal(volume(Path("stack.tif")).values, self.colours)
 
     @needs_shape
     def test_a_planar_image_is_measured_as_what_it_shows(self):

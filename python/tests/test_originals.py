@@ -123,7 +123,7 @@ class Originals(InFolder):
         sealed_again(Path("out"), "evidence/two.png.pbm", lambda data: mask[:-3] + bytes([mask[-3] ^ 4]) + mask[-2:])
         sum_ = sum_of_bytes(Path("out/evidence/two.png.pbm").read_bytes())
         sealed_again(Path("out"), "evidence/two.png.json", lambda record: record.update(picture=sum_))
-        self.refused("in/two.png: no, 1 pixels of two.png.pbm are others than the image gives")
+        self.refused("in/two.png: no, pixels of two.png.pbm that the image does not give: 1")
 
     def test_intensities_that_are_not_those_of_the_image(self):
         name = "evidence/two.png.intensities.csv"
