@@ -19,7 +19,7 @@ from .files import encoded, make_folder, spelled_json, sum_of_bytes, write, writ
 from .images import pillow_version
 from .layout import FURTHER, JOINED, MADE, PAGE, PICTURES, SUMMARY, WORKBOOK, evidence, record_of_key
 from .making import Record
-from .page import Page, Shown, jinja_version
+from .page import Page, Shown, jinja_version, page_version
 from .pictures import told_sides
 from .programs import sums
 from .seals import sealed
@@ -104,8 +104,8 @@ def originals(folder: Path, made: dict[str, Any]) -> Iterator[str]:
 
 
 def versions() -> dict[str, Any]:
-    """What made a run: the versions of this package and of those that it stands on, and the sum of the program."""
-    packages = {"Python": platform.python_version(), "numpy": np.__version__, "Pillow": pillow_version(), "Jinja2": jinja_version(), "openpyxl": openpyxl_version()}
+    """What made a run: the versions of this package, of those that it stands on and of the page, and the sum of the program."""
+    packages = {"Python": platform.python_version(), "numpy": np.__version__, "Pillow": pillow_version(), "Jinja2": jinja_version(), "openpyxl": openpyxl_version(), "page": page_version()}
     return {"shapefront": __version__, "versions": packages, "programs": sums()}
 
 

@@ -19,7 +19,7 @@ from typing import Any
 from .badges import Badge, badges_of
 from .columns import columns_of
 from .faults import Fault
-from .files import parsed, write
+from .files import parsed, sum_of_bytes, write
 from .layout import JOINED, MADE, PICTURES, PLACES, SUMMARY, THUMBNAIL, WORKBOOK, drawing
 from .overlay import THUMBNAIL as LONGEST
 from .tables import Row
@@ -48,6 +48,13 @@ def jinja_version() -> str | None:
     except ImportError:
         return None
     return jinja2.__version__
+
+
+@lru_cache
+def page_version() -> str:
+    """The sum of all that shapes a page: its templates, and the modules that say what stands in it."""
+    sources = [*sorted(WEB.iterdir()), *(WEB.parent / name for name in ("page.py", "columns.py", "badges.py"))]
+    return sum_of_bytes(b"".join(path.read_bytes() for path in sources if path.is_file()))
 
 
 @dataclass(frozen=True)

@@ -25,7 +25,7 @@ from .inventory import Inventory
 from .labelcheck import Labels
 from .layout import EVIDENCE, HOLES, MADE, PAGE, SUMMARY, WORKBOOK, drawing, evidence, part, record_of_key
 from .making import Record
-from .page import jinja_version, tell, without_verdict
+from .page import jinja_version, page_version, tell, without_verdict
 from .parts import Again, names_in
 from .plan import Wanted
 from .programs import sums
@@ -237,8 +237,9 @@ class RunCheck:
         yield self.folder / MADE, Finding(shown(self.folder / MADE), why is None, why or "")
 
     def _untold(self) -> list[str]:
-        """The files of all that are compared by their sums alone, as a package that makes them is not here, or another version of it."""
-        is_there = {PAGE: bool(jinja_version()), WORKBOOK: openpyxl_version() == self.made["versions"].get("openpyxl")}
+        """The files of all that are compared by their sums alone, as another version made them, or what makes them is not installed."""
+        versions = self.made["versions"]
+        is_there = {PAGE: bool(jinja_version()) and page_version() == versions.get("page"), WORKBOOK: openpyxl_version() == versions.get("openpyxl")}
         return [name for name, here in is_there.items() if name in self.made["files"] and not here]
 
     def _shown(self, record: Record, suffix: str) -> bytes | None:
@@ -278,7 +279,7 @@ class RunCheck:
         failed = sum(image["failure"] is not None for image in self.made["images"])
         told = f" ({failed} failed when {'they were' if failed > 1 else 'it was'} measured)" if failed else ""
         untold = _UNTOLD if self.asked.originals else _BY_ORIGINALS + _UNTOLD
-        by_sums = f"; by sums alone, as Jinja2 or openpyxl is not here as it was: {', '.join(names)}" if (names := self._untold()) else ""
+        by_sums = f"; by sums alone, as another version made them, or what makes them is not installed: {', '.join(names)}" if (names := self._untold()) else ""
         other = "" if self.made["programs"] == sums() else "; another build of the program made it, by the sum in made.json"
         return f"checked {good} of {len(images)} images{told}, {self.rows:,} rows, {files:,} files; not checked: {untold}{by_sums}{other}"
 

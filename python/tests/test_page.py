@@ -289,6 +289,14 @@ class Files(InFolder):
         more = told.replace(b'"holds":true', b'"holds":true,"more":1')
         self.assertEqual(without_verdict(more), more)
 
+    def test_a_page_of_another_version_is_compared_by_its_sum(self):
+        with unittest.mock.patch("shapefront.runcheck.page_version", lambda: "other"):
+            status, out, _ = self.shapes("check", "out")
+            self.assertEqual(status, 0, out)
+            self.assertIn("by sums alone, as another version made them, or what makes them is not installed: index.html", out[-1])
+            self.page.write_bytes(self.page.read_bytes().replace(b'"area"', b'"aera"', 1))
+            self.refused()
+
     def test_without_jinja(self):
         with unittest.mock.patch.dict(sys.modules, {"jinja2": None}):
             status, _, error = self.shapes("measure", *self.images, "-o", "plain")
@@ -296,7 +304,7 @@ class Files(InFolder):
             self.assertFalse(Path("plain/index.html").exists())
             status, out, _ = self.shapes("check", "out")
             self.assertEqual(status, 0, out)
-            self.assertIn("by sums alone, as Jinja2 or openpyxl is not here as it was: index.html", out[-1])
+            self.assertIn("by sums alone, as another version made them, or what makes them is not installed: index.html", out[-1])
         self.assertEqual(self.shapes("check", "plain")[0], 0)
 
 

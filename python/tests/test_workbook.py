@@ -86,7 +86,7 @@ class OfARun(InFolder):
         with unittest.mock.patch.dict(sys.modules, {"openpyxl": None}):
             status, out, _ = self.shapes("check", "out")
             self.assertEqual(status, 0, out)
-            self.assertIn("by sums alone, as Jinja2 or openpyxl is not here as it was: objects.xlsx", out[-1])
+            self.assertIn("by sums alone, as another version made them, or what makes them is not installed: objects.xlsx", out[-1])
             self.assertEqual(self.shapes("measure", "µm.png", "-o", "out")[0], 0)
         self.assertFalse(Path("out/objects.xlsx").exists())
         self.assertNotIn("objects.xlsx", json.loads(Path("out", MADE).read_text())["files"])
