@@ -38,7 +38,8 @@ def _other_side(record: dict[str, Any], records: Sequence[dict[str, Any]]) -> Ba
     if not _is_chosen(record) or len(sides) < 2 or sides[record["cut"]["objects"]] > sum(sides.values()) / 2:
         return None
     own = record["cut"]["objects"]
-    return Badge(f"objects {own}", f"its objects were taken to be {own}, in {sides.total() - sides[own]} other images they are not; give --dark or --light where all are alike")
+    others = sides.total() - sides[own]
+    return Badge(f"objects {own}", f"its objects were taken to be {own}, in {others} other images they are not; give --dark or --light where all are alike")
 
 
 def _is_chosen(record: dict[str, Any]) -> bool:

@@ -8,6 +8,7 @@ import io
 from collections.abc import Iterable, Iterator
 from dataclasses import dataclass
 from functools import lru_cache
+from typing import Any
 
 import numpy as np
 
@@ -19,7 +20,8 @@ LONGEST, WANTED, THUMBNAIL = 4096, 1200, 512
 OUTER, INNER, INK = (255, 64, 32), (0, 153, 255), (120, 0, 160)
 # How wide the white rim of a number is.
 _RIM = 2
-# A drawing over a grey image has a palette: greys, shades from the ink of numbers to white, and the colours of borders. So it is a third as large, and written in a third of the time.
+# A drawing over a grey image has a palette: greys, shades from the ink of numbers to white, and the colours of borders.
+# So it is a third as large, and written in a third of the time.
 _GREYS, _SHADES = 232, 16
 _PALETTE = (
     *(round(255 * k / (_GREYS - 1)) for k in range(_GREYS) for _ in range(3)),
@@ -116,7 +118,7 @@ class Overlay:
         height, width = self.image.shape[:2]
         return max(1, round(width * scale)), max(1, round(height * scale))
 
-    def _sheet(self, scale: float, way: int):
+    def _sheet(self, scale: float, way: int) -> Any:
         """The image at a scale: in colours, or with the palette where it is grey."""
         image_of, _ = pillow()
         sheet = image_of.fromarray(shown(self.image)).resize(self._sides(scale), way)
@@ -138,7 +140,7 @@ class Overlay:
                 end += 2 * len(border.points)
                 yield flat[end - 2 * len(border.points) : end]
 
-    def _draw_borders(self, sheet, scale: float, width: int) -> None:
+    def _draw_borders(self, sheet: Any, scale: float, width: int) -> None:
         pen = _pen(sheet)
         for border, points in zip(self.borders, self._lines(scale)):
             colour = INNER if border.is_hole else OUTER
@@ -147,7 +149,7 @@ class Overlay:
             else:
                 pen.line(points + points[:2], colour, width)
 
-    def _draw_numbers(self, sheet, scale: float) -> None:
+    def _draw_numbers(self, sheet: Any, scale: float) -> None:
         """The numbers, those of the greatest objects first, beside an object that is smaller; one that would lie over another is left out."""
         size = max(11, max(sheet.size) // 90)
         taken = np.zeros((sheet.size[1] // 4 + 1, sheet.size[0] // 4 + 1), bool)
@@ -201,7 +203,7 @@ def shown(image: np.ndarray) -> np.ndarray:
     return (np.nan_to_num(np.clip((values - low) / ((high - low) or 1), 0, 1)) * 255).astype(np.uint8)
 
 
-def _fill(pen, points: list[float], number: int, own: int) -> None:
+def _fill(pen: Any, points: list[float], number: int, own: int) -> None:
     """Fills a border with a number, and draws it with that of its object."""
     if len(points) > 4:
         pen.polygon(points, number, own)
@@ -211,7 +213,7 @@ def _fill(pen, points: list[float], number: int, own: int) -> None:
 
 
 @lru_cache
-def _sign(text: str, size: int, mode: str):
+def _sign(text: str, size: int, mode: str) -> tuple[Any, Any]:
     """A sign of a number on a rim of white, as a small picture in a mode of colours, and its shape: it is drawn once and then copied, which is far quicker."""
     image_of, _ = pillow()
     font = _font(size)
@@ -229,7 +231,7 @@ def _sign(text: str, size: int, mode: str):
 
 
 @lru_cache
-def _font(size: int):
+def _font(size: int) -> Any:
     """A font of that size where the system has the common one, else that of Pillow."""
     from PIL import ImageFont
 
@@ -239,13 +241,13 @@ def _font(size: int):
         return ImageFont.load_default()
 
 
-def _pen(sheet):
+def _pen(sheet: Any) -> Any:
     from PIL import ImageDraw
 
     return ImageDraw.Draw(sheet)
 
 
-def _saved(sheet, kind: str, **options: int) -> bytes:
+def _saved(sheet: Any, kind: str, **options: int) -> bytes:
     out = io.BytesIO()
     sheet.save(out, kind, **options)
     return out.getvalue()

@@ -22,7 +22,7 @@ from .faults import Fault
 from .files import parsed, write
 from .layout import JOINED, MADE, PICTURES, PLACES, SUMMARY, THUMBNAIL, WORKBOOK, drawing
 from .overlay import THUMBNAIL as LONGEST
-from .tables import Row, rows_of
+from .tables import Row
 from .units import Pixel
 
 WEB = Path(__file__).parent / "web"
@@ -36,7 +36,7 @@ _VERDICT = re.compile(rb'(?<=<script type="application/json" id="verdict">).*?(?
 _LIMITS = (
     "The original images are not in the folder. Nobody can tell from it whether a picture was made of the image of this name, by this threshold.",
     "Nor does it tell how wide a pixel is, or why an image failed. shapes check --originals compares the images themselves.",
-    "Sums are no signature: who makes a whole folder anew has a consistent folder of another measurement.",
+    "Sums are no signature: who makes a whole folder anew has a consistent folder of another measurement, and may write a verdict, too. Run the check yourself.",
     "Thumbnails, drawings over the image and intensities come from the original image; the proved program does not see it.",
 )
 
@@ -93,7 +93,8 @@ class Page:
 
     def _said(self) -> str:
         count = sum(record is not None for _, record, _ in self.images)
-        return f"Each of the {count:,} reports was checked by the proved program when it was made." if count > 1 else "The report was checked by the proved program when it was made."
+        which = f"Each of the {count:,} reports" if count > 1 else "The report"
+        return f"{which} was checked by the proved program when it was made."
 
     def _left_out(self) -> Iterator[str]:
         if len(self.rows) - 1 > MOST_ROWS:
@@ -114,9 +115,9 @@ class Page:
             if record is None:
                 yield Card(name, None, "not measured", "", "", [Badge("failed", failure or "")], [failure or ""], [])
                 continue
-            links = [(told, target) for told, suffix in _DRAWINGS if (target := drawing(name, suffix)) in record["files"]]
             why = "no small picture: the drawings show it" if k >= MOST_PICTURES else "it has no small picture"
-            yield Card(name, self._picture(k, record, THUMBNAIL, "jpeg"), why, _counts(record), _sides(record), badges_of(record, records, areas.get(name, [])), record["notes"], links)
+            badges = badges_of(record, records, areas.get(name, []))
+            yield Card(name, self._picture(k, record, THUMBNAIL, "jpeg"), why, _counts(record), _sides(record), badges, record["notes"], _links(name, record))
 
     def _areas(self) -> dict[str, list[int]]:
         """The areas of the objects of each image."""
@@ -150,7 +151,7 @@ class Page:
 
 
 @lru_cache
-def _template():
+def _template() -> Any:
     """The template of the page. Missing where Jinja2 is not installed; see `jinja_version`."""
     from jinja2 import Environment, FileSystemLoader, StrictUndefined
 
@@ -168,6 +169,11 @@ _FILES = [
 ]  # fmt: skip
 
 
+def _links(name: str, record: dict[str, Any]) -> list[tuple[str, str]]:
+    """The drawings of an image, each with what it is called on the page."""
+    return [(told, target) for told, suffix in _DRAWINGS if (target := drawing(name, suffix)) in record["files"]]
+
+
 def _counts(record: dict[str, Any]) -> str:
     """How many objects, or labels, and holes an image has."""
     _, pieces, background = record["parts"]
@@ -183,7 +189,7 @@ def _count(count: int, thing: str) -> str:
     return f"{count:,} {thing}{'' if count == 1 else 's'}"
 
 
-def _safe(value: Any):
+def _safe(value: Any) -> Any:
     """A value as JSON that stands in a script: without a mark that could end it."""
     from markupsafe import Markup
 
@@ -191,7 +197,7 @@ def _safe(value: Any):
     return Markup(text.replace("&", "\\u0026").replace("<", "\\u003c").replace(">", "\\u003e"))
 
 
-def _safe_text(name: str):
+def _safe_text(name: str) -> Any:
     from markupsafe import Markup
 
     return Markup((WEB / name).read_text(encoding="utf-8"))

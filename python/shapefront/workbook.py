@@ -5,6 +5,7 @@ import io
 import zipfile
 from collections.abc import Iterator
 from datetime import datetime
+from typing import Any
 
 from .tables import Row, rows_of, text_of
 
@@ -44,7 +45,7 @@ def workbook(tables: dict[str, bytes]) -> bytes | None:
     return _without_times(out)
 
 
-def _cells(sheet, row: Row) -> Iterator[object]:
+def _cells(sheet: Any, row: Row) -> Iterator[object]:
     """The cells of a row: whole and decimal numbers, and texts; a name that begins with `=` is no formula."""
     from openpyxl.cell import WriteOnlyCell
     from openpyxl.cell.cell import ILLEGAL_CHARACTERS_RE

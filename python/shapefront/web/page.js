@@ -125,8 +125,10 @@ function head() {
 function sort(column) {
   state.descending = state.sort === column ? !state.descending : !column.isImage && column.isMeasure;
   state.sort = column;
+  state.rows = filtered();
   at("scroll").scrollTop = 0;
-  update();
+  head();
+  body();
 }
 
 function body() {
