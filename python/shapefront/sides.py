@@ -1,8 +1,7 @@
-"""Straight sides and corners of a contour, off the digital lines of its segments.
+"""Straight sides and corners of a contour, off its segments.
 
-A side is a segment of at least so many steps, or several one behind the other on one line. Its line is known far better than to a pixel: moved
-outwards by the half pixel that contours lie inside, sides meet in corners that are right within some hundredths of a pixel (docs/MEASURING.md has
-the error).
+A side is a segment of at least so many steps, or several one behind the other on one line: that of least squares. It is known far better than to a
+pixel: moved outwards by the half pixel that contours lie inside, sides meet in corners that are right within some hundredths of a pixel.
 """
 from __future__ import annotations
 
@@ -16,6 +15,7 @@ from .report import Contour
 
 Point = tuple[float, float]
 Line = tuple[float, float, float]
+
 
 @dataclass(frozen=True)
 class Side:
@@ -39,12 +39,11 @@ class Side:
 
 @dataclass(frozen=True)
 class _Stretch:
-    """A stretch of a contour, from one place to another, counted on round it; and the row of its segment where it is one alone."""
+    """A stretch of a contour, from one place to another, counted on round it, and its direction."""
 
     begin: int
     end: int
     degrees: float
-    row: tuple[int, ...] | None
 
 
 def sides_of(contour: Contour, steps: int = 20, turn: float = 20.0) -> list[Side]:
@@ -62,16 +61,8 @@ def sides_of(contour: Contour, steps: int = 20, turn: float = 20.0) -> list[Side
 
 def _long(contour: Contour, steps: int) -> list[_Stretch]:
     """The segments of at least so many steps."""
-    rows = (row for row in contour.segments.rows.tolist() if row[1] - row[0] >= steps)
-    return [_Stretch(row[0], row[1], _direction(contour, row)[1], tuple(row)) for row in rows]
-
-
-def _direction(contour: Contour, row: list[int] | tuple[int, ...]) -> tuple[int, float]:
-    """Of a segment's line whether the object lies where `a x + b y` grows (1) or not (-1), and its direction in degrees."""
-    begin, end, _, a, b, _ = row
-    first, last = contour.points[begin], contour.points[end % len(contour.points)]
-    way = 1 if b * (last[0] - first[0]) - a * (last[1] - first[1]) > 0 else -1
-    return way, math.degrees(math.atan2(-way * a, way * b))
+    rows = (row for row in contour.segments.rows[:, :2].tolist() if row[1] - row[0] >= steps)
+    return [_Stretch(begin, end, _fitted(contour, begin, end)[2]) for begin, end in rows]
 
 
 def _merged(contour: Contour, found: list[_Stretch], turn: float) -> list[_Stretch]:
@@ -108,7 +99,7 @@ def _one(contour: Contour, begin: int, end: int) -> _Stretch | None:
     if end - begin >= len(contour.points) / 2:
         return None
     _, distances, degrees = _fitted(contour, begin, end)
-    return _Stretch(begin, end, degrees, None) if fits(distances) else None
+    return _Stretch(begin, end, degrees) if fits(distances) else None
 
 
 def _turn(degrees: float, other: float) -> float:
@@ -117,24 +108,16 @@ def _turn(degrees: float, other: float) -> float:
 
 
 def _side(contour: Contour, stretch: _Stretch) -> Side:
-    """A stretch as a side, not yet cut by the next ones."""
-    points = contour.points[np.arange(stretch.begin, stretch.end + 1) % len(contour.points)]
-    line, distances, degrees = _of_segment(contour, stretch.row, points) if stretch.row else _fitted(contour, stretch.begin, stretch.end)
-    return Side(_onto(points[0], line), _onto(points[-1], line), line, degrees, float(distances.max()))
-
-
-def _of_segment(contour: Contour, row: tuple[int, ...], points: np.ndarray) -> tuple[Line, np.ndarray, float]:
-    """The line of a segment's own digital line, moved outwards, the distances of its points from the line in their middle, and its direction."""
-    _, _, axis, a, b, mu = row
-    way, degrees = _direction(contour, row)
-    main = (a, b)[axis]
-    middle = mu + (main - 1) / 2
-    distances = np.abs(points @ (a, b) - middle) / math.hypot(a, b)
-    return (a, b, mu - 0.5 + (0 if way > 0 else main)), distances, degrees
+    """A stretch as a side, not yet cut by the next ones: on the line of its points, but for two at either end, which may go round a corner."""
+    ends = contour.points[stretch.begin % len(contour.points)], contour.points[stretch.end % len(contour.points)]
+    left_out = min(2, (stretch.end - stretch.begin) // 4)
+    line, distances, degrees = _fitted(contour, stretch.begin + left_out, stretch.end - left_out)
+    return Side(_onto(ends[0], line), _onto(ends[1], line), line, degrees, float(distances.max()))
 
 
 def _fitted(contour: Contour, begin: int, end: int) -> tuple[Line, np.ndarray, float]:
-    """The same for the line of least squares through the points of a stretch."""
+    """The line of least squares through the points between two places, moved outwards by half of a pixel; the distances of the points from it
+    before that, and its direction."""
     points = contour.points[np.arange(begin, end + 1) % len(contour.points)].astype(float)
     middle = points.mean(0)
     _, axes = np.linalg.eigh((points - middle).T @ (points - middle))
@@ -153,10 +136,10 @@ def _onto(point: np.ndarray, line: Line) -> Point:
 
 
 def _corner(one: Side, other: Side, turn: float, reach: float) -> Point | None:
-    """Where two sides meet, and None where the second turns too little for a corner, or that is too far from their ends."""
+    """Where two sides meet, and None where the second turns too little for a corner or right back, or that is too far from their ends."""
     (a, b, c), (d, e, f) = one.line, other.line
-    if _turn(one.degrees, other.degrees) <= turn:
-        return None
     across = a * e - d * b
+    if not across or _turn(one.degrees, other.degrees) <= turn:
+        return None
     corner = (c * e - f * b) / across, (a * f - d * c) / across
     return corner if max(math.dist(corner, one.end), math.dist(corner, other.begin)) <= reach else None

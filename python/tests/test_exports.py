@@ -125,6 +125,11 @@ class KnownShapes(InFolder):
         radii = sorted(float(value) for code, value in pairs if code == "40")
         np.testing.assert_allclose(radii, [0.7 + 0.35 * k for k in range(6)], atol=0.015)
 
+    def test_sides_that_go_back_meet_in_no_corner(self):
+        bar = np.pad(np.ones((5, 60), bool), 4)
+        sides = [side for contour in analyse(bar).contours for side in sides_of(contour)]
+        self.assertEqual([(side.is_corner, round(side.length, 3)) for side in sides], [(False, 59.0), (False, 59.0)])
+
     def test_what_is_no_circle(self):
         for mask in (np.pad(np.ones((9, 9), bool), 3), np.pad(np.ones((30, 34), bool), 3), random_mask(2, 30, 40)):
             self.assertEqual([circle_of(contour) for contour in analyse(mask).contours], [None] * len(analyse(mask).contours))
