@@ -4,7 +4,6 @@ from __future__ import annotations
 import re
 import tempfile
 import zipfile
-import zlib
 from collections.abc import Iterator
 from contextlib import contextmanager
 from pathlib import Path
@@ -33,6 +32,8 @@ def unpacked(path: Path) -> Iterator[Path]:
                     if not _MEMBER.fullmatch(name):
                         raise Fault(shown(path), f"it holds `{name}`, which nothing made")
                     Path(folder, name).write_bytes(archive.read(name))
-        except (OSError, zipfile.BadZipFile, zlib.error, EOFError, NotImplementedError, RuntimeError) as error:
+        except Fault:
+            raise
+        except Exception as error:  # noqa: BLE001  zipfile raises errors of many kinds on files that were changed
             raise Fault(shown(path), f"cannot be unpacked ({error})", "is it a whole file?") from error
         yield Path(folder)

@@ -45,6 +45,8 @@ class Workbooks(unittest.TestCase):
         self.assertTrue(is_same(data, data))
         self.assertFalse(is_same(data, workbook({"objects.csv": b"image,area,x\na,1,1\n"})))
         self.assertFalse(is_same(data, b"PK"))
+        for place in range(0, len(data), 7):
+            is_same(data[:place] + bytes([data[place] ^ 9]) + data[place + 1 :], data)
         with unittest.mock.patch("shapefront.workbook.MOST_CELLS", 13):
             self.assertIsNone(workbook(self.TABLES))
 
