@@ -4,13 +4,19 @@ Only the original image tells its own name and sum, the label, the threshold and
 """
 from __future__ import annotations
 
+from collections.abc import Sequence
+from dataclasses import asdict
 from pathlib import Path
 from typing import Any
 
 from .batch import Image
+from .filters import Filters
 from .folder import Run
-from .making import Record, key_of, record_of
+from .labelled import total
+from .layout import evidence
+from .making import Record, record_of
 from .pictures import told_suffix
+from .plan import Wanted
 from .products import names_of
 from .report import counts_of, heading_of
 from .thresholds import Cut
@@ -23,23 +29,34 @@ def run_again(made: dict[str, Any], records: dict[str, Record]) -> Run:
     """The run of which `made.json` tells, with these records by the names of their files."""
     images = []
     for told in made["images"]:
-        own = [records[name] for name in told["pictures"]]
-        images.append(Image(Path(told["image"]), told["image"], own, told["failure"], told["sum"]))
+        images.append(Image(Path(told["image"]), told["image"], records.get(told["record"]), told["failure"], told["sum"]))
     return Run(made["options"], Pixel.told(made["options"]), images, {name: made[name] for name in _VERSIONS})
 
 
 def record_again(record: Record, made: dict[str, Any], report: Path) -> Record:
     """The record of a picture as its report, which holds, and the run's options give it."""
-    heading, options = heading_of(report), made["options"]
+    heading = heading_of(report)
     parts, kept = counts_of(report)
+    again = _again(record, made, {"sides": [int(side) for side in heading[3:-1]], "rule": heading[-1], "parts": parts, "kept": kept})
+    again["picture"] = again["files"][evidence(record["image"], told_suffix(again["sides"]))]
+    return record_of(again)
+
+
+def record_of_labels_again(record: Record, made: dict[str, Any], reports: Sequence[Path]) -> Record:
+    """The record of a label image as the reports of its labels, which hold, and the run's options give it."""
+    counts = [counts_of(report) for report in reports]
+    told = {"rule": heading_of(reports[0])[-1], "parts": total([parts for parts, _ in counts]), "kept": total([kept for _, kept in counts])}
+    return record_of(_again(record, made, told))
+
+
+def _again(record: Record, made: dict[str, Any], told: dict[str, Any]) -> Record:
+    """The members of a record, with what is told of it, and what the run's options and its own members give."""
+    options = made["options"]
     again = {
-        **record, "sides": [int(side) for side in heading[3:-1]], "rule": heading[-1], "gzip": options["gzip"],
-        "masks": list(dict.fromkeys(options["masks"])), "network": options["network"],
-        "programs": made["programs"], "parts": parts, "kept": kept,
+        **record, **told, "channel": options["channel"], "filters": asdict(Filters.told(options)), "plain": options["plain"],
+        "masks": list(dict.fromkeys(options["masks"])), "wanted": Wanted.told(options, record["fit"]).record, "programs": made["programs"],
     }  # fmt: skip
     if record["cut"]:
         again["notes"] = [str(Cut(**record["cut"])), *record["notes"][1:]]
-    stem = Path(key_of(record)).name
-    again["files"] = {name: record["files"].get(name, "its sum") for name in sorted(names_of(stem, again))}
-    again["picture"] = again["files"][stem + told_suffix(again["sides"])]
-    return record_of(again)
+    again["files"] = {name: record["files"].get(name, "its sum") for name in sorted(names_of(record["image"], again))}
+    return again

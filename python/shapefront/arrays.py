@@ -51,6 +51,17 @@ def analyse(mask: np.ndarray, rule: str = "none") -> Analysis:
         return read(report_of(source, rule))
 
 
+def table(mask: np.ndarray, rule: str = "none") -> str:
+    """The table of the objects of a picture or a volume, as `shape measure` writes it: CSV. A Fault as for `analyse`."""
+    with as_file(mask) as source:
+        report = source.path.with_name("report")
+        report.write_bytes(report_of(source, rule))
+        answer = call("measure", report)
+        if answer.status:
+            raise explained("the array", answer)
+        return answer.text
+
+
 def report_of(source: Source, rule: str, about: object = "the array") -> bytes:
     """The text of a fresh report. A Fault about `about` where it is refused."""
     with tempfile.TemporaryFile() as out:

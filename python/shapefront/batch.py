@@ -5,25 +5,26 @@ import os
 import sys
 from collections.abc import Callable, Iterable, Iterator
 from concurrent.futures import Future, ThreadPoolExecutor, as_completed
-from dataclasses import dataclass, field
+from dataclasses import dataclass
 from pathlib import Path
 
 from .convert import Picture
 from .faults import Fault, Missing
 from .files import shown, sum_of, sum_of_bytes
 from .images import SUFFIXES
-from .making import Plan, Record, make
+from .making import Record, make
+from .plan import Plan
 
-Convert = Callable[[Path, str], Iterator[Picture]]
+Convert = Callable[[Path, str], Picture]
 
 
 @dataclass
 class Image:
-    """An image of a run: its file, the name it has in tables, and what became of it: records of its pictures, or a failure."""
+    """An image of a run: its file, the name it has in tables, and what became of it: the record of its picture, or a failure."""
 
     path: Path
     name: str
-    records: list[Record] = field(default_factory=list)
+    record: Record | None = None
     failure: str | None = None
     source: str | None = None
 
@@ -66,8 +67,7 @@ def run(images: list[Image], plan: Plan, convert: Convert, jobs: int) -> None:
 def _one(image: Image, plan: Plan, convert: Convert) -> None:
     try:
         image.source = source_sum(image.path)
-        for picture in convert(image.path, image.name):
-            image.records.append(make(picture, plan))
+        image.record = make(convert(image.path, image.name), plan)
     except Missing:
         raise
     except Fault as fault:

@@ -1,10 +1,10 @@
-"""Checks a report against its picture, and the table, the drawing, the masks and the network beside it against the report."""
+"""Checks a report against its picture, and the table, the drawing, the masks and the parts beside it against the report."""
 from __future__ import annotations
 
 import tempfile
 from collections.abc import Iterator
 from dataclasses import dataclass
-from pathlib import Path
+from pathlib import Path, PurePosixPath
 from typing import Any
 
 from .arrays import verdict
@@ -12,22 +12,25 @@ from .checking import Finding, Judge, check_report, picture_of, plain
 from .comparing import of_tables
 from .faults import Fault
 from .files import shown
-from .networks import Network, part, parts_of
+from .layout import part
+from .networks import SKELETON
+from .parts import Again
 from .products import DRAWINGS
 from .programs import NAME, call, sums
 from .report import text_of
 
 SUFFIXES = (".report", ".report.gz")
-_NO_NETWORK = "the reports and tables of its network do not fit together; measure again into an empty folder"
 
 
 @dataclass(frozen=True)
 class Asked:
-    """How a folder is to be checked: how many reports at once, what may lie there though nothing made it, and who judges reports."""
+    """How a folder is to be checked: how many reports at once, what may lie there though nothing made it, who judges reports, and where
+    the original images lie, if they are to be looked at."""
 
     jobs: int = 1
     allowed: tuple[str, ...] = ()
     judge: Judge = verdict
+    originals: Path | None = None
 
 
 @dataclass(frozen=True)
@@ -61,12 +64,13 @@ def stem_of(report: Path) -> Path:
     return report.with_name(report.name.removesuffix(".gz").removesuffix(".report"))
 
 
-def check_beside(report: Path, record: dict[str, Any], judge: Judge) -> Beside:
+def check_beside(report: Path, record: dict[str, Any], judge: Judge, drawing: Path | None = None) -> Beside:
     """What is found of a report and of what was made of it; where no check can be made, that is why.
 
-    The record tells which masks were made, and by which program; it may be empty.
+    The record tells which masks were made, and by which program; it may be empty. The drawing lies beside the report, or has the name that is given.
     """
     stem = stem_of(report)
+    drawing = drawing or stem.with_name(stem.name + ".svg")
     name = shown(stem)
     try:
         source = picture_of(stem.name, report)
@@ -75,7 +79,7 @@ def check_beside(report: Path, record: dict[str, Any], judge: Judge) -> Beside:
             if not found.holds:
                 return Beside(report, [(report, found)])
             table = _made(("measure",), file)
-            wrong = [(path, Finding(name, False, why)) for path, why in _wrong(stem, file, table, record)]
+            wrong = [(path, Finding(name, False, why)) for path, why in _wrong(stem, drawing, file, table, record)]
     except Fault as fault:
         return Beside(report, [(report, refused(name, fault))])
     return Beside(report, wrong or [(report, found)], table or b"")
@@ -86,9 +90,9 @@ def refused(name: str, fault: Fault) -> Finding:
     return Finding(name, False, fault.reason + (f"; {fault.remedy}" if fault.remedy else ""))
 
 
-def _wrong(stem: Path, report: Path, table: bytes | None, record: dict[str, Any]) -> Iterator[tuple[Path, str]]:
-    """The files beside a report that are not what the program makes of it, each with the reason."""
-    for words, path in _products(stem, record):
+def _wrong(stem: Path, drawing: Path, report: Path, table: bytes | None, record: dict[str, Any]) -> Iterator[tuple[Path, str]]:
+    """The files of a report that are not what the program makes of it, each with the reason."""
+    for words, path in _products(stem, drawing, record):
         if not path.is_file():
             continue
         data = path.read_bytes()
@@ -104,14 +108,14 @@ def _not_made(words: tuple[tuple[str, ...], ...], path: Path, record: dict[str, 
     return f"the report holds, but {shown(path)} is not what `{NAME} {words[0][0]}` makes of it{other}"
 
 
-def _products(stem: Path, record: dict[str, Any]) -> Iterator[tuple[tuple[tuple[str, ...], ...], Path]]:
+def _products(stem: Path, drawing: Path, record: dict[str, Any]) -> Iterator[tuple[tuple[tuple[str, ...], ...], Path]]:
     """The files that are made of a report, there or not, each with the words of which any may have made it."""
     yield (("measure",),), stem.with_name(stem.name + ".csv")
-    yield DRAWINGS, stem.with_name(stem.name + ".svg")
-    yield (("mask", "skeleton"),), part(stem, "skeleton", ".pbm")
+    yield DRAWINGS, drawing
+    yield (("mask", "skeleton"),), part(stem, SKELETON, ".pbm")
     for kind in record.get("masks", []):
-        for name in record.get("files", {}):
-            if name.startswith(f"{stem.name}.{kind}.") and "/" not in name:
+        for name in {PurePosixPath(name).name for name in record.get("files", {})}:
+            if name.startswith(f"{stem.name}.{kind}."):
                 yield (("mask", kind),), stem.with_name(name)
 
 
@@ -124,24 +128,10 @@ def _made(words: tuple[str, ...], report: Path) -> bytes | None:
         return out.read()
 
 
-def network_again(stem: Path, tables: dict[str, str] | None = None) -> dict[Path, bytes]:
-    """The pictures and the tables of a picture's network, as its reports and the tables of its parts give them: these, or those
-    that lie there.
-
-    A Fault where one of these cannot be read, or they do not fit together.
-    """
-    try:
-        pictures = {part(stem, name, ".pbm"): data for name, data in parts_of(part(stem, "skeleton", ".pbm").read_bytes()).items()}
-        return pictures | {stem.with_name(f"{stem.name}.{suffix}"): data for suffix, data in Network.of(stem, tables).arranged().items()}
-    except OSError as error:
-        raise Fault(error.filename, f"{shown(error.filename)} cannot be read ({error.strerror})") from error
-    except (KeyError, ValueError, ArithmeticError, AttributeError) as error:
-        raise Fault(stem, _NO_NETWORK) from error
-
-
-def wrong_in_network(stem: Path, again: dict[Path, bytes]) -> Iterator[tuple[Path, Finding]]:
-    """The pictures and the tables of a picture's network that are there and are others."""
-    for path, data in again.items():
+def wrong_in_parts(stem: Path, again: Again) -> Iterator[tuple[Path, Finding]]:
+    """The pictures and the tables of a picture's parts that are there and are others than what is made again."""
+    files = {part(stem, name, ".pbm"): data for name, data in again.pictures.items()}
+    for path, data in {**files, **{stem.with_name(stem.name + suffix): data for suffix, data in again.tables.items()}}.items():
         if path.is_file() and (own := path.read_bytes()) != data:
             row = f": {of_tables(own, data)}" if path.suffix == ".csv" else ""
             why = f"the report holds, but {shown(path)} is not what the reports and tables of its parts say{row}"

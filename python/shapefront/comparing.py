@@ -4,7 +4,7 @@ from __future__ import annotations
 import csv
 from typing import Any
 
-from .tables import Row, rows_of
+from .tables import Row, rows_of, text_of
 
 # The columns that tell whose a row is; and those of which a picture's record knows, and no report.
 _NAMING = ("image", "label", "object", "branch")
@@ -14,8 +14,8 @@ _RECORDED = ("image", "label", "fit", "threshold")
 def of_tables(found: bytes, wanted: bytes) -> str:
     """Where a table first differs from the one that its report gives; the two are not the same."""
     try:
-        names, *rows = rows_of(_text(found))
-        true_names, *true = rows_of(_text(wanted))
+        names, *rows = rows_of(text_of(found))
+        true_names, *true = rows_of(text_of(wanted))
     except (ValueError, csv.Error):
         return "it is no table any more"
     if names != true_names:
@@ -52,7 +52,7 @@ def _of_rows(names: Row, rows: list[Row], true: list[Row], k: int) -> str:
     if len(rows[k]) != len(true[k]):
         return f"row {k + 1}{_whose(names, true[k])} has {len(rows[k])} cells in place of {len(true[k])}"
     column = next(column for column, (one, other) in enumerate(zip(rows[k], true[k])) if one != other)
-    giver = "record" if names[column] in _RECORDED else "report"
+    giver = "record" if names[column] in _RECORDED else "table of intensities" if names[column].startswith("intensity_") else "report"
     told = f"{names[column]} {_short(rows[k][column]) or 'nothing'}; the {giver} gives {true[k][column] or 'nothing'}"
     return f"row {k + 1}{_whose(names, true[k])}: {told}"
 

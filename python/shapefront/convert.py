@@ -2,7 +2,6 @@
 from __future__ import annotations
 
 import re
-from collections.abc import Iterator
 from dataclasses import dataclass, replace
 from pathlib import Path
 
@@ -10,6 +9,7 @@ import numpy as np
 
 from secondreading.limits import MOST_FLAT, MOST_SOLID
 
+from .evenness import unevenness
 from .faults import Fault
 from .images import Grey, array_of, load, load_stack
 from .pictures import sides_of, told_sides
@@ -18,36 +18,41 @@ from .thresholds import Cut, Settings, cut_of, looks_like_labels
 
 @dataclass(frozen=True)
 class Picture:
-    """A picture or volume of two values: its image's name, its label where it is one of several, and how it was made, in words.
+    """A picture or volume of two values: the name of its image, and how it was made, in words.
 
     `fit` is how many of the image's pixels one of its pixels is wide: 1 where the image was not made smaller. `cut` is None where
-    the image's values were taken as labels.
+    the image's values were taken as labels; `labels` has the label of each pixel where each is a picture of its own.
+    `original` is the image as it was before it was made smaller, [y, x] or in colours [y, x, 3]. `grey` are the grey values that the image
+    has where the picture is, before any filter; None where it has no more than two values. `settings` are those that a user asked for.
     """
 
     image: str
-    label: int | None
     mask: np.ndarray
     fit: int
     cut: Cut | None
     notes: tuple[str, ...]
+    original: np.ndarray
+    labels: np.ndarray | None = None
+    grey: np.ndarray | None = None
+    settings: Settings = Settings()
 
     @property
-    def key(self) -> str:
-        """What the names of its files begin with."""
-        return self.image if self.label is None else f"{self.image}.label{self.label}"
+    def original_sides(self) -> tuple[int, ...]:
+        """The sides of the image as it was before it was made smaller, x first."""
+        return tuple(reversed(self.original.shape[: self.mask.ndim]))
 
 
-def pictures_of(path: Path, name: str, settings: Settings) -> Iterator[Picture]:
-    """The pictures that an image's file gives: one, or one for each of its labels. A Fault where it gives none."""
-    yield from _made(load(path, bool(settings.labels)), name, settings, MOST_FLAT)
+def picture_of(path: Path, name: str, settings: Settings) -> Picture:
+    """The picture that an image's file gives. A Fault where it gives none."""
+    return _made(load(path, bool(settings.labels), settings.channel), name, settings, MOST_FLAT)
 
 
-def volumes_of(path: Path, name: str, settings: Settings) -> Iterator[Picture]:
-    """The volumes that a folder of slices, a stack or an array gives. A Fault where it gives none."""
-    yield from _made(volume(path, bool(settings.labels)), name, settings, MOST_SOLID)
+def volume_of(path: Path, name: str, settings: Settings) -> Picture:
+    """The volume that a folder of slices, a stack or an array gives. A Fault where it gives none."""
+    return _made(volume(path, bool(settings.labels), settings.channel), name, settings, MOST_SOLID)
 
 
-def volume(path: Path, labels: bool = False) -> Grey:
+def volume(path: Path, labels: bool = False, channel: str | None = None) -> Grey:
     """The grey values [z, y, x] of a folder of slices (in the order of the numbers in their names), of a stack or of an array."""
     if path.suffix.lower() == ".npy":
         values = array_of(path)
@@ -58,10 +63,10 @@ def volume(path: Path, labels: bool = False) -> Grey:
         files = sorted((p for p in path.iterdir() if p.is_file() and not p.name.startswith(".")), key=_numbered)
         if not files:
             raise Fault(path, "an empty folder", "it has to hold the slices, one image each")
-        return _stacked(path, [(file.name, load(file, labels)) for file in files])
+        return _stacked(path, [(file.name, load(file, labels, channel)) for file in files])
     if not path.is_file():
         raise Fault(path, "no such file or folder", "is the name right?")
-    slices = load_stack(path, labels)
+    slices = load_stack(path, labels, channel)
     if len(slices) < 2:
         raise Fault(path, "one image, not a stack", "give the folder of the slices, or `shapes measure` for a flat picture")
     return _stacked(path, [(f"page {k}", page) for k, page in enumerate(slices, 1)])
@@ -83,29 +88,43 @@ def _stacked(path: Path, slices: list[tuple[str, Grey]]) -> Grey:
     return Grey(str(path), np.stack([grey.values for _, grey in slices]), tuple(notes), one.objects)
 
 
-def _made(image: Grey, name: str, settings: Settings, limit: int) -> Iterator[Picture]:
-    sides, most = sides_of(image.values), max(image.values.shape)
+def _made(image: Grey, name: str, settings: Settings, limit: int) -> Picture:
+    original, sides, most = image.values if image.colours is None else image.colours, sides_of(image.values), max(image.values.shape)
     least, notes = -(-most // limit), list(image.notes)
     fit = least if settings.fit is None else settings.fit
     if fit < least:
         raise Fault(
             image.name,
             f"too large: {told_sides(sides)}, and a side goes up to {limit}",
-            f"cut it into parts, or give --fit: 1 pixel for {least}",
+            f"cut it into parts, or give --fit: {smaller(least)}",
         )
     if settings.labels:
-        yield from _labelled(image, name, settings.labels, fit)
-        return
+        return _labelled(image, name, settings, fit)
     if fit > 1:
-        notes.append(f"made smaller: 1 pixel for {fit}")
+        notes.append(f"made smaller: {smaller(fit)}")
         image = replace(image, values=_smaller(image.values, fit))
-    cut = cut_of(image, settings)
+    values, before = settings.filters.before(image.values)
+    cut = cut_of(replace(image, values=values), settings, image.values.dtype)
+    mask, after = settings.filters.after(cut.mask(values))
+    if settings.filters.background is None and (ends := unevenness(values, cut.mask(values))):
+        notes.append("the background is uneven: in parts of the image its median goes from %g to %g, see --background" % ends)
     if looks_like_labels(image.values):
         notes.append(f"its values are 0 to {image.values.max()}: if these are labels, give --labels")
-    yield Picture(name, None, cut.mask(image.values), fit, cut, (str(cut), *notes))
+    return Picture(name, mask, fit, cut, (str(cut), *notes, *before, *after), original, None, _grey_values(image.values), settings)
 
 
-def _labelled(image: Grey, name: str, how: str, fit: int) -> Iterator[Picture]:
+def smaller(fit: int) -> str:
+    """How many pixels become one, in words."""
+    return f"{fit} by {fit} pixels are one"
+
+
+def _grey_values(values: np.ndarray) -> np.ndarray | None:
+    """The values, where they are more than two, as those of a picture in black and white are not."""
+    least, most = values.min(), values.max()
+    return None if ((values == least) | (values == most)).all() else values
+
+
+def _labelled(image: Grey, name: str, settings: Settings, fit: int) -> Picture:
     values = image.values
     if not (values.dtype == bool or np.issubdtype(values.dtype, np.integer)):
         raise Fault(image.name, "its values are no whole numbers, so no labels", "leave out --labels")
@@ -113,18 +132,19 @@ def _labelled(image: Grey, name: str, how: str, fit: int) -> Iterator[Picture]:
         raise Fault(image.name, "labels in colours", "save them as numbers: a grey image of 8 or 16 bits, 0 for the background")
     notes = list(image.notes)
     if fit > 1:
-        notes.append(f"made smaller: 1 pixel for {fit}, each the label of its middle")
+        notes.append(f"made smaller: {smaller(fit)}, each the label of its middle")
         values = values[(slice(fit // 2, None, fit),) * values.ndim]
-    labels = [int(label) for label in np.unique(values) if label != 0]
-    if not labels:
+    if settings.filters.background is not None or settings.filters.smooth is not None:
+        raise Fault(image.name, "labels have no background and cannot be smoothed", "leave out --background and --smooth, or --labels")
+    values, told = settings.filters.on_labels(values)
+    count = np.unique(values[values != 0]).size
+    if not count:
         raise Fault(image.name, "no labels: all its values are 0", "is it the right image?")
-    if how == "all":
-        yield Picture(
-            name, None, values != 0, fit, None, (f"the {len(labels)} labels as one picture: those that touch are one object", *notes)
-        )
-        return
-    for label in labels:
-        yield Picture(name, label, values == label, fit, None, (f"label {label} of {len(labels)}, as a picture of its own", *notes))
+    if settings.labels == "all":
+        how = f"the {count} labels as one picture: those that touch are one object"
+        return Picture(name, values != 0, fit, None, (how, *notes, *told), image.values, None, None, settings)
+    how = f"{count} labels, each as a picture of its own"
+    return Picture(name, values != 0, fit, None, (how, *notes, *told), image.values, values, None, settings)
 
 
 def _smaller(values: np.ndarray, fit: int) -> np.ndarray:

@@ -104,8 +104,8 @@ def sum_of_bytes(data: bytes) -> str:
 
 
 def gzipped(data: bytes) -> bytes:
-    """The same bytes for the same data: without a time."""
-    return gzip.compress(data, mtime=0)
+    """The same bytes for the same data: without a time; at the level that takes least time, since packing takes as long as measuring else."""
+    return gzip.compress(data, 1, mtime=0)
 
 
 def shown(path: Path | str) -> str:

@@ -1,13 +1,13 @@
-"""What a run writes for all its images together: `objects.csv`, `pictures.csv`, `summary.txt` and `made.json`.
+"""What a run writes for all its images together: `index.html`, `objects.csv`, `objects.xlsx`, `pictures.csv`, `summary.txt` and `evidence/made.json`.
 
 All of it follows from the records and the tables of its pictures, and from what the run itself was told; so it can be made again.
 """
 from __future__ import annotations
 
 import platform
-from collections.abc import Callable, Iterator
-from dataclasses import dataclass
-from pathlib import Path, PurePosixPath
+from collections.abc import Callable, Iterable, Iterator
+from dataclasses import dataclass, replace
+from pathlib import Path
 from typing import Any
 
 import numpy as np
@@ -15,18 +15,17 @@ import numpy as np
 from . import __version__
 from .batch import Image, source_sum
 from .faults import Fault
-from .files import encoded, spelled_json, sum_of_bytes, write, write_json
+from .files import encoded, make_folder, spelled_json, sum_of_bytes, write, write_json
 from .images import pillow_version
-from .making import Record, key_of
+from .layout import FURTHER, JOINED, MADE, PAGE, PICTURES, SUMMARY, WORKBOOK, evidence, record_of_key
+from .making import Record
+from .page import Page, Shown, jinja_version, page_version
 from .pictures import told_sides
 from .programs import sums
 from .seals import sealed
-from .tables import Part, Row, joined, spelled_rows
+from .tables import Part, Row, joined, marked, rows_of, spelled_rows, text_of
 from .units import Pixel
-
-MADE, SUMMARY, PICTURES = "made.json", "summary.txt", "pictures.csv"
-# The tables of all pictures together, and what the names of a picture's own end in.
-JOINED = {"objects.csv": ".csv", "networks.csv": ".network.csv", "branches.csv": ".branches.csv"}
+from .workbook import openpyxl_version, workbook
 
 # The text of a record's own table, by what its name ends in.
 Table = Callable[[Record, str], str]
@@ -43,19 +42,33 @@ class Run:
 
     @property
     def records(self) -> list[Record]:
-        return [record for image in self.images for record in image.records]
+        return [image.record for image in self.images if image.record is not None]
 
     def of_all(self, table: Table) -> dict[str, bytes]:
         """The tables and the summary of all, by the names of their files. A Fault where the tables do not fit together."""
-        files = {PICTURES: spelled_rows(pictures(self.records))}
+        files = {PICTURES: marked(spelled_rows(pictures(self.records)))}
         for name, suffix in JOINED.items():
-            if own := [_part(record, table(record, suffix)) for record in self.records if _named(record, suffix) in record["files"]]:
-                files[name] = spelled_rows(joined(own, self.pixel))
+            if own := [_part(record, table, suffix, FURTHER.get(name)) for record in self.records if _has(record, suffix)]:
+                rows = list(joined(own, self.pixel))
+                files |= {name: marked(spelled_rows(rows))} if len(rows) > 1 or suffix == ".csv" else {}
         return {**files, SUMMARY: encoded("".join(line + "\n" for line in summary(self)))}
 
-    def made(self, of_all: dict[str, bytes]) -> dict[str, Any]:
-        """What `made.json` says, where these are the files of all."""
-        files = {name: sum_of_bytes(data) for name, data in of_all.items()}
+    def workbook(self, of_all: dict[str, bytes]) -> bytes | None:
+        """The workbook of these tables of all; None where they are too long. Missing where openpyxl is not installed."""
+        return workbook({name: data for name, data in of_all.items() if name.endswith(".csv")})
+
+    def page(self, of_all: Iterable[str], objects: bytes, shown: Shown) -> bytes:
+        """The page, where these are the names of the files of all, this is the table of all objects, and `shown` gives what the page shows of an image.
+
+        Missing where Jinja2 is not installed.
+        """
+        images = [(image.name, image.record, image.failure) for image in self.images]
+        rows = rows_of(text_of(objects))
+        return Page(images, self.options, self.pixel, self.versions, list(_warnings(self.records)), list(of_all), rows, shown).spelled()
+
+    def made(self, of_all: dict[str, bytes], kept: dict[str, str] | None = None) -> dict[str, Any]:
+        """What `made.json` says, where these are the files of all, and these the sums of such as are not made again."""
+        files = {name: sum_of_bytes(data) for name, data in of_all.items()} | (kept or {})
         for record in self.records:
             files |= _files(record)
         return sealed({
@@ -67,12 +80,17 @@ class Run:
 def finish(folder: Path, images: list[Image], pixel: Pixel | None, options: dict[str, Any]) -> dict[str, Any]:
     """Writes the tables, the summary and the record of a run; the record. A Fault where the folder cannot be written."""
     run = Run(options, pixel, images, versions())
-    files = run.of_all(lambda record, suffix: _read(folder / (key_of(record) + suffix)))
+    files = run.of_all(lambda record, suffix: _read(folder / evidence(record["image"], suffix)))
+    if openpyxl_version() and (book := run.workbook(files)):
+        files[WORKBOOK] = book
+    if jinja_version():
+        files[PAGE] = run.page(files, files.get("objects.csv", b""), lambda record, suffix: _bytes(folder / evidence(record["image"], suffix)))
     for name, data in files.items():
         write(folder / name, data)
-    for name in JOINED.keys() - files.keys():
+    for name in {*JOINED, PAGE, WORKBOOK} - files.keys():
         (folder / name).unlink(missing_ok=True)
     made = run.made(files)
+    make_folder((folder / MADE).parent)
     write_json(folder / MADE, made)
     return made
 
@@ -86,30 +104,29 @@ def originals(folder: Path, made: dict[str, Any]) -> Iterator[str]:
 
 
 def versions() -> dict[str, Any]:
-    """What made a run: the versions of this package and of those that it stands on, and the sum of the program."""
-    packages = {"Python": platform.python_version(), "numpy": np.__version__, "Pillow": pillow_version()}
+    """What made a run: the versions of this package, of those that it stands on and of the page, and the sum of the program."""
+    packages = {"Python": platform.python_version(), "numpy": np.__version__, "Pillow": pillow_version(), "Jinja2": jinja_version(), "openpyxl": openpyxl_version(), "page": page_version()}
     return {"shapefront": __version__, "versions": packages, "programs": sums()}
 
 
 def _told(image: Image) -> dict[str, Any]:
-    records = [f"{key_of(record)}.json" for record in image.records]
-    thresholds = [record["cut"]["threshold"] for record in image.records if record["cut"]]
-    return {"image": image.name, "sum": image.source, "thresholds": thresholds, "pictures": records, "failure": image.failure}
+    record = image.record
+    threshold = record["cut"]["threshold"] if record and record["cut"] else None
+    return {"image": image.name, "sum": image.source, "threshold": threshold, "record": record and record_of_key(record["image"]), "failure": image.failure}
 
 
 def _files(record: Record) -> dict[str, str]:
     """The sums of a picture's files and of its record, by their names in the folder of the run."""
-    place = PurePosixPath(key_of(record)).parent
-    own = {str(place / name): told for name, told in record["files"].items()}
-    return {**own, f"{key_of(record)}.json": sum_of_bytes(spelled_json(record))}
+    return {**record["files"], record_of_key(record["image"]): sum_of_bytes(spelled_json(record))}
 
 
-def _named(record: Record, suffix: str) -> str:
-    return PurePosixPath(key_of(record) + suffix).name
+def _has(record: Record, suffix: str) -> bool:
+    return evidence(record["image"], suffix) in record["files"]
 
 
-def _part(record: Record, table: str) -> Part:
-    return Part(record["image"], record["label"], record["fit"], table)
+def _part(record: Record, table: Table, suffix: str, further: str | None) -> Part:
+    rest = table(record, further) if further and _has(record, further) else None
+    return Part(record["image"], record["fit"], record["original"], table(record, suffix), rest)
 
 
 def _read(path: Path) -> str:
@@ -119,16 +136,20 @@ def _read(path: Path) -> str:
         raise Fault(path, "cannot be read", "measure again into an empty folder") from error
 
 
+def _bytes(path: Path) -> bytes | None:
+    return path.read_bytes() if path.is_file() else None
+
+
 def pictures(records: list[Record]) -> Iterator[Row]:
     """The rows of `pictures.csv`: for each picture what the lines `parts` and `kept` of its report say, holes with the outside."""
-    labels = any(record["label"] is not None for record in records)
+    labels = any(record["labels"] is not None for record in records)
     axes = max([len(record["sides"]) for record in records], default=2)
     counts = ["points", "pieces", "background", "skeleton"]
-    yield ["image", *(["label"] if labels else []), *"xyz"[:axes], "fit", "threshold", *counts]
+    yield ["image", *(["labels"] if labels else []), *"xyz"[:axes], "fit", "threshold", *counts]
     for record in records:
         cut = record["cut"]
         own = [*record["sides"], record["fit"], f"{cut['threshold']:.12g}" if cut else ""]
-        label = [record["label"]] if labels else []
+        label = [len(record["labels"])] if labels else []
         yield [str(word) for word in (record["image"], *label, *own, *record["parts"], record["kept"][0])]
 
 
@@ -141,9 +162,11 @@ def summary(run: Run) -> Iterator[str]:
     for record in run.records:
         points, pieces, background = record["parts"]
         yield ""
-        yield f"{key_of(record)}: {told_sides(tuple(record['sides']))}"
+        yield f"{record['image']}: {told_sides(tuple(record['sides']))}"
         yield f"  object points {points}, pieces {pieces}, pieces of the background {background}, points of the skeleton {record['kept'][0]}"
         yield from (f"  {note}" for note in record["notes"])
+        if run.pixel and record["fit"] > 1:
+            yield f"  a pixel of this picture is {replace(run.pixel, size=run.pixel.size * record['fit'])} wide"
     if failed:
         yield ""
         yield from (f"failed: {image.failure}" for image in failed)

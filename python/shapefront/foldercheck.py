@@ -9,23 +9,31 @@ from collections.abc import Iterable, Iterator
 from concurrent.futures import ThreadPoolExecutor
 from dataclasses import replace
 from pathlib import Path, PurePosixPath
+from typing import Any
 
-from .beside import SUFFIXES, Asked, Covered, check_beside, network_again, refused, stem_of, wrong_in_network
+from .beside import SUFFIXES, Asked, Covered, check_beside, refused, stem_of, wrong_in_parts
 from .checking import Finding, Judge
 from .faults import Fault
 from .files import read_json, shown
-from .folder import JOINED, MADE, PICTURES
 from .inventory import is_below, lying
-from .networks import part
+from .layout import JOINED, MADE, PICTURES, part, root_of
+from .networks import PRUNED, SKELETON
+from .parts import Again, tables_of
+from .plan import Wanted
 from .report import counts_of
 from .runcheck import findings_of_run
 from .seals import opened, why_not
+
+# Where earlier versions kept the record of a run.
+MADE_BEFORE = "made.json"
 
 
 def check_folder(folder: Path, asked: Asked) -> Iterator[Finding | Covered]:
     """The findings on a folder: on each run in it, and on reports that lie there by hand. A Fault where there is nothing to check."""
     names = [name for name in lying(folder) if not is_below(name, asked.allowed)]
     runs = _runs(names)
+    if asked.originals and not runs:
+        raise Fault(shown(folder), "no run of shapes is in this folder, so nothing tells of which images it was made", "leave out --originals")
     for run in runs:
         own = replace(asked, allowed=tuple(_below(run, asked.allowed)))
         yield from _of_run(folder / run, [name for name in lying(folder / run) if not is_below(name, own.allowed)], own)
@@ -39,7 +47,7 @@ def check_folder(folder: Path, asked: Asked) -> Iterator[Finding | Covered]:
 def _runs(names: list[str]) -> list[str]:
     """The folders of runs among these names, without those that lie in the folder of another."""
     runs: list[str] = []
-    for place in sorted((Path(name).parent for name in names if Path(name).name == MADE), key=lambda place: len(place.parts)):
+    for place in sorted((root_of(name) for name in names if name == MADE or name.endswith("/" + MADE)), key=lambda place: len(place.parts)):
         if not is_below(str(place), runs):
             runs.append(str(place))
     return sorted(runs)
@@ -67,18 +75,20 @@ def _of_run(folder: Path, names: list[str], asked: Asked) -> Iterator[Finding | 
 def _by_hand(folder: Path, names: list[str], asked: Asked) -> Iterator[Finding | Covered]:
     """The findings on a folder without a `made.json`."""
     traces = [name for name in names if _is_trace(folder, name)]
-    if traces:
+    if MADE_BEFORE in names:
+        yield Finding(shown(folder / MADE_BEFORE), False, "an earlier version of `shapes` wrote this folder; measure again into an empty one")
+    elif traces:
         why = f"it is missing, and without it nobody can tell whether {_listed(traces)} and all else of the run are as they were made"
         yield Finding(shown(folder / MADE), False, why)
     yield from _reports(folder, names, asked)
 
 
 def _is_trace(folder: Path, name: str) -> bool:
-    """Whether a file is one that a run writes and nobody by hand: a table of all, or the record of a picture."""
+    """Whether a file is one that a run writes and nobody by hand: a table of all, or the record of a picture, or of a run by an earlier version."""
     if Path(name).name in (PICTURES, *JOINED):
         return True
     record = read_json(folder / name) if name.endswith(".json") and (folder / name).is_file() else None
-    return isinstance(record, dict) and "picture" in record and "files" in record
+    return isinstance(record, dict) and "files" in record and ("picture" in record or "images" in record)
 
 
 def _listed(names: list[str]) -> str:
@@ -114,11 +124,17 @@ def _of_report(report: Path, judge: Judge) -> list[Finding]:
     if "parts" in record and (record["parts"], record.get("kept")) != counts_of(report):
         return [Finding(shown(stem), False, f"the report holds, but its record {stem.name}.json says other counts")]
     try:
-        if part(stem, "skeleton", ".pbm").exists():
-            findings = [finding for _, finding in wrong_in_network(stem, network_again(stem))] or findings
+        findings = [finding for _, finding in wrong_in_parts(stem, Again.of(stem, _wanted(stem, record)))] or findings
     except Fault as fault:
         findings = [refused(shown(stem), fault)]
     return findings
+
+
+def _wanted(stem: Path, record: dict[str, Any]) -> Wanted:
+    """What was wanted of a picture, by its record; without one what lies there tells whether its network was."""
+    if "wanted" in record:
+        return Wanted.of(record)
+    return Wanted(network=part(stem, SKELETON, ".pbm").exists() and not part(stem, PRUNED, ".pbm").exists())
 
 
 def _beside(report: Path) -> Iterator[Path]:
@@ -127,6 +143,5 @@ def _beside(report: Path) -> Iterator[Path]:
     yield report
     yield from report.parent.glob(glob.escape(stem.name) + ".pbm")
     yield from report.parent.glob(glob.escape(stem.name) + ".*x*x*.raw")
-    yield from (stem.with_name(stem.name + suffix) for suffix in (".csv", ".svg"))
-    if part(stem, "skeleton", ".pbm").exists():
-        yield from (stem.with_name(f"{stem.name}.{name}.csv") for name in ("network", "branches"))
+    made = tables_of(Wanted(network=part(stem, SKELETON, ".pbm").exists(), sides=0), is_flat=True)
+    yield from (stem.with_name(stem.name + suffix) for suffix in (".svg", *made))

@@ -7,8 +7,11 @@ from pathlib import Path
 
 import numpy as np
 
+from .channels import grey_of
 from .faults import Fault, Missing
+from .tiffs import Pages, better_read, pages
 
+TIFF = (".tif", ".tiff")
 SUFFIXES = {".png", ".tif", ".tiff", ".jpg", ".jpeg", ".bmp", ".gif", ".pbm", ".pgm", ".ppm", ".pnm", ".webp", ".npy"}
 
 
@@ -16,13 +19,15 @@ SUFFIXES = {".png", ".tif", ".tiff", ".jpg", ".jpeg", ".bmp", ".gif", ".pbm", ".
 class Grey:
     """An image of one value a pixel, indexed [y, x], dark where the value is small, and what was done to make it, in words.
 
-    `objects` is `dark` or `light` where the file's format itself says which side is the object, as a PBM does.
+    `objects` is `dark` or `light` where the file's format itself says which side is the object, as a PBM does. `colours` is the image
+    in colours of eight bits, [y, x, 3], where it has some.
     """
 
     name: str
     values: np.ndarray
     notes: tuple[str, ...] = ()
     objects: str | None = None
+    colours: np.ndarray | None = None
 
 
 def pillow():
@@ -44,24 +49,26 @@ def pillow_version() -> str | None:
     return PIL.__version__
 
 
-def load(path: Path, labels: bool = False) -> Grey:
-    """The grey values of an image's file; of one with a palette the numbers of its colours where labels are wanted.
+def load(path: Path, labels: bool = False, channel: str | None = None) -> Grey:
+    """The grey values of an image's file, of one channel where that is named; of a palette the numbers of its colours where labels are wanted.
 
-    A Fault where it is no image, a stack, or one of a kind that is not known.
+    `channel` is one of `channels.NAMES` or a number from 1 on; where the channels are pages it is the page. A Fault where it is no image,
+    a stack, or one of a kind that is not known.
     """
     if not path.is_file():
         raise Fault(path, "no such file" if not path.exists() else "not a file", "is the name right?")
     if path.suffix.lower() == ".npy":
         return _array(path)
-    frames = list(_frames(path, 2, labels))
+    frames = list(_frames(path, 2, labels, channel))
     if len(frames) > 1:
-        raise Fault(path, "it has several pages or frames", "`shapes volume` takes a stack; else save the one page as a PNG")
+        remedy = "`shapes volume` takes a stack; of a TIFF --channel 1 takes the first page; else save the one page as a PNG"
+        raise Fault(path, "it has several pages or frames", remedy)
     return frames[0]
 
 
-def load_stack(path: Path, labels: bool = False) -> list[Grey]:
+def load_stack(path: Path, labels: bool = False, channel: str | None = None) -> list[Grey]:
     """All pages of an image's file, from the first on. A Fault as for `load`."""
-    return list(_frames(path, None, labels))
+    return list(_frames(path, None, labels, channel))
 
 
 def array_of(path: Path) -> np.ndarray:
@@ -82,22 +89,25 @@ def _array(path: Path) -> Grey:
     return Grey(str(path), values, (), "light" if values.dtype == bool else None)
 
 
-def _frames(path: Path, most: int | None, labels: bool) -> Iterator[Grey]:
-    """The pages of a file, at most so many; tifffile is asked where Pillow does not know a TIFF."""
+def _frames(path: Path, most: int | None, labels: bool, channel: str | None) -> Iterator[Grey]:
+    """The pages of a file, at most so many; tifffile is asked of a TIFF that Pillow does not know, or keeps a part of."""
     image_of, _ = pillow()
     try:
         image = image_of.open(path)
     except Exception as error:  # noqa: BLE001  Pillow raises errors of many kinds on files that are no images
-        pages = _tiff_pages(path, most)
-        if pages is None:
+        found = pages(path) if path.suffix.lower() in TIFF else None
+        if found is None:
             raise Fault(path, "not an image that can be read", "open it in another program and save it as PNG or TIFF") from error
-        yield from pages
+        yield from _of_tiff(path, found, most, channel)
         return
     with image:
+        if image.format == "TIFF" and (found := better_read(path, image)):
+            yield from _of_tiff(path, found, most, channel)
+            return
         for k in range(min(getattr(image, "n_frames", 1), most or 1 << 30)):
             try:
                 image.seek(k)
-                page = _grey(path, image, labels)
+                page = _grey(path, image, labels, channel)
             except Fault:
                 raise
             except Exception as error:  # noqa: BLE001  as above
@@ -105,49 +115,55 @@ def _frames(path: Path, most: int | None, labels: bool) -> Iterator[Grey]:
             yield page
 
 
-def _tiff_pages(path: Path, most: int | None) -> list[Grey] | None:
-    """The pages of a TIFF by tifffile; None where it is none or tifffile is not installed."""
-    try:
-        import tifffile
-
-        with tifffile.TiffFile(path) as file:
-            arrays = [page.asarray() for page in file.pages[:most]]
-    except Exception:  # noqa: BLE001  tifffile raises errors of many kinds on files that are no TIFF
-        return None
-    return [_of_channels(path, values) for values in arrays]
+def _of_tiff(path: Path, found: Pages, most: int | None, channel: str | None) -> Iterator[Grey]:
+    """The grey values of pages that tifffile read. Where one flat image is wanted, of pages with one channel each the channel is a page."""
+    values, are_pages = found.values, bool(most and channel and len(found.values) > 1 and found.values.shape[3] == 1)
+    for page in (values.transpose(3, 1, 2, 0) if are_pages else values)[:most]:
+        grey, notes = grey_of(str(path), page, found.is_colour, channel)
+        told = [note.replace("channel", "page") for note in notes] if are_pages else notes
+        yield Grey(str(path), np.ascontiguousarray(grey), (*found.notes, *told))
 
 
-def _of_channels(path: Path, values: np.ndarray) -> Grey:
-    if values.ndim == 3 and values.shape[2] in (3, 4):
-        return Grey(str(path), values[:, :, :3].astype(np.float64) @ [0.299, 0.587, 0.114], ("colours made grey",))
-    if values.ndim != 2:
-        raise Fault(path, f"an image of {values.ndim} axes", "save one channel of it as a grey image")
-    return Grey(str(path), values)
-
-
-def _grey(path: Path, image, labels: bool) -> Grey:
+def _grey(path: Path, image, labels: bool, channel: str | None) -> Grey:
     """The grey values of the page that Pillow shows."""
-    image_of, ops = pillow()
+    _, ops = pillow()
     notes = []
     if labels and image.mode == "P":
         return Grey(str(path), np.array(image), ("the numbers of its colours are the labels",))
+    if _loses_bits(image):
+        notes.append("the lower 8 of its 16 bits are not used, as Pillow reads no more of several channels: save it as TIFF to use them")
     if (image.getexif() or {}).get(0x0112, 1) != 1:
         image = ops.exif_transpose(image)
         notes.append("turned upright as its camera says")
     if image.mode in ("LA", "PA", "RGBA", "La", "RGBa") or "transparency" in image.info:
         image = image.convert("RGBA")
-        if image.getextrema()[3][0] < 255:
-            notes.append("transparent paper made white")
-        paper = image_of.new("RGBA", image.size, "white")
-        image = image_of.alpha_composite(paper, image)
-    if image.mode == "P":
+        if channel is None:
+            image = _on_white(image, notes)
+    elif image.mode in ("P", "RGB", "CMYK", "YCbCr", "LAB", "HSV"):
         image = image.convert("RGB")
-    if image.mode in ("RGB", "RGBA", "CMYK", "YCbCr", "LAB", "HSV"):
-        red, green, blue = image.convert("RGB").split()
-        if red.tobytes() != green.tobytes() or red.tobytes() != blue.tobytes():
-            notes.append("colours made grey")
-        image = image.convert("L")
-    if image.mode not in ("1", "L", "I", "F") and not image.mode.startswith("I;16"):
+    elif image.mode not in ("1", "L", "I", "F") and not image.mode.startswith("I;16"):
         raise Fault(path, f"an image of the kind {image.mode}", "save it as a grey PNG or TIFF")
     is_pbm = image.mode == "1" and path.suffix.lower() in (".pbm", ".pnm")
-    return Grey(str(path), np.array(image), tuple(notes), "dark" if is_pbm else None)
+    bands = np.array(image)
+    grey, more = grey_of(str(path), np.atleast_3d(bands), bands.ndim == 3, channel)
+    colours = bands if image.mode == "RGB" and channel is None and "colours made grey" in more else None
+    return Grey(str(path), np.ascontiguousarray(grey), (*notes, *more), "dark" if is_pbm else None, colours)
+
+
+def _on_white(image, notes: list[str]):
+    """The image with white paper behind it where it is transparent."""
+    image_of, _ = pillow()
+    if image.getextrema()[3][0] < 255:
+        notes.append("transparent paper made white")
+    return image_of.alpha_composite(image_of.new("RGBA", image.size, "white"), image).convert("RGB")
+
+
+def _loses_bits(image) -> bool:
+    """Whether the file has more than the 8 bits a channel that Pillow keeps of several."""
+    if image.mode not in ("RGB", "RGBA", "LA"):
+        return False
+    for _, _, _, args in image.tile:
+        kind, *more = args if isinstance(args, tuple) else (args,)
+        if ";16" in str(kind) or more and image.format == "PPM" and more[0] > 255:
+            return True
+    return False

@@ -2,7 +2,7 @@
 from __future__ import annotations
 
 import os
-from collections.abc import Iterable, Iterator
+from collections.abc import Callable, Iterable, Iterator
 from dataclasses import dataclass
 from pathlib import Path, PurePosixPath
 
@@ -47,12 +47,12 @@ class Inventory:
     added: list[str]
 
     @classmethod
-    def of(cls, folder: Path, told: dict[str, str], allowed: Iterable[str]) -> Inventory:
+    def of(cls, folder: Path, told: dict[str, str], allowed: Iterable[str], sum_of: Callable[[Path], str | None] = sum_of) -> Inventory:
         """What lies in a folder, where the run's record tells these sums, and these names may be there though nothing made them."""
         for name in told:
             if PurePosixPath(name).is_absolute() or ".." in PurePosixPath(name).parts:
                 raise ValueError(name)
-        spoilt = {name: why for name, sum_ in told.items() if (why := _spoilt(folder / name, sum_))}
+        spoilt = {name: why for name, sum_ in told.items() if (why := _spoilt(folder / name, sum_, sum_of))}
         return cls(folder, spoilt, others(folder, told, allowed))
 
     def is_whole(self, name: str) -> bool:
@@ -65,7 +65,7 @@ class Inventory:
             yield name, "nothing made it; take it away, or name it by --allow"
 
 
-def _spoilt(path: Path, told: str) -> str | None:
+def _spoilt(path: Path, told: str, sum_of: Callable[[Path], str | None]) -> str | None:
     """What became of a file that was written with this sum; None where it is as it was."""
     if not path.is_file():
         return "it is missing" if not os.path.lexists(path) else "it is no file any more"

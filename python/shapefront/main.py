@@ -11,17 +11,20 @@ from typing import Any
 from .batch import images_of, run
 from .beside import Asked, Covered
 from .checking import Finding
-from .convert import pictures_of, volumes_of
+from .convert import picture_of, volume_of
 from .exports import dxf, ply
 from .faults import Fault
 from .files import make_folder, shown, write
-from .folder import MADE, finish, originals
+from .folder import finish, originals
 from .foldercheck import check_folder
 from .inventory import others
-from .making import Plan, clear_aside
+from .layout import MADE, PAGE
+from .making import clear_aside
 from .original import check_original
+from .outlines import outlines_of, summary
+from .plan import Plan
 from .programs import find
-from .report import Analysis, read
+from .report import Analysis, contours_in, read
 from .second import Second, reports_of
 from .units import Pixel
 from .words import options_of, parser, settings_of
@@ -35,6 +38,8 @@ def measure(words: argparse.Namespace) -> int:
     find()
     if words.network and words.rule != "curve":
         raise Fault("--network", f"the rule {words.rule} does not keep the ends of branches", "leave out --rule")
+    if not words.network and (words.prune is not None or words.classes is not None):
+        raise Fault("--prune, --classes", "they are about a network", "give --network, too")
     images, passed = images_of(words.images, is_volume)
     if passed:
         print(f"passed over, as their names are not those of images: {passed} of the files", file=sys.stderr)
@@ -44,11 +49,15 @@ def measure(words: argparse.Namespace) -> int:
         raise Fault("-o", "the folder of the images themselves", "choose another one for what is written")
     make_folder(words.folder)
     clear_aside(words.folder)
-    plan = Plan(words.folder, words.rule, words.gzip, tuple(dict.fromkeys(words.masks)), words.network)
-    convert = volumes_of if is_volume else pictures_of
+    plan = Plan.told(words.folder, options_of(words))
+    convert = volume_of if is_volume else picture_of
     run(images, plan, lambda path, name: convert(path, name, settings), words.jobs)
     made = finish(words.folder, images, pixel, options_of(words))
+    if PAGE not in made["files"]:
+        print(f"no {PAGE}, as Jinja2 is not installed: `apt install python3-jinja2`, or `pip install jinja2`", file=sys.stderr)
     _tell_of_others(words.folder, made)
+    if PAGE in made["files"] and sys.stderr.isatty():
+        print(f"open {shown(words.folder / PAGE)} in a browser", file=sys.stderr)
     failed = sum(image.failure is not None for image in images)
     print(f"{len(images) - failed} of {len(images)} measured, in {words.folder}: summary.txt tells how")
     return FAILED if failed else DONE
@@ -68,10 +77,12 @@ def check(words: argparse.Namespace) -> int:
     find()
     if len(words.report) > 1:
         raise Fault("--second", "only it takes more than one report", "give an image and one report, or a folder")
+    if words.originals and (words.report or not words.originals.is_dir()):
+        raise Fault("--originals", "it takes the folder of the images of a measured folder", "shapes check MEASURED --originals IMAGES")
     if not words.report:
         if not words.image.is_dir():
             raise Fault(shown(words.image), "not a folder", "give a folder, or an image and its report")
-        findings = list(_printed(check_folder(words.image, Asked(words.jobs, tuple(words.allow)))))
+        findings = list(_printed(check_folder(words.image, Asked(words.jobs, tuple(words.allow), originals=words.originals))))
     else:
         findings = list(_printed([check_original(words.image, words.report[0], settings_of(words))]))
     return DONE if all(finding.holds for finding in findings) else FAILED
@@ -93,10 +104,17 @@ def _printed(findings: Iterable[Finding | Covered]) -> Iterator[Finding | Covere
 
 def export(words: argparse.Namespace) -> int:
     """`shapes export`: what a report says, for another program."""
+    size = 25.4 / words.dpi if words.dpi else words.pixel_size
+    if words.format == "dxf":
+        sides, contours = contours_in(words.report)
+        outlines = outlines_of(contours, words.long)
+        write(words.out, dxf(shown(words.report), sides[1], outlines, size))
+        print(f"{shown(words.out)}: {summary(outlines)}")
+        return DONE
     report = read(words.report)
     if not isinstance(report, Analysis):
         raise Fault(shown(words.report), "a report of another kind", "take one of `shape analyse`")
-    write(words.out, ply(report, words.pixel_size) if words.format == "ply" else dxf(report, words.pixel_size, words.long))
+    write(words.out, ply(report, size))
     return DONE
 
 

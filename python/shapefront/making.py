@@ -1,4 +1,4 @@
-"""Makes all that one picture gives: its file, its report, checked, its table and its drawing; and a record of how.
+"""Makes all that one picture gives: its file, its report, checked, its table and its drawings; and a record of how.
 
 Everything is made in a folder aside and then renamed, the record last. So what has a record is whole, and a second run with the
 same picture, rule and program leaves it as it is.
@@ -10,62 +10,59 @@ import shutil
 import tempfile
 from collections.abc import Iterator
 from contextlib import contextmanager
-from dataclasses import asdict, dataclass
+from dataclasses import asdict
 from pathlib import Path
 from typing import Any
+
+import numpy as np
 
 from .convert import Picture
 from .faults import Fault
 from .files import ASIDE, gzipped, read_json, shown, sum_of, sum_of_bytes, write_json
-from .pictures import sides_of, spelled, suffix_of
-from .products import draw, measured, write_mask, write_network
+from .intensities import intensities
+from .labelled import make_labels
+from .labels import boxes
+from .layout import FURTHER, is_own, named, part, record_of_key
+from .networks import BRANCHES_OF
+from .overlay import Overlay, borders, branches, numbers
+from .pictures import sides_of, spelled
+from .plan import Plan
+from .products import draw, evidence_of, write_network_shown, write_shown, write_slice
 from .programs import sums
 from .report import counts_of
 from .seals import is_sealed, sealed
+from .tables import dicts_of, spelled_rows
 
 Record = dict[str, Any]
 
 # The members of a record, in their order; the sum of its own comes behind them.
-MEMBERS = ("image", "label", "sides", "fit", "cut", "notes", "rule", "gzip", "masks", "network", "picture", "programs", "parts", "kept", "files")
+MEMBERS = (
+    "image", "labels", "sides", "fit", "original", "channel", "filters", "cut", "notes", "rule", "plain", "masks", "wanted", "grey", "picture", "programs", "parts", "kept", "files",
+)  # fmt: skip
 
-# What the names of the files of all images together begin with: an image cannot be called so.
-OF_ALL = ("made", "pictures", "objects", "networks", "branches")
-
-
-@dataclass(frozen=True)
-class Plan:
-    """Where the files go, the rule of the thinning, whether reports are gzipped, and the masks and the networks that are wanted."""
-
-    folder: Path
-    rule: str
-    gzip: bool = False
-    masks: tuple[str, ...] = ()
-    network: bool = False
-
-
-def key_of(record: Record) -> str:
-    """What the names of the files of a record's picture begin with."""
-    return record["image"] if record["label"] is None else f"{record['image']}.label{record['label']}"
+# What the record of a run is called, without its ending: an image cannot be called so.
+OF_ALL = "made"
 
 
 def make(picture: Picture, plan: Plan) -> Record:
     """Makes what a picture gives, but where its record says that it is there already. The record; a Fault where it fails."""
-    if picture.key in OF_ALL:
-        raise Fault(picture.key, f"its files would have the names of `{picture.key}.csv` or `.json`, which are of all", "rename it")
-    head, told = _head(picture, plan), plan.folder / (picture.key + ".json")
+    if picture.image == OF_ALL:
+        raise Fault(picture.image, f"its record would have the name of that of all, {OF_ALL}.json", "rename it")
+    head, told = head_of(picture, plan), plan.folder / record_of_key(picture.image)
     before = read_json(told) or {}
     if is_sealed(told) and _is_made(before, head, plan.folder):
         return before
     with _folder_aside(told.parent) as work:
         counts = _products(picture, plan, work)
-        files = {path.name: sum_of(path) for path in sorted(work.iterdir())}
+        files = dict(sorted((named(picture.image, path.name), sum_of(path)) for path in work.iterdir()))
         for name in files:
-            os.replace(work / name, told.parent / name)
+            (plan.folder / name).parent.mkdir(parents=True, exist_ok=True)
+            os.replace(work / Path(name).name, plan.folder / name)
         record = record_of({**head, **counts, "files": files})
         write_json(told, record)
         for name in before.get("files", {}):
-            if name not in files and name.startswith(Path(picture.key).name + ".") and "/" not in name:
-                (told.parent / name).unlink(missing_ok=True)
+            if name not in files and is_own(picture.image, name):
+                (plan.folder / name).unlink(missing_ok=True)
     return record
 
 
@@ -74,12 +71,15 @@ def record_of(members: Record) -> Record:
     return sealed({name: members[name] for name in MEMBERS})
 
 
-def _head(picture: Picture, plan: Plan) -> Record:
+def head_of(picture: Picture, plan: Plan) -> Record:
     """What says how a picture's files are made: equal heads, equal files."""
+    labels = None if picture.labels is None else [[box.label, *box.place] for box in boxes(picture.labels)]
+    told = spelled(picture.mask) if picture.labels is None else np.ascontiguousarray(picture.labels).data
     return {
-        "image": picture.image, "label": picture.label, "sides": list(sides_of(picture.mask)), "fit": picture.fit,
-        "cut": asdict(picture.cut) if picture.cut else None, "notes": list(picture.notes), "rule": plan.rule, "gzip": plan.gzip, "masks": list(plan.masks), "network": plan.network,
-        "picture": sum_of_bytes(spelled(picture.mask)), "programs": sums(),
+        "image": picture.image, "labels": labels, "sides": list(sides_of(picture.mask)), "fit": picture.fit, "original": list(picture.original_sides),
+        "channel": picture.settings.channel, "filters": asdict(picture.settings.filters),
+        "cut": asdict(picture.cut) if picture.cut else None, "notes": list(picture.notes), "rule": plan.rule, "plain": plan.plain, "masks": list(plan.masks), "wanted": plan.wanted(picture.fit).record,
+        "grey": None if picture.grey is None else sum_of_bytes(picture.grey.tobytes()), "picture": sum_of_bytes(told), "programs": sums(),
     }  # fmt: skip
 
 
@@ -87,8 +87,7 @@ def _is_made(record: Record, head: Record, folder: Path) -> bool:
     """Whether a record has this head, and its files are there as they were written."""
     if any(record.get(key) != value for key, value in head.items()) or not record.get("files"):
         return False
-    place = (folder / record["image"]).parent
-    return all(sum_of(place / name) == told for name, told in record["files"].items())
+    return all(sum_of(folder / name) == told for name, told in record["files"].items())
 
 
 @contextmanager
@@ -115,17 +114,23 @@ def clear_aside(folder: Path) -> None:
 
 def _products(picture: Picture, plan: Plan, work: Path) -> Record:
     """Writes the files of a picture into the folder `work`; what the record says of them."""
-    stem = work / Path(picture.key).name
-    image = stem.with_name(stem.name + suffix_of(picture.mask))
-    image.write_bytes(spelled(picture.mask))
-    report = measured(image, stem, plan.rule, picture.key)
-    draw(report, stem, picture)
-    for kind in plan.masks:
-        write_mask(kind, report, stem, picture)
-    if plan.network:
-        write_network(stem, report, picture)
+    stem = work / Path(picture.image).name
+    if picture.labels is not None:
+        return make_labels(picture, plan, stem)
+    report, is_flat = evidence_of(picture.mask, stem, plan, plan.wanted(picture.fit), picture.image), picture.mask.ndim == 2
+    draw(report, stem, picture.image, is_flat)
+    if is_flat:
+        rows = dicts_of(stem.with_name(stem.name + ".csv").read_text())
+        write_shown(Overlay(picture.original, borders(report.read_bytes()), numbers(rows), picture.fit), stem)
+        if plan.wanted(picture.fit).network:
+            own = Overlay(picture.original, *branches(part(stem, BRANCHES_OF, ".report").read_bytes()), picture.fit)
+            write_network_shown(own, stem)
+    else:
+        write_slice(picture.original, picture.mask, picture.fit, stem)
+    if picture.grey is not None:
+        stem.with_name(stem.name + FURTHER["objects.csv"]).write_bytes(spelled_rows(intensities(picture.mask, picture.grey)))
     counts = dict(zip(("parts", "kept"), counts_of(report)))
-    for path in sorted(work.glob("*.report")) if plan.gzip else ():
+    for path in sorted(work.glob("*.report")) if not plan.plain else ():
         path.with_name(path.name + ".gz").write_bytes(gzipped(path.read_bytes()))
         path.unlink()
     return counts

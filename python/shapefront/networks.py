@@ -7,49 +7,28 @@ from __future__ import annotations
 
 from dataclasses import dataclass
 from decimal import Decimal
-from functools import cached_property
 from pathlib import Path
 
 import numpy as np
 
-from .faults import Fault
+from .arrays import table
+from .layout import part
 from .pictures import pbm_mask, spelled
+from .plan import Wanted
 from .report import Analysis, read
 from .tables import Row, dicts_of, spelled_rows
+from .thin import Pruned, neighbours, pruned, split
+from .widths import WIDTHS, Widths
 
-PARTS = ("skeleton", "branches", "junctions")
-MADE = ("network.csv", "branches.csv")
 BRANCHES = ["branch", "length", "width", "ends", "junctions", "points", "from_x", "from_y", "to_x", "to_y"]
-NETWORKS = ["pieces", "holes", "area", "length", "mean_width", "branches", "ends", "junctions"]
+NETWORKS = ["pieces", "holes", "area", "length", "mean_width", "volume", "surface", "branches", "ends", "junctions"]
+
+# The names of its parts.
+SKELETON, PRUNED, BRANCHES_OF, JUNCTIONS_OF = "network-skeleton", "network-pruned", "network-branches", "network-junctions"
 
 _THOUSANDTH = Decimal("0.001")
 # How much longer the edge of an object is than the line through the middles of its outermost pixels, all round.
 _EDGE = Decimal(8).sqrt()
-
-
-def split(skeleton: np.ndarray) -> tuple[np.ndarray, np.ndarray]:
-    """The points of a skeleton that have at most two neighbours among the eight around them, and the others."""
-    are_junctions = skeleton & (_neighbours(skeleton) >= 3)
-    return skeleton & ~are_junctions, are_junctions
-
-
-def _neighbours(mask: np.ndarray) -> np.ndarray:
-    """For each point how many of the eight around it are true."""
-    height, width = mask.shape
-    wide = np.pad(mask, 1).astype(np.uint8)
-    steps = [(y, x) for y in range(3) for x in range(3) if (y, x) != (1, 1)]
-    return sum(wide[y : y + height, x : x + width] for y, x in steps)
-
-
-def part(stem: Path, name: str, suffix: str) -> Path:
-    """A file of a part of the network of the picture whose files' names begin with `stem`."""
-    return stem.with_name(f"{stem.name}.network-{name}{suffix}")
-
-
-def parts_of(skeleton: bytes) -> dict[str, bytes]:
-    """The pictures of all parts, by their names, of a skeleton's picture."""
-    branches, junctions = split(pbm_mask(skeleton))
-    return {"skeleton": skeleton, "branches": spelled(branches), "junctions": spelled(junctions)}
 
 
 @dataclass(frozen=True)
@@ -76,34 +55,48 @@ class Branch:
 
 @dataclass(frozen=True)
 class Network:
-    """What was measured of a network: the report of its picture, and of each of its parts the report and the table."""
+    """The network of a picture: where its files' names begin, what is wanted, its skeleton, as the program gives it, and what was made of that."""
 
-    whole: Analysis
-    reports: dict[str, Analysis]
-    tables: dict[str, str]
+    stem: Path
+    wanted: Wanted
+    whole: np.ndarray
+    own: Pruned
+
+    rule, suffixes = "curve", (".network.csv", ".branches.csv", ".widths.csv")
 
     @classmethod
-    def of(cls, stem: Path, tables: dict[str, str] | None = None) -> Network:
-        """The network whose files' names begin with `stem`, with these tables of its parts, or with those that lie there.
+    def of(cls, stem: Path, wanted: Wanted) -> Network:
+        """The network of the picture whose files' names begin with `stem`, where the picture of its skeleton lies already."""
+        skeleton = pbm_mask(part(stem, SKELETON, ".pbm").read_bytes())
+        own = Pruned(skeleton, *split(skeleton), 0) if wanted.prune is None else pruned(skeleton, wanted.prune, _lengths)
+        return cls(stem, wanted, skeleton, own)
 
-        A Fault where one of them cannot be read.
-        """
-        try:
-            tables = tables or {name: part(stem, name, ".csv").read_text() for name in PARTS}
-        except OSError as error:
-            raise Fault(error.filename, f"cannot be read ({error.strerror})", "measure again into an empty folder") from error
-        reports = {name: _report(part(stem, name, ".report")) for name in PARTS}
-        return cls(_report(stem.with_name(stem.name + ".report")), reports, tables)
+    @property
+    def pictures(self) -> dict[str, bytes]:
+        """The pictures of its parts, by their names: the skeleton, that without short branches where these are left out, branches and junctions."""
+        shorter = {} if self.wanted.prune is None else {PRUNED: spelled(self.own.skeleton)}
+        return {SKELETON: spelled(self.whole), **shorter, BRANCHES_OF: spelled(self.own.branches), JUNCTIONS_OF: spelled(self.own.junctions)}
 
-    @cached_property
-    def branches(self) -> list[Branch]:
+    def tables(self, measured: dict[str, str]) -> dict[str, bytes]:
+        """Its tables by what their names end in, by the program's tables of its parts."""
+        whole = _report(self.stem.with_name(self.stem.name + ".report"))
+        branches = self._branches(whole, measured)
+        pieces = dicts_of(measured[SKELETON if self.wanted.prune is None else PRUNED])
+        widths = Widths.of(self.own.skeleton, [float(length(row)) for row in pieces], whole.square_image, whole.parts.points)
+        total = self._total(whole, pieces, branches, len(dicts_of(measured[JUNCTIONS_OF])), widths)
+        rows = {
+            ".network.csv": total, ".branches.csv": [BRANCHES, *(branch.row for branch in branches)],
+            ".widths.csv": [WIDTHS, *widths.rows(self.wanted.classes, self.wanted.class_width)],
+        }  # fmt: skip
+        return {suffix: spelled_rows(own) for suffix, own in rows.items()}
+
+    def _branches(self, whole: Analysis, measured: dict[str, str]) -> list[Branch]:
         """Its branches, in the order of their first points."""
-        report, (_, junctions) = self.reports["branches"], split(self.whole.skeleton_mask)
-        squares, at_junctions = self.whole.square_image, _neighbours(junctions)
-        free, last = _as_set(self.whole.tips), _as_set(report.tips)
+        report, squares, at_junctions = _report(part(self.stem, BRANCHES_OF, ".report")), whole.square_image, neighbours(self.own.junctions)
+        free, last = self._free(whole), _as_set(report.tips)
         found = []
         outer = [contour for contour in report.contours if not contour.is_hole]
-        for row, contour in zip(dicts_of(self.tables["branches"]), outer, strict=True):
+        for row, contour in zip(dicts_of(measured[BRANCHES_OF]), outer, strict=True):
             x, y = points = _in_raster_order(contour.points).T
             own = list(zip(*points.tolist()))
             places = [point for point in own if point in last] if len(own) > 1 else own
@@ -111,18 +104,25 @@ class Network:
             found.append(Branch(row["object"], length(row), _width(squares[y, x]), *ends, row["area"], places))
         return found
 
-    def total(self) -> Row:
-        """The row of the whole network, under the columns of `NETWORKS`."""
-        pieces, area = dicts_of(self.tables["skeleton"]), self.whole.parts.points
-        total = sum(map(length, pieces), Decimal(0))
-        mean = (area / total).quantize(_THOUSANDTH) if total else ""
-        ends, junctions = sum(branch.ends for branch in self.branches), len(dicts_of(self.tables["junctions"]))
-        return list(map(str, (len(pieces), self.whole.parts.holes, area, total, mean, len(self.branches), ends, junctions)))
+    def _free(self, whole: Analysis) -> set[tuple[int, ...]]:
+        """The free ends: those that the thinning kept, or where short branches are left out the points with one neighbour at most."""
+        if self.wanted.prune is None:
+            return _as_set(whole.tips)
+        return _as_set(np.argwhere(self.own.skeleton & (neighbours(self.own.skeleton) <= 1))[:, ::-1])
 
-    def arranged(self) -> dict[str, bytes]:
-        """Its tables, by the ends of their files' names."""
-        tables = [NETWORKS, self.total()], [BRANCHES, *(branch.row for branch in self.branches)]
-        return dict(zip(MADE, map(spelled_rows, tables)))
+    def _total(self, whole: Analysis, pieces: list[dict[str, str]], branches: list[Branch], junctions: int, widths: Widths) -> list[Row]:
+        """The row of the whole network, below its header."""
+        total, area = sum(map(length, pieces), Decimal(0)), whole.parts.points
+        mean = (area / total).quantize(_THOUSANDTH) if total else ""
+        tubes = f"{widths.volume:.3f}", f"{widths.surface:.3f}"
+        counts = len(branches), sum(branch.ends for branch in branches), junctions
+        row = list(map(str, (len(pieces), whole.parts.holes, area, total, mean, *tubes, *counts)))
+        return [NETWORKS, row] if self.wanted.prune is None else [[*NETWORKS, "left_out"], [*row, str(self.own.left_out)]]
+
+
+def _lengths(mask: np.ndarray) -> list[float]:
+    """The lengths of thin lines, the objects of a picture, by the program."""
+    return [float(length(row)) for row in dicts_of(table(mask, Network.rule))]
 
 
 def length(row: dict[str, str]) -> Decimal:

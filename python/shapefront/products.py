@@ -1,16 +1,23 @@
-"""What the proved program makes of a picture and its report: the report, the table, the drawing, the masks and the network's parts."""
+"""What is made of a picture: its file and, by the proved program, the report, the table, the drawing, the masks and the parts; and the names of all that."""
 from __future__ import annotations
 
 from collections.abc import Sequence
 from pathlib import Path
 from typing import Any
 
+import numpy as np
+
+from .archives import SUFFIX as ARCHIVE
 from .arrays import verdict
-from .convert import Picture
 from .faults import Fault
-from .networks import MADE as NETWORK_TABLES
-from .networks import PARTS, Network, part, parts_of
-from .pictures import Source, sides_of, told_suffix
+from .images import pillow_version
+from .layout import FURTHER, HOLES, PLACES, THUMBNAIL, drawing, evidence, part
+from .networks import SKELETON
+from .overlay import Overlay, middle_slice
+from .parts import names_in, tables_of, works
+from .parts import suffixes_of as part_suffixes
+from .pictures import Source, sides_of, spelled, suffix_of, told_suffix
+from .plan import Plan, Wanted
 from .programs import Answer, call, explained, made
 
 # The words for a drawing, the best one first: with the numbers of the objects, where the program knows this word; and of the contours alone, where any other is too large.
@@ -33,14 +40,29 @@ def measured(image: Path, stem: Path, rule: str, about: str) -> Path:
     return report
 
 
-def draw(report: Path, stem: Path, picture: Picture) -> None:
-    """Draws a report. A volume that the program refuses has no drawing; a Fault of a flat picture."""
+def evidence_of(mask: np.ndarray, stem: Path, plan: Plan, wanted: Wanted, about: str) -> Path:
+    """Writes a picture's file and its evidence: the report, checked, the table, the masks that are wanted, and what is made of its parts. The report's file.
+
+    The names of the files begin with `stem`. A Fault about the image `about` where the program refuses.
+    """
+    image = stem.with_name(stem.name + suffix_of(mask))
+    image.write_bytes(spelled(mask))
+    report = measured(image, stem, plan.rule, about)
+    for kind in plan.masks:
+        with open(stem.with_name(stem.name + mask_suffix(kind, sides_of(mask))), "wb") as out:
+            made("mask", kind, report, out=out, about=about)
+    write_parts(stem, report, wanted, about)
+    return report
+
+
+def draw(report: Path, stem: Path, about: str, is_flat: bool) -> None:
+    """Draws a report. A volume that the program refuses has no drawing; a Fault about the image `about` of a flat picture."""
     drawing = stem.with_name(stem.name + ".svg")
     answer = _drawn(report, drawing)
     if answer.status:
         drawing.unlink()
-        if picture.mask.ndim == 2:
-            raise explained(picture.key, answer)
+        if is_flat:
+            raise explained(about, answer)
 
 
 def _drawn(report: Path, drawing: Path) -> Answer:
@@ -53,14 +75,27 @@ def _drawn(report: Path, drawing: Path) -> Answer:
     return answer
 
 
-def write_mask(kind: str, report: Path, stem: Path, picture: Picture) -> None:
-    """Writes a picture of what a report says: a PBM or a PGM, or of a volume and of squares raw bytes, whose sides its name tells."""
-    with open(stem.with_name(stem.name + mask_suffix(kind, sides_of(picture.mask))), "wb") as out:
-        made("mask", kind, report, out=out, about=picture.key)
+def write_slice(original: np.ndarray, mask: np.ndarray, fit: int, stem: Path) -> None:
+    """Writes the middle slice of a volume for the page, with what was found in it; nothing where Pillow is not installed."""
+    if pillow_version() is not None:
+        stem.with_name(stem.name + THUMBNAIL).write_bytes(Overlay(middle_slice(original, mask, fit), [], []).thumbnail())
+
+
+def write_shown(overlay: Overlay, stem: Path) -> None:
+    """Writes the original image with what was found in it, for people and for the page; nothing where Pillow is not installed."""
+    if pillow_version() is not None:
+        for suffix, data in ((".png", overlay.drawing), (THUMBNAIL, overlay.thumbnail), (PLACES, overlay.places)):
+            stem.with_name(stem.name + suffix).write_bytes(data())
+
+
+def write_network_shown(overlay: Overlay, stem: Path) -> None:
+    """Writes the original image with the branches of its network and their numbers; nothing where Pillow is not installed."""
+    if pillow_version() is not None:
+        stem.with_name(stem.name + ".network.png").write_bytes(overlay.drawing(thick=3))
 
 
 def mask_suffix(kind: str, sides: Sequence[int]) -> str:
-    """What the name of a mask of a picture with these sides ends in."""
+    """What the name of a mask of a picture with these sides ends in: a PBM or a PGM, or of a volume and of squares raw bytes, whose sides it tells."""
     if kind == "squares":
         return f".{kind}.{'x'.join(map(str, sides))}.32bit.raw"
     if len(sides) == 2:
@@ -68,30 +103,41 @@ def mask_suffix(kind: str, sides: Sequence[int]) -> str:
     return f".{kind}" + (told_suffix(sides).removesuffix("raw") + "16bit.raw" if kind == "distances" else told_suffix(sides))
 
 
-def names_of(stem: str, record: dict[str, Any]) -> set[str]:
-    """The names of the files that a picture with such a record has; those of a volume have a drawing where the record names it."""
-    packed = ".gz" if record["gzip"] else ""
-    names = {stem + told_suffix(record["sides"]), stem + ".report" + packed, stem + ".csv"}
-    if len(record["sides"]) == 2 or stem + ".svg" in record["files"]:
-        names.add(stem + ".svg")
-    names |= {stem + mask_suffix(kind, record["sides"]) for kind in record["masks"]}
-    if record["network"]:
-        names |= {part(Path(stem), name, suffix).name for name in PARTS for suffix in (".pbm", ".report" + packed, ".csv")}
-        names |= {f"{stem}.{suffix}" for suffix in NETWORK_TABLES}
-    return names
+def suffixes_of(record: dict[str, Any], sides: Sequence[int], packed: str) -> set[str]:
+    """What the names of the evidence end in of a picture with such a record and these sides, whose reports end in `.report` and what is given; without its parts."""
+    suffixes = {told_suffix(sides), ".report" + packed, *(mask_suffix(kind, sides) for kind in record["masks"])}
+    if record["grey"]:
+        suffixes.add(FURTHER["objects.csv"])
+    return suffixes | tables_of(Wanted.of(record), len(sides) == 2)
 
 
-def write_network(stem: Path, report: Path, picture: Picture) -> None:
-    """Writes the pictures of the parts of a network, their reports and their tables, and the tables arranged from these.
+def names_of(key: str, record: dict[str, Any]) -> set[str]:
+    """The names, in the folder of the run, of the files that a picture with such a record has.
 
-    A Fault where the program refuses.
+    Those that show the original image, the drawing of a volume, and what is about holes and other parts are there where the record names them.
     """
-    skeleton = part(stem, "skeleton", ".pbm")
-    with open(skeleton, "wb") as out:
-        made("mask", "skeleton", report, out=out, about=picture.key)
-    for name, data in parts_of(skeleton.read_bytes()).items():
-        image = part(stem, name, ".pbm")
-        image.write_bytes(data)
-        measured(image, part(stem, name, ""), "curve", picture.key)
-    for suffix, table in Network.of(stem).arranged().items():
-        stem.with_name(f"{stem.name}.{suffix}").write_bytes(table)
+    shown = {drawing(key, ".png"), drawing(key, ".network.png"), evidence(key, THUMBNAIL), evidence(key, PLACES), evidence(key, HOLES), drawing(key, ".svg")} & record["files"].keys()
+    if record["labels"] is not None:
+        return shown | {evidence(key, suffix) for suffix in {ARCHIVE, *tables_of(Wanted.of(record), len(record["sides"]) == 2)}}
+    drawn, packed = {drawing(key, ".svg")} if len(record["sides"]) == 2 else set(), "" if record["plain"] else ".gz"
+    suffixes = suffixes_of(record, record["sides"], packed) | part_suffixes(names_in(Path(key), record["files"]), packed)
+    return shown | drawn | {evidence(key, suffix) for suffix in suffixes}
+
+
+def write_parts(stem: Path, report: Path, wanted: Wanted, about: str) -> None:
+    """Writes the pictures of a picture's parts, their reports and their tables, and the tables arranged from these.
+
+    A Fault about the image `about` where the program refuses.
+    """
+    if wanted.network:
+        with open(part(stem, SKELETON, ".pbm"), "wb") as out:
+            made("mask", "skeleton", report, out=out, about=about)
+    for work in works(stem, wanted):
+        tables = {}
+        for name, data in work.pictures.items():
+            image = part(stem, name, ".pbm")
+            image.write_bytes(data)
+            measured(image, part(stem, name, ""), work.rule, about)
+            tables[name] = part(stem, name, ".csv").read_text()
+        for suffix, table in work.tables(tables).items():
+            stem.with_name(stem.name + suffix).write_bytes(table)

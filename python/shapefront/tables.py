@@ -1,29 +1,37 @@
 """Tables as rows of words: those of all pictures in one, each row with its image's name and its lengths and areas in a unit.
 
-Nothing is computed but products with the pixel's size.
+Nothing is computed but products with the pixel's size, and places in an image by those in the smaller picture that was made of it.
 """
 from __future__ import annotations
 
 import csv
 import io
-from collections.abc import Iterable, Iterator
+from collections.abc import Callable, Iterable, Iterator, Sequence
 from dataclasses import dataclass
+from functools import partial
 
 from .faults import Fault
 from .files import encoded
+from .places import PLACES, in_image
 from .units import POWERS, Pixel
 
 Row = list[str]
 
+_MARK = b"\xef\xbb\xbf"
+
 
 @dataclass(frozen=True)
 class Part:
-    """One picture's table, with what the rows of all of them say of the picture."""
+    """One picture's table, with what the rows of all of them say of the picture: how many of the image's pixels one is wide, and the image's sides.
+
+    `rest` is a further table with the rest of each row, where there is one.
+    """
 
     image: str
-    label: int | None
     fit: int
+    original: Sequence[int]
     table: str
+    rest: str | None = None
 
 
 def rows_of(table: str) -> list[Row]:
@@ -41,31 +49,67 @@ def spelled_rows(rows: Iterable[Row]) -> bytes:
     return encoded(out.getvalue())
 
 
+def marked(table: bytes) -> bytes:
+    """A table as a spreadsheet opens it right: with the mark of UTF-8 before it where it has other letters than those of ASCII."""
+    return table if table.isascii() else _MARK + table
+
+
+def text_of(table: bytes) -> str:
+    """The text of a table's file, without that mark."""
+    return table.removeprefix(_MARK).decode("utf-8", "surrogateescape")
+
+
 def joined(parts: Iterable[Part], pixel: Pixel | None) -> Iterator[Row]:
-    """The rows of all tables, the header first. A Fault where a picture's table has another header than the first one's."""
+    """The rows of all tables, the header first. A Fault where a picture's table has another header than the first one's, or its further table other rows."""
     parts, header = list(parts), None
-    labels, fits = any(part.label is not None for part in parts), any(part.fit > 1 for part in parts)
+    fits = any(part.fit > 1 for part in parts)
+    more = next((rows_of(part.rest)[0] for part in parts if part.rest), [])
     for part in parts:
         first, *rest = rows_of(part.table) or [[]]
+        further = list(_further(first, part, pixel, fits))
         if header is None:
             header = first
-            yield ["image", *(["label"] if labels else []), *(["fit"] if fits else []), *header, *_converted_header(header, pixel)]
+            yield ["image", *(["fit"] if fits else []), *header, *(column.name for column in further), *more]
         if first != header:
             raise Fault(
                 part.image,
                 "its table has other columns than the others have",
                 "was it made by another version? measure again into an empty folder",
             )
-        own = [part.image, *([str(part.label)] if labels else []), *([str(part.fit)] if fits else [])]
-        for row in rest:
-            yield [*own, *row, *_converted(header, row, pixel, part.fit)]
+        own = [part.image, *([str(part.fit)] if fits else [])]
+        for row, others in zip(rest, _rest(part, more, len(rest))):
+            yield [*own, *row, *(column.of(row[column.at]) if row[column.at] else "" for column in further), *others]
 
 
-def _converted_header(header: Row, pixel: Pixel | None) -> Row:
-    return [name for column in header if pixel and (name := pixel.column(column))]
+def _rest(part: Part, header: Row, count: int) -> list[Row]:
+    """The rest of each of so many rows of a picture: empty cells where it has none. A Fault where its further table has others."""
+    if part.rest is None:
+        return [[""] * len(header)] * count
+    own, *rows = rows_of(part.rest)
+    if own != header or len(rows) != count:
+        raise Fault(part.image, "its further table does not fit to its table", "measure again into an empty folder")
+    return rows
 
 
-def _converted(header: Row, row: Row, pixel: Pixel | None, fit: int) -> Row:
-    if pixel is None:
-        return []
-    return [pixel.times(value, POWERS[column], fit) for column, value in zip(header, row) if column in POWERS]
+@dataclass(frozen=True)
+class Further:
+    """A column that follows from another one, by its place in the row: its name, and its value by that of the other."""
+
+    name: str
+    at: int
+    of: Callable[[str], str]
+
+
+def _further(header: Row, part: Part, pixel: Pixel | None, fits: bool) -> Iterator[Further]:
+    """Places in pixels of the image where some image was made smaller; and in the unit the lengths and areas, and where centroids are."""
+    at = {name: k for k, name in enumerate(header)}
+    placed = {name: partial(in_image, name, fit=part.fit, sides=part.original) for name in header if name in PLACES}
+    if fits:
+        yield from (Further(f"{name}_px", at[name], of) for name, of in placed.items())
+    if pixel:
+        yield from (Further(pixel.column(name), at[name], partial(pixel.times, power=POWERS[name], fit=part.fit)) for name in header if name in POWERS)
+        yield from (Further(f"{name}_{pixel.unit}", at[name], _scaled(pixel, placed[name])) for name in "xyz" if name in at)
+
+
+def _scaled(pixel: Pixel, place: Callable[[str], str]) -> Callable[[str], str]:
+    return lambda value: pixel.times(place(value), 1)

@@ -6,19 +6,23 @@ from dataclasses import dataclass
 import numpy as np
 
 from .faults import Fault
+from .filters import Filters
 from .images import Grey
 
 
 @dataclass(frozen=True)
 class Settings:
     """What a user asked for: a threshold (`107`, `50%` or None: chosen), the object's side of it (`dark`, `light` or None: chosen),
-    how labels are taken (`each`, `all`, or None: no labels), and how many pixels of an image one pixel of its picture is wide (or
-    None: as few as the greatest side lets)."""
+    how labels are taken (`each`, `all`, or None: no labels), how many pixels of an image one pixel of its picture is wide (or
+    None: as few as the greatest side lets), which channel is taken (None: the only one with values, or colours made grey), and what is
+    done before and after the threshold."""
 
     threshold: str | None = None
     objects: str | None = None
     labels: str | None = None
     fit: int | None = 1
+    channel: str | None = None
+    filters: Filters = Filters()
 
 
 @dataclass(frozen=True)
@@ -37,14 +41,19 @@ class Cut:
         return f"threshold {self.threshold:g} ({self.how}), objects {self.objects} ({self.side})"
 
 
-def cut_of(image: Grey, settings: Settings) -> Cut:
-    """Where an image is cut. A Fault where no threshold can be chosen, or the one that was given is none for its values."""
+def cut_of(image: Grey, settings: Settings, kind: np.dtype | None = None) -> Cut:
+    """Where an image is cut; `kind` is that of its values in the file, where they are others now.
+
+    A Fault where no threshold can be chosen, or the one that was given is none for its values.
+    """
     values = image.values.astype(np.uint8) if image.values.dtype == bool else image.values
     if np.issubdtype(values.dtype, np.floating) and not np.isfinite(values).all():
         raise Fault(image.name, "some of its values are no numbers", "set them to the background's value")
     least, most = values.min(), values.max()
     if settings.threshold is not None:
-        threshold, how = _given(image.name, values.dtype, settings.threshold), "given"
+        if settings.filters.background is not None and settings.threshold.endswith("%"):
+            raise Fault(image.name, "a percentage is no threshold for differences to a background", "give such a difference")
+        threshold, how = _given(image.name, kind or values.dtype, settings.threshold), "given"
     elif least == most and image.objects:
         threshold, how = 1.0, "it has two values"
     elif least == most:
@@ -97,6 +106,8 @@ def otsu(values: np.ndarray) -> float:
 def looks_like_labels(values: np.ndarray) -> bool:
     """Whether the values are 0 to n without a gap, n at least 2, and mostly those of their neighbours, as labels are."""
     if not np.issubdtype(values.dtype, np.integer) or values.min() != 0 or not 2 <= values.max() < 1 << 20:
+        return False
+    if values.dtype == np.uint8 and values.max() == 255:  # rather an image that uses all its values
         return False
     present = np.bincount(values.ravel().astype(np.int64)) > 0
     return bool(present.all()) and bool((values[..., 1:] == values[..., :-1]).mean() > 0.8)

@@ -121,8 +121,8 @@ def _near(words: list[bytes], true: list[bytes], shown: str) -> str:
     if words[:axes] != true[:axes]:
         return f"the next object point is ({b', '.join(true[:axes]).decode()})"
     if words[-1] != true[-1]:
-        return f"the squared distance is {true[-1].decode()}, not {words[-1].decode()}"
-    return f"the squared distance is right, but ({b', '.join(words[axes:-1]).decode()}) is no nearest background point, as ({b', '.join(true[axes:-1]).decode()}) is"
+        return f"the squared distance is {true[-1].decode()}, not {_shown(words[-1])}"
+    return f"the squared distance is right, but ({_shown(b', '.join(words[axes:-1]))}) is no nearest background point, as ({b', '.join(true[axes:-1]).decode()}) is"
 
 
 def _heading(line: bytes, truth: bytes) -> str:

@@ -3,11 +3,14 @@ from __future__ import annotations
 
 import argparse
 from pathlib import Path
+from typing import Any
 
 from secondreading.limits import MOST_FLAT, MOST_SOLID
 
 from . import __version__
 from .arrays import RULES
+from .channels import NAMES as CHANNELS
+from .filters import Filters
 from .thresholds import Settings
 
 MASKS = ("object", "skeleton", "distances", "squares")
@@ -30,10 +33,23 @@ def _size(word: str) -> float:
     return float(word)
 
 
-def _jobs(word: str) -> int:
+def _classes(word: str) -> list[float]:
+    edges = [_size(part) for part in word.split(",")]
+    if edges != sorted(set(edges)):
+        raise ValueError(word)
+    return edges
+
+
+def _count(word: str) -> int:
     if int(word) < 1:
         raise ValueError(word)
     return int(word)
+
+
+def _channel(word: str) -> str:
+    if word not in CHANNELS and _count(word) < 1:
+        raise ValueError(word)
+    return word
 
 
 def _conversion(parser: argparse.ArgumentParser) -> None:
@@ -63,6 +79,22 @@ def _conversion(parser: argparse.ArgumentParser) -> None:
         const="all",
         help="the same, all labels as one picture: those that touch are one object",
     )
+    parser.add_argument(
+        "--channel",
+        type=_channel,
+        metavar="C",
+        help="which channel of an image: red, green, blue or alpha, or its number from 1 on; of a TIFF whose pages are channels its page",
+    )
+    parser.add_argument(
+        "--background",
+        type=_size,
+        metavar="N",
+        help="take the background off before the threshold: the Gaussian mean of N pixels (standard deviation)",
+    )
+    parser.add_argument("--smooth", type=_size, metavar="N", help="smooth before the threshold, by a Gaussian of N pixels (standard deviation)")
+    parser.add_argument("--fill-holes", action="store_true", help="fill the holes of objects")
+    parser.add_argument("--exclude-border", action="store_true", help="leave out objects that touch the border of the image")
+    parser.add_argument("--min-size", type=_count, metavar="N", help="leave out objects of fewer than N pixels")
     parser.add_argument("--fit", action="store_true", help=f"make images that are too large smaller, by whole numbers of pixels: sides go up to {MOST_FLAT} pixels, or {MOST_SOLID} voxels")
 
 
@@ -76,11 +108,38 @@ def _making(parser: argparse.ArgumentParser) -> None:
     parser.add_argument(
         "--rule", choices=RULES, default="curve", help="what the thinning keeps: ends of curves (curve), the first two (few), or none"
     )
-    parser.add_argument("--gzip", action="store_true", help="gzip the reports: a fifth of their size")
+    packing = parser.add_mutually_exclusive_group()
+    packing.add_argument("--plain", action="store_true", help="keep the reports as text: else they are packed, to a fourth of their size")
+    packing.add_argument("--gzip", dest="plain", action="store_false", default=False, help=argparse.SUPPRESS)
     parser.add_argument(
         "--masks", action="append", choices=MASKS, default=[], help="also write a picture of this; may be given again for another"
     )
     parser.add_argument("-o", dest="folder", type=Path, default=Path("measured"), metavar="FOLDER", help="where all is written (measured)")
+
+
+def _further(measure: argparse.ArgumentParser) -> None:
+    """The words of `shapes measure` alone: what is made of a picture beside its table."""
+    measure.add_argument(
+        "--network",
+        action="store_true",
+        help="also measure each skeleton as a network: networks.csv, branches.csv with a row for each branch, and widths.csv",
+    )
+    measure.add_argument(
+        "--prune",
+        type=_size,
+        metavar="L",
+        help="with --network, leave out branches shorter than L: in the unit of the pixel's size if that is given, else in pixels",
+    )
+    measure.add_argument(
+        "--classes",
+        type=_classes,
+        metavar="W,W,..",
+        help="with --network, the widths between the classes of widths.csv, in the same unit (else some 2 pixels each)",
+    )
+    measure.add_argument(
+        "--sides", action="store_true", help="also find straight sides, corners and circles: sides.csv, corners.csv, circles.csv"
+    )
+    measure.add_argument("--long", type=_count, default=20, metavar="STEPS", help="a straight side has at least so many steps (20)")
 
 
 def _checking(words: argparse._SubParsersAction) -> argparse.ArgumentParser:
@@ -92,6 +151,12 @@ def _checking(words: argparse._SubParsersAction) -> argparse.ArgumentParser:
         "--second",
         action="store_true",
         help="check FOLDER, or reports that lie beside their pictures, by a second reading in Python, without the proved program",
+    )
+    check.add_argument(
+        "--originals",
+        type=Path,
+        metavar="IMAGES",
+        help="the folder of the images that FOLDER was made of: each is made black and white again and compared",
     )
     check.add_argument(
         "--allow",
@@ -112,37 +177,41 @@ def parser() -> argparse.ArgumentParser:
     words = top.add_subparsers(dest="command", required=True, metavar="COMMAND")
     measure = words.add_parser("measure", help="images to tables, drawings and reports", epilog=_STATUS)
     measure.add_argument("images", nargs="+", type=Path, metavar="IMAGE", help="an image, or a folder of images")
-    measure.add_argument(
-        "--network",
-        action="store_true",
-        help="also measure each skeleton as a network: networks.csv, and branches.csv with a row for each branch",
-    )
+    _further(measure)
     volume = words.add_parser("volume", help="the same for volumes", epilog=_STATUS)
     volume.add_argument(
         "images", nargs="+", type=Path, metavar="VOLUME", help="a folder of slices, a TIFF of several pages, or a .npy file [z, y, x]"
     )
-    volume.set_defaults(network=False)
+    volume.set_defaults(network=False, prune=None, classes=None, sides=False, long=20)
     for part in (measure, volume):
         _making(part)
     check = _checking(words)
     for part in (measure, volume, check):
         _conversion(part)
-        part.add_argument("--jobs", type=_jobs, default=1, metavar="N", help="how many images at once")
+        part.add_argument("--jobs", type=_count, default=1, metavar="N", help="how many images at once")
     export = words.add_parser(
         "export", help="straight sides and corners as DXF, or a volume's surface with its normals as PLY", epilog=_STATUS
     )
     export.add_argument("format", choices=("dxf", "ply"))
     export.add_argument("report", type=Path, metavar="REPORT")
-    export.add_argument(
+    size = export.add_mutually_exclusive_group()
+    size.add_argument(
         "--pixel-size", type=_size, default=1.0, metavar="L", help="how wide a pixel or voxel is, in the unit of the file: mm for DXF (1)"
     )
-    export.add_argument("--long", type=int, default=20, metavar="STEPS", help="a straight side has at least so many steps (20)")
+    size.add_argument("--dpi", type=_size, metavar="N", help="the dots per inch of a scan, in place of it")
+    export.add_argument("--long", type=_count, default=20, metavar="STEPS", help="a straight side has at least so many steps (20)")
     export.add_argument("-o", dest="out", type=Path, required=True, metavar="FILE", help="the file to write")
     return top
 
 
 def settings_of(words: argparse.Namespace) -> Settings:
-    return Settings(words.threshold, words.objects, words.labels, None if words.fit else 1)
+    return settings_told(vars(words))
+
+
+def settings_told(options: dict[str, Any]) -> Settings:
+    """How images are made black and white, by the options of a command or of a run."""
+    fit = None if options["fit"] else 1
+    return Settings(options["threshold"], options["objects"], options["labels"], fit, options["channel"], Filters.told(options))
 
 
 def options_of(words: argparse.Namespace) -> dict[str, object]:

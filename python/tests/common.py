@@ -24,6 +24,9 @@ def installed(*packages: str) -> bool:
     return all(importlib.util.find_spec(package) for package in packages)
 
 
+# The workbook and the page of a run, where they are made.
+PAGE = [name for name, package in (("objects.xlsx", "openpyxl"), ("index.html", "jinja2")) if installed(package)]
+
 needs_shape = unittest.skipUnless(programs.has(), "the program shape is not built")
 slow = unittest.skipUnless(os.environ.get("SHAPES_SLOW"), "it takes minutes: set SHAPES_SLOW=1")
 needs_pillow = unittest.skipUnless(installed("PIL"), "Pillow is not installed")

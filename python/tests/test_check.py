@@ -5,13 +5,15 @@ from pathlib import Path
 
 import numpy as np
 
-from .common import STORED, InFolder, installed, needs_pillow, needs_shape, random_mask
+from .common import PAGE, STORED, InFolder, installed, needs_pillow, needs_shape, random_mask
 
 from secondreading.limits import MOST_FLAT
 from shapefront import programs
-from shapefront.convert import pictures_of
-from shapefront.making import Plan, make
+from shapefront.convert import picture_of
+from shapefront.making import make
+from shapefront.plan import Plan
 from shapefront.thresholds import Settings
+from shapefront.words import parser
 
 if installed("PIL"):
     from PIL import Image
@@ -110,9 +112,9 @@ class CheckingAFolder(InFolder):
 
     def test_it_is_right(self):
         status, out, _ = self.shapes("check", "out")
-        names = ["cross.pbm", "word.pbm", "pictures.csv", "objects.csv", "summary.txt", "made.json"]
+        names = ["evidence/cross.pbm", "evidence/word.pbm", "pictures.csv", "objects.csv", "holes.csv", "summary.txt", *PAGE, "evidence/made.json"]
         self.assertEqual((status, out[:-1]), (0, [f"out/{name}: yes" for name in names]))
-        self.assertTrue(out[-1].startswith("checked 2 of 2 images, 8 rows, 13 files; not checked: what only the original images tell"), out[-1])
+        self.assertTrue(out[-1].startswith(f"checked 2 of 2 images, 12 rows, {24 + len(PAGE)} files; not checked: what only the original images tell"), out[-1])
 
     def test_changed_tables(self):
         path = Path("out/objects.csv")
@@ -120,27 +122,27 @@ class CheckingAFolder(InFolder):
         self.assertEqual(
             self.shapes("check", "out")[1][3], "out/objects.csv: no, row 1 (image word.pbm, object 1): object 9; the report gives 1"
         )
-        path = Path("out/word.pbm.csv")
+        path = Path("out/evidence/word.pbm.csv")
         path.write_text(path.read_text() + "9,9\n")
         status, out, _ = self.shapes("check", "out")
         self.assertEqual(
             (status, out[1]),
-            (1, "out/word.pbm: no, the report holds, but out/word.pbm.csv is not what `shape measure` makes of it: row 6 (object 9) is one that nothing gives"),
+            (1, "out/evidence/word.pbm: no, the report holds, but out/evidence/word.pbm.csv is not what `shape measure` makes of it: row 6 (object 9) is one that nothing gives"),
         )
 
     def test_a_changed_drawing(self):
-        path = Path("out/word.pbm.svg")
+        path = Path("out/drawings/word.pbm.svg")
         path.write_text(path.read_text().replace("svg", "gvs"))
-        self.assertIn("but out/word.pbm.svg is not what `shape draw` makes of it", self.shapes("check", "out")[1][1])
+        self.assertIn("but out/drawings/word.pbm.svg is not what `shape draw` makes of it", self.shapes("check", "out")[1][1])
 
     def test_the_original_image(self):
-        self.assertEqual(self.shapes("check", "word.pbm", "out/word.pbm.report")[:2], (0, ["out/word.pbm.report: yes"]))
-        status, out, _ = self.shapes("check", "cross.pbm", "out/word.pbm.report")
+        self.assertEqual(self.shapes("check", "word.pbm", "out/evidence/word.pbm.report.gz")[:2], (0, ["out/evidence/word.pbm.report.gz: yes"]))
+        status, out, _ = self.shapes("check", "cross.pbm", "out/evidence/word.pbm.report.gz")
         self.assertTrue(status == 1 and "the report is of another one" in out[0], out)
 
     def test_the_original_image_is_made_as_small_as_its_record_tells(self):
         Image.fromarray(random_mask(4, 30, 40).astype(np.uint8) * 255).save("half.png")
-        (picture,) = pictures_of(Path("half.png"), "half.png", Settings(fit=2))
-        make(picture, Plan(Path("half"), "curve"))
+        picture = picture_of(Path("half.png"), "half.png", Settings(fit=2))
+        make(picture, Plan.told(Path("half"), vars(parser().parse_args(["measure", "half.png"]))))
         for words in ((), ("--fit", "--threshold", repr(picture.cut.threshold), f"--{picture.cut.objects}")):
-            self.assertEqual(self.shapes("check", "half.png", "half/half.png.report", *words)[:2], (0, ["half/half.png.report: yes"]))
+            self.assertEqual(self.shapes("check", "half.png", "half/evidence/half.png.report.gz", *words)[:2], (0, ["half/evidence/half.png.report.gz: yes"]))

@@ -7,7 +7,8 @@ from .common import STORED, InFolder, installed, needs_pillow
 
 from secondreading.limits import MOST_FLAT, MOST_SOLID
 from shapefront import Fault
-from shapefront.convert import pictures_of, volume, volumes_of
+from shapefront.convert import picture_of, volume, volume_of
+from shapefront.labels import boxes
 from shapefront.pictures import spelled, told_sides
 from shapefront.thresholds import Settings, looks_like_labels, otsu
 
@@ -16,8 +17,7 @@ if installed("PIL"):
 
 
 def one(path, **settings):
-    (picture,) = pictures_of(Path(path), str(path), Settings(**settings))
-    return picture
+    return picture_of(Path(path), str(path), Settings(**settings))
 
 
 @needs_pillow
@@ -68,14 +68,17 @@ class Pictures(InFolder):
         labels = np.zeros((20, 20), np.uint16)
         labels[2:8, 2:8], labels[8:12, 2:8], labels[15:18, 15:18] = 1, 2, 300
         Image.fromarray(labels).save("cells.tif")
-        each = list(pictures_of(Path("cells.tif"), "cells.tif", Settings(labels="each")))
-        self.assertEqual([picture.key for picture in each], ["cells.tif.label1", "cells.tif.label2", "cells.tif.label300"])
-        for picture in each:
-            np.testing.assert_array_equal(picture.mask, labels == picture.label)
+        each = boxes(one("cells.tif", labels="each").labels)
+        self.assertEqual([(box.label, box.place, box.mask.shape) for box in each], [(1, (1, 1), (8, 8)), (2, (1, 7), (6, 8)), (300, (14, 14), (5, 5))])
+        for box in each:
+            whole, (x, y), (height, width) = np.zeros_like(labels, bool), box.place, box.mask.shape
+            whole[y : y + height, x : x + width] = box.mask
+            np.testing.assert_array_equal(whole, labels == box.label)
+        np.testing.assert_array_equal(one("cells.tif", labels="each").mask, labels > 0)
         indexed = Image.fromarray(np.minimum(labels, 3).astype(np.uint8))
         indexed.putpalette([0, 0, 0, 255, 0, 0, 0, 200, 0, 0, 0, 90])
         indexed.save("indexed.png")
-        self.assertEqual([picture.label for picture in pictures_of(Path("indexed.png"), "x", Settings(labels="each"))], [1, 2, 3])
+        self.assertEqual(np.unique(one("indexed.png", labels="each").labels).tolist(), [0, 1, 2, 3])
         together = one("cells.tif", labels="all")
         np.testing.assert_array_equal(together.mask, labels > 0)
         self.assertIn("the 3 labels as one picture", together.notes[0])
@@ -92,7 +95,7 @@ class Pictures(InFolder):
         large = np.full((30, wide), 255, np.uint8)
         large[9:21, 300:12300] = 0
         Image.fromarray(large).save("large.png")
-        with self.assertRaisesRegex(Fault, rf"too large: x {wide}, y 30, and a side goes up to {MOST_FLAT}; .* --fit: 1 pixel for 3"):
+        with self.assertRaisesRegex(Fault, rf"too large: x {wide}, y 30, and a side goes up to {MOST_FLAT}; .* --fit: 3 by 3 pixels are one"):
             one("large.png")
         picture = one("large.png", fit=None)
         self.assertEqual((picture.fit, picture.mask.shape, picture.mask.sum()), (3, (10, wide // 3 + 1), 4 * 4000))
@@ -132,7 +135,7 @@ class Volumes(InFolder):
         pages[0].save("stack.tif", save_all=True, append_images=pages[1:])
         np.save("array.npy", values)
         for name in ("stack.tif", "array.npy"):
-            (picture,) = volumes_of(Path(name), name, Settings("128", "light"))
+            picture = volume_of(Path(name), name, Settings("128", "light"))
             np.testing.assert_array_equal(picture.mask, values >= 128)
 
     def test_refusals(self):
@@ -148,4 +151,4 @@ class Volumes(InFolder):
             ("flat.npy", "2 axes"), ("nowhere", "no such file"), ("large.npy", f"too large: x 4, y 3, z {MOST_SOLID + 1}, and a side goes up to {MOST_SOLID}"),
         ):  # fmt: skip
             with self.assertRaisesRegex(Fault, f"^{name}: .*{reason}"):
-                list(volumes_of(Path(name), name, Settings()))
+                volume_of(Path(name), name, Settings())

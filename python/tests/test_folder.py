@@ -12,24 +12,26 @@ import tempfile
 import types
 import unittest
 import unittest.mock
+import zipfile
 from pathlib import Path
 
 import numpy as np
 
-from .common import STORED, InFolder, installed, needs_pillow, needs_shape, random_mask, slow
+from .common import PAGE, STORED, InFolder, installed, needs_pillow, needs_shape, random_mask, slow
 
 from shapefront import programs
 from shapefront.files import spelled_json
+from shapefront.layout import MADE
 from shapefront.seals import SEAL, opened, sealed
 
 if installed("PIL"):
     from PIL import Image
 
 FOLDERS = {
-    "cells": ("measure", "cells.png", "--labels", "--masks", "object", "--masks", "skeleton", "--masks", "distances"),
-    "lines": ("measure", "one.pbm", "two.pbm", "--network", "--masks", "distances", "--pixel-size", "3", "mm"),
-    "packed": ("measure", "one.pbm", "below/two.pbm", "--network", "--gzip", "--masks", "skeleton"),
-    "solids": ("volume", "one.npy", "two.npy", "--masks", "distances", "--masks", "object"),
+    "cells": ("measure", "cells.png", "more.png", "--labels", "--masks", "object", "--masks", "skeleton", "--masks", "distances"),
+    "lines": ("measure", "one.pbm", "two.pbm", "--plain", "--network", "--masks", "distances", "--pixel-size", "3", "mm"),
+    "packed": ("measure", "one.pbm", "below/two.pbm", "--network", "--prune", "3", "--classes", "2,3", "--sides", "--long", "4", "--masks", "skeleton"),
+    "solids": ("volume", "one.npy", "two.npy", "--plain", "--masks", "distances", "--masks", "object"),
 }
 
 
@@ -39,10 +41,12 @@ def save_images():
     labels[1:6, 1:6], labels[6:10, 1:6], labels[2:9, 8:13] = 1, 2, 2
     labels[4, 10] = 0
     Image.fromarray(labels).save("cells.png")
+    Image.fromarray(labels[::-1] * 3).save("more.png")
     Path("below").mkdir()
     for name, seed in (("one", 4), ("two", 5)):
         lines = np.zeros((16, 15 + seed), bool)
-        lines[2 + seed, 1:-1] = lines[1:-1, 3 + seed] = lines[12:14, 1:3] = True
+        lines[2 + seed, 1:-1] = lines[1:-1, 3 + seed] = lines[12:14, 1:3] = lines[12:15, -4:-1] = True
+        lines[13, -3] = False
         for folder in (".", "below"):
             Image.fromarray(np.where(lines, 0, 255).astype(np.uint8)).convert("1").save(f"{folder}/{name}.ppm")
             Path(folder, name + ".ppm").rename(Path(folder, name + ".pbm"))
@@ -204,8 +208,8 @@ def spelled_again(name, change, is_sealed):
 
 
 def set_out_anew(folder):
-    (folder / "made.json").write_text(json.dumps(json.loads((folder / "made.json").read_bytes()), indent=2) + "\n")
-    return ["made.json"]
+    (folder / MADE).write_text(json.dumps(json.loads((folder / MADE).read_bytes()), indent=2) + "\n")
+    return [MADE]
 
 
 def both_tables(stem):
@@ -225,7 +229,7 @@ def whole_image(stem):
     """All files of an image are deleted."""
 
     def edit(folder):
-        names = [name for name in contents(folder) if name.startswith(stem + ".")]
+        names = [name for name in contents(folder) if name.partition("/")[2].startswith(stem.partition("/")[2] + ".")]
         return deleted(*names)(folder)
 
     return edit
@@ -270,7 +274,49 @@ def ends_of_lines(name):
     return edit
 
 
-def edits_of(one, other, suffix, report):
+def in_archive(name, change):
+    """An edit of an archive: what the function makes of its members, by their names."""
+
+    def edit(folder):
+        with zipfile.ZipFile(folder / name) as archive:
+            members = change({member: archive.read(member) for member in archive.namelist()})
+        with zipfile.ZipFile(folder / name, "w") as archive:
+            for member, data in members.items():
+                archive.writestr(member, data)
+        return [name]
+
+    return edit
+
+
+def labels(one, other):
+    """Edits of the archives of two label images."""
+    one, other = f"{one}.labels.zip", f"{other}.labels.zip"
+    return {
+        "two archives are exchanged": swapped(one, other),
+        "an archive is deleted": deleted(other),
+        "a label is taken out": in_archive(one, lambda members: {name: data for name, data in members.items() if not name.startswith("1.")}),
+        "a label's table is taken out": in_archive(one, lambda members: {name: data for name, data in members.items() if name != "2.csv"}),
+        "two labels are exchanged": in_archive(one, lambda members: {name.translate({49: 50, 50: 49}): data for name, data in members.items()}),
+        "a label's report is changed": in_archive(one, lambda members: members | {"2.report": members["2.report"].replace(b"near 2 1 ", b"near 3 1 ")}),
+        "a label's table is changed": in_archive(one, lambda members: members | {"2.csv": members["2.csv"].replace(b"2,", b"3,", 1)}),
+        "a label's mask is changed": in_archive(one, lambda members: members | {"1.skeleton.pbm": members["2.skeleton.pbm"]}),
+        "a member is added": in_archive(one, lambda members: members | {"3.txt": b"mine"}),
+        "a member with a way out is added": in_archive(one, lambda members: members | {"../3.txt": b"mine"}),
+        "a label is said to lie elsewhere": spelled_again(one.replace("labels.zip", "json"), lambda value: value["labels"][0].__setitem__(1, 99), True),
+    }
+
+
+def evidence(one, other, suffix, report):
+    """Edits of the pictures and the reports of two images."""
+    return {
+        "two reports are exchanged": swapped(f"{one}.{report}", f"{other}.{report}"),
+        "two pictures are exchanged": swapped(f"{one}{suffix[0]}", f"{other}{suffix[1]}"),
+        "a report is deleted": deleted(f"{one}.{report}"),
+        "a picture is deleted": deleted(f"{other}{suffix[1]}"),
+    }
+
+
+def edits_of(one, other):
     """Edits, as a person makes them, of a folder of two pictures whose files' names begin so; each gives the files that it changes."""
     return {
         "a row is taken out": with_rows("objects.csv", taken_out(1)),
@@ -285,15 +331,11 @@ def edits_of(one, other, suffix, report):
         "a number of a picture's own table is changed": with_rows(f"{one}.csv", cell(1, 1, "99999")),
         "a number is changed in both tables": both_tables(one),
         "a table with ends of lines as on Windows": ends_of_lines("objects.csv"),
-        "two reports are exchanged": swapped(f"{one}.{report}", f"{other}.{report}"),
-        "two pictures are exchanged": swapped(f"{one}{suffix[0]}", f"{other}{suffix[1]}"),
         "two tables are exchanged": swapped(f"{one}.csv", f"{other}.csv"),
         "two records are exchanged": swapped(f"{one}.json", f"{other}.json"),
-        "a report is deleted": deleted(f"{one}.{report}"),
-        "a picture is deleted": deleted(f"{other}{suffix[1]}"),
         "a picture's own table is deleted": deleted(f"{one}.csv"),
         "a record is deleted": deleted(f"{other}.json"),
-        "made.json is deleted": deleted("made.json"),
+        "made.json is deleted": deleted(MADE),
         "a table of all is deleted": deleted("objects.csv"),
         "the table of pictures is deleted": deleted("pictures.csv"),
         "the summary is deleted": deleted("summary.txt"),
@@ -303,17 +345,18 @@ def edits_of(one, other, suffix, report):
         "a note is added in a folder of its own": added("notes/monday.txt"),
         "a record says another way of making": spelled_again(f"{one}.json", lambda value: value["notes"].append("smoothed"), False),
         "a record says other counts, with a sum": spelled_again(f"{one}.json", lambda value: value.update(kept=[1, 1, 1]), True),
-        "made.json says another image's sum": spelled_again("made.json", lambda value: value["images"][0].update(sum="0" * 64), False),
+        "made.json says another image's sum": spelled_again(MADE, lambda value: value["images"][0].update(sum="0" * 64), False),
         "made.json says another threshold, with a sum": spelled_again(
-            "made.json", lambda value: value["images"][0].update(thresholds=[3.5]), True
+            MADE, lambda value: value["images"][0].update(threshold=3.5), True
         ),
-        "made.json names a file less, with a sum": spelled_again("made.json", lambda value: value["files"].pop(f"{one}.csv"), True),
+        "made.json names a file less, with a sum": spelled_again(MADE, lambda value: value["files"].pop(f"{one}.csv"), True),
         "made.json is set out in another way": set_out_anew,
     }
 
 
 def drawn(one, other):
-    return {"a drawing is deleted": deleted(f"{one}.svg"), "two drawings are exchanged": swapped(f"{one}.svg", f"{other}.svg")}
+    one, other = (name.replace("evidence", "drawings") + ".svg" for name in (one, other))
+    return {"a drawing is deleted": deleted(one), "two drawings are exchanged": swapped(one, other)}
 
 
 def networks(one, other, report):
@@ -329,20 +372,42 @@ def networks(one, other, report):
     }
 
 
+def holes(one, other, report):
+    return {
+        "a hole's row is taken out": with_rows("holes.csv", taken_out(1)),
+        "a hole is made larger": with_rows("holes.csv", cell(1, 3, "99999")),
+        "the picture of holes is deleted": deleted(f"{one}.holes-1.pbm"),
+        "the report of holes is deleted": deleted(f"{one}.holes-1.{report}"),
+        "a picture's table of holes is deleted": deleted(f"{other}.holes.csv"),
+        "a picture's table of holes is changed": with_rows(f"{other}.holes.csv", cell(1, 9, "99999")),
+        "a length of a class of widths is changed": with_rows("widths.csv", cell(1, 3, "99999")),
+    }
+
+
+def outlines(one):
+    return {
+        "a side is made longer": with_rows("sides.csv", cell(1, 4, "99999")),
+        "a picture's own side is made longer": with_rows(f"{one}.sides.csv", cell(1, 3, "99999")),
+        "the table of corners is deleted": deleted("corners.csv"),
+        "the pruned skeleton is deleted": deleted(f"{one}.network-pruned.pbm"),
+        "the count of what was left out is changed": with_rows("networks.csv", lambda table: cell(1, len(table[0]) - 1, "7")(table)),
+    }
+
+
 def masks(one, other, kind):
     return {"a mask is deleted": deleted(f"{one}.{kind}"), "two masks are exchanged": swapped(f"{one}.{kind}", f"{other}.{kind}")}
 
 
-CELLS, LINES = ("cells.png.label1", "cells.png.label2"), ("one.pbm", "two.pbm")
-PACKED, SOLIDS = ("one.pbm", "below/two.pbm"), ("one.npy", "two.npy")
+CELLS, LINES = ("evidence/cells.png", "evidence/more.png"), ("evidence/one.pbm", "evidence/two.pbm")
+PACKED, SOLIDS = ("evidence/one.pbm", "evidence/below/two.pbm"), ("evidence/one.npy", "evidence/two.npy")
 PBM = (".pbm", ".pbm")
 EDITS = {
-    "cells": edits_of(*CELLS, PBM, "report") | drawn(*CELLS) | masks(*CELLS, "distances.pgm") | {"another report": other_report(CELLS[0])},
-    "lines": edits_of(*LINES, PBM, "report") | drawn(*LINES) | networks(*LINES, "report") | masks(*LINES, "distances.pgm")
-    | {"another report": other_report(LINES[1]), "another kind of report": other_kind(LINES[0]), "another pixel": replaced("made.json", b'"size": "3"', b'"size": "2"')},
-    "packed": edits_of(*PACKED, PBM, "report.gz") | drawn(*PACKED) | networks(*PACKED, "report.gz") | masks(*PACKED, "skeleton.pbm")
-    | {"another report": other_report(PACKED[1], ".gz"), "packed again": packed_again("one.pbm.report.gz")},
-    "solids": edits_of(*SOLIDS, (".7x6x5.raw", ".8x6x5.raw"), "report"),
+    "cells": edits_of(*CELLS) | labels(*CELLS),
+    "lines": edits_of(*LINES) | evidence(*LINES, PBM, "report") | drawn(*LINES) | networks(*LINES, "report") | holes(*LINES, "report") | masks(*LINES, "distances.pgm")
+    | {"another report": other_report(LINES[1]), "another kind of report": other_kind(LINES[0]), "another pixel": replaced(MADE, b'"size": "3"', b'"size": "2"')},
+    "packed": edits_of(*PACKED) | evidence(*PACKED, PBM, "report.gz") | drawn(*PACKED) | networks(*PACKED, "report.gz") | holes(*PACKED, "report.gz") | outlines(PACKED[0]) | masks(*PACKED, "skeleton.pbm")
+    | {"another report": other_report(PACKED[1], ".gz"), "packed again": packed_again("evidence/one.pbm.report.gz")},
+    "solids": edits_of(*SOLIDS) | evidence(*SOLIDS, (".7x6x5.raw", ".8x6x5.raw"), "report"),
 }  # fmt: skip
 
 
@@ -396,7 +461,7 @@ class Seals(OfFolders):
 
     def test_every_byte_counts(self):
         draw = random.Random(7)
-        for name in ("cells/made.json", "packed/below/two.pbm.json"):
+        for name in ("cells/evidence/made.json", "packed/evidence/below/two.pbm.json"):
             data = (self.made / name).read_bytes()
             self.assertEqual(opened(data), json.loads(data))
             for k in range(len(data)):
@@ -415,25 +480,25 @@ class Seals(OfFolders):
 class Told(OfFolders):
     """What is said of a folder: why it is not right, and what a `yes` covers."""
 
-    UNTOLD = "not checked: what only the original images tell (names, labels, thresholds, what was done to them), and the pixel's size"
+    UNTOLD = "not checked: what only the original images tell (names, labels, thresholds, intensities, what was done to them), and the pixel's size"
 
     def test_what_a_yes_covers(self):
-        for name, count in (("cells", "1 of 1 images, 5 rows, 19 files"), ("solids", "2 of 2 images, ")):
+        for name, count in (("cells", f"2 of 2 images, 8 rows, {18 + len(PAGE)} files"), ("solids", "2 of 2 images, ")):
             status, out = self.check(self.anew(name))
             self.assertEqual((status, {line.rpartition(": ")[2] for line in out[:-1]}), (0, {"yes"}))
             self.assertTrue(out[-1].startswith(f"checked {count}") and out[-1].endswith(self.UNTOLD), out[-1])
 
     def test_rows(self):
         folder, table = self.anew("cells"), rows(self.made / "cells" / "objects.csv")
-        whose = "image cells.png, label {}, object {}".format
-        second = (*table[2][1:3],)
+        whose = "image {}, label {}".format
+        first, second, last = ((*table[k][:2],) for k in (1, 2, -1))
         for change, why in (
-            (cell(1, 3, "99999"), f"row 1 ({whose(1, 1)}): area 99999; the report gives {table[1][3]}"),
-            (cell(1, 1, "2"), f"row 1 ({whose(1, 1)}): label 2; the record gives 1"),
+            (cell(1, 3, "99999"), f"row 1 ({whose(*first)}): area 99999; the report gives {table[1][3]}"),
+            (cell(1, 1, "2"), f"row 1 ({whose(*first)}): label 2; the record gives 1"),
             (taken_out(2), f"row 2 ({whose(*second)}) is missing"),
-            (taken_out(-1), f"row {len(table) - 1} ({whose(*table[-1][1:3])}) is missing"),
+            (taken_out(-1), f"row {len(table) - 1} ({whose(*last)}) is missing"),
             (exchanged(1, 2), f"row 1 ({whose(*second)}) stands in the place of another: it is row 2"),
-            (lambda all_: [*all_[:2], all_[1], *all_[2:]], f"row 2 ({whose(1, 1)}) is one that nothing gives"),
+            (lambda all_: [*all_[:2], all_[1], *all_[2:]], f"row 2 ({whose(*first)}) is one that nothing gives"),
             (lambda all_: [*all_[:2], all_[2][:-1], *all_[3:]], f"row 2 ({whose(*second)}) has {len(table[0]) - 1} cells in place of {len(table[0])}"),
             (cell(0, 3, "size"), "column 4 is called `size`, and has to be `area`"),
             (lambda all_: [row[:3] + row[4:] for row in all_], "of its columns `area` is missing"),
@@ -446,29 +511,35 @@ class Told(OfFolders):
 
     def test_what_is_missing_was_changed_or_nothing_made(self):
         for edit, wanted in (
-            (deleted("one.pbm.svg"), ["lines/one.pbm.svg: no, it is missing"]),
+            (deleted("drawings/one.pbm.svg"), ["lines/drawings/one.pbm.svg: no, it is missing"]),
             (added("note.txt"), ["lines/note.txt: no, nothing made it; take it away, or name it by --allow"]),
-            (deleted("two.pbm.report"), [
-                "lines/two.pbm: no, its report two.pbm.report is gone: it is missing", "lines/two.pbm.report: no, it is missing"]),
+            (deleted("evidence/two.pbm.report"), [
+                "lines/evidence/two.pbm: no, its report two.pbm.report is gone: it is missing", "lines/evidence/two.pbm.report: no, it is missing"]),
             (replaced("summary.txt", b"a pixel is 3 mm", b"a pixel is 4 mm"), [
                 "lines/summary.txt: no, line 2: it says `thinned by the rule curve; a pixel is 4 mm wide`; "
                 "the records give `thinned by the rule curve; a pixel is 3 mm wide`"]),
-            (replaced("made.json", b'"size": "3"', b'"size": "2"'), [
-                "lines/made.json: no, it was changed since `shapes` wrote it: its sum is not that of what it says"]),
-            (deleted("made.json"), [
-                "lines/made.json: no, it is missing, and without it nobody can tell whether branches.csv, networks.csv, objects.csv, .. "
+            (replaced(MADE, b'"size": "3"', b'"size": "2"'), [
+                "lines/evidence/made.json: no, it was changed since `shapes` wrote it: its sum is not that of what it says"]),
+            (deleted(MADE), [
+                "lines/evidence/made.json: no, it is missing, and without it nobody can tell whether branches.csv, evidence/one.pbm.json, evidence/two.pbm.json, .. "
                 "and all else of the run are as they were made"]),
-            (spelled_again("one.pbm.json", lambda value: value.update(parts=[1, 2, 3]), False), [
-                "lines/one.pbm.json: no, parts 1: it says 1; the reports and tables give "]),
-            (spelled_again("made.json", lambda value: value.pop(SEAL), False), ["lines/made.json: no, it has no sum of its own: an earlier version"]),
+            (spelled_again("evidence/one.pbm.json", lambda value: value.update(parts=[1, 2, 3]), False), [
+                "lines/evidence/one.pbm.json: no, parts 1: it says 1; the reports and tables give "]),
+            (spelled_again(MADE, lambda value: value.pop(SEAL), False), ["lines/evidence/made.json: no, it has no sum of its own: an earlier version"]),
         ):  # fmt: skip
             files = edit(self.anew("lines"))
             found = self.refused("lines", *files)
             self.assertEqual([line[: len(told)] for line, told in zip(found, wanted, strict=True)], wanted)
 
+    def test_a_folder_of_an_earlier_version(self):
+        folder = self.anew("lines")
+        (folder / MADE).rename(folder / "made.json")
+        found = self.refused("lines", "made.json")
+        self.assertEqual(found, ["lines/made.json: no, an earlier version of `shapes` wrote this folder; measure again into an empty one"])
+
     def test_two_things_at_once(self):
         folder = self.anew("packed")
-        files = [*deleted("one.pbm.svg", "below/two.pbm.network-branches.pbm")(folder), *both_tables("one.pbm")(folder), *added("x")(folder)]
+        files = [*deleted("drawings/one.pbm.svg", "evidence/below/two.pbm.network-branches.pbm")(folder), *both_tables("evidence/one.pbm")(folder), *added("x")(folder)]
         self.refused("packed", *files)
 
     def test_what_may_be_there(self):
@@ -478,8 +549,8 @@ class Told(OfFolders):
             (folder / name).write_text("mine")
         self.assertEqual(self.refused("cells", "notes/a.txt", "notes/b.txt", "list.txt")[0][:12], "cells/list.t")
         self.assertEqual(self.check("cells", "--allow", "notes", "--allow", "list.txt")[0], 0)
-        (folder / "cells.png.label1.csv").unlink()
-        self.assertEqual(self.check("cells", "--allow", "notes", "--allow", "list.txt", "--allow", "cells.png.label1.csv")[0], 1)
+        (folder / "evidence/cells.png.csv").unlink()
+        self.assertEqual(self.check("cells", "--allow", "notes", "--allow", "list.txt", "--allow", "evidence/cells.png.csv")[0], 1)
 
     def test_an_empty_folder_and_a_link_are_things_that_nothing_made(self):
         folder = self.anew("cells")
@@ -500,10 +571,10 @@ class Told(OfFolders):
     def test_what_an_earlier_run_left(self):
         self.anew("lines")
         shutil.copy(self.made / "cells.png", "cells.png")
-        status, _, error = self.shapes("measure", "cells.png", "--labels", "-o", "lines")
-        told = "lines: not of this run, and `shapes check` will not pass over it: one.pbm.branches.csv, one.pbm.csv, one.pbm.distances.pgm, .."
+        status, _, error = self.shapes("measure", "cells.png", "--labels", "--plain", "-o", "lines")
+        told = "lines: not of this run, and `shapes check` will not pass over it: drawings/one.pbm.network.png, drawings/one.pbm.png, drawings/one.pbm.svg, .."
         self.assertEqual((status, error), (0, [told]))
-        self.refused("lines", "one.pbm.report", "two.pbm.json")
+        self.refused("lines", "evidence/one.pbm.report", "evidence/two.pbm.json")
 
     def test_runs_below_a_folder_and_reports_by_hand(self):
         Path("all").mkdir()
@@ -522,15 +593,15 @@ class Told(OfFolders):
         self.assertEqual((status, out[-2]), (0, "all/word: yes"))
         self.assertTrue(out[-1].endswith("whether a file is missing or was exchanged, and 1 other file (note.txt)"), out[-1])
         Path("all/objects.csv").write_text("image\n")
-        self.refused("all", "made.json")
+        self.refused("all", "evidence/made.json")
 
     def test_a_record_that_was_changed_is_made_again(self):
         self.anew("lines")
         os.chdir(self.made)
         words = [*FOLDERS["lines"], "-o", str(self.folder / "lines")]
         for edit in (
-            spelled_again("one.pbm.json", lambda value: value.update(parts=[1, 2, 3]), False),
-            replaced("one.pbm.json", b'"kept"', b'"kepd"'),
+            spelled_again("evidence/one.pbm.json", lambda value: value.update(parts=[1, 2, 3]), False),
+            replaced("evidence/one.pbm.json", b'"kept"', b'"kepd"'),
         ):
             edit(self.folder / "lines")
             self.assertEqual(self.shapes(*words)[0], 0)
@@ -542,20 +613,18 @@ class Told(OfFolders):
             status, out = self.check("cells")
         self.assertEqual((status, out[-1].rpartition("; ")[2]), (0, "another build of the program made it, by the sum in made.json"))
 
-    def test_names_of_all_are_no_names_of_images(self):
-        np.save("objects", np.eye(5, dtype=bool))
-        Path("objects.npy").rename("objects")
+    def test_the_name_of_the_record_of_all_is_no_name_of_an_image(self):
         Image.fromarray(np.eye(9, dtype=np.uint8) * 255).save("made.png")
         Path("made.png").rename("made")
         status, out, error = self.shapes("measure", "made", "-o", "out")
         self.assertEqual((status, out), (1, ["0 of 1 measured, in out: summary.txt tells how"]))
-        self.assertIn("made: its files would have the names of `made.csv` or `.json`, which are of all; rename it", error[0])
+        self.assertIn("made: its record would have the name of that of all, made.json; rename it", error[0])
 
     def test_a_record_of_a_stranger(self):
         for value in ({"files": {}}, {"files": {"../word.pbm": "0"}, "images": []}, {"files": [], "images": 3}, {"images": [{"pictures": ["x"]}], "files": {}}):
             folder = self.anew("cells")
-            (folder / "made.json").write_bytes(spelled_json(sealed(value)))
-            self.assertIn("cells/made.json: no, it, or a record that it names, is none that `shapes` wrote", self.refused("cells"))
+            (folder / MADE).write_bytes(spelled_json(sealed(value)))
+            self.assertIn("cells/evidence/made.json: no, it, or a record that it names, is none that `shapes` wrote", self.refused("cells"))
 
 
 if __name__ == "__main__":

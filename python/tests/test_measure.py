@@ -14,7 +14,7 @@ from pathlib import Path
 
 import numpy as np
 
-from .common import HERE, InFolder, installed, needs_pillow, needs_shape, random_mask
+from .common import HERE, PAGE, InFolder, installed, needs_pillow, needs_shape, random_mask
 
 from secondreading.limits import MOST_SOLID
 from shapefront import programs, read
@@ -46,15 +46,15 @@ class Measuring(InFolder):
         status, out, error = self.shapes("measure", "in", "--pixel-size", "0.5", "mm", "-o", "out")
         self.assertEqual((status, out), (0, ["3 of 3 measured, in out: summary.txt tells how"]), error)
         self.assertIn("passed over, as their names are not those of images: 1 of the files", error)
-        wanted = [f"{k:03}.png{suffix}" for k in range(3) for suffix in (".csv", ".json", ".pbm", ".report")]
-        self.assertLessEqual({*wanted, "made.json", "objects.csv", "pictures.csv", "summary.txt"}, set(contents("out")))
+        wanted = [f"evidence/{k:03}.png{suffix}" for k in range(3) for suffix in (".csv", ".json", ".pbm", ".report.gz")]
+        self.assertLessEqual({*wanted, *(f"drawings/{k:03}.png.svg" for k in range(3)), "evidence/made.json", "objects.csv", "pictures.csv", "summary.txt"}, set(contents("out")))
         self.assertEqual([row["image"] for row in table("out/pictures.csv")], ["000.png", "001.png", "002.png"])
 
     def test_every_number_was_printed_by_a_program_or_is_a_power_of_the_pixel_times_one(self):
         self.save(3)
-        self.shapes("measure", "in", "--pixel-size", "0.125", "um", "-o", "out")
+        self.shapes("measure", "in", "--pixel-size", "0.125", "um", "--plain", "-o", "out")
         rows = table("out/objects.csv")
-        own = [row for k in range(3) for row in table(f"out/{k:03}.png.csv")]
+        own = [row for k in range(3) for row in table(f"out/evidence/{k:03}.png.csv")]
         self.assertEqual(len(rows), len(own))
         powers = {"um": 1, "um2": 2, "um3": 3}
         for row, told in zip(rows, own):
@@ -65,18 +65,18 @@ class Measuring(InFolder):
                 elif name != "image":
                     self.assertEqual(value, told[name])
         for row in table("out/pictures.csv"):
-            lines = Path(f"out/{row['image']}.report").read_text().splitlines()
+            lines = Path(f"out/evidence/{row['image']}.report").read_text().splitlines()
             self.assertEqual(lines[1], f"parts {row['points']} {row['pieces']} {row['background']}")
             self.assertEqual(lines[-2].split()[1], row["skeleton"])
 
     def test_a_second_run_changes_nothing(self):
         self.save(4)
         self.shapes("measure", "in", "-o", "out")
-        before, times = contents("out"), {path: path.stat().st_mtime_ns for path in Path("out").glob("*.report")}
+        before, times = contents("out"), {path: path.stat().st_mtime_ns for path in Path("out").rglob("*.report.gz")}
         self.shapes("measure", "in", "-o", "out", "--jobs", "2")
         self.assertEqual(contents("out"), before)
-        self.assertEqual({path: path.stat().st_mtime_ns for path in Path("out").glob("*.report")}, times)
-        Path("out/002.png.report").write_text("changed")
+        self.assertEqual({path: path.stat().st_mtime_ns for path in Path("out").rglob("*.report.gz")}, times)
+        Path("out/evidence/002.png.report.gz").write_text("changed")
         self.shapes("measure", "in", "-o", "out")
         self.assertEqual(contents("out"), before)
 
@@ -86,15 +86,15 @@ class Measuring(InFolder):
         status, out, error = self.shapes("measure", "in", "-o", "out", "--jobs", "2")
         self.assertEqual((status, out), (1, ["11 of 12 measured, in out: summary.txt tells how"]))
         self.assertEqual(sum("005.png: a broken image" in line for line in error), 1)
-        self.assertEqual(len(list(Path("out").glob("*.report"))), 11)
-        self.assertIn("in/005.png", json.loads(Path("out/made.json").read_text())["images"][5]["failure"])
+        self.assertEqual(len(list(Path("out").rglob("*.png.report.gz"))), 11)
+        self.assertIn("in/005.png", json.loads(Path("out/evidence/made.json").read_text())["images"][5]["failure"])
 
     def test_stopped_and_begun_again(self):
         self.save(12, 80)
         command = [sys.executable, str(HERE.parent / "shapes"), "measure", "in", "-o", "out"]
         run = subprocess.Popen(command, stdout=subprocess.DEVNULL, stderr=subprocess.PIPE, start_new_session=True)
         for _ in range(2000):
-            if len(list(Path("out").glob("*.json"))) > 1:
+            if len(list(Path("out").rglob("*.json"))) > 1:
                 break
             time.sleep(0.005)
         os.killpg(run.pid, signal.SIGINT)
@@ -103,18 +103,18 @@ class Measuring(InFolder):
             self.skipTest("it was through before it could be stopped")
         self.assertEqual(run.returncode, 130, error)
         self.assertIn(b"stopped; the same command goes on where it was", error)
-        self.assertFalse(Path("out/made.json").exists())
+        self.assertFalse(Path("out/evidence/made.json").exists())
         self.assertEqual(subprocess.run(command, stdout=subprocess.DEVNULL, stderr=subprocess.DEVNULL).returncode, 0)
         self.shapes("measure", "in", "-o", "other")
         self.assertEqual(contents("out"), contents("other"))
 
     def test_killed_and_begun_again(self):
         self.save(2)
-        Path("out/.making-999999999-x").mkdir(parents=True)
-        Path("out/.making-999999999-x/000.png.pbm").write_bytes(b"half")
-        Path("out/.making-999999999-y").write_bytes(b"half a record")
+        Path("out/evidence/.making-999999999-x").mkdir(parents=True)
+        Path("out/evidence/.making-999999999-x/000.png.pbm").write_bytes(b"half")
+        Path("out/evidence/.making-999999999-y").write_bytes(b"half a record")
         self.assertEqual(self.shapes("measure", "in", "-o", "out")[0], 0)
-        self.assertFalse(list(Path("out").glob(".making*")))
+        self.assertFalse(list(Path("out").rglob(".making*")))
 
     def test_the_same_name_in_two_folders(self):
         for folder in ("a", "b"):
@@ -122,50 +122,47 @@ class Measuring(InFolder):
             Image.fromarray(np.where(random_mask(len(folder) + ord(folder), 9, 9), 0, 255).astype(np.uint8)).save(f"{folder}/x.png")
         self.assertEqual(self.shapes("measure", "a/x.png", "b/x.png", "a/x.png", "-o", "out")[0], 0)
         self.assertEqual([row["image"] for row in table("out/pictures.csv")], ["a/x.png", "b/x.png"])
-        self.assertTrue(Path("out/b/x.png.report").exists())
+        self.assertTrue(Path("out/evidence/b/x.png.report.gz").exists())
         status, out, _ = self.shapes("check", "out")
-        self.assertEqual((status, out[:2]), (0, ["out/a/x.png: yes", "out/b/x.png: yes"]))
+        self.assertEqual((status, out[:2]), (0, ["out/evidence/a/x.png: yes", "out/evidence/b/x.png: yes"]))
 
     def test_odd_names(self):
         for name in ("-minus.png", "two words.png", "ümlaut [1].png", "a.b.c.png"):
             Image.fromarray(np.where(random_mask(5, 9, 9), 0, 255).astype(np.uint8)).save(name)
         self.assertEqual(self.shapes("measure", "-o", "out", "./-minus.png", "two words.png", "ümlaut [1].png", "a.b.c.png")[0], 0)
         status, out, _ = self.shapes("check", "out")
-        self.assertEqual((status, len(out), {line.rpartition(": ")[2] for line in out[:-1]}), (0, 9, {"yes"}))
+        self.assertEqual((status, len(out), {line.rpartition(": ")[2] for line in out[:-1]}), (0, 9 + len(PAGE), {"yes"}))
 
-    def test_labels_and_gzip(self):
+    def test_labels(self):
         labels = np.zeros((20, 20), np.uint8)
         labels[2:8, 2:8], labels[8:12, 2:8] = 1, 2
         Image.fromarray(labels).save("cells.png")
-        self.assertEqual(self.shapes("measure", "cells.png", "--labels", "--gzip", "-o", "out")[0], 0)
+        self.assertEqual(self.shapes("measure", "cells.png", "--labels", "-o", "out")[0], 0)
         self.assertEqual(
-            [(row["label"], row["points"], row["pieces"]) for row in table("out/pictures.csv")], [("1", "36", "1"), ("2", "24", "1")]
+            [(row["label"], row["pieces"], row["area"]) for row in table("out/objects.csv")], [("1", "1", "36"), ("2", "1", "24")]
         )
-        self.assertTrue(Path("out/cells.png.label2.report.gz").exists())
+        self.assertTrue(Path("out/evidence/cells.png.labels.zip").exists())
         self.assertEqual(self.shapes("check", "out")[0], 0)
-        self.assertEqual(
-            self.shapes("check", "cells.png", "out/cells.png.label2.report.gz")[:2], (0, ["out/cells.png.label2.report.gz: yes"])
-        )
 
     def test_masks(self):
         self.save(1)
         words = ("--masks", "skeleton", "--masks", "distances", "--masks", "object", "--masks", "squares", "-o", "out")
         self.assertEqual(self.shapes("measure", "in", *words)[0], 0)
-        report = read("out/000.png.report")
+        report = read("out/evidence/000.png.report.gz")
         for kind, suffix, wanted in (
             ("skeleton", "pbm", ~report.skeleton_mask),
             ("object", "pbm", ~report.mask),
             ("distances", "pgm", report.mask),
         ):
-            values = np.array(Image.open(f"out/000.png.{kind}.{suffix}"))
+            values = np.array(Image.open(f"out/evidence/000.png.{kind}.{suffix}"))
             np.testing.assert_array_equal(values > 0, wanted)
         y, x = report.mask.shape
-        squares = np.fromfile(f"out/000.png.squares.{x}x{y}.32bit.raw", "<u4").reshape(y, x)
+        squares = np.fromfile(f"out/evidence/000.png.squares.{x}x{y}.32bit.raw", "<u4").reshape(y, x)
         np.testing.assert_array_equal(squares[report.points[:, 1], report.points[:, 0]], report.squares)
         self.assertEqual(squares[~report.mask].max(initial=0), 0)
         self.assertEqual(self.shapes("check", "out")[0], 0)
-        Path("out/000.png.skeleton.pbm").write_text("P1 1 1 1")
-        self.assertIn("but out/000.png.skeleton.pbm is not what `shape mask` makes of it", self.shapes("check", "out")[1][0])
+        Path("out/evidence/000.png.skeleton.pbm").write_text("P1 1 1 1")
+        self.assertIn("but out/evidence/000.png.skeleton.pbm is not what `shape mask` makes of it", self.shapes("check", "out")[1][0])
 
     def test_volumes(self):
         mask = random_mask(7, 8, 10, 12)
@@ -176,10 +173,10 @@ class Measuring(InFolder):
         status, out, error = self.shapes("volume", "v.npy", "slices", "--light", "--pixel-size", "2", "mm", "-o", "out")
         self.assertEqual((status, out), (0, ["2 of 2 measured, in out: summary.txt tells how"]), error)
         self.assertIn("v.npy: x 12, y 10, z 8", Path("out/summary.txt").read_text())
-        self.assertEqual(Path("out/v.npy.report").read_bytes(), Path("out/slices.report").read_bytes())
+        self.assertEqual(Path("out/evidence/v.npy.report.gz").read_bytes(), Path("out/evidence/slices.report.gz").read_bytes())
         self.assertEqual(self.shapes("check", "out")[0], 0)
-        self.assertEqual(self.shapes("check", "slices", "out/slices.report")[0], 0)
-        self.assertEqual(self.shapes("check", "v.npy", "out/v.npy.report")[0], 0)
+        self.assertEqual(self.shapes("check", "slices", "out/evidence/slices.report.gz")[0], 0)
+        self.assertEqual(self.shapes("check", "v.npy", "out/evidence/v.npy.report.gz")[0], 0)
 
     def test_volumes_that_are_none_are_named(self):
         np.save("good.npy", random_mask(7, 5, 6, 7))

@@ -8,11 +8,17 @@ from pathlib import Path
 
 import numpy as np
 
-from .common import ROOT, STORED, InFolder, needs_pillow, needs_shape
+from .common import PAGE, ROOT, STORED, InFolder, installed, needs_pillow, needs_shape
 
 from shapefront import read
-from shapefront.networks import length, split
+from shapefront.components import numbered
+from shapefront.filters import holes_of
+from shapefront.networks import length
 from shapefront.pictures import pbm_mask, spelled
+from shapefront.thin import neighbours, pruned, split
+
+if installed("PIL"):
+    from PIL import Image
 
 
 def drawn(name, *words):
@@ -67,6 +73,72 @@ class KnownNetworks(InFolder):
                 self.assertLess(abs(float(branch["width"]) - width), 0.7)
                 self.assertEqual(int(branch["ends"]) + int(branch["junctions"]), 2)
 
+    def test_volume_and_surface_by_classes_of_width(self):
+        widths = {f"{width}.pbm": width for width in (3, 4, 5, 6, 8, 10)}
+        for name, width in widths.items():
+            drawn(name, "network", width)
+        self.assertEqual(self.shapes("measure", *widths, "--network", "--classes", "2.25,4.5", "--pixel-size", "0.5", "mm", "-o", "out")[0], 0)
+        classes = table("out/widths.csv")
+        for row in table("out/networks.csv"):
+            width, own = widths[row["image"]], [one for one in classes if one["image"] == row["image"]]
+            self.assertLess(abs(float(row["volume"]) / (700 * np.pi * width**2 / 4) - 1), 0.05)
+            self.assertLess(abs(float(row["surface"]) / (700 * np.pi * width) - 1), 0.015)
+            self.assertEqual([(one["width_from_mm"], one["width_to_mm"]) for one in own], [("0", "2.25"), ("2.25", "4.5"), ("4.5", "")])
+            for name in ("length", "volume", "surface"):
+                self.assertAlmostEqual(sum(float(one[name]) for one in own), float(row[name]), delta=0.003)
+            shares = [float(one["length"]) / float(row["length"]) for one in own]
+            self.assertGreater(shares[(width > 4.5) + (width > 9)], 0.9 if width in (3, 6, 8) else 0.6, (width, shares))
+            self.assertAlmostEqual(8 * float(row["volume_mm3"]) / float(row["volume"]), 1, 7)
+        self.assertEqual(self.shapes("check", "out")[0], 0)
+
+    def test_classes_that_nobody_names(self):
+        drawn("6.pbm", "network", 6)
+        for words, wanted in (((), ("width_from", 2)), (("--dpi", "600"), ("width_from_mm", 0.1))):
+            self.assertEqual(self.shapes("measure", "6.pbm", "--network", *words, "-o", "out")[0], 0)
+            begins = [float(row[wanted[0]]) for row in table("out/widths.csv")]
+            np.testing.assert_allclose(np.diff(begins), wanted[1])
+
+    def test_short_branches_of_a_rough_network_are_left_out(self):
+        drawn("8.pbm", "network", 8)
+        with Image.open("8.pbm") as image:
+            mask = ~np.array(image)
+        edge = mask ^ (neighbours(~mask) == 0) & mask
+        rough = mask & ~(edge & (np.random.default_rng(1).random(mask.shape) < 0.3))
+        rough |= holes_of(rough) & mask
+        Path("rough.pbm").write_bytes(spelled(rough))
+        self.assertEqual(self.shapes("measure", "rough.pbm", "--network", "-o", "whole")[0], 0)
+        self.assertGreater(int(table("whole/networks.csv")[0]["branches"]), 16)
+        self.assertEqual(self.shapes("measure", "rough.pbm", "--network", "--prune", "6", "--pixel-size", "0.5", "mm", "-o", "out")[0], 0)
+        (row,), branches = table("out/networks.csv"), table("out/branches.csv")
+        self.assertEqual([row[name] for name in ("pieces", "branches", "ends", "junctions")], ["1", "8", "4", "4"])
+        self.assertGreater(int(row["left_out"]), 8)
+        self.assertLess(abs(float(row["length"]) / 700 - 1), 0.06)
+        self.assertGreaterEqual(min(float(branch["length"]) for branch in branches), 12)
+        for branch, true in zip(sorted(branches, key=lambda branch: float(branch["length"])), sorted((58, 75, 70, 130, 70, 65, 150, 82)), strict=True):
+            self.assertTrue(-14 <= float(branch["length"]) - true <= 12, branch)
+        self.assertEqual(self.shapes("check", "out")[0], 0)
+        self.assertTrue(Path("out/drawings/rough.pbm.network.png").is_file())
+
+    def test_pruning_keeps_pieces_and_holes_and_long_branches(self):
+        def straight(mask):
+            return [int(own.sum()) for own in (numbered(mask, True) == k for k in range(1, numbered(mask, True).max() + 1))]
+
+        comb = np.zeros((30, 80), bool)
+        comb[20, 2:78] = True
+        for k, length in enumerate((3, 12, 2, 5, 14)):
+            comb[20 - length : 20, 16 + 11 * k] = True
+        own = pruned(comb, 8, straight)
+        self.assertEqual((own.left_out, numbered(own.skeleton, True).max()), (3, 1))
+        wanted = comb.copy()
+        for k in (0, 2, 3):
+            wanted[:20, 16 + 11 * k] = False
+        np.testing.assert_array_equal(own.skeleton, wanted)
+        self.assertEqual([numbered(part, True).max() for part in (own.branches, own.junctions)], [5, 2])
+
+    def test_words_of_networks(self):
+        for words in (("--prune", "3"), ("--classes", "1,2"), ("--network", "--classes", "2,1"), ("--network", "--prune", "-1")):
+            self.assertEqual(self.shapes("measure", STORED / "cross.pbm", *words, "-o", "out")[0], 2)
+
     def test_a_ring_is_one_branch_without_ends(self):
         drawn("ring.pbm", "ring", 60, 80)
         self.assertEqual(self.shapes("measure", "ring.pbm", "--network", "-o", "out")[0], 0)
@@ -78,11 +150,11 @@ class KnownNetworks(InFolder):
     def test_every_number_is_one_of_a_report_or_a_table(self):
         self.assertEqual(self.shapes("measure", STORED / "granite.pbm", STORED / "cross.pbm", "--network", "-o", "out")[0], 0)
         for name in ("granite.pbm", "cross.pbm"):
-            own, total = table(f"out/{name}.branches.csv"), table(f"out/{name}.network.csv")[0]
-            rows = {part: table(f"out/{name}.network-{part}.csv") for part in ("skeleton", "branches", "junctions")}
-            report = read(f"out/{name}.report")
+            own, total = table(f"out/evidence/{name}.branches.csv"), table(f"out/evidence/{name}.network.csv")[0]
+            rows = {part: table(f"out/evidence/{name}.network-{part}.csv") for part in ("skeleton", "branches", "junctions")}
+            report = read(f"out/evidence/{name}.report.gz")
             widths = {f"{2 * float(square) ** 0.5:.3f}" for square in report.squares}
-            tips = {tuple(map(str, point)) for point in read(f"out/{name}.network-branches.report").tips}
+            tips = {tuple(map(str, point)) for point in read(f"out/evidence/{name}.network-branches.report.gz").tips}
             self.assertEqual([(row["branch"], row["points"]) for row in own], [(row["object"], row["area"]) for row in rows["branches"]])
             for row, measured in zip(own, rows["branches"]):
                 line = (float(measured["border"]) + float(measured["hole_border"]) - 8**0.5 * (1 - int(measured["holes"]))) / 2
@@ -96,21 +168,21 @@ class KnownNetworks(InFolder):
             self.assertEqual((int(total["pieces"]), int(total["area"])), (len(rows["skeleton"]), report.parts.points))
 
     def test_it_is_checked_and_made_again(self):
-        self.assertEqual(self.shapes("measure", STORED / "cross.pbm", "--network", "--gzip", "-o", "out")[0], 0)
-        names = ["cross.pbm", *(f"cross.pbm.network-{part}" for part in ("branches", "junctions", "skeleton"))]
-        of_all = ["pictures.csv", "objects.csv", "networks.csv", "branches.csv", "summary.txt", "made.json"]
+        self.assertEqual(self.shapes("measure", STORED / "cross.pbm", "--network", "-o", "out")[0], 0)
+        names = ["cross.pbm"]
+        of_all = ["pictures.csv", "objects.csv", "networks.csv", "branches.csv", "widths.csv", "summary.txt", *PAGE, "evidence/made.json"]
         status, out, _ = self.shapes("check", "out")
-        self.assertEqual((status, out[:-1]), (0, [f"out/{name}: yes" for name in names + of_all]))
-        path = Path("out/cross.pbm.branches.csv")
+        self.assertEqual((status, out[:-1]), (0, [f"out/evidence/{name}: yes" for name in names] + [f"out/{name}: yes" for name in of_all]))
+        path = Path("out/evidence/cross.pbm.branches.csv")
         text = path.read_text()
         path.write_text(text.replace(",1,1,", ",2,1,", 1))
         status, out, _ = self.shapes("check", "out")
-        told = f"out/cross.pbm: no, the report holds, but {path} is not what the reports and tables of its parts say: row 1 (branch 1): "
+        told = f"out/evidence/cross.pbm: no, the report holds, but {path} is not what the reports and tables of its parts say: row 1 (branch 1): "
         self.assertEqual((status, any(line.startswith(told) for line in out)), (1, True), out)
-        self.assertEqual(self.shapes("measure", STORED / "cross.pbm", "--network", "--gzip", "-o", "out")[0], 0)
+        self.assertEqual(self.shapes("measure", STORED / "cross.pbm", "--network", "-o", "out")[0], 0)
         self.assertEqual(path.read_text(), text)
         self.assertEqual(self.shapes("measure", STORED / "cross.pbm", "-o", "out")[0], 0)
-        self.assertFalse([path for path in Path("out").iterdir() if "network" in path.name or "branches" in path.name])
+        self.assertFalse([path for path in Path("out").rglob("*") if "network" in path.name or "branches" in path.name])
 
     def test_another_rule_is_refused(self):
         status, _, error = self.shapes("measure", STORED / "cross.pbm", "--network", "--rule", "none", "-o", "out")

@@ -61,7 +61,7 @@ class OtherPrograms(InFolder):
         ):
             self.program("draw", script)
             self.assertEqual(self.shapes("measure", STORED / "cross.pbm", "-o", "out")[0], 0)
-            self.assertEqual(Path("out/cross.pbm.svg").read_text(), drawn)
+            self.assertEqual(Path("out/drawings/cross.pbm.svg").read_text(), drawn)
             self.assertEqual(self.shapes("check", "out")[0], 0)
 
     def test_squares_are_numbers_whose_sides_and_size_the_name_tells(self):
@@ -70,7 +70,7 @@ class OtherPrograms(InFolder):
         np.save("v.npy", random_mask(4, 5, 6, 7))
         for words, name in ((("measure", STORED / "cross.pbm"), "cross.pbm.squares.21x15.32bit.raw"), (("volume", "v.npy"), "v.npy.squares.7x6x5.32bit.raw")):
             self.assertEqual(self.shapes(*words, "--masks", "squares", "-o", words[0])[0], 0)
-            self.assertEqual(Path(words[0], name).read_text(), "numbers\n")
+            self.assertEqual(Path(words[0], "evidence", name).read_text(), "numbers\n")
             self.assertEqual(self.shapes("check", words[0])[0], 0)
 
     def test_a_drawing_by_another_version_is_told(self):
@@ -79,7 +79,7 @@ class OtherPrograms(InFolder):
         self.assertEqual(self.shapes("measure", STORED / "cross.pbm", "-o", "out")[0], 0)
         self.program("draw", "echo other")
         status, out, _ = self.shapes("check", "out")
-        told = "out/cross.pbm: no, the report holds, but out/cross.pbm.svg is not what `shape draw` makes of it, and was made by another version of it"
+        told = "out/evidence/cross.pbm: no, the report holds, but out/drawings/cross.pbm.svg is not what `shape draw` makes of it, and was made by another version of it"
         self.assertEqual((status, out[0]), (1, told))
 
     def test_a_flat_picture_that_is_not_drawn_is_a_failure(self):
@@ -94,5 +94,5 @@ class OtherPrograms(InFolder):
         for script, is_drawn in (('echo "shape: a report of a volume" >&2; exit 3', False), ("[ $# = 1 ] && echo box || exit 2", True)):
             self.program("draw", script)
             self.assertEqual(self.shapes("volume", "v.npy", "-o", "out")[0], 0)
-            self.assertEqual(Path("out/v.npy.svg").exists(), is_drawn)
+            self.assertEqual(Path("out/drawings/v.npy.svg").exists(), is_drawn)
             self.assertEqual(self.shapes("check", "out")[0], 0)

@@ -16,7 +16,7 @@ from pathlib import Path
 
 import numpy as np
 
-from .common import HERE, InFolder, installed, needs_pillow, needs_shape, random_mask, slow
+from .common import HERE, PAGE, InFolder, installed, needs_pillow, needs_shape, random_mask, slow
 
 import shapefront
 from secondreading.limits import MOST_FLAT
@@ -90,14 +90,14 @@ class TwelveImages(InFolder):
         for name, wanted in self.SAID.items():
             for words in wanted:
                 self.assertIn(words, said[name])
-            mask = shapefront.read(f"out/{name}.report").mask
+            mask = shapefront.read(f"out/evidence/{name}.report.gz").mask
             np.testing.assert_array_equal(mask, self.cut(name, pictures[name], said[name]))
             labels, count = ndimage.label(mask, np.ones((3, 3)))
             areas = [int(row["area"]) for row in objects if row["image"] == name]
             self.assertEqual((int(pictures[name]["points"]), int(pictures[name]["pieces"])), (mask.sum(), count))
             self.assertEqual(sorted(areas), sorted(np.bincount(labels.ravel())[1:]))
         status, out, _ = self.shapes("check", "out", "--jobs", "4")
-        self.assertEqual((status, {line.rpartition(": ")[2] for line in out[:-1]}, len(out)), (0, {"yes"}, 15))
+        self.assertEqual((status, {line.rpartition(": ")[2] for line in out[:-1]}, len(out)), (0, {"yes"}, 15 + len(PAGE)))
         self.assertIn("checked 10 of 10 images (2 failed when they were measured)", out[-1])
 
     def cut(self, name, row, said):
@@ -137,9 +137,9 @@ class TwoHundred(InFolder):
         self.assertEqual((whole.returncode, whole.stdout), (1, "199 of 200 measured, in whole: summary.txt tells how\n"))
         self.assertEqual(whole.stderr.count("\n"), 1)
         self.assertTrue(whole.stderr.startswith("in/117.png: a broken image ("), whole.stderr)
-        self.assertEqual(len([name for name in contents("whole") if re.fullmatch(r"\d+\.png\.csv", name)]), 199)
+        self.assertEqual(len([name for name in contents("whole") if re.fullmatch(r"evidence/\d+\.png\.csv", name)]), 199)
         self.assertEqual(len({row["image"] for row in table("whole/objects.csv")}), 199)
-        self.assertEqual([image["image"] for image in json.loads(Path("whole/made.json").read_text())["images"] if image["failure"]], ["117.png"])
+        self.assertEqual([image["image"] for image in json.loads(Path("whole/evidence/made.json").read_text())["images"] if image["failure"]], ["117.png"])
         for number, at in ((signal.SIGINT, 40), (signal.SIGKILL, 110)):
             self.stopped("other", number, at)
         again = self.run_to_the_end("other", "4")
@@ -150,12 +150,12 @@ class TwoHundred(InFolder):
         """Begins a run and ends it by a signal as soon as so many images are made."""
         words = [*COMMAND, "measure", "in", "--jobs", "4", "-o", folder]
         run = subprocess.Popen(words, stdout=subprocess.DEVNULL, stderr=subprocess.DEVNULL, start_new_session=True)
-        while run.poll() is None and len(list(Path(folder).glob("*.png.json"))) < at:
+        while run.poll() is None and len(list(Path(folder, "evidence").glob("*.png.json"))) < at:
             time.sleep(0.01)
         os.killpg(run.pid, number)
         run.wait()
-        self.assertLess(len(list(Path(folder).glob("*.png.json"))), 199)
-        self.assertFalse(Path(folder, "made.json").exists())
+        self.assertLess(len(list(Path(folder, "evidence").glob("*.png.json"))), 199)
+        self.assertFalse(Path(folder, "evidence", "made.json").exists())
 
 
 @slow

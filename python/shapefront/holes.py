@@ -1,0 +1,74 @@
+"""The holes of a picture's objects: each is an object of the picture turned over, measured by the proved program.
+
+Objects that touch at a corner are one, and holes are not. So holes that touch at a corner come into different pictures.
+"""
+from __future__ import annotations
+
+from collections import defaultdict
+from collections.abc import Sequence
+from dataclasses import dataclass
+from decimal import Decimal
+
+import numpy as np
+
+from .components import numbered
+from .hulls import least_widths
+from .tables import Row, dicts_of
+
+_MEASURED = ("area", "left", "top", "right", "bottom", "x", "y", "feret", "border")
+COLUMNS = ["object", "hole", "area", "left", "top", "right", "bottom", "x", "y", "equivalent_diameter", "feret", "min_feret", "border"]
+
+_PI = Decimal("3.14159265358979323846264338")
+_THOUSANDTH = Decimal("0.001")
+
+
+@dataclass(frozen=True)
+class Holes:
+    """The number of the hole that each pixel is of, from 1 on in raster order of first pixels, 0 elsewhere; and for each hole the number of
+    the object that it is in, and the number of the picture that it comes into, from 0 on."""
+
+    numbers: np.ndarray
+    objects: list[int]
+    layers: list[int]
+
+    @classmethod
+    def of(cls, mask: np.ndarray) -> Holes:
+        """The holes of the objects of a flat picture."""
+        background = numbered(np.pad(~mask, 1, constant_values=True), by_corners=False)[1:-1, 1:-1]
+        numbers = np.maximum(background - 1, 0)
+        places = np.flatnonzero(numbers)
+        first = places[np.diff(np.maximum.accumulate(numbers.ravel()[places]), prepend=0) > 0]
+        objects = numbered(mask, by_corners=True).ravel()[first - mask.shape[1]].tolist()
+        return cls(numbers, objects, _layers(numbers, len(objects)))
+
+    def pictures(self) -> list[np.ndarray]:
+        """The holes as objects of pictures, no two of which touch at a corner."""
+        layer = np.array([-1, *self.layers], np.int16)[self.numbers]
+        return [layer == k for k in range(max(self.layers, default=-1) + 1)]
+
+    def rows(self, tables: Sequence[str]) -> list[Row]:
+        """A row for each hole, the header first, by the program's tables of the pictures."""
+        measured = [iter(dicts_of(table)) for table in tables]
+        y, x = np.nonzero(self.numbers)
+        widths = least_widths(self.numbers[y, x], x, y)
+        found = [COLUMNS]
+        for k, (of, layer, width) in enumerate(zip(self.objects, self.layers, widths), 1):
+            row = next(measured[layer])
+            diameter = (4 * Decimal(row["area"]) / _PI).sqrt().quantize(_THOUSANDTH)
+            own = {**{name: row[name] for name in _MEASURED}, "object": of, "hole": k, "equivalent_diameter": diameter, "min_feret": width}
+            found.append([str(own[name]) for name in COLUMNS])
+        return found
+
+
+def _layers(numbers: np.ndarray, count: int) -> list[int]:
+    """For each hole the number of a picture, the least that has no earlier hole that touches it at a corner."""
+    beside = defaultdict(set)
+    for one, other in ((numbers[:-1, :-1], numbers[1:, 1:]), (numbers[:-1, 1:], numbers[1:, :-1])):
+        touch = (one > 0) & (other > 0) & (one != other)
+        for pair in np.unique(np.sort(np.stack([one[touch], other[touch]]), 0), axis=1).T.tolist():
+            beside[pair[1]].add(pair[0])
+    layers: list[int] = []
+    for k in range(1, count + 1):
+        taken = {layers[other - 1] for other in beside[k]}
+        layers.append(next(layer for layer in range(len(taken) + 1) if layer not in taken))
+    return layers

@@ -1,0 +1,56 @@
+"""The least width of sets of points between two parallel lines, their least Feret diameter, by their convex hulls; of many sets at once."""
+from __future__ import annotations
+
+from collections.abc import Iterator
+from decimal import Decimal
+
+import numpy as np
+
+_THOUSANDTH = Decimal("0.001")
+
+
+def least_widths(numbers: np.ndarray, x: np.ndarray, y: np.ndarray) -> Iterator[Decimal]:
+    """For each set of points the least distance of two parallel lines that have all of them between them, rounded to the nearest thousandth.
+
+    Points have the numbers of their sets, from 1 on without a gap, and whole coordinates. One of the two lines holds an edge of the convex
+    hull, so it is the least over these edges of the greatest distance of a corner from the edge.
+    """
+    order = np.lexsort((x, y, numbers))
+    numbers, x, y = numbers[order], x[order], y[order]
+    is_first = np.append(True, (numbers[1:] != numbers[:-1]) | (y[1:] != y[:-1]))[: len(x)]
+    is_last = np.append(is_first[1:], True)[: len(x)]
+    left, right = _chain(numbers[is_first], y[is_first], x[is_first]), _chain(numbers[is_last], y[is_last], -x[is_last])
+    for (own_y, own_x), (other_y, other_x) in zip(left, right):
+        yield _width([*zip(own_x.tolist(), own_y.tolist()), *zip((-other_x[::-1]).tolist(), other_y[::-1].tolist())])
+
+
+def _chain(numbers: np.ndarray, t: np.ndarray, v: np.ndarray) -> Iterator[tuple[np.ndarray, np.ndarray]]:
+    """For each set the points (t, v), in order of their t, at which the greatest convex function below them turns, with the first and the last."""
+    while True:
+        (before_t, after_t), (before_v, after_v) = _beside(t), _beside(v)
+        is_between = np.logical_and.reduce([beside == numbers for beside in _beside(numbers)])
+        goes = is_between & ((v - before_v) * (after_t - before_t) >= (after_v - before_v) * (t - before_t))
+        if not goes.any():
+            break
+        numbers, t, v = numbers[~goes], t[~goes], v[~goes]
+    ends = np.flatnonzero(np.diff(numbers)) + 1
+    yield from zip(np.split(t, ends), np.split(v, ends)) if len(t) else ()
+
+
+def _beside(values: np.ndarray) -> tuple[np.ndarray, np.ndarray]:
+    """For each value the one before it and the one after it; 0 where there is none."""
+    return np.append(0, values[:-1])[: len(values)], np.append(values[1:], 0)[: len(values)]
+
+
+def _width(corners: list[tuple[int, int]]) -> Decimal:
+    """The least width of a polygon with these corners, of which some may be told twice; it lies on one hand of each edge."""
+    least = (0, 1)
+    for k, (x, y) in enumerate(corners):
+        edge_x, edge_y = corners[k - 1][0] - x, corners[k - 1][1] - y
+        if square := edge_x * edge_x + edge_y * edge_y:
+            across = max([abs(edge_x * (other_y - y) - edge_y * (other_x - x)) for other_x, other_y in corners])
+            if least == (0, 1) or across * across * least[1] < least[0] * least[0] * square:
+                least = across, square
+            if not across:
+                break
+    return (least[0] / Decimal(least[1]).sqrt()).quantize(_THOUSANDTH)

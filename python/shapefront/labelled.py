@@ -1,0 +1,56 @@
+"""Makes all that a label image gives: the evidence of each label in one archive, the tables of all labels, and one drawing."""
+from __future__ import annotations
+
+import tempfile
+from collections.abc import Sequence
+from pathlib import Path
+from typing import Any
+
+import numpy as np
+
+from .archives import SUFFIX as ARCHIVE
+from .archives import pack
+from .convert import Picture
+from .labels import Box, boxes, tables
+from .overlay import Border, Overlay, borders, coloured, numbers
+from .parts import tables_of
+from .pictures import sides_of
+from .plan import Plan
+from .products import evidence_of, write_shown, write_slice
+from .report import counts_of
+from .tables import dicts_of
+
+
+def make_labels(picture: Picture, plan: Plan, stem: Path) -> dict[str, Any]:
+    """Writes the files of a label image, whose names begin with `stem`; what the record says of them."""
+    own, sides, wanted = boxes(picture.labels), sides_of(picture.labels), plan.wanted(picture.fit)
+    with tempfile.TemporaryDirectory(dir=stem.parent) as place:
+        folder = Path(place)
+        reports = [evidence_of(box.mask, folder / str(box.label), plan, wanted, f"{picture.image}, label {box.label}") for box in own]
+        made = tables(own, sides, lambda box, suffix: _text(folder / f"{box.label}{suffix}"), tables_of(wanted, picture.labels.ndim == 2))
+        pack(folder, stem.with_name(stem.name + ARCHIVE))
+        for suffix, table in made.items():
+            stem.with_name(stem.name + suffix).write_bytes(table)
+        if picture.labels.ndim == 2:
+            lines = [border for row, (box, report) in enumerate(zip(own, reports), 1) for border in _moved(report.read_bytes(), box, row)]
+            write_shown(Overlay(coloured(picture.original), lines, numbers(dicts_of(made[".csv"].decode()), "label"), picture.fit), stem)
+        else:
+            write_slice(picture.original, picture.mask, picture.fit, stem)
+        counts = [counts_of(report) for report in reports]
+    return {"parts": total([parts for parts, _ in counts]), "kept": total([kept for _, kept in counts])}
+
+
+def _text(path: Path) -> str:
+    """The text of a file; none where it is not there."""
+    return path.read_text() if path.is_file() else ""
+
+
+def total(counts: Sequence[Sequence[int]]) -> list[int]:
+    """The counts of a `parts` or a `kept` line of all labels together: points, pieces, and the holes with the one outside."""
+    points, pieces, background = np.array(counts).sum(0).tolist()
+    return [points, pieces, background - len(counts) + 1]
+
+
+def _moved(report: bytes, box: Box, row: int) -> list[Border]:
+    """The borders of a label, at its place in the image, with the number of its row."""
+    return [Border(border.points + box.place, 0 if border.is_hole else row, border.is_hole) for border in borders(report)]
