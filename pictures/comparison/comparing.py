@@ -80,10 +80,11 @@ class Comparison:
 
     def tabled(self, picture, rule, version, text):
         """The table of a report that holds is the one of the picture alone: by the number 1 without the lengths of borders, as it does not fix them."""
-        given = self.program.run("measure", self.program.write("report", text))[0]
+        groups = self.draw.choice(tables.GROUPS)
+        given = self.program.run("measure", *groups, self.program.write("report", text))[0]
         contours = shown.least_contours(picture) if picture.axes == 2 and version == 2 else None
-        wanted = tables.table(picture, rule, contours, tables.has_further(given))
-        self.agree(picture, "the table by %s of number %d" % (rule, version), given, wanted, text)
+        wanted = tables.table(picture, rule, contours, groups)
+        self.agree(picture, "the table %s by %s of number %d" % (" ".join(groups), rule, version), given, wanted, text)
         self.files["tables"] += 1
 
     # ---- forged reports that hold

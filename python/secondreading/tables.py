@@ -2,34 +2,48 @@
 
 All is found from the picture and its thinning, but the lengths of borders: these go by the least lines of segments, which `borders` takes.
 """
+from functools import cached_property
 from math import isqrt
 
 import numpy as np
 
-from secondreading import parts
+from secondreading import parts, shapes
 from secondreading.borders import UNIT, borders
 from secondreading.geometry import near_steps, side_steps
 
-FLAT = "object,area,left,top,right,bottom,x,y,radius,cx,cy,skeleton,ends,junctions,touches,holes,border,hole_border"
-SOLID = "object,voxels,x0,y0,z0,x1,y1,z1,x,y,z,radius,cx,cy,cz,skeleton,ends,junctions,touches,sides"
-FURTHER = "feret,from_x,from_y,to_x,to_y"
+FLAT = (
+    "object,area,left,top,right,bottom,x,y,radius,cx,cy,skeleton,ends,junctions,touches,holes,border,hole_border,feret,from_x,from_y,to_x,to_y"
+    ",euler,convex_area,convex_perimeter,min_feret,side_x,side_y,solidity,circularity"
+)
+SOLID = "object,voxels,x0,y0,z0,x1,y1,z1,x,y,z,radius,cx,cy,cz,skeleton,ends,junctions,touches,sides,euler,surface"
+MOMENTS = {
+    2: ",sum_x,sum_y,sum_xx,sum_xy,sum_yy,major,minor,axis_x,axis_y",
+    3: ",sum_x,sum_y,sum_z,sum_xx,sum_xy,sum_yy,sum_xz,sum_yz,sum_zz",
+}
+THICKNESS = ",thickness,thickness_sd,thickness_max"
+GROUPS = ((), ("moments",), ("thickness",), ("moments", "thickness"))
 
 
-def table(picture, rule, contours, has_further=True):
-    """The text of the table of a report by a rule, with the further columns or without.
+def table(picture, rule, contours, groups=()):
+    """The text of the table of a report by a rule, with some groups of columns.
 
     `contours` are those of a flat picture with the least lines of their segments, and None where a report does not tell these:
-    then the cells of lengths of borders are empty.
+    then the cells of lengths of borders, and what goes by them, are empty.
     """
-    header = SOLID if picture.axes == 3 else FLAT + "," + FURTHER if has_further else FLAT
+    header = SOLID if picture.axes == 3 else FLAT
+    if "moments" in groups:
+        header += MOMENTS[picture.axes]
+    if "thickness" in groups:
+        header += THICKNESS
     objects = Objects(picture, rule, contours)
-    rows = [[k + 1] + row(objects, part, has_further) for k, part in enumerate(objects.each())]
+    rows = [[k + 1] + row(objects, part) + further(objects, part, groups) for k, part in enumerate(objects.each())]
     return "".join(text + "\n" for text in [header] + [",".join(map(str, cells)) for cells in rows]).encode()
 
 
-def has_further(text):
-    """Whether a table has the further columns."""
-    return text.startswith((FLAT + "," + FURTHER + "\n").encode())
+def groups_of(text):
+    """The groups of columns that a table has."""
+    header = text.split(b"\n", 1)[0]
+    return tuple(word for word, last in (("moments", b"sum_x"), ("thickness", b"thickness")) if last in header.split(b","))
 
 
 class Objects:
@@ -44,6 +58,11 @@ class Objects:
         self.sides = 2 * picture.axes - beside(picture.framed, side_steps(picture.axes))[picture.framed]
         self.borders = borders(contours) if contours is not None else None
 
+    @cached_property
+    def thicknesses(self):
+        """The squared radius of the greatest ball of the object that holds it, of each point."""
+        return shapes.thicknesses(self.picture)[self.picture.framed]
+
     def each(self):
         """Of each object the places of its points in raster order."""
         numbers = parts.components(self.picture.framed, near_steps(self.picture.axes))
@@ -56,14 +75,29 @@ def beside(framed, steps):
     return sum(np.roll(framed, step[::-1], range(framed.ndim)).astype(int) for step in steps)
 
 
-def row(objects, part, is_further):
-    """The cells of an object."""
+def row(objects, part):
+    """The cells of an object, but those of the groups."""
     points = objects.points[part]
     cells = place(points) + depth(points, objects.squares[part]) + skeleton(objects.near[part][objects.is_left[part]])
     cells.append(int((points == 0).any() or (points == np.array(objects.picture.sides) - 1).any()))
     if objects.picture.axes == 3:
-        return cells + [objects.sides[part].sum()]
-    return cells + [hole_count(points)] + lengths(objects.borders, points) + (feret(points) if is_further else [])
+        return cells + [objects.sides[part].sum(), shapes.euler(points, 3), thousandths(shapes.surface(points))]
+    borders_told = lengths(objects.borders, points)
+    return cells + [hole_count(points)] + borders_told + feret(points) + [shapes.euler(points, 2)] + hull(points) + [circularity(len(points), borders_told[0])]
+
+
+def further(objects, part, groups):
+    """The cells of the groups that are asked for."""
+    points, cells = objects.points[part], []
+    if "moments" in groups:
+        sums, products = shapes.moments(points)
+        cells += sums + products
+        if objects.picture.axes == 2:
+            major, minor, x, y = shapes.ellipse(points)
+            cells += [thousandths(major), thousandths(minor), x, y]
+    if "thickness" in groups:
+        cells += map(thousandths, shapes.thickness_measures(objects.thicknesses[part]))
+    return cells
 
 
 # ---- columns
@@ -127,3 +161,17 @@ def feret(points):
     most = [int(((ends - p) ** 2).sum(1).max()) for p in ends]
     first = ends[most.index(max(most))]
     return [root(max(most)), *first, *ends[((ends - first) ** 2).sum(1) == max(most)][-1]]
+
+
+def hull(points):
+    """The convex hull of the corners of the pixels: area, perimeter, least width and the side across which it is, and the share of it that is object."""
+    double_area, perimeter, width, side = shapes.hull_measures(points)
+    return [thousandths(500 * double_area), thousandths(perimeter), thousandths(width), *side, thousandths(shapes.nearest(2000 * len(points), double_area))]
+
+
+def circularity(area, border):
+    """4 pi area / border^2, by the outer border as it is told; empty where that is not told."""
+    if border == "":
+        return ""
+    length = int(border.replace(".", ""))
+    return thousandths(shapes.nearest(shapes.FOUR_PI * area, 1000 * length * length))

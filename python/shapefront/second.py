@@ -11,7 +11,7 @@ from pathlib import Path
 from secondreading import NoPicture, picture_in
 from secondreading.kinds import read
 from secondreading.masks import MASKS, mask
-from secondreading.tables import has_further, table
+from secondreading.tables import groups_of, table
 
 from .arrays import Verdict
 from .checking import Finding, check_report, picture_of
@@ -79,7 +79,7 @@ class Second:
         return Finding(name, True)
 
     def _table(self, given: bytes) -> bytes:
-        return table(self.picture, self.told.rule, self.told.contours, has_further(given))
+        return table(self.picture, self.told.rule, self.told.contours, groups_of(given))
 
     def _masks(self, stem: Path) -> list[Path]:
         """The pictures that are named as masks of the picture."""

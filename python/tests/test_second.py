@@ -20,7 +20,7 @@ from secondreading.__main__ import main
 from secondreading.kinds import read
 from secondreading.limits import MOST_FLAT, MOST_SOLID
 from secondreading.masks import MASKS, mask
-from secondreading.tables import has_further, table
+from secondreading.tables import groups_of, table
 from shapefront import programs
 from shapefront.arrays import RULES, verdict
 from shapefront.checking import _COMMANDS
@@ -131,7 +131,7 @@ class Products(unittest.TestCase):
                     file.write(text)
                     file.flush()
                     given = made("measure", file.name)
-                    self.assertEqual(given, table(picture, rule, read(picture, text)[1].contours, has_further(given)))
+                    self.assertEqual(given, table(picture, rule, read(picture, text)[1].contours, groups_of(given)))
                     for name in MASKS:
                         self.assertEqual(made("mask", name, file.name), mask(picture, rule, name))
 

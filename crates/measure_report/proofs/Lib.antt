@@ -1,8 +1,9 @@
-mod Words
+mod GroupWords
 mod TableMade
 mod Telling
 mod LabelsOnce
 mod FeretsOnce
+mod FurtherOnce
 mod SameTables
 mod FirstNumber
 mod SameHoles

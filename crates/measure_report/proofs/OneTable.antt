@@ -2,7 +2,6 @@
 -- Put together from the laws of what their lines tell, of labels, borders and Feret diameters.
 use Rattle.std.proofs.Common.{◌≡◌, inl, inr, ℕ, ◌+◌, ◌<◌, true, refl, ap, sym, ◌∙◌, subst, arith, List, [], ◌∷◌, ◌++◌, length, get_or}
 use Rattle.std.specs.Prelude.{IsTrue}
-use Rattle.std.specs.List.{Contains}
 use Rattle.std.proofs.lemmas.Bool.{cases_Bool, eqb-true}
 use Rattle.std.proofs.lemmas.List.{append-nil}
 use Rattle.std.proofs.lemmas.List.Elements.{recursion_from_All}
@@ -12,7 +11,6 @@ use Rattle.shape_terms.specs.Pictures.{Picture, at, object_points}
 use Rattle.shape_terms.specs.Parts.{LabelsObject}
 use Rattle.shape_terms.specs.Shelves.{AreNames, names_of}
 use Rattle.shape_terms.specs.Thinning.{Rule, Stage, IsThinning}
-use Rattle.shape_terms.proofs.Numbered.{object_in_box}
 use Rattle.shape_terms.proofs.ThinningOnce.{one_distance, one_thinning}
 use Rattle.report_terms.specs.Subjects.{Subject, IsOnShelf}
 use Rattle.report_terms.specs.Lines.{Line, Heading, IsLineOf, text_of}
@@ -26,24 +24,22 @@ use Rattle.report_lines.proofs.Telling as Lines
 use Rattle.report_lines.proofs.TextLines.{one_list}
 use Rattle.measure_terms.specs.Facts.{facts}
 use Rattle.measure_terms.specs.Measures.{Measures, greatest}
-use Rattle.measure_terms.specs.Feret.{Feret}
 use Rattle.measure_terms.specs.Tables.{rows, IsTable}
 use Rattle.measure_terms.specs.Texts.{no_columns, table_text}
-use Rattle.measure_terms.specs.Components.{component, FeretsComponents}
-use Rattle.measure_terms.proofs.ComponentFerets.{filtered}
-use Rattle.measure_terms.proofs.TableOfComponents.{ferets_measure}
 use Rattle.border_terms.specs.Borders.{Border, borders}
 use Rattle.border_terms.specs.Objects.{object_bounds}
 use Rattle.border_terms.specs.Shown.{IsFlat, BordersShow}
 use Rattle.border_terms.proofs.BordersOnce.{borders_once, starts_once}
 use Rattle.bordering.specs.OneMore.{no_bounds}
 use Rattle.measure_report.specs.BorderColumns.{tells_lengths, border_cells}
-use Rattle.measure_report.specs.FeretColumns.{feret_cells, no_feret}
-use Rattle.measure_report.specs.FurtherColumns.{flat_columns}
+use Rattle.measure_report.specs.FeretColumns.{feret_cells}
+use Rattle.measure_report.specs.Further.{FurtherComponents}
+use Rattle.measure_report.specs.FurtherColumns.{further_columns}
 use Rattle.measure_report.specs.Tabled.{Opens, HasTable}
 use Rattle.measure_report.proofs.Telling.{borders_so}
 use Rattle.measure_report.proofs.LabelsOnce.{labels_once, same_list}
-use Rattle.measure_report.proofs.FeretsOnce.{feret_once}
+use Rattle.measure_report.specs.declared.groups.Groups.{Groups}
+use Rattle.measure_report.proofs.FurtherOnce.{SameEntries, further_measure, further_once}
 use Rattle.measure_report.proofs.SameTables.{same_table}
 use Rattle.measure_report.proofs.SameHoles.{same_cells}
 
@@ -76,8 +72,8 @@ one_report s text ls ms a b =
     one_list s.axes ls ms (recursion_from_All (IsLineOf s.axes) ls a.whole.fields) (recursion_from_All (IsLineOf s.axes) ms b.whole.fields)
     (sym (append-nil (text_of ls)) ∙ sym a.whole.split ∙ b.whole.split ∙ append-nil (text_of ms))
 
-tell_all : (s : Space) (X : Subject) (number : ℕ) (name text bytes : List ℕ) → StandsIn s X.picture → (h : HasTable s X number name text bytes) → TellAll s X name h.lines
-tell_all s X number name text bytes i h =
+tell_all : (g : Groups) (s : Space) (X : Subject) (number : ℕ) (name text bytes : List ℕ) → StandsIn s X.picture → (h : HasTable g s X number name text bytes) → TellAll s X name h.lines
+tell_all g s X number name text bytes i h =
     let t = Lines.holding_tells s X text h.holds i in
     let same = one_report s text t.lines h.lines t.report h.report in
     let all : (o : Opens number name t.lines) → TellAll s X name t.lines = λ o. record {
@@ -134,14 +130,6 @@ same_rows ls ms some other a h k =
     let l = a.left in
     record { labels_are = labels; rows_are = h.rows ∙ (λ i. rows (greatest (labels i)) (facts (o i) (q i) (l i) (labels i))) ∙ sym k.rows }
 
--- ---- Feret diameters
-
-in_component : (X : Picture) (labels : List ℕ) (k : ℕ) (p : Point) → Contains (component X labels k) p → IsTrue (in_box X.sides p)
-in_component X labels k p c = object_in_box X p (filtered (at X) (box_points X.sides) p (filtered _ (object_points X) p c).0).1
-
-same_ferets : (X : Picture) (labels : List ℕ) (n : ℕ) (fs gs : List Feret) → FeretsComponents X labels n fs → FeretsComponents X labels n gs → (j : ℕ) → j < n → get_or fs j no_feret ≡ get_or gs j no_feret
-same_ferets X labels n fs gs a b j l = feret_once X.sides (Contains (component X labels (j + 1))) (in_component X labels (j + 1)) (get_or fs j no_feret) (get_or gs j no_feret) (a.each j no_feret l) (b.each j no_feret l)
-
 -- ---- borders
 
 same_borders : (n m number : ℕ) (X : Picture) (bs cs : List Border) → n ≡ number → m ≡ number → IsFlat X → BordersShow n X bs → BordersShow m X cs → tells_lengths number ≡ true → bs ≡ cs
@@ -151,28 +139,19 @@ same_borders n m number X bs cs e f flat a b told =
 
 -- ---- the tables
 
-pub solid_once : (X : Subject) (number : ℕ) (name text other bytes more : List ℕ) → AreNames (names_of X.shelf) → StandsIn solid X.picture → HasTable solid X number name text bytes → HasTable solid X number name other more → bytes ≡ more
-solid_once X number name text other bytes more names i h k =
-    let a = tell_all solid X number name text bytes i h in
-    let b = tell_all solid X number name other more i k in
-    let same = same_rows h.lines k.lines h.table.rows k.table.rows (agree solid X name h.lines k.lines names a b) h.table.table k.table.table in
-    h.table.text ∙ ap (table_text 3 no_columns) same.rows_are ∙ sym k.table.text
+module _ (g : Groups) (s : Space) (X : Subject) (number : ℕ) (name text other bytes more : List ℕ) (names : AreNames (names_of X.shelf)) (i : StandsIn s X.picture)
+    (h : HasTable g s X number name text bytes) (k : HasTable g s X number name other more) where
+  a : TellAll s X name h.lines
+  a = tell_all g s X number name text bytes i h
 
-module _ (X : Subject) (number : ℕ) (name text other bytes more : List ℕ) (names : AreNames (names_of X.shelf)) (i : StandsIn flat X.picture) (h : HasTable flat X number name text bytes) (k : HasTable flat X number name other more) where
-  a : TellAll flat X name h.lines
-  a = tell_all flat X number name text bytes i h
-
-  b : TellAll flat X name k.lines
-  b = tell_all flat X number name other more i k
+  b : TellAll s X name k.lines
+  b = tell_all g s X number name other more i k
 
   same : Agree h.lines k.lines
-  same = agree flat X name h.lines k.lines names a b
+  same = agree s X name h.lines k.lines names a b
 
   same_row : SameRows h.lines k.lines h.table.rows k.table.rows h.table.table.labels k.table.table.labels
   same_row = same_rows h.lines k.lines h.table.rows k.table.rows same h.table.table k.table.table
-
-  is_flat : IsFlat X.picture
-  is_flat = record { axes = i.picture.axes; box = i.box }
 
   -- the number of a text
   number_is : (lines : List Line) → Opens number name lines → number_of lines ≡ number
@@ -187,39 +166,68 @@ module _ (X : Subject) (number : ℕ) (name text other bytes more : List ℕ) (n
   abbrev table : List Measures
   table = k.table.rows
 
-  -- the Feret diameters of the one table and of the other
-  ferets_mine : FeretsComponents (said k.lines).object labels (length table) h.table.ferets
-  ferets_mine =
-      let mine = ferets_measure (said h.lines).object (said h.lines).left (said h.lines).squares h.table.rows h.table.ferets h.table.table (h.table.farthest refl) in
-      subst (λ (Y : Picture). FeretsComponents Y labels (length table) h.table.ferets) same.object
-      (subst (λ (ls : List ℕ). FeretsComponents (said h.lines).object ls (length table) h.table.ferets) same_row.labels_are
-      (subst (λ (ms : List Measures). FeretsComponents (said h.lines).object h.table.table.labels (length ms) h.table.ferets) same_row.rows_are mine))
+  -- the squared distances of a table's lines are the least ones
+  least_of : (lines : List Line) → TellAll s X name lines → AreSquares (said lines).object (said lines).squares
+  least_of lines t = subst (λ (Y : Picture). AreSquares Y (said lines).squares) (sym t.object) t.squares
 
-  ferets_other : FeretsComponents (said k.lines).object labels (length table) k.table.ferets
-  ferets_other = ferets_measure (said k.lines).object (said k.lines).left (said k.lines).squares k.table.rows k.table.ferets k.table.table (k.table.farthest refl)
+  -- what the further columns of the one table and of the other tell of the components
+  mine : FurtherComponents g s.axes (said k.lines).object labels (length table) h.table.further
+  mine =
+      let first = further_measure g s.axes (said h.lines).object (said h.lines).left (said h.lines).squares h.table.rows h.table.further (least_of h.lines a) h.table.table h.table.are in
+      subst (λ (Y : Picture). FurtherComponents g s.axes Y labels (length table) h.table.further) same.object
+      (subst (λ (ls : List ℕ). FurtherComponents g s.axes (said h.lines).object ls (length table) h.table.further) same_row.labels_are
+      (subst (λ (ms : List Measures). FurtherComponents g s.axes (said h.lines).object h.table.table.labels (length ms) h.table.further) same_row.rows_are first))
 
-  same_feret : (j : ℕ) → j < length table → get_or h.table.ferets j no_feret ≡ get_or k.table.ferets j no_feret
-  same_feret j l = same_ferets (said k.lines).object labels (length table) h.table.ferets k.table.ferets ferets_mine ferets_other j l
+  theirs : FurtherComponents g s.axes (said k.lines).object labels (length table) k.table.further
+  theirs = further_measure g s.axes (said k.lines).object (said k.lines).left (said k.lines).squares k.table.rows k.table.further (least_of k.lines b) k.table.table k.table.are
+
+  entries : (j : ℕ) → j < length table → SameEntries g s.axes h.table.further k.table.further j
+  entries j l = further_once g s.axes (said k.lines).object labels (length table) h.table.further k.table.further mine theirs j l
 
   -- the cells of borders
-  same_border : (j : ℕ) → border_cells (tells_lengths number) (get_or (object_bounds sides labels (greatest labels) (borders h.lines)) j no_bounds) ≡ border_cells (tells_lengths number) (get_or (object_bounds sides labels (greatest labels) (borders k.lines)) j no_bounds)
-  same_border j =
-      let mine = a.borders refl in
-      let theirs = b.borders refl in
-      same_cells (tells_lengths number) sides labels (greatest labels) (borders h.lines) (borders k.lines) j (starts_once X.picture (borders h.lines) (borders k.lines) mine.begin theirs.begin)
-      (same_borders (number_of h.lines) (number_of k.lines) number X.picture (borders h.lines) (borders k.lines) (number_is h.lines h.opens) (number_is k.lines k.opens) is_flat mine theirs)
+  same_border : s.axes ≡ 2 → IsFlat X.picture → (j : ℕ)
+      → border_cells (tells_lengths number) (get_or (object_bounds sides labels (greatest labels) (borders h.lines)) j no_bounds)
+      ≡ border_cells (tells_lengths number) (get_or (object_bounds sides labels (greatest labels) (borders k.lines)) j no_bounds)
+  same_border two is_flat j =
+      let p = a.borders two in
+      let q = b.borders two in
+      same_cells (tells_lengths number) sides labels (greatest labels) (borders h.lines) (borders k.lines) j (starts_once X.picture (borders h.lines) (borders k.lines) p.begin q.begin)
+      (same_borders (number_of h.lines) (number_of k.lines) number X.picture (borders h.lines) (borders k.lines) (number_is h.lines h.opens) (number_is k.lines k.opens) is_flat p q)
 
-  pub flat_once : bytes ≡ more
-  flat_once =
+  -- the text of the first table by the labels, rows and number of the other
+  moved : bytes ≡ table_text s.axes (further_columns g s.axes number sides labels (borders h.lines) h.table.further) table
+  moved =
       let nh = number_is h.lines h.opens in
-      let nk = number_is k.lines k.opens in
       let o = same.object in
       let ls = same_row.labels_are in
       let rs = same_row.rows_are in
-      h.table.text
-      ∙ (λ z. table_text 2 (flat_columns (tells_lengths (nh z)) (object_bounds (o z).sides (ls z) (greatest (ls z)) (borders h.lines)) h.table.ferets) (rs z))
-      ∙ same_table 2 (flat_columns (tells_lengths number) (object_bounds sides labels (greatest labels) (borders h.lines)) h.table.ferets)
-      (flat_columns (tells_lengths number) (object_bounds sides labels (greatest labels) (borders k.lines)) k.table.ferets) table refl
-      (λ j l. (let c = same_border j in let f = same_feret j l in λ z. c z ++ feret_cells (f z)))
-      ∙ (λ z. table_text 2 (flat_columns (tells_lengths (sym nk z)) (object_bounds sides labels (greatest labels) (borders k.lines)) k.table.ferets) table)
+      h.table.text ∙ (λ z. table_text s.axes (further_columns g s.axes (nh z) (o z).sides (ls z) (borders h.lines) h.table.further) (rs z))
+
+  -- where the cells are the same the tables are
+  one : ((j : ℕ) → j < length table
+      → (further_columns g s.axes number sides labels (borders h.lines) h.table.further).cells j ≡ (further_columns g s.axes number sides labels (borders k.lines) k.table.further).cells j)
+      → (further_columns g s.axes number sides labels (borders h.lines) h.table.further).names ≡ (further_columns g s.axes number sides labels (borders k.lines) k.table.further).names
+      → bytes ≡ more
+  one cells heads =
+      let nk = number_is k.lines k.opens in
+      moved
+      ∙ same_table s.axes (further_columns g s.axes number sides labels (borders h.lines) h.table.further)
+      (further_columns g s.axes number sides labels (borders k.lines) k.table.further) table heads cells
+      ∙ (λ z. table_text s.axes (further_columns g s.axes (sym nk z) sides labels (borders k.lines) k.table.further) table)
       ∙ sym k.table.text
+
+pub solid_once : (g : Groups) (X : Subject) (number : ℕ) (name text other bytes more : List ℕ) → AreNames (names_of X.shelf) → StandsIn solid X.picture
+    → HasTable g solid X number name text bytes → HasTable g solid X number name other more → bytes ≡ more
+solid_once g X number name text other bytes more names i h k = one g solid X number name text other bytes more names i h k (λ j l. refl) refl
+
+pub flat_once : (g : Groups) (X : Subject) (number : ℕ) (name text other bytes more : List ℕ) → AreNames (names_of X.shelf) → StandsIn flat X.picture
+    → HasTable g flat X number name text bytes → HasTable g flat X number name other more → bytes ≡ more
+flat_once g X number name text other bytes more names i h k =
+    let is_flat : IsFlat X.picture = record { axes = i.picture.axes; box = i.box } in
+    one g flat X number name text other bytes more names i h k
+    (λ j l.
+        let c = same_border g flat X number name text other bytes more names i h k refl is_flat j in
+        let e = entries g flat X number name text other bytes more names i h k j l in
+        let f = e.ferets refl in
+        λ z. c z ++ feret_cells (f z))
+    refl

@@ -1,6 +1,6 @@
 -- The table that is made is that of the lines whose sketch was kept.
 -- Lists alone; nothing is read here.
-use Rattle.std.proofs.Common.{◌≡◌, ℕ, Bool, List, [], ap, ◌∙◌, subst, arith}
+use Rattle.std.proofs.Common.{◌≡◌, ℕ, Bool, List, ap, ◌∙◌, subst}
 use Rattle.shape_terms.specs.Pictures.{Picture}
 use Rattle.shape_terms.specs.Parts.{LabelsObject}
 use Rattle.report_terms.specs.Lines.{Line}
@@ -8,14 +8,15 @@ use Rattle.report_terms.specs.Sections.{number_of}
 use Rattle.report_lines.specs.Said.{Said, said}
 use Rattle.measure_terms.specs.Facts.{facts}
 use Rattle.measure_terms.specs.Measures.{Measures, greatest}
-use Rattle.measure_terms.specs.Feret.{Feret, AreFerets}
 use Rattle.measure_terms.specs.Tables.{rows, IsTable}
 use Rattle.measure_terms.specs.Texts.{no_columns, table_text}
 use Rattle.border_terms.specs.Borders.{Border, borders}
 use Rattle.border_terms.specs.Objects.{Bounds, object_bounds}
 use Rattle.measure_report.specs.BorderColumns.{tells_lengths}
+use Rattle.measure_report.specs.Further.{Further, AreFurther}
 use Rattle.measure_report.specs.FurtherColumns.{flat_columns}
 use Rattle.measure_report.specs.TableTexts.{IsTableText}
+use Rattle.measure_report.specs.declared.groups.Groups.{Groups}
 
 -- the rows of a table whose labels are given
 pub record HasRows (object : Picture) (squares : List ℕ) (left : Picture) (labels : List ℕ) (count : ℕ) (ms : List Measures) : Type 0 where
@@ -48,21 +49,40 @@ table_of lines object squares left labels count ms e h =
       rows = h.rows_are ∙ (λ i. rows (many i) (facts (o i) (q i) (l i) labels));
     }
 
-pub solid_made : (lines : List Line) (object : Picture) (squares : List ℕ) (left : Picture) (labels : List ℕ) (count : ℕ) (ms : List Measures) (bytes : List ℕ) → AreSaid lines object squares left → HasRows object squares left labels count ms → bytes ≡ table_text 3 no_columns ms → IsTableText 3 lines bytes
-solid_made lines object squares left labels count ms bytes e h t = record { rows = ms; table = table_of lines object squares left labels count ms e h; ferets = []; farthest = λ two. absurd (omega (arith, two)); text = t }
+-- what further columns tell of the objects, where these are those that the lines tell
+are_further : (g : Groups) (d : ℕ) (lines : List Line) (object : Picture) (squares : List ℕ) (left : Picture) (labels : List ℕ) (count : ℕ) (f : Further)
+    → AreSaid lines object squares left → count ≡ greatest labels → AreFurther g d object squares labels count f
+    → AreFurther g d (said lines).object (said lines).squares labels (greatest labels) f
+are_further g d lines object squares left labels count f e many a =
+    subst (λ n. AreFurther g d (said lines).object (said lines).squares labels n f) many
+    (subst (λ (qs : List ℕ). AreFurther g d (said lines).object qs labels count f) e.squares_are
+    (subst (λ (Y : Picture). AreFurther g d Y squares labels count f) e.object_is a))
 
-pub flat_made : (lines : List Line) (object : Picture) (squares : List ℕ) (left : Picture) (labels : List ℕ) (count : ℕ) (ms : List Measures) (sides : List ℕ) (told : Bool) (bs : List Border) (all : List Bounds) (fs : List Feret) (bytes : List ℕ)
-    → AreSaid lines object squares left → HasRows object squares left labels count ms → sides ≡ object.sides → told ≡ tells_lengths (number_of lines) → bs ≡ borders lines → all ≡ object_bounds sides labels count bs
-    → AreFerets sides labels count fs → bytes ≡ table_text 2 (flat_columns told all fs) ms → IsTableText 2 lines bytes
+pub solid_made : (g : Groups) (lines : List Line) (object : Picture) (squares : List ℕ) (left : Picture) (labels : List ℕ) (count : ℕ) (ms : List Measures) (f : Further) (bytes : List ℕ)
+    → AreSaid lines object squares left → HasRows object squares left labels count ms → AreFurther g 3 object squares labels count f
+    → bytes ≡ table_text 3 no_columns ms → IsTableText g 3 lines bytes
 unfolding table_of
-flat_made lines object squares left labels count ms sides told bs all fs bytes e h side tells border a far t =
+solid_made g lines object squares left labels count ms f bytes e h a t = record {
+  rows = ms;
+  table = table_of lines object squares left labels count ms e h;
+  further = f;
+  are = are_further g 3 lines object squares left labels count f e h.count_is a;
+  text = t;
+}
+
+pub flat_made : (g : Groups) (lines : List Line) (object : Picture) (squares : List ℕ) (left : Picture) (labels : List ℕ) (count : ℕ) (ms : List Measures) (sides : List ℕ) (told : Bool) (bs : List Border)
+    (all : List Bounds) (f : Further) (bytes : List ℕ)
+    → AreSaid lines object squares left → HasRows object squares left labels count ms → sides ≡ object.sides → told ≡ tells_lengths (number_of lines) → bs ≡ borders lines → all ≡ object_bounds sides labels count bs
+    → AreFurther g 2 object squares labels count f → bytes ≡ table_text 2 (flat_columns told all f) ms → IsTableText g 2 lines bytes
+unfolding table_of
+flat_made g lines object squares left labels count ms sides told bs all f bytes e h side tells border bound a t =
     let whole = side ∙ ap (λ (z : Picture). z.sides) e.object_is in
     let many = h.count_is in
-    let bounds : all ≡ object_bounds (said lines).object.sides labels (greatest labels) (borders lines) = a ∙ (λ i. object_bounds (whole i) labels (many i) (border i)) in
+    let bounds : all ≡ object_bounds (said lines).object.sides labels (greatest labels) (borders lines) = bound ∙ (λ i. object_bounds (whole i) labels (many i) (border i)) in
     record {
       rows = ms;
       table = table_of lines object squares left labels count ms e h;
-      ferets = fs;
-      farthest = λ _. subst (λ n. AreFerets (said lines).object.sides labels n fs) many (subst (λ s. AreFerets s labels count fs) whole far);
-      text = t ∙ (λ i. table_text 2 (flat_columns (tells i) (bounds i) fs) ms);
+      further = f;
+      are = are_further g 2 lines object squares left labels count f e many a;
+      text = t ∙ (λ i. table_text 2 (flat_columns (tells i) (bounds i) f) ms);
     }

@@ -13,21 +13,24 @@ use Rattle.report_terms.specs.Shows.{TextShows}
 use Rattle.report_terms.proofs.HoldsShows.{holds_shows}
 use Rattle.report_lines.specs.Reports.{Space}
 use Rattle.report_lines.specs.Said.{said}
-use Rattle.report_lines.specs.Tells.{StandsIn, Tells}
+use Rattle.report_lines.specs.Tells.{StandsIn, Tells, AreSquares}
 use Rattle.report_lines.proofs.Telling as Lines
 use Rattle.report_lines.proofs.TextLines.{one_list}
 use Rattle.measure_terms.specs.Measures.{Measures}
 use Rattle.measure_terms.specs.Texts.{table_text}
-use Rattle.measure_terms.specs.Components.{MeasuresComponents, FeretsComponents}
-use Rattle.measure_terms.proofs.TableOfComponents.{table_measures, labels_kept, ferets_measure}
+use Rattle.measure_terms.specs.Components.{MeasuresComponents}
+use Rattle.measure_terms.proofs.TableOfComponents.{table_measures, labels_kept}
 use Rattle.border_terms.specs.Borders.{borders}
 use Rattle.border_terms.specs.Shown.{BordersShow}
 use Rattle.border_terms.proofs.BordersShown.{text_borders}
 use Rattle.border_terms.proofs.BordersBegin.{borders_begin}
 use Rattle.border_terms.proofs.HolesShown.{holes_shown}
+use Rattle.measure_report.specs.Further.{FurtherComponents}
 use Rattle.measure_report.specs.FurtherColumns.{further_columns}
 use Rattle.measure_report.specs.TableTexts.{IsTableText}
 use Rattle.measure_report.specs.Holding.{SpellsMeasures, TableTells}
+use Rattle.measure_report.specs.declared.groups.Groups.{Groups}
+use Rattle.measure_report.proofs.FurtherOnce.{further_measure}
 
 -- the measures of components, with these labels
 WithLabels : Picture → List ℕ → Picture → List Measures → List ℕ → Type 0
@@ -46,9 +49,9 @@ borders_so s X text t h i e =
     subst (λ ls. BordersShow (number_of ls) X.picture (borders ls)) (lines_same s X text t u i) (text_borders X text (i.picture.axes ∙ e) u)
 
 -- bytes that are the table of its lines spell the measures of the picture's components
-pub spelled_so : (s : Space) (X : Subject) (text bytes : List ℕ) (t : Tells s X text) → Holds X text → StandsIn s X.picture → IsTableText s.axes t.lines bytes → SpellsMeasures s.axes X t.lines bytes
+pub spelled_so : (g : Groups) (s : Space) (X : Subject) (text bytes : List ℕ) (t : Tells s X text) → Holds X text → StandsIn s X.picture → IsTableText g s.axes t.lines bytes → SpellsMeasures g s.axes X t.lines bytes
 unfolding WithLabels
-spelled_so s X text bytes t holds i h =
+spelled_so g s X text bytes t holds i h =
     let said_left = (said t.lines).left in
     let said_object = (said t.lines).object in
     let squares = (said t.lines).squares in
@@ -71,13 +74,14 @@ spelled_so s X text bytes t holds i h =
       holes = λ e k few. holes_shown X.picture (i.picture.axes ∙ e) (borders t.lines)
           (borders_begin (number_of t.lines) X.picture (borders t.lines) (borders_so s X text t holds i e))
           m3.0.labels m3.0.named (length h.rows) m3.0.all k few;
-      ferets = h.ferets;
-      farthest = λ e. subst (λ (ls : List ℕ). FeretsComponents X.picture ls (length h.rows) h.ferets) same (
-          subst (λ (Y : Picture). FeretsComponents Y labels (length h.rows) h.ferets) t.object (ferets_measure said_object said_left squares h.rows h.ferets h.table (h.farthest e)));
-      text = h.text ∙ (λ j. table_text s.axes (further_columns s.axes (number_of t.lines) (t.object j).sides (same j) (borders t.lines) h.ferets) h.rows);
+      further = h.further;
+      are = subst (λ (ls : List ℕ). FurtherComponents g s.axes X.picture ls (length h.rows) h.further) same
+          (subst (λ (Y : Picture). FurtherComponents g s.axes Y labels (length h.rows) h.further) t.object
+          (further_measure g s.axes said_object said_left squares h.rows h.further (subst (λ (Y : Picture). AreSquares Y squares) (sym t.object) t.squares) h.table h.are));
+      text = h.text ∙ (λ j. table_text s.axes (further_columns g s.axes (number_of t.lines) (t.object j).sides (same j) (borders t.lines) h.further) h.rows);
     }
 
-pub table_tells : (s : Space) (X : Subject) (text bytes : List ℕ) → Holds X text → StandsIn s X.picture → TableTells s X text bytes
-table_tells s X text bytes h i =
+pub table_tells : (g : Groups) (s : Space) (X : Subject) (text bytes : List ℕ) → Holds X text → StandsIn s X.picture → TableTells g s X text bytes
+table_tells g s X text bytes h i =
     let t = Lines.holding_tells s X text h i in
-    record { lines = t.lines; report = t.report; told = spelled_so s X text bytes t h i }
+    record { lines = t.lines; report = t.report; told = spelled_so g s X text bytes t h i }

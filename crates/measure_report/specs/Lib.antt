@@ -1,6 +1,9 @@
 pub mod Outlined
 pub mod BorderColumns
 pub mod FeretColumns
+pub mod Words
+pub mod Further
+pub mod FurtherTold
 pub mod FurtherColumns
 pub mod TableTexts
 pub mod Holding

@@ -5,16 +5,17 @@ use Rattle.report_terms.specs.Lines.{Line}
 use Rattle.report_terms.specs.Sections.{number_of}
 use Rattle.report_lines.specs.Said.{said}
 use Rattle.measure_terms.specs.Measures.{Measures, greatest}
-use Rattle.measure_terms.specs.Feret.{Feret, AreFerets}
 use Rattle.measure_terms.specs.Tables.{IsTable}
 use Rattle.measure_terms.specs.Texts.{table_text}
 use Rattle.border_terms.specs.Borders.{borders}
+use Rattle.measure_report.specs.Further.{Further, AreFurther}
 use Rattle.measure_report.specs.FurtherColumns.{further_columns}
+use Rattle.measure_report.specs.declared.groups.Groups.{Groups}
 
--- the bytes spell the table of what the lines say of the points of a box with d axes, with the borders that they tell, whose lengths stand there where the first line gives the number 2, and, in the plane, the Feret diameters of the objects
-pub record IsTableText (d : ℕ) (lines : List Line) (bytes : List ℕ) : Type 0 where
+-- the bytes spell the table with these groups of columns of what the lines say of the points of a box with d axes, with the borders that they tell, whose lengths stand there where the first line gives the number 2
+pub record IsTableText (g : Groups) (d : ℕ) (lines : List Line) (bytes : List ℕ) : Type 0 where
   pub rows : List Measures
   pub table : IsTable (said lines).object (said lines).squares (said lines).left rows
-  pub ferets : List Feret
-  pub farthest : d ≡ 2 → AreFerets (said lines).object.sides table.labels (greatest table.labels) ferets
-  pub text : bytes ≡ table_text d (further_columns d (number_of lines) (said lines).object.sides table.labels (borders lines) ferets) rows
+  pub further : Further
+  pub are : AreFurther g d (said lines).object (said lines).squares table.labels (greatest table.labels) further
+  pub text : bytes ≡ table_text d (further_columns g d (number_of lines) (said lines).object.sides table.labels (borders lines) further) rows

@@ -12,17 +12,18 @@ use Rattle.report_making.specs.declared.outcome.Outcome.TheVariants.{Done}
 use Rattle.measure_report.specs.TableTexts.{IsTableText}
 use Rattle.measure_report.specs.Holding.{SpellsMeasures}
 use Rattle.measure_report.specs.Tabled.{Opens}
+use Rattle.measure_report.specs.declared.groups.Groups.{Groups}
 
 -- bytes were written that spell the measures of the picture's components, by the lines that the text is of
-pub record WritesMeasures (s : Space) (X : Subject) (text : List ℕ) (old new : DeskState) : Type 0 where
+pub record WritesMeasures (g : Groups) (s : Space) (X : Subject) (text : List ℕ) (old new : DeskState) : Type 0 where
   pub lines : List Line
   pub report : IsReport s text lines
   pub bytes : List ℕ
-  pub spells : SpellsMeasures s.axes X lines bytes
+  pub spells : SpellsMeasures g s.axes X lines bytes
   pub puts : Puts old.written new.written bytes
 
 -- a run ended well for a file whose text is a report with this number and of the rule with this name, and holds of the picture
-pub record RanWhole (s : Space) (X : Subject) (number : ℕ) (rule : List ℕ) (old new : DeskState) : Type 0 where
+pub record RanWhole (g : Groups) (s : Space) (X : Subject) (number : ℕ) (rule : List ℕ) (old new : DeskState) : Type 0 where
   pub text : List ℕ
   pub holds : Holds X text
   pub lines : List Line
@@ -30,7 +31,7 @@ pub record RanWhole (s : Space) (X : Subject) (number : ℕ) (rule : List ℕ) (
   pub opens : Opens number rule lines
   pub name : List ℕ
   pub file : FileIs old.files name (λ bytes. bytes ≡ text)
-  pub ran : Ran IsTableText name old new Done
+  pub ran : Ran (IsTableText g) name old new Done
 
 -- one run and another wrote the same bytes
 pub record WriteAlike (old new before after : DeskState) : Type 0 where

@@ -15,40 +15,42 @@ ghost use Rattle.measure_report.specs.TableTexts.{IsTableText};
 ghost use Rattle.measure_report.specs.Holding.{TableTells};
 ghost use Rattle.measure_report.specs.Tabled.{HasTable};
 ghost use Rattle.measure_report.specs.Whole.{WritesMeasures, RanWhole, WriteAlike};
+ghost use Rattle.measure_report.specs.declared.groups.Groups.{Groups};
 
 /// Of a report that holds of a picture, row k of the table has the measures of the k-th component of the picture, by its least
 /// squared distances to the background and by the points that its thinning leaves. In the plane its borders are the contours
 /// of the picture that begin in it, and its holes are counted: the bounded components of what is not in it. Where the first
 /// line gives the number 2, each border is measured along the least lines of its tangential cover; else no length is told.
 pub fn holding_measures()
-    ensures { (s : Space) (X : Subject) (text bytes : List ℕ) → Holds X text
-        → StandsIn s X.picture → TableTells s X text bytes }
+    ensures { (g : Groups) (s : Space) (X : Subject) (text bytes : List ℕ) → Holds X text
+        → StandsIn s X.picture → TableTells g s X text bytes }
 {}
 
 /// Two reports that hold of one picture, with one number and of one rule, have one table: their tables are equal byte by byte,
 /// whatever lines, axes and evidence they give.
 pub fn tables_are_one()
-    ensures flat { (X : Subject) (number : ℕ) (name text other bytes more : List ℕ)
+    ensures flat { (g : Groups) (X : Subject) (number : ℕ) (name text other bytes more : List ℕ)
         → AreNames (names_of X.shelf) → StandsIn flat X.picture
-        → HasTable flat X number name text bytes → HasTable flat X number name other more
+        → HasTable g flat X number name text bytes → HasTable g flat X number name other more
         → bytes ≡ more }
-    ensures solid { (X : Subject) (number : ℕ) (name text other bytes more : List ℕ)
+    ensures solid { (g : Groups) (X : Subject) (number : ℕ) (name text other bytes more : List ℕ)
         → AreNames (names_of X.shelf) → StandsIn solid X.picture
-        → HasTable solid X number name text bytes → HasTable solid X number name other more
+        → HasTable g solid X number name text bytes → HasTable g solid X number name other more
         → bytes ≡ more }
 {}
 
 /// A run that ends well for a file whose text is a report that holds of a picture has written bytes that spell the measures of
 /// the picture's components. Two such runs, of reports of one picture with one number and of one rule, have written the same.
 pub fn tables_of_what_holds()
-    ensures measures { (s : Space) (X : Subject) (name text : List ℕ) (old new : DeskState)
+    ensures measures { (g : Groups) (s : Space) (X : Subject) (name text : List ℕ)
+        (old new : DeskState)
         → IsSpace s → StandsIn s X.picture → Holds X text
         → FileIs old.files name (λ bytes. bytes ≡ text)
-        → Ran IsTableText name old new Done
-        → WritesMeasures s X text old new }
-    ensures alike { (s : Space) (X : Subject) (number : ℕ) (rule : List ℕ)
+        → Ran (IsTableText g) name old new Done
+        → WritesMeasures g s X text old new }
+    ensures alike { (g : Groups) (s : Space) (X : Subject) (number : ℕ) (rule : List ℕ)
         (old new before after : DeskState)
         → IsSpace s → AreNames (names_of X.shelf) → StandsIn s X.picture
-        → RanWhole s X number rule old new → RanWhole s X number rule before after
+        → RanWhole g s X number rule old new → RanWhole g s X number rule before after
         → WriteAlike old new before after }
 {}

@@ -6,11 +6,13 @@
 mod borders;
 mod ferets;
 mod further;
+mod groups;
 mod law;
 mod outlined;
 mod tables;
 mod top;
 
+pub use groups::Groups;
 pub use law::{holding_measures, tables_are_one, tables_of_what_holds};
 pub use outlined::Outlined;
 pub use report_making::Outcome;

@@ -4,8 +4,8 @@ use Rattle.shape_terms.specs.Points.{box_count, sides_of}
 use Rattle.measure_terms.specs.Texts.{table_text}
 use Rattle.measuring.specs.Told.{measures_told}
 use Rattle.bordering.specs.Told.{flat, all_borders, all_bounds}
-use Rattle.feret.specs.Told.{ferets_told}
 use Rattle.measure_report.specs.FurtherColumns.{flat_columns}
+use Rattle.measure_report.specs.FurtherTold.{flat_told}
 use Rattle.measure_report.specs.TableTexts.{IsTableText}
 use Rattle.measure_report.proofs.TableMade.{are_said, flat_made}
 use Rattle.measure_report.proofs.tables.bordered_table.Goals as goal
@@ -23,11 +23,12 @@ returns c = λ lines tells told border.
     let side : sides ≡ seen.object.sides = c.sides-2.ensures in
     let slice = c.as_slice.ensures.value in
     let same : map (measures_told sides) c.as_slice.result.now ≡ ms = (λ i. map (measures_told (side i)) (slice i)) in
-    let fs = ferets_told more.ferets.ferets.items in
+    let g = c.args.groups in
+    let fs = flat_told more in
     let columns = flat_columns more.borders.told (all_bounds more.borders.bounds.items) fs in
-    IfOk-weaker c.table_text.result (λ t. t.items ≡ table_text 2 columns (map (measures_told sides) c.as_slice.result.now)) (λ t. IsTableText 2 lines t.items)
-    (λ t h. flat_made lines seen.object seen.squares seen.left table.labels table.count ms (sides_of (flat c.sides.result.lengths)) more.borders.told (all_borders c.args.borders.now) (all_bounds more.borders.bounds.items) fs t.items
+    IfOk-weaker c.table_text.result (λ t. t.items ≡ table_text 2 columns (map (measures_told sides) c.as_slice.result.now)) (λ t. IsTableText g 2 lines t.items)
+    (λ t h. flat_made g lines seen.object seen.squares seen.left table.labels table.count ms (sides_of (flat c.sides.result.lengths)) more.borders.told (all_borders c.args.borders.now) (all_bounds more.borders.bounds.items) fs t.items
     (are_said lines seen seen.object seen.squares seen.left told refl refl refl)
     (record { named = c.requires.labels; count_is = c.requires.count; rows_are = c.requires.rows })
-    c.sides.ensures (c.in_ok-more.ensures.told ∙ tells) border c.in_ok-more.ensures.bounds c.in_ok-more.ensures.ferets (h ∙ ap (table_text 2 columns) same))
+    c.sides.ensures (c.in_ok-more.ensures.told ∙ tells) border c.in_ok-more.ensures.bounds (c.in_ok-more.ensures.further g seen.object seen.squares (sym c.sides.ensures)) (h ∙ ap (table_text 2 columns) same))
     c.table_text.ensures

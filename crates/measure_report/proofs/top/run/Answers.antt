@@ -1,12 +1,23 @@
-use Rattle.std.proofs.Common.{subst, arith}
+use Rattle.std.proofs.Common.{subst, sym, ◌∙◌}
 use Rattle.report_making.specs.Runs.{Ran}
 use Rattle.measure_report.specs.TableTexts.{IsTableText}
-use Rattle.measure_report.proofs.Words.{one_word}
+use Rattle.measure_report.proofs.GroupWords.{same_words}
 use Rattle.measure_report.proofs.top.run.Goals as goal
 
-pub returns-in-len1-clause-usage : goal.returns-in-len1-clause-usage
-returns-in-len1-clause-usage g c =
-    let s = g.D.Desk.state in (
-      λ e name t. subst (Ran IsTableText c.as_slice.result.now (s c.args.desk.now) (s c.run_named.new.desk)) e c.run_named.ensures.ran,
-      λ none. absurd (none c.name-item.result.items (one_word c.args.words.now c.name-item.result c.in-len1.len_at_least (omega (arith, c.in-len1.len_below)) c.name-item.is)),
+pub returns-in-Some-clause-usage : goal.returns-in-Some-clause-usage
+returns-in-Some-clause-usage g c =
+    let s = g.D.Desk.state in
+    let groups = c.in-Some.groups in
+    let name = c.in-Some.name.now in (
+      λ e h other t. subst (Ran (IsTableText groups) name (s c.args.desk.now) (s c.run_named.new.desk)) e c.run_named.ensures.ran,
+      λ none. absurd (none groups name c.in-Some.ensures),
     )
+
+pub returns-in-Some-clause-ran : goal.returns-in-Some-clause-ran
+returns-in-Some-clause-ran g c = λ h other t.
+    let s = g.D.Desk.state in
+    let groups = c.in-Some.groups in
+    let name = c.in-Some.name.now in
+    let same = same_words groups h name other (sym c.in-Some.ensures ∙ t) in
+    subst (λ k. Ran (IsTableText k) other (s c.args.desk.now) (s c.run_named.new.desk) c.run_named.result) same.groups
+    (subst (λ n. Ran (IsTableText groups) n (s c.args.desk.now) (s c.run_named.new.desk) c.run_named.result) same.names c.run_named.ensures.ran)

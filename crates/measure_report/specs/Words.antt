@@ -1,0 +1,12 @@
+-- The words of a command line: the groups of columns that are asked for beside those of every table, and the name of a report's file.
+-- A further group is one more word; a further thing that is made of a report, one more case.
+use Rattle.std.specs.Prelude.{if◌then◌else◌, ℕ, List, [], ◌∷◌, ◌++◌, codes}
+use Rattle.measure_report.specs.declared.groups.Groups.{Groups}
+
+-- the words of the groups that are asked for
+abbrev pub group_words : Groups → List (List ℕ)
+group_words g = (if g.moments then codes "moments" ∷ [] else []) ++ (if g.thickness then codes "thickness" ∷ [] else [])
+
+-- the words that ask for the table with these groups of the report in the file with this name
+abbrev pub table_words : Groups → List ℕ → List (List ℕ)
+table_words g name = group_words g ++ (name ∷ [])
