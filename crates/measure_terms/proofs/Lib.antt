@@ -10,6 +10,6 @@ pub mod Cubes
 pub mod CellSums
 pub mod OneCubeMore
 pub mod EulersSeen
-pub mod CrossingSizes
+pub mod Sizes
 pub mod OctantComponents
 pub mod CellsOnce

@@ -1,32 +1,52 @@
--- Euler numbers and crossings by the labels of a picture's object are those of its components: the same sets of points.
+-- Euler numbers and crossings by the labels of a picture's object are those of its components, and a set has one of each.
 -- Sets of points and labels alone.
-use Rattle.std.proofs.Common.{ℕ, ◌+◌, List, get_or, length, subst, sym}
-use Rattle.std.specs.Prelude.{ℤ}
+use Rattle.std.proofs.Common.{◌≡◌, ℕ, ◌+◌, List, get_or, length, subst, sym}
 use Rattle.std.specs.List.{Contains}
+use Rattle.shape_terms.specs.Points.{Point}
 use Rattle.shape_terms.specs.Pictures.{Picture}
 use Rattle.shape_terms.specs.Parts.{LabelsObject}
 use Rattle.measure_terms.specs.Feret.{HasLabel}
 use Rattle.measure_terms.specs.Measures.{Measures, greatest}
 use Rattle.measure_terms.specs.Tables.{IsTable}
 use Rattle.measure_terms.specs.Components.{component}
-use Rattle.measure_terms.specs.Eulers.{AreEulers, EulersComponents}
-use Rattle.measure_terms.specs.Crossings.{AreCrossings, CrossingsComponents}
+use Rattle.measure_terms.specs.Crossings.{LeadsOut, AreCrossings}
+use Rattle.measure_terms.specs.Minkowski.{Minkowski, IsMinkowski, AreMinkowski, MinkowskiComponents}
 use Rattle.measure_terms.proofs.TableOfComponents.{has_label, in_component, table_length}
+use Rattle.measure_terms.proofs.CellsOnce.{euler_once}
 use Rattle.measure_terms.proofs.EulersSeen.{same_euler}
-use Rattle.measure_terms.proofs.CrossingSizes.{same_crossing}
+use Rattle.measure_terms.proofs.Sizes.{same_size, size_once}
 
-pub eulers_measure : (X : Picture) (labels : List ℕ) (n : ℕ) (es : List ℤ) → LabelsObject X labels → AreEulers X.sides labels n es → EulersComponents X labels n es
-eulers_measure X labels n es named h = record {
-  each = λ k d l. same_euler (HasLabel X.sides labels (k + 1)) (Contains (component X labels (k + 1))) (get_or es k d) (λ p. in_component X labels k p named) (has_label X labels k) (h.each k d l);
+-- the same set of points has the same crossings
+pub same_crossings : (S T : Point → Type 0) (m n : ℕ) → ((p : Point) → S p → T p) → ((p : Point) → T p → S p) → AreCrossings S m n → AreCrossings T m n
+same_crossings S T m n to back h = same_size (LeadsOut S m) (LeadsOut T m) n
+    (λ s l. record { direction = l.direction; axes = l.axes; within = to s.from l.within; out = λ t. l.out (back _ t) })
+    (λ s l. record { direction = l.direction; axes = l.axes; within = back s.from l.within; out = λ t. l.out (to _ t) }) h
+
+-- and the same numbers
+pub same_minkowski : (S T : Point → Type 0) (m : Minkowski) → ((p : Point) → S p → T p) → ((p : Point) → T p → S p) → IsMinkowski S m → IsMinkowski T m
+same_minkowski S T m to back h = record {
+  euler = same_euler S T m.euler to back h.euler;
+  axes = same_crossings S T 1 m.axes to back h.axes;
+  faces = same_crossings S T 2 m.faces to back h.faces;
+  cubes = same_crossings S T 3 m.cubes to back h.cubes;
 }
 
-pub crossings_measure : (X : Picture) (labels : List ℕ) (k n : ℕ) (cs : List ℕ) → LabelsObject X labels → AreCrossings X.sides labels k n cs → CrossingsComponents X labels k n cs
-crossings_measure X labels k n cs named h = record {
-  each = λ j d l. same_crossing (HasLabel X.sides labels (j + 1)) (Contains (component X labels (j + 1))) k (get_or cs j d) (λ p. in_component X labels j p named) (has_label X labels j) (h.each j d l);
+-- a set of points has one of each
+pub minkowski_once : (S : Point → Type 0) (m n : Minkowski) → IsMinkowski S m → IsMinkowski S n → m ≡ n
+minkowski_once S m n h k =
+    let e = euler_once S m.euler n.euler h.euler k.euler in
+    let a = size_once (LeadsOut S 1) m.axes n.axes h.axes k.axes in
+    let f = size_once (LeadsOut S 2) m.faces n.faces h.faces k.faces in
+    let c = size_once (LeadsOut S 3) m.cubes n.cubes h.cubes k.cubes in
+    λ i. record { euler = e i; axes = a i; faces = f i; cubes = c i }
+
+pub minkowski_measure : (X : Picture) (labels : List ℕ) (n : ℕ) (ms : List Minkowski) → LabelsObject X labels → AreMinkowski X.sides labels n ms → MinkowskiComponents X labels n ms
+minkowski_measure X labels n ms named h = record {
+  each = λ k d l. same_minkowski (HasLabel X.sides labels (k + 1)) (Contains (component X labels (k + 1))) (get_or ms k d) (λ p. in_component X labels k p named) (has_label X labels k) (h.each k d l);
 }
 
--- the Euler numbers by the labels of a table are those of the components
-pub eulers_table : (X left : Picture) (squares : List ℕ) (table : List Measures) (es : List ℤ) → (h : IsTable X squares left table) → AreEulers X.sides h.labels (greatest h.labels) es
-    → EulersComponents X h.labels (length table) es
-eulers_table X left squares table es h e =
-    subst (λ n. EulersComponents X h.labels n es) (sym (table_length X left squares table h)) (eulers_measure X h.labels (greatest h.labels) es h.named e)
+-- those by the labels of a table are those of its components
+pub minkowski_table : (X left : Picture) (squares : List ℕ) (table : List Measures) (ms : List Minkowski) → (h : IsTable X squares left table) → AreMinkowski X.sides h.labels (greatest h.labels) ms
+    → MinkowskiComponents X h.labels (length table) ms
+minkowski_table X left squares table ms h m =
+    subst (λ n. MinkowskiComponents X h.labels n ms) (sym (table_length X left squares table h)) (minkowski_measure X h.labels (greatest h.labels) ms h.named m)

@@ -9,6 +9,8 @@ pub mod Texts
 pub mod Cells
 pub mod Gains
 pub mod Seen
-pub mod Eulers
 pub mod Crossings
+pub mod Minkowski
+pub mod Surface
+pub mod Whole
 pub mod Thickness

@@ -1,8 +1,8 @@
 -- The spelling of a table: a header, and a line for each object, its cells with commas between.
 -- A further column is one more piece of `header` and of `cells`, in the same place.
-use Rattle.std.specs.Prelude.{if◌then◌else◌, ℕ, ◌+◌, ◌/◌, ◌%◌, Bool, true, false, Option, Some, None, List, [], ◌∷◌, ◌++◌, codes, take, nat_abs, cond, nat_eq}
+use Rattle.std.specs.Prelude.{if◌then◌else◌, ℕ, ◌+◌, ◌/◌, ◌%◌, Bool, true, false, Option, Some, None, List, [], ◌∷◌, ◌++◌, codes, take, ℤ, nat_abs, cond, nat_eq}
 use Rattle.std.specs.List.{flat_map}
-use Rattle.std.specs.Fmt.{decimal}
+use Rattle.std.specs.Fmt.{decimal, signed_decimal}
 use Rattle.shape_terms.specs.Points.{Point, coordinate}
 use Rattle.measure_terms.specs.Measures.{Measures}
 use Rattle.measure_terms.specs.Rounding.{mean, root}
@@ -12,6 +12,10 @@ use Rattle.measure_terms.specs.Rounding.{mean, root}
 -- a whole number, behind a comma
 abbrev pub whole : ℕ → List ℕ
 whole n = codes "," ++ decimal n
+
+-- a whole number that may be below 0, behind a comma
+abbrev pub signed : ℤ → List ℕ
+signed z = codes "," ++ signed_decimal z
 
 -- three digits
 abbrev pub three_digits : ℕ → List ℕ

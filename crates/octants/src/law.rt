@@ -1,17 +1,23 @@
-//! What holds of all Euler numbers and crossings by labels, as a law that callers can cite: what counts are the clauses.
-//! The body does nothing.
-ghost use Rattle.std.specs.Prelude.{ℕ, ℤ, List};
+//! What holds of all numbers by labels, as laws that callers can cite: what counts are the clauses.
+//! The bodies do nothing.
+ghost use Rattle.std.specs.Prelude.{◌≡◌, ◌<◌, ℕ, List, slice_index_or};
 ghost use Rattle.shape_terms.specs.Pictures.{Picture};
 ghost use Rattle.shape_terms.specs.Parts.{LabelsObject};
-ghost use Rattle.measure_terms.specs.Eulers.{AreEulers, EulersComponents};
-ghost use Rattle.measure_terms.specs.Crossings.{AreCrossings, CrossingsComponents};
+ghost use Rattle.measure_terms.specs.Minkowski as Terms;
+ghost use Rattle.measure_terms.specs.Whole.{IsWhole};
 
 /// Where the labels are those of a picture's object, the numbers by labels are those of its components, in the order of their
 /// first points.
-pub fn octants_measure_components()
-    ensures eulers { (X : Picture) (labels : List ℕ) (n : ℕ) (es : List ℤ) → LabelsObject X labels
-        → AreEulers X.sides labels n es → EulersComponents X labels n es }
-    ensures crossings { (X : Picture) (labels : List ℕ) (k n : ℕ) (cs : List ℕ)
-        → LabelsObject X labels → AreCrossings X.sides labels k n cs
-        → CrossingsComponents X labels k n cs }
+pub fn minkowski_measures_components()
+    ensures { (X : Picture) (labels : List ℕ) (n : ℕ) (ms : List Terms.Minkowski)
+        → LabelsObject X labels → Terms.AreMinkowski X.sides labels n ms
+        → Terms.MinkowskiComponents X labels n ms }
+{}
+
+/// A picture's object has one Euler number, and one number of steps out of each kind; so has each of its components.
+pub fn minkowski_is_determined()
+    ensures whole { (X : Picture) (m n : Terms.Minkowski) → IsWhole X m → IsWhole X n → m ≡ n }
+    ensures components { (X : Picture) (labels : List ℕ) (n k : ℕ) (ms ns : List Terms.Minkowski) (c d : Terms.Minkowski)
+        → Terms.MinkowskiComponents X labels n ms → Terms.MinkowskiComponents X labels n ns
+        → k < n → slice_index_or ms k c ≡ slice_index_or ns k d }
 {}
