@@ -14,7 +14,7 @@ pub(crate) struct FlatColumns {
 
 impl Columns for FlatColumns {
     ghost use Rattle.bordering.specs.Told.{all_bounds};
-    ghost use Rattle.feret.specs.Told.{ferets_told};
+    ghost use Rattle.extents.specs.Told.{ferets_told};
     ghost use Rattle.measure_report.specs.FurtherColumns.{flat_columns};
 
     ghost columns = { λ c. flat_columns c.borders.told (all_bounds c.borders.bounds.items) (ferets_told c.ferets.ferets.items) };

@@ -12,3 +12,7 @@ pub mod Seen
 pub mod Eulers
 pub mod Crossings
 pub mod Thickness
+pub mod Hulls
+pub mod Polygons
+pub mod Widths
+pub mod HullSizes

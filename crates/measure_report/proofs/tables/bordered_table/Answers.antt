@@ -4,7 +4,7 @@ use Rattle.shape_terms.specs.Points.{box_count, sides_of}
 use Rattle.measure_terms.specs.Texts.{table_text}
 use Rattle.measuring.specs.Told.{measures_told}
 use Rattle.bordering.specs.Told.{flat, all_borders, all_bounds}
-use Rattle.feret.specs.Told.{ferets_told}
+use Rattle.extents.specs.Told.{ferets_told}
 use Rattle.measure_report.specs.FurtherColumns.{flat_columns}
 use Rattle.measure_report.specs.TableTexts.{IsTableText}
 use Rattle.measure_report.proofs.TableMade.{are_said, flat_made}
