@@ -1,6 +1,6 @@
 -- What the columns that the program keeps tell: those of the definitions.
 -- A further kind is one more line of each.
-use Rattle.feret.specs.Told.{ferets_told}
+use Rattle.extents.specs.Told.{ferets_told}
 use Rattle.measure_report.specs.Further.{Further}
 use Rattle.measure_report.specs.declared.further.FlatColumns.{FlatColumns}
 

@@ -1,10 +1,10 @@
 //! The columns of Feret diameters: the greatest distance of two points of an object, and the two points.
 //! A further column is one more piece in both methods, in the same place as in `specs/FeretColumns.antt`.
 ghost use Rattle.std.specs.Prelude.{◌≡◌, ◌++◌, OnOk, slice_index_or};
-ghost use Rattle.feret.specs.Told.{point_of, feret_told, ferets_told};
+ghost use Rattle.extents.specs.Told.{point_of, feret_told, ferets_told};
 ghost use Rattle.measure_report.specs.FeretColumns.{point_cells, feret_cells, no_feret};
 
-use feret::{Feret, Spot};
+use extents::{Feret, Spot};
 use measuring::{Columns, Csv, root};
 use shape_space::NoMemory;
 
@@ -50,7 +50,7 @@ fn put_feret(f: Feret, csv: &mut Csv) -> Result<(), NoMemory>
 }
 
 impl Columns for FeretColumns {
-    ghost use Rattle.feret.specs.Told.{ferets_told};
+    ghost use Rattle.extents.specs.Told.{ferets_told};
     ghost use Rattle.measure_report.specs.FeretColumns.{feret_columns};
 
     ghost columns = { λ c. feret_columns (ferets_told c.ferets.items) };

@@ -1,5 +1,5 @@
 //! The table of the objects that a report speaks of: what `measuring` makes of what it says of the points of its box,
-//! `bordering` of its contours, and `feret` of the objects' points.
+//! `bordering` of its contours, and `extents` of the objects' points.
 //! No claim of the report is judged.
 #![tactic(auto)]
 

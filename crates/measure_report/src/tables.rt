@@ -1,5 +1,5 @@
 //! What is made of a report: the table of the objects that its lines tell.
-//! What the rows are, and how they are spelled, is known to `measuring`; the lengths of borders, to `bordering`, and Feret diameters to `feret`.
+//! What the rows are, and how they are spelled, is known to `measuring`; the lengths of borders, to `bordering`, and Feret diameters to `extents`.
 ghost use Rattle.std.specs.Prelude.{◌≡◌, [], ◌∷◌, ℕ, List, length, IfOk};
 ghost use Rattle.shape_terms.specs.Points.{sides_of, box_count};
 ghost use Rattle.report_terms.specs.Lines.{Line};
@@ -23,7 +23,7 @@ use crate::further::FlatColumns;
 use crate::groups::Groups;
 use crate::outlined::Outlined;
 use bordering::{Border, Contours, object_bounds};
-use feret::ferets;
+use extents::ferets;
 use measuring::{NoColumns, Table, measure, table_text};
 use report_lines::{Heading, Seen};
 use report_making::Making;

@@ -14,3 +14,7 @@ pub mod Minkowski
 pub mod Surface
 pub mod Whole
 pub mod Thickness
+pub mod Hulls
+pub mod Polygons
+pub mod Widths
+pub mod HullSizes

@@ -29,3 +29,18 @@ pub record IsRoot (s r : ℕ) : Type 0 where
 -- the square root of s in thousandths: the first number that is not half a thousandth or more below it
 unfoldable pub root : ℕ → ℕ
 root s = unwrap_or (find (is_below_half s) (range_with_len 0 (1000 * s + 1))) 0
+
+-- ---- roots of quotients
+
+-- the square root of s / t in thousandths is less than r and a half
+abbrev pub is_quotient_below_half : (s t r : ℕ) → Bool
+is_quotient_below_half s t r = nat_lt (4000000 * s) ((2 * r + 1) * (2 * r + 1) * t)
+
+-- r is the square root of s / t in thousandths, rounded to nearest and a half up
+pub record IsQuotientRoot (s t r : ℕ) : Type 0 where
+  pub low : (m : ℕ) → m < r → (2 * m + 1) * (2 * m + 1) * t ≤ 4000000 * s
+  pub high : 4000000 * s < (2 * r + 1) * (2 * r + 1) * t
+
+-- the square root of s / t in thousandths: the first number that is not half a thousandth or more below it; where t is 0 there is none, and this is 0
+unfoldable pub quotient_root : (s t : ℕ) → ℕ
+quotient_root s t = unwrap_or (find (is_quotient_below_half s t) (range_with_len 0 (1000 * s + 1))) 0
