@@ -2,6 +2,7 @@ pub mod Outlined
 pub mod BorderColumns
 pub mod FeretColumns
 pub mod Words
+pub mod Wholes
 pub mod Further
 pub mod FurtherTold
 pub mod FurtherColumns

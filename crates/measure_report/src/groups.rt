@@ -2,7 +2,7 @@
 //! A further group is one more field and one more word; what stands in its columns is told in a module of its own.
 ghost use Rattle.std.specs.Prelude.{◌≡◌, ◌≢◌, [], ◌∷◌, ℕ, List, MatchOption};
 ghost use Rattle.shape_desk.specs.Files.{texts};
-ghost use Rattle.measure_report.specs.Words.{group_words, table_words};
+ghost use Rattle.measure_report.specs.Words.{group_words, table_words, whole_words};
 
 /// The groups of columns that few tables need.
 #[derive(Clone, Copy, Debug, PartialEq, Eq)]
@@ -57,6 +57,21 @@ fn groups_called(first: &[u8], second: &[u8]) -> Option<Groups>
         });
     }
     None
+}
+
+/// The name of a report's file behind the word that asks for the numbers of its whole object.
+pub(crate) fn read_whole<'a>(words: &'a [Vec<u8>]) -> Option<&'a [u8]>
+    ensures { MatchOption result ((name : List ℕ) → texts words.now ≢ whole_words name)
+        (λ name. texts words.now ≡ whole_words name.now) }
+{
+    let [word, name] = words else {
+        return None;
+    };
+    if word.as_slice() == b"whole".as_slice() {
+        Some(name.as_slice())
+    } else {
+        None
+    }
 }
 
 /// The groups that the words before the last one ask for, and the last one: the name of a report's file.

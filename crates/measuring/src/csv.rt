@@ -2,7 +2,7 @@
 //! What cells a row has is told in `text`.
 ghost use Rattle.std.specs.Prelude.{◌≡◌, ◌<◌, [], ◌∷◌, ◌++◌, OnOk};
 ghost use Rattle.std.specs.Fmt.{decimal};
-ghost use Rattle.measure_terms.specs.Texts.{whole, thousandths, three_digits, each_axis};
+ghost use Rattle.measure_terms.specs.Texts.{whole, signed, thousandths, three_digits, each_axis};
 
 use itoa::Buffer;
 use shape_space::{NoMemory, Point};
@@ -67,6 +67,15 @@ impl Csv {
     {
         self.put(b",")?;
         self.number(n)
+    }
+
+    /// Puts a cell with a whole number that may be below 0.
+    pub fn signed(&mut self, n: i128) -> Result<(), NoMemory>
+        ensures { OnOk result (self.new ≡ self.old ++ signed n) }
+    {
+        let mut digits = Buffer::new();
+        self.put(b",")?;
+        self.put(digits.format(n).as_bytes())
     }
 
     /// Puts a cell with a number of thousandths.
