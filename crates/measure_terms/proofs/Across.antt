@@ -10,16 +10,10 @@ use Rattle.shape_terms.proofs.Triples.{rings3}
 use Rattle.shape_terms.proofs.Order.{mul-nonneg, cancel-le_ℤ}
 use Rattle.measure_terms.specs.Hulls.{Corner, IsHull, end, next, turn, vertex}
 use Rattle.measure_terms.specs.Widths.{IsOfSide, IsWidth, Width, across_x, across_y, along}
-use Rattle.measure_terms.proofs.Turns.{det}
+use Rattle.measure_terms.proofs.Turns.{det, share_x, share_y}
 use Rattle.measure_terms.proofs.Turns as Turns
 
 -- ---- between two steps: z lies left of e and left of f, and e turns left to f
-
-share_x : (ex ey fx fy zx zy : ℤ) → det ex ey fx fy *ℤ zx ≡ det ex ey zx zy *ℤ fx -ℤ det fx fy zx zy *ℤ ex
-share_x ex ey fx fy zx zy = omega (arith, ints, rings3)
-
-share_y : (ex ey fx fy zx zy : ℤ) → det ex ey fx fy *ℤ zy ≡ det ex ey zx zy *ℤ fy -ℤ det fx fy zx zy *ℤ ey
-share_y ex ey fx fy zx zy = omega (arith, ints, rings3)
 
 -- the share along a direction (a, b)
 weighed : (d a z p f q e : ℤ) → d *ℤ z ≡ p *ℤ f -ℤ q *ℤ e → d *ℤ (a *ℤ z) ≡ p *ℤ (a *ℤ f) -ℤ q *ℤ (a *ℤ e)

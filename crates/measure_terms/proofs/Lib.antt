@@ -13,3 +13,10 @@ pub mod EulersSeen
 pub mod Sizes
 pub mod OctantComponents
 pub mod CellsOnce
+pub mod Turns
+pub mod Hulled
+pub mod Across
+pub mod AreaSigns
+pub mod OneWidth
+pub mod OneHull
+pub mod HullComponents

@@ -7,7 +7,7 @@ use Rattle.std.proofs.lemmas.Bool.Decides.{nat_tests}
 use Rattle.std.proofs.Math.Nat.{mul-div-le, lt-mul-div-succ}
 use Rattle.std.proofs.lemmas.Nat.{mul-le}
 use Rattle.shape_terms.proofs.FirstNumbers.{first_found, at_most_square}
-use Rattle.measure_terms.specs.Rounding.{is_below_half, IsRoot, root, IsMean, mean}
+use Rattle.measure_terms.specs.Rounding.{is_below_half, IsRoot, root, is_quotient_below_half, IsQuotientRoot, quotient_root, IsMean, mean}
 
 -- no root has more thousandths than the number has
 small_root : (s r : ℕ) → IsRoot s r → r < 1000 * s + 1
@@ -34,6 +34,30 @@ root_from_whole s w r low high e = record {
   low = λ m l. let h : (2 * m + 1) * (2 * m + 1) ≤ w * w = mul-le (2 * m + 1) (2 * m + 1) w w (omega arith) (omega arith) in omega (arith, low, h);
   high = let h : (w + 1) * (w + 1) ≤ (2 * r + 1) * (2 * r + 1) = mul-le (w + 1) (w + 1) (2 * r + 1) (2 * r + 1) (omega arith) (omega arith) in omega (arith, high, h);
 }
+
+-- ---- of quotients
+
+-- no root of a quotient has more thousandths than the number has
+small_quotient_root : (s t r : ℕ) → 0 < t → IsQuotientRoot s t r → r < 1000 * s + 1
+small_quotient_root s t r some h = elim (cases_lt r (1000 * s + 1)) [
+  | inl l ↦ l
+  | inr g ↦ (
+      let low = h.low (1000 * s) (omega arith) in
+      let m : (2 * (1000 * s) + 1) * (2 * (1000 * s) + 1) * 1 ≤ (2 * (1000 * s) + 1) * (2 * (1000 * s) + 1) * t = mul-le _ 1 _ t (omega arith) some in
+      let q = at_most_square s in
+      absurd (omega (arith, low, m, q)))
+]
+
+-- the number that is the root of a quotient is the one that the definition finds
+pub quotient_root_is : (s t r : ℕ) → 0 < t → IsQuotientRoot s t r → r ≡ quotient_root s t
+unfolding quotient_root
+quotient_root_is s t r some h =
+    let high = h.high in
+    let pass : is_quotient_below_half s t r ≡ true = grind (arith, nat_tests, high) in
+    let few = small_quotient_root s t r some h in
+    sym (ap (λ o. unwrap_or o 0) (first_found (is_quotient_below_half s t) 0 (1000 * s + 1) r (omega arith) (omega (arith, few)) pass (λ m _ l. let low = h.low m l in grind (arith, nat_tests, low))))
+
+-- ---- means
 
 -- the mean that the definition divides for is rounded to nearest
 pub mean_is : (sum count : ℕ) → 0 < count → IsMean sum count (mean sum count)

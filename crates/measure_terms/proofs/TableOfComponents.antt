@@ -151,3 +151,15 @@ ferets_measure X left squares table ferets h f =
           let one = f.each k d some.0 (omega (arith, len, l)) (has_label X labels k some.0 some.1) in
           same_feret X.sides (HasLabel X.sides labels (k + 1)) (Contains (component X labels (k + 1))) (get_or ferets k d) (λ p. in_component X labels k p h.named) (has_label X labels k) one;
     }
+
+-- ---- points
+
+-- each label of a table is that of a point
+pub some_of_table : (X left : Picture) (squares : List ℕ) (table : List Measures) → (h : IsTable X squares left table) → (k : ℕ) → k < length table → (p : Point) × Contains (component X h.labels (k + 1)) p
+some_of_table X left squares table h k l =
+    let labels = h.labels in
+    let n = h.named.parts.0 in
+    let names = h.named.parts.1 in
+    let len = table_length X left squares table h in
+    let same : n ≡ length table = omega (arith, len, no_more X labels n h.named names, no_fewer X labels n names) in
+    some_point X labels n k names (omega (arith, same, l))

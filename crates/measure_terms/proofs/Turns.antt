@@ -4,6 +4,7 @@ use Rattle.std.proofs.Common.{◌≡◌, arith}
 use Rattle.std.proofs.Math.IntN.{ℤ, ◌-ℤ◌, ◌*ℤ◌, neg_ℤ}
 use Rattle.std.proofs.lemmas.Int.{ints}
 use Rattle.shape_terms.proofs.Products.{rings}
+use Rattle.shape_terms.proofs.Triples.{rings3}
 use Rattle.measure_terms.specs.Hulls.{Corner, turn}
 
 -- ---- steps
@@ -30,11 +31,25 @@ away ax ay ex ey = omega (arith, ints, rings)
 pub swap : (ax ay bx by : ℤ) → det ax ay bx by ≡ neg_ℤ (det bx by ax ay)
 swap ax ay bx by = omega (arith, ints, rings)
 
+-- a turn from, or to, a difference of steps
+pub less_left : (ax ay bx by cx cy : ℤ) → det (ax -ℤ bx) (ay -ℤ by) cx cy ≡ det ax ay cx cy -ℤ det bx by cx cy
+less_left ax ay bx by cx cy = omega (arith, ints, rings)
+
+pub less_right : (ax ay bx by cx cy : ℤ) → det cx cy (ax -ℤ bx) (ay -ℤ by) ≡ det cx cy ax ay -ℤ det cx cy bx by
+less_right ax ay bx by cx cy = omega (arith, ints, rings)
+
 pub between : (u t q : ℤ) → (q -ℤ u) -ℤ (t -ℤ u) ≡ q -ℤ t
 between u t q = omega (arith, ints)
 
 pub other : (p t : ℤ) → neg_ℤ (t -ℤ p) ≡ p -ℤ t
 other p t = omega (arith, ints)
+
+-- a step as the sum of shares of two others
+pub share_x : (ex ey fx fy zx zy : ℤ) → det ex ey fx fy *ℤ zx ≡ det ex ey zx zy *ℤ fx -ℤ det fx fy zx zy *ℤ ex
+share_x ex ey fx fy zx zy = omega (arith, ints, rings3)
+
+pub share_y : (ex ey fx fy zx zy : ℤ) → det ex ey fx fy *ℤ zy ≡ det ex ey zx zy *ℤ fy -ℤ det fx fy zx zy *ℤ ey
+share_y ex ey fx fy zx zy = omega (arith, ints, rings3)
 
 -- ---- corners
 

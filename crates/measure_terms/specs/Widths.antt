@@ -1,6 +1,6 @@
 -- The width of a set in a direction, and the least of the widths across the sides of a polygon.
 -- Widths are fractions: a range of scalar products by the length of the direction, both as squares.
-use Rattle.std.specs.Prelude.{◌≡◌, ⊥, ℕ, ◌<◌, List, length, ℤ, pos, ◌+ℤ◌, ◌-ℤ◌, ◌*ℤ◌, ◌≤ℤ◌, ◌<ℤ◌}
+use Rattle.std.specs.Prelude.{◌≡◌, ℕ, ◌<◌, List, length, ℤ, pos, ◌+ℤ◌, ◌-ℤ◌, ◌*ℤ◌, ◌≤ℤ◌, ◌<ℤ◌}
 use Rattle.measure_terms.specs.Hulls.{Corner, turn, vertex, end}
 use Rattle.measure_terms.specs.Polygons.{squared_length}
 
@@ -40,6 +40,10 @@ across_x p q = p.y -ℤ q.y
 
 abbrev pub across_y : Corner → Corner → ℤ
 across_y p q = q.x -ℤ p.x
+
+-- no side is a point
+pub record HaveLengths (h : List Corner) : Type 0 where
+  pub each : (i : ℕ) → i < length h → pos 0 <ℤ squared_length (vertex h i) (end h i)
 
 -- how wide a polygon is across one of its sides: the width is `across` by the root of `length`
 pub record Width : Type 0 where
