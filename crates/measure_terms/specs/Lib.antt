@@ -12,3 +12,5 @@ pub mod Seen
 pub mod Eulers
 pub mod Crossings
 pub mod Thickness
+pub mod Moments
+pub mod Ellipse
