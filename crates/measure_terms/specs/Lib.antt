@@ -18,3 +18,5 @@ pub mod Hulls
 pub mod Polygons
 pub mod Widths
 pub mod HullSizes
+pub mod Moments
+pub mod Ellipse
