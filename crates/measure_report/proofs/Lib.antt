@@ -1,4 +1,4 @@
-mod GroupWords
+mod WantedWords
 mod TableMade
 mod Telling
 mod LabelsOnce

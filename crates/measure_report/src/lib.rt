@@ -11,6 +11,8 @@ mod law;
 mod outlined;
 mod tables;
 mod top;
+mod wanted;
+mod wholes;
 
 pub use groups::Groups;
 pub use law::{holding_measures, tables_are_one, tables_of_what_holds};
@@ -18,3 +20,5 @@ pub use outlined::Outlined;
 pub use report_making::Outcome;
 pub use tables::Tables;
 pub use top::{USAGE, run};
+pub use wanted::Wanted;
+pub use wholes::Wholes;

@@ -1,14 +1,13 @@
 //! The top call: what words ask for of the report that the last one names is written: the table of its objects, or the numbers of
 //! its whole object. What each outcome means for the desk stands in `report_making`.
-ghost use Rattle.std.specs.Prelude.{◌≡◌, ◌↔◌, ℕ, List};
+ghost use Rattle.std.specs.Prelude.{◌≡◌, ◌≢◌, ◌↔◌, ℕ, List};
 ghost use Rattle.shape_desk.specs.Files.{KeepsFiles, texts};
 ghost use Rattle.report_making.specs.Runs.{Ran};
-ghost use Rattle.measure_report.specs.TableTexts.{IsTableText};
-ghost use Rattle.measure_report.specs.Wholes.{IsWholeMade};
-ghost use Rattle.measure_report.specs.Words.{table_words, whole_words, AreNoForm};
+ghost use Rattle.measure_report.specs.Wholes.{made_of};
+ghost use Rattle.measure_report.specs.Words.{asking};
 
-use crate::groups::{Groups, read_whole, read_words};
 use crate::tables::Tables;
+use crate::wanted::{Wanted, read_words};
 use crate::wholes::Wholes;
 use report_making::{Outcome, run_named};
 use shape_desk::Desk;
@@ -16,6 +15,17 @@ use std::alloc::Global;
 
 /// What the program says of words that it does not take.
 pub const USAGE: &str = "usage: shape measure [moments] [thickness] REPORT, shape measure whole REPORT";
+
+// Makes what is wanted of the report in the file with this name, and writes it.
+fn run_wanted<D: Desk>(alloc: Global, wanted: Wanted, name: &[u8], desk: &mut D) -> Outcome
+    ensures ran { Ran (made_of wanted) name.now (D.state desk.old) (D.state desk.new) result }
+    ensures kept { KeepsFiles (D.state desk.old) (D.state desk.new) }
+{
+    match wanted {
+        Wanted::Table(groups) => run_named(alloc, &Tables { groups }, name, desk),
+        Wanted::Whole => run_named(alloc, &Wholes, name, desk),
+    }
+}
 
 /// Does what the words of a command line say, without the program's name: the last one is the name of a report's file. The table
 /// of its objects is written, with the groups of columns that the words before it ask for; or, behind the word `whole`, the
@@ -26,19 +36,15 @@ pub const USAGE: &str = "usage: shape measure [moments] [thickness] REPORT, shap
 /// measured. Want of memory may be answered at any time after the words, and comes for a report of more than 2^61 lines as
 /// well.
 pub fn run<D: Desk>(alloc: Global, words: &[Vec<u8>], desk: &mut D) -> Outcome
-    ensures usage { (result ≡ Outcome.Usage) ↔ AreNoForm (texts words.now) }
+    ensures usage { (result ≡ Outcome.Usage)
+        ↔ ((w : Wanted) (name : List ℕ) → texts words.now ≢ asking w name) }
     ensures untouched { result ≡ Outcome.Usage → desk.new ≡ desk.old }
-    ensures table { (g : Groups) (name : List ℕ) → texts words.now ≡ table_words g name
-        → Ran (IsTableText g) name (D.state desk.old) (D.state desk.new) result }
-    ensures whole { (name : List ℕ) → texts words.now ≡ whole_words name
-        → Ran IsWholeMade name (D.state desk.old) (D.state desk.new) result }
+    ensures ran { (w : Wanted) (name : List ℕ) → texts words.now ≡ asking w name
+        → Ran (made_of w) name (D.state desk.old) (D.state desk.new) result }
     ensures kept { KeepsFiles (D.state desk.old) (D.state desk.new) }
 {
-    if let Some(name) = read_whole(words) {
-        return run_named(alloc, &Wholes, name, desk);
-    }
     match read_words(words) {
-        Some((groups, name)) => run_named(alloc, &Tables { groups }, name, desk),
+        Some((wanted, name)) => run_wanted(alloc, wanted, name, desk),
         None => Outcome::Usage,
     }
 }

@@ -25,7 +25,7 @@ impl Model for Csv {
 
 impl Csv {
     /// No text.
-    pub(crate) fn new(alloc: Global) -> Csv
+    pub fn new(alloc: Global) -> Csv
         ensures { result ≡ [] }
     {
         Csv {
@@ -42,7 +42,7 @@ impl Csv {
     }
 
     /// Puts a number in decimal.
-    pub(crate) fn number(&mut self, n: u128) -> Result<(), NoMemory>
+    pub fn number(&mut self, n: u128) -> Result<(), NoMemory>
         ensures { OnOk result (self.new ≡ self.old ++ decimal n) }
     {
         let mut digits = Buffer::new();
@@ -89,7 +89,7 @@ impl Csv {
     }
 
     /// Puts a cell with a whole number for each axis.
-    pub(crate) fn whole_axes<P: Point>(&mut self, x: u32, y: u32, z: u32) -> Result<(), NoMemory>
+    pub fn whole_axes<P: Point>(&mut self, x: u32, y: u32, z: u32) -> Result<(), NoMemory>
         ensures { OnOk result (self.new ≡ self.old ++ each_axis whole P.DIM x y z) }
     {
         self.whole(x as u128)?;
@@ -118,7 +118,7 @@ impl Csv {
     }
 
     /// The text.
-    pub(crate) fn into_text(self) -> Vec<u8>
+    pub fn into_text(self) -> Vec<u8>
         ensures { result.items ≡ self }
     {
         self.text

@@ -9,9 +9,9 @@ use Rattle.drawing.specs.Svg.{most_drawing}
 use Rattle.draw_report.specs.Drawings.{IsDrawing, IsNumberedDrawing, IsContourDrawing}
 use Rattle.draw_report.specs.Overs.{RanOver}
 use Rattle.draw_report.specs.Words.{labels_word, contours_word, AreNoForm}
-use Rattle.measure_report.specs.TableTexts.{IsTableText}
-use Rattle.measure_report.specs.Words.{table_words}
-use Rattle.measure_report.specs.declared.groups.Groups.{Groups}
+use Rattle.measure_report.specs.Wholes.{made_of}
+use Rattle.measure_report.specs.Words.{asking}
+use Rattle.measure_report.specs.declared.wanted.Wanted.{Wanted}
 use Rattle.masking.specs.Masks.{mask_bytes}
 use Rattle.masking.specs.Words.{mask_word}
 use Rattle.masking.specs.declared.mask.Mask.{Mask}
@@ -27,13 +27,13 @@ product_word product.Mask = codes "mask"
 -- the words are none that the product takes behind its own
 abbrev pub AreNoWords : Product → List (List ℕ) → Type 0
 AreNoWords product.Drawing words = AreNoForm words
-AreNoWords product.Table words = (g : Groups) (name : List ℕ) → words ≢ table_words g name
+AreNoWords product.Table words = (w : Wanted) (name : List ℕ) → words ≢ asking w name
 AreNoWords product.Mask words = (mask : Mask) (name : List ℕ) → words ≢ mask_word mask ∷ name ∷ []
 
 -- what is said of words that the product does not take
 abbrev pub usage_of : Product → List ℕ
 usage_of product.Drawing = codes "usage: shape draw [labels|contours] REPORT, shape draw REPORT FURTHER"
-usage_of product.Table = codes "usage: shape measure [moments] [thickness] REPORT"
+usage_of product.Table = codes "usage: shape measure [moments] [thickness] REPORT, shape measure whole REPORT"
 usage_of product.Mask = codes "usage: shape mask skeleton|object|distances|squares REPORT"
 
 -- what a run did that draws what these words say
@@ -47,5 +47,5 @@ Drew words old new outcome =
 -- what a run did that makes a product by these words behind its own
 abbrev pub Ran : Product → List (List ℕ) → DeskState → DeskState → Outcome → Type 0
 Ran product.Drawing words old new outcome = Drew words old new outcome
-Ran product.Table words old new outcome = (g : Groups) (name : List ℕ) → words ≡ table_words g name → Report.Ran (IsTableText g) name old new outcome
+Ran product.Table words old new outcome = (w : Wanted) (name : List ℕ) → words ≡ asking w name → Report.Ran (made_of w) name old new outcome
 Ran product.Mask words old new outcome = (mask : Mask) (name : List ℕ) → words ≡ mask_word mask ∷ name ∷ [] → Report.Ran (exactly (mask_bytes mask)) name old new outcome

@@ -1,13 +1,15 @@
--- The words of a command line name one choice of groups and one file.
+-- The words of a command line ask for one thing, of one file.
 -- Laws of lists alone.
-use Rattle.std.proofs.Common.{◌≡◌, ℕ, Bool, true, false, List, [], ◌∷◌, ◌++◌, refl, ap, sym, ◌∙◌, arith, length, get_or}
+use Rattle.std.proofs.Common.{◌≡◌, ℕ, Bool, true, false, List, [], ◌∷◌, ◌++◌, refl, ap, sym, arith, length, get_or}
 use Rattle.std.specs.Prelude.{codes, if◌then◌else◌}
-use Rattle.measure_report.specs.Words.{table_words}
+use Rattle.measure_report.specs.Words.{asking}
 use Rattle.measure_report.specs.declared.groups.Groups.{Groups}
+use Rattle.measure_report.specs.declared.wanted.Wanted.{Wanted}
+use Rattle.measure_report.specs.declared.wanted.Wanted.TheVariants.{Table, Whole}
 
--- the groups and the file that words name
-pub record SameWords (g h : Groups) (name other : List ℕ) : Type 0 where
-  pub groups : g ≡ h
+-- what words ask for, and the file
+pub record SameAsked (v w : Wanted) (name other : List ℕ) : Type 0 where
+  pub wanted : v ≡ w
   pub names : name ≡ other
 
 -- the words by the groups one by one
@@ -51,10 +53,22 @@ same_answers false true false false x y e = absurd (let l : 2 ≡ 1 = ap length 
 same_answers false false true false x y e = absurd (let l : 1 ≡ 2 = ap length e in omega (arith, l))
 same_answers false false false true x y e = absurd (let l : 1 ≡ 2 = ap length e in omega (arith, l))
 
-pub same_words : (g h : Groups) (name other : List ℕ) → table_words g name ≡ table_words h other → SameWords g h name other
+-- the word `whole` is that of no group
+not_whole : (m t : Bool) (x y : List ℕ) → words_by m t x ≡ codes "whole" ∷ y ∷ [] → ⊥
 unfolding words_by
-same_words g h name other e =
+not_whole true true x y e = let l : 3 ≡ 2 = ap length e in omega (arith, l)
+not_whole true false x y e = let l : 7 ≡ 5 = ap (λ ws. length (get_or ws 0 [])) e in omega (arith, l)
+not_whole false true x y e = let l : 9 ≡ 5 = ap (λ ws. length (get_or ws 0 [])) e in omega (arith, l)
+not_whole false false x y e = let l : 1 ≡ 2 = ap length e in omega (arith, l)
+
+same_groups : (g h : Groups) → g.moments ≡ h.moments → g.thickness ≡ h.thickness → g ≡ h
+same_groups g h m t = λ i. record { moments = m i; thickness = t i }
+
+pub same_asked : (v w : Wanted) (name other : List ℕ) → asking v name ≡ asking w other → SameAsked v w name other
+unfolding words_by
+same_asked (Table g) (Table h) name other e =
     let s = same_answers g.moments g.thickness h.moments h.thickness name other e in
-    let m = s.moments in
-    let t = s.thickness in
-    record { groups = λ i. record { moments = m i; thickness = t i }; names = s.names }
+    record { wanted = ap Table (same_groups g h s.moments s.thickness); names = s.names }
+same_asked (Table g) Whole name other e = absurd (not_whole g.moments g.thickness name other e)
+same_asked Whole (Table h) name other e = absurd (not_whole h.moments h.thickness other name (sym e))
+same_asked Whole Whole name other e = record { wanted = refl; names = second e }
