@@ -13,3 +13,5 @@ pub mod EulersSeen
 pub mod CrossingSizes
 pub mod OctantComponents
 pub mod CellsOnce
+pub mod ThicknessComponents
+pub mod DeviationFound

@@ -12,3 +12,4 @@ pub mod Seen
 pub mod Eulers
 pub mod Crossings
 pub mod Thickness
+pub mod ThicknessColumns
