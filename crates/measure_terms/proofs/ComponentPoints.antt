@@ -27,7 +27,7 @@ seen X labels k i some t back = elim (cases_Bool (at X (raster_point X.sides i))
 ]
 
 -- a point that fails the second test does not come through
-passed : (p q : Point → Bool) (x : Point) (xs : List Point) → q x ≡ false → filter q (filter p (x ∷ xs)) ≡ filter q (filter p xs)
+pub passed : (p q : Point → Bool) (x : Point) (xs : List Point) → q x ≡ false → filter q (filter p (x ∷ xs)) ≡ filter q (filter p xs)
 passed p q x xs f = elim (cases_Bool (p x)) [
   | inl t ↦ ap (filter q) (cond-true (p x) (x ∷ filter p xs) (filter p xs) t) ∙ cond-false (q x) (x ∷ filter q (filter p xs)) (filter q (filter p xs)) f
   | inr n ↦ ap (filter q) (cond-false (p x) (x ∷ filter p xs) (filter p xs) n)

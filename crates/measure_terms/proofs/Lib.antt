@@ -22,3 +22,5 @@ pub mod OneHull
 pub mod HullComponents
 pub mod MomentComponents
 pub mod EllipseOnce
+pub mod ThicknessComponents
+pub mod DeviationFound

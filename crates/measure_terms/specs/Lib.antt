@@ -20,3 +20,4 @@ pub mod Widths
 pub mod HullSizes
 pub mod Moments
 pub mod Ellipse
+pub mod ThicknessColumns
