@@ -1,0 +1,4 @@
+pub mod Fitting
+pub mod Told
+pub mod SoFar
+pub mod Matrices
