@@ -3,7 +3,9 @@ mod TableMade
 mod Telling
 mod LabelsOnce
 mod FeretsOnce
+mod Squares
 mod FurtherOnce
+mod SameFurther
 mod SameTables
 mod FirstNumber
 mod SameHoles

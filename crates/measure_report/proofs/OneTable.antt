@@ -1,7 +1,7 @@
 -- Two reports of one picture that hold, with one number and one rule, have one table.
 -- Put together from the laws of what their lines tell, of labels, borders and Feret diameters.
 use Rattle.std.proofs.Common.{◌≡◌, inl, inr, ℕ, ◌+◌, ◌<◌, true, refl, ap, sym, ◌∙◌, subst, arith, List, [], ◌∷◌, ◌++◌, length, get_or}
-use Rattle.std.specs.Prelude.{IsTrue}
+use Rattle.std.specs.Prelude.{IsTrue, codes, false}
 use Rattle.std.proofs.lemmas.Bool.{cases_Bool, eqb-true}
 use Rattle.std.proofs.lemmas.List.{append-nil}
 use Rattle.std.proofs.lemmas.List.Elements.{recursion_from_All}
@@ -25,7 +25,7 @@ use Rattle.report_lines.proofs.TextLines.{one_list}
 use Rattle.measure_terms.specs.Facts.{facts}
 use Rattle.measure_terms.specs.Measures.{Measures, greatest}
 use Rattle.measure_terms.specs.Tables.{rows, IsTable}
-use Rattle.measure_terms.specs.Texts.{no_columns, table_text}
+use Rattle.measure_terms.specs.Texts.{Columns, table_text}
 use Rattle.border_terms.specs.Borders.{Border, borders}
 use Rattle.border_terms.specs.Objects.{object_bounds}
 use Rattle.border_terms.specs.Shown.{IsFlat, BordersShow}
@@ -33,13 +33,18 @@ use Rattle.border_terms.proofs.BordersOnce.{borders_once, starts_once}
 use Rattle.bordering.specs.OneMore.{no_bounds}
 use Rattle.measure_report.specs.BorderColumns.{tells_lengths, border_cells}
 use Rattle.measure_report.specs.FeretColumns.{feret_cells}
-use Rattle.measure_report.specs.Further.{FurtherComponents}
+use Rattle.measure_report.specs.MinkowskiColumns.{minkowski_cells}
+use Rattle.measure_report.specs.HullColumns.{hull_cells}
+use Rattle.measure_report.specs.RatioColumns.{ratio_cells, sizes_at}
+use Rattle.measure_report.specs.Further.{Further, FurtherComponents}
 use Rattle.measure_report.specs.FurtherColumns.{further_columns}
 use Rattle.measure_report.specs.Tabled.{Opens, HasTable}
 use Rattle.measure_report.proofs.Telling.{borders_so}
 use Rattle.measure_report.proofs.LabelsOnce.{labels_once, same_list}
 use Rattle.measure_report.specs.declared.groups.Groups.{Groups}
 use Rattle.measure_report.proofs.FurtherOnce.{SameEntries, further_measure, further_once}
+use Rattle.measure_report.proofs.SameFurther.{same_solid, solid_names, flat_groups, flat_names, same_ratios}
+use Rattle.measure_report.proofs.TableMade.{areas_of}
 use Rattle.measure_report.proofs.SameTables.{same_table}
 use Rattle.measure_report.proofs.SameHoles.{same_cells}
 
@@ -194,40 +199,66 @@ module _ (g : Groups) (s : Space) (X : Subject) (number : ℕ) (name text other 
       same_cells (tells_lengths number) sides labels (greatest labels) (borders h.lines) (borders k.lines) j (starts_once X.picture (borders h.lines) (borders k.lines) p.begin q.begin)
       (same_borders (number_of h.lines) (number_of k.lines) number X.picture (borders h.lines) (borders k.lines) (number_is h.lines h.opens) (number_is k.lines k.opens) is_flat p q)
 
-  -- the text of the first table by the labels, rows and number of the other
-  moved : bytes ≡ table_text s.axes (further_columns g s.axes number sides labels (borders h.lines) h.table.further) table
+  -- the cells of ratios
+  same_ratio : s.axes ≡ 2 → IsFlat X.picture → (j : ℕ) → j < length table
+      → ratio_cells (tells_lengths number) (sizes_at (areas_of table) h.table.further.hulls (object_bounds sides labels (greatest labels) (borders h.lines)) j)
+      ≡ ratio_cells (tells_lengths number) (sizes_at (areas_of table) k.table.further.hulls (object_bounds sides labels (greatest labels) (borders k.lines)) j)
+  same_ratio two is_flat j l =
+      let e = entries j l in
+      same_ratios (tells_lengths number) (areas_of table) h.table.further.hulls k.table.further.hulls sides labels (greatest labels) (borders h.lines) (borders k.lines) j (e.hulls two)
+      (same_borders (number_of h.lines) (number_of k.lines) number X.picture (borders h.lines) (borders k.lines) (number_is h.lines h.opens) (number_is k.lines k.opens) is_flat (a.borders two) (b.borders two))
+
+  -- the further columns of a table of the labels, rows and number of the other
+  columns : List Border → Further → Columns
+  columns bs f = further_columns g s.axes number sides labels bs (areas_of table) f
+
+  -- the text of the first table by these
+  moved : bytes ≡ table_text s.axes (columns (borders h.lines) h.table.further) table
+  unfolding columns
   moved =
       let nh = number_is h.lines h.opens in
       let o = same.object in
       let ls = same_row.labels_are in
       let rs = same_row.rows_are in
-      h.table.text ∙ (λ z. table_text s.axes (further_columns g s.axes (nh z) (o z).sides (ls z) (borders h.lines) h.table.further) (rs z))
+      h.table.text ∙ (λ z. table_text s.axes (further_columns g s.axes (nh z) (o z).sides (ls z) (borders h.lines) (areas_of (rs z)) h.table.further) (rs z))
 
-  -- where the cells are the same the tables are
-  one : ((j : ℕ) → j < length table
-      → (further_columns g s.axes number sides labels (borders h.lines) h.table.further).cells j ≡ (further_columns g s.axes number sides labels (borders k.lines) k.table.further).cells j)
-      → (further_columns g s.axes number sides labels (borders h.lines) h.table.further).names ≡ (further_columns g s.axes number sides labels (borders k.lines) k.table.further).names
+  -- where names and cells are the same the tables are
+  one : (columns (borders h.lines) h.table.further).names ≡ (columns (borders k.lines) k.table.further).names
+      → ((j : ℕ) → j < length table → (columns (borders h.lines) h.table.further).cells j ≡ (columns (borders k.lines) k.table.further).cells j)
       → bytes ≡ more
-  one cells heads =
+  unfolding columns
+  one names cells =
       let nk = number_is k.lines k.opens in
       moved
-      ∙ same_table s.axes (further_columns g s.axes number sides labels (borders h.lines) h.table.further)
-      (further_columns g s.axes number sides labels (borders k.lines) k.table.further) table heads cells
-      ∙ (λ z. table_text s.axes (further_columns g s.axes (sym nk z) sides labels (borders k.lines) k.table.further) table)
+      ∙ same_table s.axes (columns (borders h.lines) h.table.further) (columns (borders k.lines) k.table.further) table names cells
+      ∙ (λ z. table_text s.axes (further_columns g s.axes (sym nk z) sides labels (borders k.lines) (areas_of table) k.table.further) table)
       ∙ sym k.table.text
 
 pub solid_once : (g : Groups) (X : Subject) (number : ℕ) (name text other bytes more : List ℕ) → AreNames (names_of X.shelf) → StandsIn solid X.picture
     → HasTable g solid X number name text bytes → HasTable g solid X number name other more → bytes ≡ more
-solid_once g X number name text other bytes more names i h k = one g solid X number name text other bytes more names i h k (λ j l. refl) refl
+unfolding columns
+solid_once g X number name text other bytes more names i h k =
+    let f = h.table.further in
+    let u = k.table.further in
+    one g solid X number name text other bytes more names i h k (solid_names g f u) (λ j l. same_solid g f u j (entries g solid X number name text other bytes more names i h k j l))
+
+-- a row of flat objects whose parts are the same
+flat_row : {a b c d e f a2 b2 c2 d2 e2 f2 : List ℕ} → a ≡ a2 → b ≡ b2 → c ≡ c2 → d ≡ d2 → e ≡ e2 → f ≡ f2 → a ++ (b ++ (c ++ (d ++ (e ++ f)))) ≡ a2 ++ (b2 ++ (c2 ++ (d2 ++ (e2 ++ f2))))
+flat_row a b c d e f = λ z. a z ++ (b z ++ (c z ++ (d z ++ (e z ++ f z))))
 
 pub flat_once : (g : Groups) (X : Subject) (number : ℕ) (name text other bytes more : List ℕ) → AreNames (names_of X.shelf) → StandsIn flat X.picture
     → HasTable g flat X number name text bytes → HasTable g flat X number name other more → bytes ≡ more
+unfolding columns
 flat_once g X number name text other bytes more names i h k =
     let is_flat : IsFlat X.picture = record { axes = i.picture.axes; box = i.box } in
+    let f = h.table.further in
+    let u = k.table.further in
+    let heads = flat_names g f u in
     one g flat X number name text other bytes more names i h k
+    (λ z. codes ",holes,border,hole_border" ++ (codes ",feret,from_x,from_y,to_x,to_y" ++ (codes ",euler"
+        ++ (codes ",convex_area,convex_perimeter,min_feret,side_x,side_y" ++ (codes ",solidity,circularity" ++ heads z)))))
     (λ j l.
-        let c = same_border g flat X number name text other bytes more names i h k refl is_flat j in
+        let border = same_border g flat X number name text other bytes more names i h k refl is_flat j in
+        let ratio = same_ratio g flat X number name text other bytes more names i h k refl is_flat j l in
         let e = entries g flat X number name text other bytes more names i h k j l in
-        let f = e.ferets refl in
-        λ z. c z ++ feret_cells (f z))
-    refl
+        flat_row border (ap feret_cells (e.ferets refl)) (ap (minkowski_cells false) e.minkowski) (ap hull_cells (e.hulls refl)) ratio (flat_groups g f u j e))

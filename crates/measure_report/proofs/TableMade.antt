@@ -1,6 +1,6 @@
 -- The table that is made is that of the lines whose sketch was kept.
 -- Lists alone; nothing is read here.
-use Rattle.std.proofs.Common.{◌≡◌, ℕ, Bool, List, ap, ◌∙◌, subst}
+use Rattle.std.proofs.Common.{◌≡◌, ℕ, Bool, List, [], ◌∷◌, map, refl, ap, ◌∙◌, subst}
 use Rattle.shape_terms.specs.Pictures.{Picture}
 use Rattle.shape_terms.specs.Parts.{LabelsObject}
 use Rattle.report_terms.specs.Lines.{Line}
@@ -9,12 +9,14 @@ use Rattle.report_lines.specs.Said.{Said, said}
 use Rattle.measure_terms.specs.Facts.{facts}
 use Rattle.measure_terms.specs.Measures.{Measures, greatest}
 use Rattle.measure_terms.specs.Tables.{rows, IsTable}
-use Rattle.measure_terms.specs.Texts.{no_columns, table_text}
+use Rattle.measuring.specs.Told.{measures_told}
+use Rattle.measuring.specs.declared.row.Measures as Program
+use Rattle.measure_terms.specs.Texts.{table_text}
 use Rattle.border_terms.specs.Borders.{Border, borders}
 use Rattle.border_terms.specs.Objects.{Bounds, object_bounds}
 use Rattle.measure_report.specs.BorderColumns.{tells_lengths}
 use Rattle.measure_report.specs.Further.{Further, AreFurther}
-use Rattle.measure_report.specs.FurtherColumns.{flat_columns}
+use Rattle.measure_report.specs.FurtherColumns.{flat_columns, solid_columns}
 use Rattle.measure_report.specs.TableTexts.{IsTableText}
 use Rattle.measure_report.specs.declared.groups.Groups.{Groups}
 
@@ -58,9 +60,13 @@ are_further g d lines object squares left labels count f e many a =
     (subst (λ (qs : List ℕ). AreFurther g d (said lines).object qs labels count f) e.squares_are
     (subst (λ (Y : Picture). AreFurther g d Y squares labels count f) e.object_is a))
 
+-- the areas of a table
+abbrev pub areas_of : List Measures → List ℕ
+areas_of ms = map (λ (m : Measures). m.area) ms
+
 pub solid_made : (g : Groups) (lines : List Line) (object : Picture) (squares : List ℕ) (left : Picture) (labels : List ℕ) (count : ℕ) (ms : List Measures) (f : Further) (bytes : List ℕ)
     → AreSaid lines object squares left → HasRows object squares left labels count ms → AreFurther g 3 object squares labels count f
-    → bytes ≡ table_text 3 no_columns ms → IsTableText g 3 lines bytes
+    → bytes ≡ table_text 3 (solid_columns g f) ms → IsTableText g 3 lines bytes
 unfolding table_of
 solid_made g lines object squares left labels count ms f bytes e h a t = record {
   rows = ms;
@@ -70,13 +76,13 @@ solid_made g lines object squares left labels count ms f bytes e h a t = record 
   text = t;
 }
 
-pub flat_made : (g : Groups) (lines : List Line) (object : Picture) (squares : List ℕ) (left : Picture) (labels : List ℕ) (count : ℕ) (ms : List Measures) (sides : List ℕ) (told : Bool) (bs : List Border)
-    (all : List Bounds) (f : Further) (bytes : List ℕ)
-    → AreSaid lines object squares left → HasRows object squares left labels count ms → sides ≡ object.sides → told ≡ tells_lengths (number_of lines) → bs ≡ borders lines → all ≡ object_bounds sides labels count bs
-    → AreFurther g 2 object squares labels count f → bytes ≡ table_text 2 (flat_columns told all f) ms → IsTableText g 2 lines bytes
+pub flat_made : (g : Groups) (lines : List Line) (object : Picture) (squares : List ℕ) (left : Picture) (labels : List ℕ) (count : ℕ) (ms : List Measures) (told : Bool) (bs : List Border)
+    (areas : List ℕ) (all : List Bounds) (f : Further) (bytes : List ℕ)
+    → AreSaid lines object squares left → HasRows object squares left labels count ms → told ≡ tells_lengths (number_of lines) → bs ≡ borders lines → areas ≡ areas_of ms
+    → all ≡ object_bounds object.sides labels count bs → AreFurther g 2 object squares labels count f → bytes ≡ table_text 2 (flat_columns g told areas all f) ms → IsTableText g 2 lines bytes
 unfolding table_of
-flat_made g lines object squares left labels count ms sides told bs all f bytes e h side tells border bound a t =
-    let whole = side ∙ ap (λ (z : Picture). z.sides) e.object_is in
+flat_made g lines object squares left labels count ms told bs areas all f bytes e h tells border area bound a t =
+    let whole = ap (λ (z : Picture). z.sides) e.object_is in
     let many = h.count_is in
     let bounds : all ≡ object_bounds (said lines).object.sides labels (greatest labels) (borders lines) = bound ∙ (λ i. object_bounds (whole i) labels (many i) (border i)) in
     record {
@@ -84,5 +90,10 @@ flat_made g lines object squares left labels count ms sides told bs all f bytes 
       table = table_of lines object squares left labels count ms e h;
       further = f;
       are = are_further g 2 lines object squares left labels count f e many a;
-      text = t ∙ (λ i. table_text 2 (flat_columns (tells i) (bounds i) f) ms);
+      text = t ∙ (λ i. table_text 2 (flat_columns g (tells i) (area i) (bounds i) f) ms);
     }
+
+-- the areas of the program's rows are those of the measures that they tell
+pub areas_told : (sides : List ℕ) (rows : List Program.Measures) → map (λ (m : Program.Measures). m.area) rows ≡ areas_of (map (measures_told sides) rows)
+areas_told sides [] = refl
+areas_told sides (m ∷ rows) = ap (λ ns. m.area ∷ ns) (areas_told sides rows)

@@ -31,6 +31,7 @@ use Rattle.measure_report.specs.TableTexts.{IsTableText}
 use Rattle.measure_report.specs.Holding.{SpellsMeasures, TableTells}
 use Rattle.measure_report.specs.declared.groups.Groups.{Groups}
 use Rattle.measure_report.proofs.FurtherOnce.{further_measure}
+use Rattle.measure_report.proofs.TableMade.{areas_of}
 
 -- the measures of components, with these labels
 WithLabels : Picture → List ℕ → Picture → List Measures → List ℕ → Type 0
@@ -78,7 +79,7 @@ spelled_so g s X text bytes t holds i h =
       are = subst (λ (ls : List ℕ). FurtherComponents g s.axes X.picture ls (length h.rows) h.further) same
           (subst (λ (Y : Picture). FurtherComponents g s.axes Y labels (length h.rows) h.further) t.object
           (further_measure g s.axes said_object said_left squares h.rows h.further (subst (λ (Y : Picture). AreSquares Y squares) (sym t.object) t.squares) h.table h.are));
-      text = h.text ∙ (λ j. table_text s.axes (further_columns g s.axes (number_of t.lines) (t.object j).sides (same j) (borders t.lines) h.further) h.rows);
+      text = h.text ∙ (λ j. table_text s.axes (further_columns g s.axes (number_of t.lines) (t.object j).sides (same j) (borders t.lines) (areas_of h.rows) h.further) h.rows);
     }
 
 pub table_tells : (g : Groups) (s : Space) (X : Subject) (text bytes : List ℕ) → Holds X text → StandsIn s X.picture → TableTells g s X text bytes

@@ -1,6 +1,6 @@
 -- What the columns behind those of the measures tell of the objects of a picture, besides their borders.
 -- A further kind is one more field of each record; which of them a table spells, and how, stands in `FurtherColumns`.
-use Rattle.std.specs.Prelude.{◌≡◌, ℕ, List, IsTrue}
+use Rattle.std.specs.Prelude.{◌≡◌, ℕ, List, IsTrue, map}
 use Rattle.shape_terms.specs.Pictures.{Picture}
 use Rattle.measure_terms.specs.Feret.{Feret, AreFerets}
 use Rattle.measure_terms.specs.Minkowski.{Minkowski, AreMinkowski, MinkowskiComponents}
@@ -10,7 +10,7 @@ use Rattle.measure_terms.specs.Ellipse.{Ellipse}
 use Rattle.measure_terms.specs.Thickness.{AreThicknesses}
 use Rattle.measure_terms.specs.ThicknessColumns.{ThicknessSum, AreThicknessSums, ThicknessSumsComponents}
 use Rattle.measure_terms.specs.Components.{FeretsComponents}
-use Rattle.shape_thickness.specs.Greatest.{AreGreatest}
+use Rattle.shape_thickness.specs.Greatest.{AreGreatest, told_square}
 use Rattle.measure_report.specs.MomentColumns.{AreEllipses}
 use Rattle.measure_report.specs.declared.groups.Groups.{Groups}
 
@@ -25,11 +25,11 @@ pub record Further : Type 0 where
 
 -- ---- by labels
 
--- the sums of the objects 1 to n, where the balls are those that the squares tell
+-- the sums of the objects 1 to n, where the balls are those that the squares tell; a square of 2 ^ 32 and more counts as one of 2 ^ 32 - 1
 pub record AreThick (object : Picture) (squares labels : List ℕ) (n : ℕ) (ss : List ThicknessSum) : Type 0 where
-  pub squares_of_balls : List ℕ
-  pub greatest : AreGreatest object squares squares_of_balls
-  pub sums : AreThicknessSums object.sides labels n squares_of_balls ss
+  pub balls : List ℕ
+  pub greatest : AreGreatest object (map told_square squares) balls
+  pub sums : AreThicknessSums object.sides labels n balls ss
 
 -- those of the objects 1 to n of a picture with d axes, each the points with its label, as far as a table with these groups spells them
 pub record AreFurther (g : Groups) (d : ℕ) (object : Picture) (squares labels : List ℕ) (n : ℕ) (f : Further) : Type 0 where

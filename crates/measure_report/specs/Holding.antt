@@ -1,6 +1,6 @@
 -- What the table of a report tells that holds of a picture.
 -- Geometry alone: components and their farthest points, least distances, contours and the stage in which the thinning ends.
-use Rattle.std.specs.Prelude.{◌≡◌, ℕ, ◌+◌, ◌<◌, List, length}
+use Rattle.std.specs.Prelude.{◌≡◌, ℕ, ◌+◌, ◌<◌, List, length, map}
 use Rattle.shape_terms.specs.Thinning.{Rule, Stage, IsThinning}
 use Rattle.report_terms.specs.Subjects.{Subject}
 use Rattle.report_terms.specs.Lines.{Line}
@@ -34,7 +34,7 @@ pub record SpellsMeasures (g : Groups) (d : ℕ) (X : Subject) (lines : List Lin
   pub holes : d ≡ 2 → (k : ℕ) → k < length rows → HolesShow X.picture measures.labels (k + 1) borders
   pub further : Further
   pub are : FurtherComponents g d X.picture measures.labels (length rows) further
-  pub text : bytes ≡ table_text d (further_columns g d (number_of lines) X.picture.sides measures.labels borders further) rows
+  pub text : bytes ≡ table_text d (further_columns g d (number_of lines) X.picture.sides measures.labels borders (map (λ (m : Measures). m.area) rows) further) rows
 
 -- the text is a report in order, and where the bytes are the table of its lines with these groups of columns, they spell the measures of the picture's components
 pub record TableTells (g : Groups) (s : Space) (X : Subject) (text bytes : List ℕ) : Type 0 where

@@ -1,6 +1,6 @@
 -- The bytes of the table of a report.
 -- Rows and their spelling stand in `measure_terms`, borders in `border_terms`.
-use Rattle.std.specs.Prelude.{◌≡◌, ℕ, List}
+use Rattle.std.specs.Prelude.{◌≡◌, ℕ, List, map}
 use Rattle.report_terms.specs.Lines.{Line}
 use Rattle.report_terms.specs.Sections.{number_of}
 use Rattle.report_lines.specs.Said.{said}
@@ -18,4 +18,4 @@ pub record IsTableText (g : Groups) (d : ℕ) (lines : List Line) (bytes : List 
   pub table : IsTable (said lines).object (said lines).squares (said lines).left rows
   pub further : Further
   pub are : AreFurther g d (said lines).object (said lines).squares table.labels (greatest table.labels) further
-  pub text : bytes ≡ table_text d (further_columns g d (number_of lines) (said lines).object.sides table.labels (borders lines) further) rows
+  pub text : bytes ≡ table_text d (further_columns g d (number_of lines) (said lines).object.sides table.labels (borders lines) (map (λ (m : Measures). m.area) rows) further) rows

@@ -17,8 +17,8 @@ pub(crate) struct BorderColumns {
     pub(crate) bounds: Vec<Bounds>,
 }
 
-// The borders of the object in a row with a place, and none where there is no such object.
-fn bounds_at(all: &[Bounds], i: usize) -> Bounds
+/// The borders of the object in a row with a place, and none where there is no such object.
+pub(crate) fn bounds_at(all: &[Bounds], i: usize) -> Bounds
     ensures { bounds_told result ≡ slice_index_or (all_bounds all.now) i no_bounds }
 {
     if i < all.len() {

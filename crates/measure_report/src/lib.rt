@@ -1,15 +1,21 @@
-//! The table of the objects that a report speaks of: what `measuring` makes of what it says of the points of its box,
-//! `bordering` of its contours, and `extents` of the objects' points.
+//! The table of the objects that a report speaks of: what `measuring` makes of what it says of the points of its box, `bordering` of
+//! its contours, and `extents`, `octants`, `moments` and `diameters` of the objects' points; and the numbers of the whole object.
 //! No claim of the report is judged.
 #![tactic(auto)]
 
 mod borders;
+mod columns;
 mod ferets;
 mod further;
 mod groups;
+mod hulls;
 mod law;
+mod minkowski;
+mod moments;
 mod outlined;
+mod ratios;
 mod tables;
+mod thickness;
 mod top;
 mod wanted;
 mod wholes;

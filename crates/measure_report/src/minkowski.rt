@@ -2,17 +2,21 @@
 //! A further column is one more piece in both methods, in the same place as in `specs/MinkowskiColumns.antt`.
 ghost use Rattle.std.specs.Prelude.{◌≡◌, ◌++◌, OnOk, slice_index_or};
 ghost use Rattle.octants.specs.Told.{told, all_told};
-ghost use Rattle.measure_report.specs.MinkowskiColumns.{minkowski_cells, minkowski_names, no_minkowski};
+ghost use Rattle.measure_report.specs.MinkowskiColumns.{minkowski_cells, no_minkowski};
 
 use measuring::{Columns, Csv};
 use octants::{Minkowski, surface};
 use shape_space::NoMemory;
 
-/// The columns of the numbers of each object.
+/// The columns of the numbers of each object of the plane.
 #[derive(Drop)]
-pub(crate) struct MinkowskiColumns {
-    /// Whether surfaces are told: the objects are those of a volume.
-    pub(crate) has_surface: bool,
+pub(crate) struct FlatNumbers {
+    pub(crate) numbers: Vec<Minkowski>,
+}
+
+/// The columns of the numbers of each object of space.
+#[derive(Drop)]
+pub(crate) struct SolidNumbers {
     pub(crate) numbers: Vec<Minkowski>,
 }
 
@@ -43,28 +47,34 @@ fn put_numbers(has_surface: bool, m: &Minkowski, csv: &mut Csv) -> Result<(), No
     Ok(())
 }
 
-// The names of the columns.
-fn names(has_surface: bool) -> &'static [u8]
-    ensures { result.now ≡ minkowski_names has_surface }
-{
-    if has_surface {
-        b",euler,surface"
-    } else {
-        b",euler"
-    }
-}
-
-impl Columns for MinkowskiColumns {
+impl Columns for FlatNumbers {
+    ghost use Rattle.std.specs.Prelude.{false};
     ghost use Rattle.octants.specs.Told.{all_told};
     ghost use Rattle.measure_report.specs.MinkowskiColumns.{minkowski_columns};
 
-    ghost columns = { λ c. minkowski_columns c.has_surface (all_told c.numbers.items) };
+    ghost columns = { λ c. minkowski_columns false (all_told c.numbers.items) };
 
     fn put_names(&self, csv: &mut Csv) -> Result<(), NoMemory> {
-        csv.put(names(self.has_surface))
+        csv.put(b",euler")
     }
 
     fn put_cells(&self, i: usize, csv: &mut Csv) -> Result<(), NoMemory> {
-        put_numbers(self.has_surface, &numbers_at(self.numbers.as_slice(), i), csv)
+        put_numbers(false, &numbers_at(self.numbers.as_slice(), i), csv)
+    }
+}
+
+impl Columns for SolidNumbers {
+    ghost use Rattle.std.specs.Prelude.{true};
+    ghost use Rattle.octants.specs.Told.{all_told};
+    ghost use Rattle.measure_report.specs.MinkowskiColumns.{minkowski_columns};
+
+    ghost columns = { λ c. minkowski_columns true (all_told c.numbers.items) };
+
+    fn put_names(&self, csv: &mut Csv) -> Result<(), NoMemory> {
+        csv.put(b",euler,surface")
+    }
+
+    fn put_cells(&self, i: usize, csv: &mut Csv) -> Result<(), NoMemory> {
+        put_numbers(true, &numbers_at(self.numbers.as_slice(), i), csv)
     }
 }

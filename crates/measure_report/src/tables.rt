@@ -1,33 +1,26 @@
 //! What is made of a report: the table of the objects that its lines tell.
-//! What the rows are, and how they are spelled, is known to `measuring`; the lengths of borders, to `bordering`, and Feret diameters to `extents`.
-ghost use Rattle.std.specs.Prelude.{◌≡◌, [], ◌∷◌, ℕ, List, length, IfOk};
-ghost use Rattle.shape_terms.specs.Points.{sides_of, box_count};
+//! What the rows are, and how they are spelled, is known to `measuring`; the columns behind them are made in `columns`.
+ghost use Rattle.std.specs.Prelude.{◌≡◌, List, IfOk};
 ghost use Rattle.report_terms.specs.Lines.{Line};
 ghost use Rattle.report_terms.specs.Sections.{number_of};
 ghost use Rattle.report_lines.specs.Said.{said};
 ghost use Rattle.border_terms.specs.Borders.{borders as borders_of};
-ghost use Rattle.border_terms.specs.Objects.{object_bounds as object_bounds_of};
 ghost use Rattle.measuring.specs.TellsTable.{TellsTable};
-ghost use Rattle.shape_terms.specs.Pictures.{Picture};
-ghost use Rattle.bordering.specs.Told.{flat, all_borders, all_bounds};
+ghost use Rattle.bordering.specs.Told.{all_borders};
 ghost use Rattle.bordering.specs.Kept.{HasBorders};
 ghost use Rattle.measure_report.specs.BorderColumns.{tells_lengths as told_by};
-ghost use Rattle.measure_report.specs.Further.{AreFurther};
-ghost use Rattle.measure_report.specs.FurtherTold.{flat_told};
 ghost use Rattle.measure_report.specs.Outlined.{IsOutlined};
 ghost use Rattle.measure_report.specs.TableTexts.{IsTableText};
 
-use crate::borders::BorderColumns;
-use crate::ferets::FeretColumns;
-use crate::further::FlatColumns;
+use crate::columns::{flat_columns, solid_columns};
 use crate::groups::Groups;
 use crate::outlined::Outlined;
-use bordering::{Border, Contours, object_bounds};
-use extents::ferets;
-use measuring::{NoColumns, Table, measure, table_text};
+use bordering::{Border, Contours};
+use measuring::{Table, measure, table_text};
 use report_lines::{Heading, Seen};
 use report_making::Making;
-use shape_space::{NoMemory, P2, P3, Sides};
+use shape_adj::Pairing;
+use shape_space::{NoMemory, P2, P3};
 use std::alloc::Global;
 
 /// Makes the table of the objects.
@@ -38,39 +31,14 @@ pub struct Tables {
 }
 
 // The table of the objects that lines tell.
-fn table_of(alloc: Global, seen: &Seen<P2>) -> Result<Table, NoMemory>
+fn table_of<P: Pairing>(alloc: Global, seen: &Seen<P>) -> Result<Table, NoMemory>
     ensures { IfOk result (TellsTable seen.now.object seen.now.squares seen.now.left) }
 {
     let table = measure(alloc, seen.object(), seen.squares(), seen.left())?;
     Ok(table)
 }
 
-// The columns of the objects of a table: their borders, with or without lengths, and Feret diameters.
-fn further(
-    alloc: Global,
-    sides: Sides<P2>,
-    table: &Table,
-    told: bool,
-    borders: &[Border],
-) -> Result<FlatColumns, NoMemory>
-    requires { length table.now.labels ≡ box_count (sides_of (flat sides.lengths)) }
-    ensures told { IfOk result (λ more. more.borders.told ≡ told) }
-    ensures bounds { IfOk result (λ more. all_bounds more.borders.bounds.items
-        ≡ object_bounds_of (sides_of (flat sides.lengths)) table.now.labels table.now.count
-        (all_borders borders.now)) }
-    ensures further { (g : Groups) (object : Picture) (squares : List ℕ)
-        → object.sides ≡ sides_of (flat sides.lengths) → IfOk result (λ more.
-        AreFurther g 2 object squares table.now.labels table.now.count (flat_told more)) }
-{
-    let bounds = object_bounds(alloc, sides, &table.labels, table.count, borders)?;
-    let ferets = ferets(alloc, sides, &table.labels, table.count)?;
-    Ok(FlatColumns {
-        borders: BorderColumns { told, bounds },
-        ferets: FeretColumns { ferets },
-    })
-}
-
-// The table of the objects that lines tell, with these borders, with or without lengths, and with Feret diameters.
+// The table of the objects that lines tell, with these borders, with or without lengths.
 fn bordered_table(
     alloc: Global,
     seen: &Seen<P2>,
@@ -84,7 +52,7 @@ fn bordered_table(
         → all_borders borders.now ≡ borders_of lines
         → IfOk result (λ csv. IsTableText groups 2 lines csv.items) }
 {
-    let more = further(alloc, seen.sides(), table, told, borders)?;
+    let more = flat_columns(alloc, seen, table, groups, told, borders)?;
     table_text(alloc, seen.sides(), table.rows.as_slice(), &more)
 }
 
@@ -95,7 +63,7 @@ fn tells_lengths(number: u8) -> bool
     number == 2
 }
 
-// The table of the objects that lines tell, with the borders of contours, with or without lengths, and with Feret diameters.
+// The table of the objects that lines tell, with the borders of contours, with or without lengths.
 fn outlined_table(
     alloc: Global,
     seen: &Seen<P2>,
@@ -111,7 +79,7 @@ fn outlined_table(
     bordered_table(alloc, seen, &table, groups, told, borders.as_slice())
 }
 
-// The table of a flat picture's objects, with their borders and Feret diameters.
+// The table of a flat picture's objects, with their borders.
 fn flat_table(alloc: Global, kept: Outlined, groups: Groups) -> Result<Vec<u8>, NoMemory>
     ensures { (lines : List Line) → IsOutlined lines kept
         → IfOk result (λ csv. IsTableText groups 2 lines csv.items) }
@@ -129,9 +97,9 @@ fn solid_table(alloc: Global, seen: &Seen<P3>, groups: Groups) -> Result<Vec<u8>
     ensures { (lines : List Line) → seen.now ≡ said lines
         → IfOk result (λ csv. IsTableText groups 3 lines csv.items) }
 {
-    seen.is_of_box();
-    let objects = measure(alloc, seen.object(), seen.squares(), seen.left())?;
-    table_text(alloc, seen.sides(), objects.rows.as_slice(), &NoColumns)
+    let table = table_of(alloc, seen)?;
+    let more = solid_columns(alloc, seen, &table, groups)?;
+    table_text(alloc, seen.sides(), table.rows.as_slice(), &more)
 }
 
 impl Making for Tables {

@@ -1,0 +1,146 @@
+//! Making the further columns of a table, each kind by its own crate.
+//! A further kind is one more call in both spaces, and one more field of `AreFurther`.
+ghost use Rattle.std.specs.Prelude.{◌≡◌, [], IfOk, IsTrue, List, length, map};
+ghost use Rattle.shape_terms.specs.Points.{sides_of, box_count};
+ghost use Rattle.measure_terms.specs.Moments.{AreMoments};
+ghost use Rattle.border_terms.specs.Objects.{object_bounds as object_bounds_of};
+ghost use Rattle.measuring.specs.TellsTable.{TellsTable};
+ghost use Rattle.bordering.specs.Told.{flat, all_borders, all_bounds};
+ghost use Rattle.moments.specs.Told.{all_told, ellipse_told};
+ghost use Rattle.measure_report.specs.Further.{AreFurther, AreThick};
+ghost use Rattle.measure_report.specs.FurtherTold.{flat_told, solid_told};
+ghost use Rattle.measure_report.specs.MomentColumns.{AreEllipses};
+
+use crate::borders::BorderColumns;
+use crate::ferets::FeretColumns;
+use crate::further::{FlatColumns, SolidColumns};
+use crate::groups::Groups;
+use crate::hulls::HullColumns;
+use crate::minkowski::{FlatNumbers, SolidNumbers};
+use crate::moments::{FlatMoments, SolidMoments, ellipses};
+use crate::thickness::ThicknessColumns;
+use bordering::{Border, object_bounds};
+use diameters::{ThicknessSum, thickness_sums};
+use extents::{ferets, hulls};
+use measuring::{Measures, Table};
+use moments::{Moments, second_moments};
+use octants::minkowski_numbers;
+use report_lines::Seen;
+use shape_adj::Labels;
+use shape_space::{NoMemory, P2, P3, Point, Sides};
+use shape_thickness::greatest_of;
+use std::alloc::Global;
+
+// How many points each object has.
+fn areas(alloc: Global, rows: &[Measures]) -> Result<Vec<u32>, NoMemory>
+    ensures { IfOk result (λ v. v.items ≡ map (λ m. m.area) rows.now) }
+{
+    let mut found = Vec::new(alloc);
+    for row in rows {
+        found.push(row.area)?;
+    }
+    Ok(found)
+}
+
+// The moments of the objects where they are asked for, and none where they are not.
+fn moments_where<P: Point>(
+    alloc: Global,
+    asked: bool,
+    sides: Sides<P>,
+    labels: &Labels,
+    count: u32,
+) -> Result<Vec<Moments>, NoMemory>
+    requires { length labels.now ≡ box_count (sides_of (P.coords sides.lengths)) }
+    ensures all { IsTrue asked → IfOk result
+        (λ ms. AreMoments (sides_of (P.coords sides.lengths)) labels.now count (all_told ms.items)) }
+    ensures count { IsTrue asked → IfOk result (λ ms. length ms.items ≡ count) }
+{
+    if asked {
+        second_moments(alloc, sides, labels, count)
+    } else {
+        Ok(Vec::new(alloc))
+    }
+}
+
+// How thick the objects are where that is asked for, and nothing where it is not.
+fn sums_where<P: Point>(
+    alloc: Global,
+    asked: bool,
+    seen: &Seen<P>,
+    labels: &Labels,
+    count: u32,
+) -> Result<Vec<ThicknessSum>, NoMemory>
+    requires { length labels.now ≡ box_count seen.now.object.sides }
+    ensures { IsTrue asked → IfOk result
+        (λ ss. AreThick seen.now.object seen.now.squares labels.now count ss.items) }
+{
+    if !asked {
+        return Ok(Vec::new(alloc));
+    }
+    let balls = greatest_of(alloc, seen.object(), seen.squares())?;
+    thickness_sums(alloc, seen.sides(), labels, count, balls.as_slice())
+}
+
+/// The further columns of the objects of a flat picture's table, with or without lengths of borders.
+pub(crate) fn flat_columns(
+    alloc: Global,
+    seen: &Seen<P2>,
+    table: &Table,
+    groups: Groups,
+    told: bool,
+    borders: &[Border],
+) -> Result<FlatColumns, NoMemory>
+    requires { TellsTable seen.now.object seen.now.squares seen.now.left table.now }
+    ensures groups { IfOk result (λ c. c.groups ≡ groups) }
+    ensures told { IfOk result (λ c. c.borders.told ≡ told) }
+    ensures areas { IfOk result (λ c. c.areas.items ≡ map (λ m. m.area) table.now.rows.items) }
+    ensures bounds { IfOk result (λ c. all_bounds c.borders.bounds.items
+        ≡ object_bounds_of seen.now.object.sides table.now.labels table.now.count
+        (all_borders borders.now)) }
+    ensures further { IfOk result (λ c. AreFurther groups 2 seen.now.object seen.now.squares
+        table.now.labels table.now.count (flat_told c)) }
+{
+    let (sides, labels, count) = (seen.sides(), &table.labels, table.count);
+    let areas = areas(alloc, table.rows.as_slice())?;
+    let bounds = object_bounds(alloc, sides, labels, count, borders)?;
+    let ferets = ferets(alloc, sides, labels, count)?;
+    let numbers = minkowski_numbers(alloc, sides, labels, count)?;
+    let hulls = hulls(alloc, sides, labels, count)?;
+    let moments = moments_where(alloc, groups.moments, sides, labels, count)?;
+    let ellipses = ellipses(alloc, moments.as_slice())?;
+    let sums = sums_where(alloc, groups.thickness, seen, labels, count)?;
+    Ok(FlatColumns {
+        groups,
+        areas,
+        borders: BorderColumns { told, bounds },
+        ferets: FeretColumns { ferets },
+        numbers: FlatNumbers { numbers },
+        hulls: HullColumns { hulls },
+        moments: FlatMoments { moments, ellipses },
+        thickness: ThicknessColumns { sums },
+    })
+}
+
+/// The further columns of the objects of a volume's table.
+pub(crate) fn solid_columns(
+    alloc: Global,
+    seen: &Seen<P3>,
+    table: &Table,
+    groups: Groups,
+) -> Result<SolidColumns, NoMemory>
+    requires { TellsTable seen.now.object seen.now.squares seen.now.left table.now }
+    ensures groups { IfOk result (λ c. c.groups ≡ groups) }
+    ensures further { IfOk result (λ c. AreFurther groups 3 seen.now.object seen.now.squares
+        table.now.labels table.now.count (solid_told c)) }
+{
+    let (sides, labels, count) = (seen.sides(), &table.labels, table.count);
+    let numbers = minkowski_numbers(alloc, sides, labels, count)?;
+    let moments = moments_where(alloc, groups.moments, sides, labels, count)?;
+    let sums = sums_where(alloc, groups.thickness, seen, labels, count)?;
+    Ok(SolidColumns {
+        groups,
+        numbers: SolidNumbers { numbers },
+        moments: SolidMoments { moments },
+        thickness: ThicknessColumns { sums },
+    })
+}
