@@ -15,6 +15,8 @@ mod crack;
 mod grid;
 pub mod mask;
 #[cfg(test)]
+mod minkowski;
+#[cfg(test)]
 mod patches;
 #[cfg(test)]
 mod pictures;

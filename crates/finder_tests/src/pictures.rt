@@ -1,7 +1,7 @@
 //! Points, pictures and texts that several tests share.
 //! No test stands here.
 use shape_grid::Grid;
-use shape_space::{P2, Sides};
+use shape_space::{P2, Point, Sides};
 use std::alloc::{AllocError, Global};
 use std::test::Fail;
 
@@ -11,7 +11,7 @@ pub(crate) const fn at(x: i32, y: i32) -> P2 {
 }
 
 // The picture with object at the places of the `#`, in raster order.
-pub(crate) fn of_marks(alloc: Global, lengths: P2, marks: &[u8]) -> Result<Grid<P2>, Fail> {
+pub(crate) fn of_marks<P: Point>(alloc: Global, lengths: P, marks: &[u8]) -> Result<Grid<P>, Fail> {
     let Some(sides) = Sides::try_new(lengths) else {
         return Err(Fail::from(AllocError));
     };

@@ -1,0 +1,41 @@
+//! Numbers with what one point more adds to them.
+//! That nothing overflows follows from how many points a box has.
+ghost use Rattle.std.specs.Prelude.{◌≡◌, ◌≤◌, ◌*◌, ◌+◌, ◌+ℤ◌, nat_abs, unsigned_abs};
+ghost use Rattle.shape_terms.specs.Limits.{most_points};
+ghost use Rattle.octants.specs.SoFar.{AreSmall};
+ghost use Rattle.octants.specs.Gains.{IsSmallGain, plus};
+
+use crate::gain::Gain;
+use crate::numbers::Minkowski;
+
+// An Euler number with what a point adds.
+fn added(n: i64, gain: i32) -> i64
+    requires few { unsigned_abs n ≤ 27 * most_points }
+    requires small { nat_abs gain ≤ 27 }
+    ensures { result ≡ n +ℤ gain }
+{
+    n + gain as i64
+}
+
+// A number of steps with those of a point.
+fn counted(n: u64, more: u32) -> u64
+    requires few { n ≤ 32 * most_points }
+    requires small { more ≤ 32 }
+    ensures { result ≡ n + more }
+{
+    n + more as u64
+}
+
+/// The numbers of an object with what a point adds.
+pub(crate) fn with_gain(m: Minkowski, gain: Gain) -> Minkowski
+    requires few { AreSmall most_points m }
+    requires small { IsSmallGain gain }
+    ensures { result ≡ plus m gain }
+{
+    Minkowski {
+        euler: added(m.euler, gain.euler),
+        axes: counted(m.axes, gain.axes),
+        faces: counted(m.faces, gain.faces),
+        cubes: counted(m.cubes, gain.cubes),
+    }
+}
