@@ -1,14 +1,10 @@
 -- How large the sums of products of an object's points are, and the entries of its covariance matrix.
 -- Numbers alone.
-use Rattle.std.proofs.Common.{◌≡◌, ℕ, ◌+◌, ◌*◌, ◌^◌, ◌≤◌, arith}
-use Rattle.std.specs.Prelude.{ℤ, pos, ◌+ℤ◌, ◌-ℤ◌, ◌*ℤ◌, nat_abs}
-use Rattle.std.proofs.lemmas.Int.{ints}
+use Rattle.std.proofs.Common.{ℕ, ◌+◌, ◌*◌, ◌^◌, ◌≤◌, arith}
+use Rattle.std.specs.Prelude.{ℤ, nat_abs}
 use Rattle.std.proofs.lemmas.Nat.{mul-le}
 use Rattle.shape_terms.specs.Limits.{most_points, most_coordinate}
 use Rattle.moments.specs.Fitting.{most_product, most_entry}
-
-pub product_below : (sum n a b : ℕ) → a ≤ most_coordinate → b ≤ most_coordinate → sum ≤ most_product * n → sum + a * b ≤ most_product * (n + 1)
-product_below sum n a b l m h = let e = mul-le a b most_coordinate most_coordinate l m in omega (arith, e, h)
 
 pub moment_small : (n s : ℕ) → s ≤ most_product * n → n * s ≤ most_product * (n * n)
 moment_small n s h = let e = mul-le n s n (most_product * n) (omega arith) h in omega (arith, e)
@@ -26,5 +22,9 @@ small_entry n p l h = let e = few_pairs n l in omega (arith, e, h)
 pub small_number : (n : ℕ) (z : ℤ) → n ≤ most_points → nat_abs z ≤ 2 * most_entry * (n * n) → nat_abs z ≤ 2 ^ 94
 small_number n z l h = let e = few_pairs n l in omega (arith, e, h)
 
-pub small_difference : (a b m : ℕ) (z : ℤ) → z ≡ pos a -ℤ pos b → a ≤ m → b ≤ m → nat_abs z ≤ m
-small_difference a b m z e l k = omega (arith, ints)
+pub small_thrice : (n odd : ℕ) → n ≤ most_points → odd ≤ 2 ^ 30 → 3 * (n * n) * (odd * odd) ≤ 2 ^ 122
+small_thrice n odd l m =
+    let e = few_pairs n l in
+    let f = mul-le odd odd (2 ^ 30) (2 ^ 30) m m in
+    let g = mul-le (3 * (n * n)) (odd * odd) (3 * 2 ^ 60) (2 ^ 30 * 2 ^ 30) (omega (arith, e)) f in
+    omega (arith, g)

@@ -1,16 +1,44 @@
 -- Every axis is less than the greatest length that is searched, and what is less than a length is less than a greater one.
 -- Matrices as plain numbers.
-use Rattle.std.proofs.Common.{◌≡◌, inl, ℕ, ◌+◌, ◌*◌, ◌<◌, ◌≤◌, arith}
+use Rattle.std.proofs.Common.{◌≡◌, inl, inr, ℕ, ◌+◌, ◌*◌, ◌<◌, ◌≤◌, subst, ap, ◌∙◌, arith}
 use Rattle.std.specs.Prelude.{ℤ, pos, ◌+ℤ◌, ◌-ℤ◌, ◌*ℤ◌, ◌<ℤ◌, ◌≤ℤ◌, nat_abs}
 use Rattle.std.proofs.lemmas.Int.{ints, unsigned_abs-mul}
 use Rattle.std.proofs.lemmas.Nat.{mul-le}
-use Rattle.measure_terms.specs.Ellipse.{IsMajorBelow, IsMinorBelow, IsRootBelow, room, square}
+use Rattle.measure_terms.specs.Ellipse.{IsMajorBelow, IsMinorBelow, IsRootBelow, IsRounded, room, square, trace, discriminant}
+use Rattle.measure_terms.specs.Moments.{Moments}
 use Rattle.measure_terms.proofs.EllipseOnce.{major_rises, minor_rises}
 use Rattle.moments.specs.declared.matrix.Matrix.{Matrix}
 use Rattle.moments.specs.declared.below.Axis.{Axis}
 use Rattle.moments.specs.declared.below.Axis.TheVariants.{Major, Minor}
 use Rattle.moments.specs.Fitting.{most_entry, most_axis, AreSmall}
-use Rattle.moments.specs.Matrices.{IsBelow}
+use Rattle.moments.specs.Matrices.{IsBelow, TellsMatrix}
+use Rattle.moments.proofs.Squares.{scaled_squares}
+
+-- ---- tests
+
+-- what the program compares, where the room is more than 0
+pub major_test : (n r x y c : ℕ) (t p q k : ℤ) → k ≡ room n t r → pos 0 <ℤ k → x ≡ 8000000 * nat_abs p → y ≡ 8000000 * nat_abs q → c ≡ nat_abs k
+    → (x * x + y * y < c * c → IsMajorBelow n t (square p + square q) r) × (IsMajorBelow n t (square p + square q) r → x * x + y * y < c * c)
+major_test n r x y c t p q k e some a b s =
+    let d : x * x + y * y ≡ 64000000000000 * (square p + square q) = (λ i. a i * a i + b i * b i) ∙ scaled_squares (nat_abs p) (nat_abs q) in
+    let w : c * c ≡ square (room n t r) = (λ i. s i * s i) ∙ ap square e in (
+      (λ l. record { positive = subst (λ z. pos 0 <ℤ z) e some; less = omega (arith, d, w, l) }),
+      λ h. (let l = h.less in omega (arith, d, w, l)),
+    )
+
+-- and where it is not
+pub minor_test : (n r x y c : ℕ) (t p q k : ℤ) → k ≡ room n t r → k ≤ℤ pos 0 → x ≡ 8000000 * nat_abs p → y ≡ 8000000 * nat_abs q → c ≡ nat_abs k
+    → (c * c < x * x + y * y → IsMinorBelow n t (square p + square q) r) × (IsMinorBelow n t (square p + square q) r → c * c < x * x + y * y)
+minor_test n r x y c t p q k e none a b s =
+    let d : x * x + y * y ≡ 64000000000000 * (square p + square q) = (λ i. a i * a i + b i * b i) ∙ scaled_squares (nat_abs p) (nat_abs q) in
+    let w : c * c ≡ square (room n t r) = (λ i. s i * s i) ∙ ap square e in
+    let f : room n t r ≤ℤ pos 0 = subst (λ z. z ≤ℤ pos 0) e none in (
+      (λ l. inr (omega (arith, d, w, l))),
+      λ h. elim h [ inl o ↦ absurd (not_both (room n t r) o f) | inr l ↦ omega (arith, d, w, l) ],
+    )
+  where
+    not_both : (z : ℤ) → pos 0 <ℤ z → z ≤ℤ pos 0 → ⊥
+    not_both z o f = omega (arith, ints, o, f)
 
 -- ---- the greatest length
 
@@ -56,3 +84,13 @@ below_at_most Minor a some h = inl (root_at_most a.count a.trace a.double_x a.do
 pub below_rises : (axis : Axis) (a : Matrix) (r s : ℕ) → r ≤ s → IsBelow axis a r → IsBelow axis a s
 below_rises Major a = major_rises a.count a.trace (square a.double_x + square a.double_y)
 below_rises Minor a = minor_rises a.count a.trace (square a.double_x + square a.double_y)
+
+-- ---- the ellipse
+
+-- a length of a matrix is that of the moments that it tells
+pub rounded_told : (P : (n : ℕ) (t : ℤ) (d r : ℕ) → Type 0) (m : Moments) (a : Matrix) (r : ℕ) → TellsMatrix m a
+    → IsRounded (P a.count a.trace (square a.double_x + square a.double_y)) r → IsRounded (P m.count (trace m) (discriminant m)) r
+rounded_told P m a r h x =
+    let b = subst (λ n. IsRounded (P n a.trace (square a.double_x + square a.double_y)) r) h.count x in
+    let c = subst (λ t. IsRounded (P m.count t (square a.double_x + square a.double_y)) r) h.trace b in
+    subst (λ d. IsRounded (P m.count (trace m) d) r) (λ i. square (h.double_x i) + square (h.double_y i)) c

@@ -1,6 +1,6 @@
 //! Whether an axis of an object is less than a number of thousandths and a half, by whole numbers alone.
 //! Another precision is a change of the definition and of the numbers here.
-ghost use Rattle.std.specs.Prelude.{◌≡◌, ◌≤◌, ◌*◌, ◌^◌, ◌↔◌, IsTrue, pos, ◌-ℤ◌, ◌*ℤ◌, unsigned_abs, nat_abs};
+ghost use Rattle.std.specs.Prelude.{◌≡◌, ◌≤◌, ◌*◌, ◌^◌, ◌↔◌, IsTrue, pos, ◌-ℤ◌, ◌*ℤ◌, nat_abs};
 ghost use Rattle.shape_terms.specs.Limits.{most_points};
 ghost use Rattle.measure_terms.specs.Ellipse.{room};
 ghost use Rattle.moments.specs.Fitting.{most_axis};
@@ -30,7 +30,7 @@ fn thrice(n: u32, odd: u64) -> u128
 
 // The size of a number eight million times.
 fn size(z: i128) -> u128
-    requires { unsigned_abs z ≤ 2 ^ 94 }
+    requires { nat_abs z ≤ 2 ^ 94 }
     ensures value { result ≡ 8000000 * nat_abs z }
     ensures small { result ≤ 2 ^ 117 }
 {
@@ -39,9 +39,9 @@ fn size(z: i128) -> u128
 
 // A number eight million times.
 fn scaled(z: i128) -> i128
-    requires { unsigned_abs z ≤ 2 ^ 94 }
+    requires { nat_abs z ≤ 2 ^ 94 }
     ensures value { result ≡ pos 8000000 *ℤ z }
-    ensures small { unsigned_abs result ≤ 2 ^ 117 }
+    ensures small { nat_abs result ≤ 2 ^ 117 }
 {
     8_000_000 * z
 }
@@ -49,9 +49,9 @@ fn scaled(z: i128) -> i128
 // What is left of a number.
 fn rest(a: u128, z: i128) -> i128
     requires a_small { a ≤ 2 ^ 122 }
-    requires z_small { unsigned_abs z ≤ 2 ^ 117 }
+    requires z_small { nat_abs z ≤ 2 ^ 117 }
     ensures value { result ≡ pos a -ℤ z }
-    ensures small { unsigned_abs result ≤ 2 ^ 123 }
+    ensures small { nat_abs result ≤ 2 ^ 123 }
 {
     a as i128 - z
 }
@@ -61,7 +61,7 @@ impl Matrix {
     fn room(&self, r: u64) -> i128
         requires { r ≤ most_axis }
         ensures value { result ≡ room self.now.count self.now.trace r }
-        ensures small { unsigned_abs result ≤ 2 ^ 123 }
+        ensures small { nat_abs result ≤ 2 ^ 123 }
     {
         rest(thrice(self.count, 2 * r + 1), scaled(self.trace))
     }

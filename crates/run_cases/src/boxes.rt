@@ -7,7 +7,7 @@ use crate::case::wanting;
 use crate::numbers::{count, picture, point};
 use finder_tests::mask::is_simple_mask;
 use shape_adj::{Pairing, labels};
-use shape_space::{Point, Sides};
+use shape_space::{P2, Point, Sides};
 use shape_topo::{SimpleMask, background_number, object_number};
 use std::alloc::Global;
 use std::io;
@@ -72,7 +72,7 @@ pub(crate) fn tell_near<P: Pairing>(alloc: Global, p: P) -> io::Result<String>
 
 /// The labels of the points of a picture, in raster order.
 pub(crate) fn tell_labels(alloc: Global, numbers: &[i64]) -> io::Result<String> {
-    let grid = picture(alloc, numbers)?;
+    let grid = picture::<P2>(alloc, numbers)?;
     let labels = labels(alloc, &grid).map_err(wanting)?;
     let mut text = String::new(alloc);
     for i in 0..grid.sides().count() {

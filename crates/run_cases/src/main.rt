@@ -14,6 +14,7 @@ mod numbers;
 mod programs;
 mod runs;
 mod script;
+mod sums;
 mod verdicts;
 
 use script::Script;

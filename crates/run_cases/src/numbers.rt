@@ -43,14 +43,14 @@ pub(crate) fn points(alloc: Global, numbers: &[i64], place: usize) -> io::Result
     Ok(points)
 }
 
-/// The picture with these sides, and behind them a number for each point in raster order: 1 for an object point.
-pub(crate) fn picture(alloc: Global, numbers: &[i64]) -> io::Result<Grid<P2>> {
-    let Some(sides) = Sides::try_new(point(numbers, 0)) else {
+/// The picture or volume with these sides, and behind them a number for each point in raster order: 1 for an object point.
+pub(crate) fn picture<P: Point>(alloc: Global, numbers: &[i64]) -> io::Result<Grid<P>> {
+    let Some(sides) = Sides::try_new(point::<P>(numbers, 0)) else {
         return Err(io::Error::from(AllocError));
     };
     let mut grid = Grid::new(alloc, sides).map_err(wanting)?;
     for i in 0..sides.count() {
-        let is_object = number(numbers, (i as usize).saturating_add(2)) == 1;
+        let is_object = number(numbers, (i as usize).saturating_add(P::DIM)) == 1;
         if is_object && i < grid.sides().count() {
             grid.set_number(i);
         }

@@ -1,0 +1,14 @@
+use Rattle.std.proofs.Common.{◌≡◌, sym, subst, arith}
+use Rattle.moments.specs.SoFar.{AreMomentsSoFar}
+use Rattle.moments.specs.Told.{moments_told, all_told}
+use Rattle.moments.proofs.RowsTold.{one_empty_more}
+use Rattle.moments.proofs.objects.no_points.Goals as goal
+
+pub loop-i-preserved : goal.loop-i-preserved
+loop-i-preserved c = λ sides labels.
+    one_empty_more moments_told sides labels c.loop-i.all.items _ c.none.result c.loop-i._i (c.loop-i.invariant sides labels) c.none.ensures c.in_ok-push.ensures.items
+
+pub returns : goal.returns
+returns c = λ sides labels.
+    let e : c.loop-i._i ≡ c.args.count = omega arith in
+    subst (λ n. AreMomentsSoFar sides labels n 0 (all_told c.loop-i.all.items)) e (c.loop-i.invariant sides labels)
