@@ -1,16 +1,13 @@
--- What follows for a hull: it is the hull of all that lies between its points in rows, and no side of it is a point.
--- For those who call `hull` with the ends of rows, and `least_width` with a hull.
-use Rattle.std.proofs.Common.{◌≡◌, ◌⊎◌, inl, inr, ℕ, ◌+◌, ◌<◌, ◌≤◌, List, length, sym, subst, arith}
-use Rattle.std.proofs.Math.IntN.{ℤ, pos, ◌+ℤ◌, ◌-ℤ◌, ◌*ℤ◌, neg_ℤ}
+-- The hull of a set is that of all that lies between two of its corners in their lines.
+-- For those who find the hull of the ends of lines alone.
+use Rattle.std.proofs.Common.{◌≡◌, List, sym, subst, arith}
+use Rattle.std.proofs.Math.IntN.{ℤ, pos, ◌-ℤ◌, neg_ℤ}
 use lib.Signed.{◌<ℤ◌, ◌≤ℤ◌}
 use Rattle.std.proofs.lemmas.Int.{ints, by_lt_z}
-use Rattle.std.proofs.lemmas.Bool.Decides.{nat_tests}
 use Rattle.shape_terms.proofs.Products.{rings}
-use Rattle.shape_terms.proofs.Order.{mul-nonneg, mul-lt_ℤ}
-use Rattle.measure_terms.specs.Hulls.{Corner, IsBefore, IsHull, IsUpTo, end, next, turn, vertex}
-use Rattle.measure_terms.specs.Polygons.{squared_length}
-use Rattle.measure_terms.specs.Widths.{HaveLengths}
-use Rattle.extents.specs.Corners.{AreEndsOf, IsOf}
+use Rattle.shape_terms.proofs.Order.{mul-nonneg}
+use Rattle.measure_terms.specs.Hulls.{Corner, IsHull, IsUpTo, end, turn, vertex}
+use Rattle.extents.specs.Corners.{AreEndsOf}
 use Rattle.measure_terms.proofs.Turns.{det}
 
 -- ---- between two points of a row
@@ -40,9 +37,9 @@ up_then p q r h k =
 in_order : (p q : Corner) → p.y ≡ q.y → p.x ≤ℤ q.x → IsUpTo p q
 in_order p q e h = record { row = omega (arith, ints, e); column = λ f. h }
 
--- the hull of the ends of the rows of a set is that of the set
-pub hull_of_ends : (S : Corner → Type 0) (points h : List Corner) → AreEndsOf S points → IsHull (IsOf points) h → IsHull S h
-hull_of_ends S points h ends is = record {
+-- the hull of the ends of the lines of a set is that of the set
+pub hull_of_ends : (S T : Corner → Type 0) (h : List Corner) → AreEndsOf S T → IsHull T h → IsHull S h
+hull_of_ends S T h ends is = record {
   of = λ i l. ends.of (vertex h i) (is.of i l);
   left = λ i p l s. (
       let b = ends.hold p s in
@@ -53,4 +50,3 @@ hull_of_ends S points h ends is = record {
   first = λ p s. (let b = ends.hold p s in up_then (vertex h 0) b.left p (is.first b.left b.left_in) (in_order b.left p b.left_row b.behind));
   last = λ p s. (let b = ends.hold p s in up_then p b.right (vertex h is.far) (in_order p b.right (sym b.right_row) b.before) (is.last b.right b.right_in));
 }
-

@@ -5,3 +5,16 @@ mod Best
 mod Widening
 mod Places
 mod Labelled
+mod Reading
+mod Turning
+mod Pointing
+mod Chaining
+mod Listing
+mod Closing
+mod Going
+mod Rounds
+mod Between
+mod Summing
+mod Narrowing
+mod LinesPut
+mod Shorts

@@ -7,8 +7,9 @@ use Rattle.std.proofs.lemmas.Int.{ints}
 use Rattle.shape_terms.proofs.Products.{rings}
 use Rattle.shape_terms.proofs.Order.{mul-le_ℤ, mul-lt_ℤ, cancel-le_ℤ, cancel-lt_ℤ}
 use Rattle.measure_terms.specs.Hulls.{Corner, end, turn, vertex}
-use Rattle.measure_terms.specs.Polygons.{squared_length}
-use Rattle.measure_terms.specs.Widths.{HaveLengths, IsFarther, IsLeastSide, IsLess, IsNarrower, IsNoMore, IsOfSide, IsReach, Width}
+use Rattle.measure_terms.specs.Widths.{HaveLengths, IsLeastSide, IsLess, IsNoMore, IsOfSide, IsReach, Width}
+use Rattle.measure_terms.proofs.OneWidth.{one_across, one_length}
+use Rattle.extents.specs.Narrower.{IsFarther, IsNarrower}
 
 before_or_at : (i n : ℕ) → i < n + 1 → (i < n) ⊎ (i ≡ n)
 before_or_at i n l = grind arith
@@ -69,14 +70,10 @@ no_more u v p = let l = p.less in record { less = omega (arith, ints, l) }
 
 -- ---- one side has one width
 
-same_across : (h : List Corner) (i f g : ℕ) → IsReach h i (length h) f → IsReach h i (length h) g → at h i f ≡ at h i g
-same_across h i f g p q = let a = p.most g q.within in let b = q.most f p.within in omega (arith, ints, a, b)
-
 same_width : (h : List Corner) (v w : Width) → IsOfSide h v → IsOfSide h w → v.side ≡ w.side → IsNoMore v w
 same_width h v w a b e =
-    let reach = subst (λ i. IsReach h i (length h) a.far) e a.reach in
-    let x : v.across ≡ w.across = a.across ∙ ap (λ i. at h i a.far) e ∙ same_across h w.side a.far b.far reach b.reach ∙ sym b.across in
-    let y : v.length ≡ w.length = a.squared ∙ ap (λ i. squared_length (vertex h i) (end h i)) e ∙ sym b.squared in
+    let x = one_across h v w a b e in
+    let y = one_length h v w a b e in
     record { less = at_most ((v.across *ℤ v.across) *ℤ w.length) ((w.across *ℤ w.across) *ℤ v.length) (ap (λ z. (z *ℤ z) *ℤ w.length) x ∙ ap (λ z. (w.across *ℤ w.across) *ℤ z) (sym y)) }
 
 -- ---- the narrowest side

@@ -2,7 +2,7 @@
 -- A point of the plane stands for the corner with its coordinates.
 use Rattle.std.specs.Prelude.{◌≡◌, ◌⊎◌, ℕ, ◌+◌, ◌<◌, ◌≤◌, ◌^◌, List, map, length, ℤ, pos, ◌+ℤ◌, ◌≤ℤ◌, unsigned_abs}
 use Rattle.shape_space.specs.declared.point.P2.{P2}
-use Rattle.measure_terms.specs.Hulls.{Corner, IsUpTo, vertex}
+use Rattle.measure_terms.specs.Hulls.{Corner, IsUpTo, IsHull, vertex}
 use Rattle.extents.specs.declared.row.Row.{Row}
 use Rattle.extents.specs.Rows.{row_at}
 
@@ -35,6 +35,10 @@ pub record IsShort (p : Corner) : Type 0 where
 
 pub record AreShort (h : List Corner) : Type 0 where
   pub each : (k : ℕ) → k < length h → IsShort (vertex h k)
+
+-- the list is the hull of its own corners
+abbrev pub IsConvex : List Corner → Type 0
+IsConvex h = IsHull (IsOf h) h
 
 -- ---- sets that bound others in each line
 

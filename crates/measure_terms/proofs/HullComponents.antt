@@ -1,6 +1,6 @@
 -- The size of the hull of an object is one: by labels it is that of the component, and two lists of one picture's components agree.
 -- Sets of pixels and their corners alone.
-use Rattle.std.proofs.Common.{◌≡◌, ◌⊎◌, inl, inr, ℕ, ◌+◌, ◌<◌, ◌≤◌, ◌∷◌, [], List, length, get_or, refl, ap, sym, subst, ◌∙◌, arith}
+use Rattle.std.proofs.Common.{◌≡◌, ◌⊎◌, inl, inr, ℕ, ◌+◌, ◌*◌, ◌<◌, ◌≤◌, ◌∷◌, [], List, length, get_or, refl, ap, sym, subst, ◌∙◌, arith}
 use Rattle.std.proofs.Math.IntN.{ℤ, pos, ◌+ℤ◌, ◌-ℤ◌, ◌*ℤ◌}
 use Rattle.std.specs.List.{Contains}
 use Rattle.std.proofs.lemmas.Int.{ints}
@@ -9,13 +9,14 @@ use Rattle.shape_terms.specs.Points.{Point}
 use Rattle.shape_terms.specs.Pictures.{Picture}
 use Rattle.shape_terms.specs.Parts.{LabelsObject}
 use Rattle.measure_terms.specs.Feret.{HasLabel}
+use Rattle.measure_terms.specs.Rounding.{IsQuotientRoot}
 use Rattle.measure_terms.specs.Measures.{Measures, greatest}
 use Rattle.measure_terms.specs.Tables.{IsTable}
 use Rattle.measure_terms.specs.Components.{component}
 use Rattle.measure_terms.specs.Hulls.{Corner, IsCornerOf, IsCornerOfPixel, IsHull, end, turn, vertex}
 use Rattle.measure_terms.specs.Widths.{Width, IsLeastSide}
 use Rattle.measure_terms.specs.HullSizes.{HullSize, IsSizeOfPolygon, IsHullSize, AreHulls, HullsComponents}
-use Rattle.measure_terms.proofs.TableOfComponents.{some_of_table, has_label, in_component, table_length}
+use Rattle.measure_terms.proofs.TableOfComponents.{some_of_labels, has_label, in_component, table_length}
 use Rattle.measure_terms.proofs.Hulled.{same_hull, hull_of_three}
 use Rattle.measure_terms.proofs.OneWidth.{one_across, one_length, one_side}
 use Rattle.measure_terms.proofs.OneHull.{one_hull}
@@ -64,17 +65,31 @@ hull_of_corners S h is =
 whole : (m n : ℕ) → pos m ≡ pos n → m ≡ n
 whole m n e = omega (arith, ints, e)
 
-same_numbers : (y z : HullSize) → y.double_area ≡ z.double_area → y.perimeter ≡ z.perimeter → y.across ≡ z.across → y.length ≡ z.length → y.dx ≡ z.dx → y.dy ≡ z.dy → y ≡ z
-same_numbers y z a b c d e f = λ i. record { double_area = a i; perimeter = b i; across = c i; length = d i; dx = e i; dy = f i }
+same_numbers : (y z : HullSize) → y.double_area ≡ z.double_area → y.perimeter ≡ z.perimeter → y.across ≡ z.across → y.length ≡ z.length → y.min_feret ≡ z.min_feret → y.dx ≡ z.dx → y.dy ≡ z.dy → y ≡ z
+same_numbers y z a b c d e f g = λ i. record { double_area = a i; perimeter = b i; across = c i; length = d i; min_feret = e i; dx = f i; dy = g i }
+
+-- a root of a quotient is one
+one_root : (s t a b : ℕ) → IsQuotientRoot s t a → IsQuotientRoot s t b → a ≡ b
+one_root s t a b h k =
+    let c : (a ≡ b) ⊎ (a < b) ⊎ (b < a) = grind arith in
+    elim c [
+      | inl e ↦ e
+      | inr d ↦ elim d [
+        | inl l ↦ absurd (let x = k.low a l in let y = h.high in omega (arith, x, y))
+        | inr l ↦ absurd (let x = h.low b l in let y = k.high in omega (arith, x, y))
+      ]
+    ]
 
 size_of_polygon : (h : List Corner) (v w : Width) (y z : HullSize) → IsSizeOfPolygon h v y → IsSizeOfPolygon h w z → y ≡ z
 size_of_polygon h v w y z a b =
     let e = one_side h v w a.least b.least in
+    let across = whole y.across z.across (a.across ∙ one_across h v w a.least.is b.least.is e ∙ sym b.across) in
+    let long = whole y.length z.length (a.length ∙ one_length h v w a.least.is b.least.is e ∙ sym b.length) in
+    let root = subst (λ t. IsQuotientRoot (z.across * z.across) t y.min_feret) long (subst (λ s. IsQuotientRoot (s * s) y.length y.min_feret) across a.min_feret) in
     same_numbers y z
     (whole y.double_area z.double_area (a.double_area ∙ sym b.double_area))
     (whole y.perimeter z.perimeter (a.perimeter ∙ sym b.perimeter))
-    (whole y.across z.across (a.across ∙ one_across h v w a.least.is b.least.is e ∙ sym b.across))
-    (whole y.length z.length (a.length ∙ one_length h v w a.least.is b.least.is e ∙ sym b.length))
+    across long (one_root (z.across * z.across) z.length y.min_feret z.min_feret root b.min_feret)
     (a.dx ∙ ap (λ i. (end h i).x -ℤ (vertex h i).x) e ∙ sym b.dx)
     (a.dy ∙ ap (λ i. (end h i).y -ℤ (vertex h i).y) e ∙ sym b.dy)
 
@@ -85,12 +100,11 @@ one_size S y z a b =
 
 -- ---- components
 
--- the sizes by the labels of a picture's object are those of its components, where each has a point
-pub hulls_measure : (X : Picture) (labels : List ℕ) (n : ℕ) (zs : List HullSize) → LabelsObject X labels → ((k : ℕ) → k < n → (p : Point) × Contains (component X labels (k + 1)) p) → AreHulls X.sides labels n zs
-    → HullsComponents X labels n zs
-hulls_measure X labels n zs named some h = record {
+-- the sizes by the labels of a picture's object are those of its components
+pub hulls_measure : (X : Picture) (labels : List ℕ) (n : ℕ) (zs : List HullSize) → LabelsObject X labels → n ≤ greatest labels → AreHulls X.sides labels n zs → HullsComponents X labels n zs
+hulls_measure X labels n zs named few h = record {
   each = λ k d l.
-      let p = some k l in
+      let p = some_of_labels X labels k named (omega (arith, l, few)) in
       let one = h.each k d p.0 l (has_label X labels k p.0 p.1) in
       same_size (HasLabel X.sides labels (k + 1)) (Contains (component X labels (k + 1))) (get_or zs k d) (λ q. in_component X labels k q named) (has_label X labels k) one;
 }
@@ -104,5 +118,4 @@ pub hulls_table : (X left : Picture) (squares : List ℕ) (table : List Measures
     → HullsComponents X h.labels (length table) zs
 hulls_table X left squares table zs h a =
     let len = table_length X left squares table h in
-    hulls_measure X h.labels (length table) zs h.named (some_of_table X left squares table h)
-    (subst (λ n. AreHulls X.sides h.labels n zs) (sym len) a)
+    hulls_measure X h.labels (length table) zs h.named (omega (arith, len)) (subst (λ n. AreHulls X.sides h.labels n zs) (sym len) a)

@@ -1,10 +1,10 @@
 -- The square root in thousandths that a definition searches for, and the one that a whole root gives.
 -- Numbers alone.
-use Rattle.std.proofs.Common.{◌≡◌, inl, inr, ◌+◌, ◌*◌, ◌/◌, ◌<◌, ◌≤◌, ℕ, true, sym, ap, arith}
+use Rattle.std.proofs.Common.{◌≡◌, inl, inr, ◌+◌, ◌*◌, ◌/◌, ◌<◌, ◌≤◌, ℕ, true, subst, sym, ap, arith}
 use Rattle.std.specs.Option.{unwrap_or}
 use Rattle.std.proofs.lemmas.Bool.{cases_lt}
 use Rattle.std.proofs.lemmas.Bool.Decides.{nat_tests}
-use Rattle.std.proofs.Math.Nat.{mul-div-le, lt-mul-div-succ}
+use Rattle.std.proofs.Math.Nat.{mul-div-le, lt-mul-div-succ, mul_comm}
 use Rattle.std.proofs.lemmas.Nat.{mul-le}
 use Rattle.shape_terms.proofs.FirstNumbers.{first_found, at_most_square}
 use Rattle.measure_terms.specs.Rounding.{is_below_half, IsRoot, root, is_quotient_below_half, IsQuotientRoot, quotient_root, IsMean, mean}
@@ -56,6 +56,39 @@ quotient_root_is s t r some h =
     let pass : is_quotient_below_half s t r ≡ true = grind (arith, nat_tests, high) in
     let few = small_quotient_root s t r some h in
     sym (ap (λ o. unwrap_or o 0) (first_found (is_quotient_below_half s t) 0 (1000 * s + 1) r (omega arith) (omega (arith, few)) pass (λ m _ l. let low = h.low m l in grind (arith, nat_tests, low))))
+
+-- half the whole root of the quotient rounded down, rounded up
+pub quotient_root_from_whole : (s t q w r : ℕ) → 0 < t → q ≡ 4000000 * s / t → w * w ≤ q → q < (w + 1) * (w + 1) → r ≡ (w + 1) / 2 → IsQuotientRoot s t r
+quotient_root_from_whole s t q w r some is low high e =
+    let a : t * q ≤ 4000000 * s = subst (λ z. t * z ≤ 4000000 * s) (sym is) (mul-div-le (4000000 * s) t) in
+    let b : 4000000 * s < t * (q + 1) = subst (λ z. 4000000 * s < t * (z + 1)) (sym is) (lt-mul-div-succ (4000000 * s) some) in
+    record {
+      low = λ m l.
+          let h : (2 * m + 1) * (2 * m + 1) ≤ w * w = mul-le (2 * m + 1) (2 * m + 1) w w (omega arith) (omega arith) in
+          let k : (2 * m + 1) * (2 * m + 1) * t ≤ q * t = mul-le ((2 * m + 1) * (2 * m + 1)) t q t (omega (arith, h, low)) (omega arith) in
+          turned ((2 * m + 1) * (2 * m + 1) * t) q t (4000000 * s) k a;
+      high =
+          let h : (w + 1) * (w + 1) ≤ (2 * r + 1) * (2 * r + 1) = mul-le (w + 1) (w + 1) (2 * r + 1) (2 * r + 1) (omega arith) (omega arith) in
+          let k : (q + 1) * t ≤ (2 * r + 1) * (2 * r + 1) * t = mul-le (q + 1) t ((2 * r + 1) * (2 * r + 1)) t (omega (arith, h, high)) (omega arith) in
+          turned' (4000000 * s) (q + 1) t ((2 * r + 1) * (2 * r + 1) * t) b k;
+    }
+  where
+    turned : (x y z n : ℕ) → x ≤ y * z → z * y ≤ n → x ≤ n
+    turned x y z n h k = (let c : y * z ≡ z * y = mul_comm y z in omega (arith, h, k, c))
+
+    turned' : (n y z x : ℕ) → n < z * y → y * z ≤ x → n < x
+    turned' n y z x h k = (let c : y * z ≡ z * y = mul_comm y z in omega (arith, h, k, c))
+
+-- the root of a quotient by 1 is that of the number
+pub root_by_one : (s r : ℕ) → IsQuotientRoot s 1 r → r ≡ root s
+root_by_one s r h = root_is s r (record { low = λ m l. (let k = h.low m l in omega (arith, k)); high = (let k = h.high in omega (arith, k)) })
+
+-- a number whose square is no greater is no greater
+pub no_greater : (w a : ℕ) → w * w ≤ a * a → w ≤ a
+no_greater w a l = elim (cases_lt a w) [
+  | inl g ↦ (let h : (a + 1) * (a + 1) ≤ w * w = mul-le (a + 1) (a + 1) w w (omega arith) (omega arith) in absurd (omega (arith, l, h)))
+  | inr k ↦ k
+]
 
 -- ---- means
 

@@ -154,12 +154,10 @@ ferets_measure X left squares table ferets h f =
 
 -- ---- points
 
--- each label of a table is that of a point
-pub some_of_table : (X left : Picture) (squares : List ℕ) (table : List Measures) → (h : IsTable X squares left table) → (k : ℕ) → k < length table → (p : Point) × Contains (component X h.labels (k + 1)) p
-some_of_table X left squares table h k l =
-    let labels = h.labels in
-    let n = h.named.parts.0 in
-    let names = h.named.parts.1 in
-    let len = table_length X left squares table h in
-    let same : n ≡ length table = omega (arith, len, no_more X labels n h.named names, no_fewer X labels n names) in
-    some_point X labels n k names (omega (arith, same, l))
+-- each label up to the greatest is that of a point
+pub some_of_labels : (X : Picture) (labels : List ℕ) (k : ℕ) → LabelsObject X labels → k < greatest labels → (p : Point) × Contains (component X labels (k + 1)) p
+some_of_labels X labels k named l =
+    let n = named.parts.0 in
+    let names = named.parts.1 in
+    let m = no_more X labels n named names in
+    some_point X labels n k names (omega (arith, l, m))

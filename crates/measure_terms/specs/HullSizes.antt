@@ -3,7 +3,7 @@
 use Rattle.std.specs.Prelude.{◌≡◌, ℕ, ◌+◌, ◌*◌, ◌<◌, List, length, slice_index_or, ℤ, pos, ◌-ℤ◌, Contains}
 use Rattle.shape_terms.specs.Points.{Point}
 use Rattle.shape_terms.specs.Pictures.{Picture}
-use Rattle.measure_terms.specs.Rounding.{quotient_root}
+use Rattle.measure_terms.specs.Rounding.{IsQuotientRoot}
 use Rattle.measure_terms.specs.Feret.{HasLabel}
 use Rattle.measure_terms.specs.Components.{component}
 use Rattle.measure_terms.specs.Hulls.{Corner, IsCornerOf, IsHull, vertex, end}
@@ -20,6 +20,8 @@ pub record HullSize : Type 0 where
   -- the least width is `across` by the root of `length`
   pub across : ℕ
   pub length : ℕ
+  -- the least width in thousandths, rounded to nearest and a half up
+  pub min_feret : ℕ
   -- the step along the side across which it is so wide
   pub dx : ℤ
   pub dy : ℤ
@@ -31,6 +33,7 @@ pub record IsSizeOfPolygon (h : List Corner) (w : Width) (z : HullSize) : Type 0
   pub least : IsLeastSide h (length h) w
   pub across : pos z.across ≡ w.across
   pub length : pos z.length ≡ w.length
+  pub min_feret : IsQuotientRoot (z.across * z.across) z.length z.min_feret
   pub dx : z.dx ≡ (end h w.side).x -ℤ (vertex h w.side).x
   pub dy : z.dy ≡ (end h w.side).y -ℤ (vertex h w.side).y
 
@@ -56,11 +59,3 @@ pub record HullsComponents (X : Picture) (labels : List ℕ) (n : ℕ) (zs : Lis
 -- the area in thousandths
 abbrev pub convex_area : HullSize → ℕ
 convex_area z = 500 * z.double_area
-
--- the length of the border in thousandths
-abbrev pub convex_perimeter : HullSize → ℕ
-convex_perimeter z = z.perimeter
-
--- the least width in thousandths, rounded to nearest
-abbrev pub min_feret : HullSize → ℕ
-min_feret z = quotient_root (z.across * z.across) z.length

@@ -4,7 +4,7 @@ use Rattle.extents.specs.declared.search.Feret.{Feret}
 use Rattle.extents.specs.Rows.{AreRows}
 use Rattle.extents.specs.Seen.{HaveFarthest}
 use Rattle.extents.proofs.Labelled.{one_found}
-use Rattle.extents.proofs.objects.farthest_of_all.Goals as goal
+use Rattle.extents.proofs.diameters.farthest_of_all.Goals as goal
 
 pub feret_of-requires : goal.feret_of-requires
 feret_of-requires c =

@@ -6,7 +6,7 @@ use Rattle.extents.specs.declared.outline.Outline.{Outline}
 use Rattle.extents.specs.Told.{flat, ferets_told}
 use Rattle.extents.specs.Seen.{AreInOrder, HaveFarthest}
 use Rattle.extents.proofs.Labelled.{in_order, ferets_are}
-use Rattle.extents.proofs.objects.ferets.Goals as goal
+use Rattle.extents.proofs.diameters.ferets.Goals as goal
 
 pub farthest_of_all-requires : goal.farthest_of_all-requires
 farthest_of_all-requires c = subst AreInOrder (sym c.as_slice.ensures.value) (in_order _ _ c.args.count _ c.in_ok-outlines.outlines.items c.in_ok-outlines.ensures)

@@ -1,0 +1,57 @@
+//! Lines of the grid, each from its first to its last corner of an object, and those above and below a row.
+//! What a list of them is for is told in `bounds`.
+ghost use Rattle.std.specs.Prelude.{◌≡◌};
+ghost use Rattle.extents.specs.Lines.{above, below, IsShortLine, IsJoined};
+
+use crate::row::Row;
+
+/// A line of the grid, from its first to its last corner of an object.
+#[derive(Clone, Copy)]
+pub(crate) struct Line {
+    /// How far it lies down.
+    pub(crate) y: i32,
+    /// Where its first corner lies.
+    pub(crate) left: i32,
+    /// Where its last corner lies.
+    pub(crate) right: i32,
+}
+
+impl Line {
+    /// The line above a row.
+    pub(crate) fn above(row: Row) -> Line
+        ensures value { result ≡ above row }
+        ensures short { IsShortLine result }
+    {
+        Line {
+            y: row.y as i32,
+            left: row.left as i32,
+            right: row.right as i32 + 1,
+        }
+    }
+
+    /// The line below a row.
+    pub(crate) fn below(row: Row) -> Line
+        ensures value { result ≡ below row }
+        ensures short { IsShortLine result }
+    {
+        Line {
+            y: row.y as i32 + 1,
+            left: row.left as i32,
+            right: row.right as i32 + 1,
+        }
+    }
+
+    /// The line that reaches over two that lie as far down.
+    pub(crate) fn joined(self, other: Line) -> Line
+        requires one { IsShortLine self }
+        requires two { IsShortLine other }
+        ensures joined { IsJoined self other result }
+        ensures short { IsShortLine result }
+    {
+        Line {
+            y: other.y,
+            left: self.left.min(other.left),
+            right: self.right.max(other.right),
+        }
+    }
+}

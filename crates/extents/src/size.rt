@@ -1,0 +1,82 @@
+//! How large the convex hull of the corners of an object is, from its rows.
+//! A further number is one more field, here and in `HullSizes`.
+ghost use Rattle.std.specs.Prelude.{◌≤◌, ◌*◌, ◌<◌, ◌^◌, length, IfOk};
+ghost use Rattle.measure_terms.specs.Rounding.{IsQuotientRoot};
+ghost use Rattle.extents.specs.Rows.{AreRows};
+ghost use Rattle.extents.specs.Corners.{corners, AreShort, IsConvex};
+ghost use Rattle.extents.specs.Sizes.{hull_told, HasSize, IsSizeOfRows};
+
+use crate::area::double_area;
+use crate::border::perimeter;
+use crate::bounds::bounds;
+use crate::corner::{end, vertex};
+use crate::quotient::quotient_root;
+use crate::round::hull;
+use crate::row::Row;
+use crate::short::short_step;
+use crate::width::least_width;
+use shape_space::{NoMemory, P2};
+use std::alloc::Global;
+
+/// How large the convex hull of the corners of an object's pixels is.
+#[derive(Clone, Copy, Debug, PartialEq, Eq)]
+pub struct HullSize {
+    /// Twice its area, in pixels.
+    pub double_area: u64,
+    /// The lengths of its sides in thousandths, each rounded to nearest, added up.
+    pub perimeter: u64,
+    /// Its least width over its sides is this number by the root of `length`.
+    pub across: u64,
+    /// The square of the length of the first side across which it is so wide.
+    pub length: u64,
+    /// Its least width in thousandths, rounded to nearest and a half up.
+    pub min_feret: u64,
+    /// The step along that side to the right.
+    pub dx: i32,
+    /// The step along that side down.
+    pub dy: i32,
+}
+
+// A number by the root of another, in thousandths.
+fn by_root(across: u64, length: u64) -> u64
+    requires across { across ≤ 2 ^ 35 }
+    requires length { 0 < length }
+    ensures { IsQuotientRoot (across * across) length result }
+{
+    quotient_root(across as u128 * across as u128, length) as u64
+}
+
+// How large a convex polygon is.
+fn size_of_polygon(round: &[P2]) -> HullSize
+    requires convex { IsConvex (corners round.now) }
+    requires many { 2 ≤ length round.now }
+    requires few { length round.now ≤ 2 ^ 20 }
+    requires short { AreShort (corners round.now) }
+    ensures { HasSize (corners round.now) (hull_told result) }
+{
+    let width = least_width(round);
+    let across = width.across.unsigned_abs();
+    let length = width.length.unsigned_abs();
+    let from = vertex(round, width.side);
+    let to = end(round, width.side);
+    HullSize {
+        double_area: double_area(round),
+        perimeter: perimeter(round),
+        across,
+        length,
+        min_feret: by_root(across, length),
+        dx: short_step(from.x, to.x),
+        dy: short_step(from.y, to.y),
+    }
+}
+
+/// How large the hull of the corners of the object with these rows is.
+pub(crate) fn size_of_rows(alloc: Global, rows: &[Row]) -> Result<HullSize, NoMemory>
+    requires some { 1 ≤ length rows.now }
+    requires rows { AreRows rows.now }
+    ensures { IfOk result (λ z. IsSizeOfRows rows.now (hull_told z)) }
+{
+    let points = bounds(alloc, rows)?;
+    let round = hull(alloc, points.as_slice())?;
+    Ok(size_of_polygon(round.as_slice()))
+}
