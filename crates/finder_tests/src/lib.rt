@@ -10,8 +10,6 @@ pub mod close;
 #[cfg(test)]
 mod cover;
 #[cfg(test)]
-mod crack;
-#[cfg(test)]
 mod grid;
 pub mod mask;
 #[cfg(test)]

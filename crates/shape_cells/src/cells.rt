@@ -154,24 +154,6 @@ impl<T: Cell> Cells<T> {
         }
     }
 
-    /// Copies what so many places from a place on hold.
-    pub fn take_row(&self, row: &mut [T], start: u32)
-        requires { start + length row.old ≤ length self.now.values }
-        ensures taken { (d : T) (y : ℕ) → y < length row.old
-            → slice_index_or row.new y d ≡ slice_index_or self.now.values (start + y) d }
-        ensures long { length row.new ≡ length row.old }
-    {
-        match &self.objects {
-            Some(objects) => {
-                few::take_places(objects, self.cells.as_slice(), row, start, 0, 1, row.len());
-            }
-            None => {
-                let from = start as usize;
-                row.copy_from_slice(&self.cells[from..from + row.len()]);
-            }
-        }
-    }
-
     /// Has places in a row hold the values of `row`, from a place on: each that has a cell of its own.
     pub fn put_row(&mut self, row: &[T], start: u32)
         requires { start + length row.now ≤ length self.old.values }
