@@ -2,8 +2,8 @@ use Rattle.std.proofs.Common.{length, sym, ◌∙◌, ap}
 use Rattle.shape_terms.specs.Pictures.{Picture, object_points}
 use Rattle.shape_terms.specs.Thinning.{Stage}
 use Rattle.thin_steps.specs.Fronts.{reach_of}
-use Rattle.judge_thin.proofs.Followed.{same_stage}
-use Rattle.judge_thin.proofs.judge.ThinJudge.left.Goals as goal
+use Rattle.shape_check.proofs.EventsFollowed.{same_stage}
+use Rattle.shape_check.proofs.events.ThinJudge.left.Goals as goal
 
 pub returns : goal.returns
 returns g c = λ by X events now h s st.

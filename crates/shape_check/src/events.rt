@@ -29,7 +29,7 @@ pub struct ThinJudge<P: SimpleMask> {
 }
 
 impl<P: SimpleMask> ThinJudge<P> {
-    ghost use Rattle.judge_thin.specs.Standing.{StandsFor, room_of};
+    ghost use Rattle.shape_check.specs.EventStanding.{StandsFor, room_of};
 
     /// A judge that has taken no event, by whatever rule they come. The rule is to begin anew
     /// before the first.

@@ -4,8 +4,8 @@ use Rattle.std.specs.declared.option.Option.{Option}
 use Rattle.std.specs.declared.option.Option.TheVariants.{None, Some}
 use Rattle.thin_steps.specs.Fronts.{reach_of}
 use Rattle.thin_steps.specs.Standing.{key_of}
-use Rattle.judge_thin.proofs.Followed.{all_of_none, not_all}
-use Rattle.judge_thin.proofs.judge.ThinJudge.finished.Goals as goal
+use Rattle.shape_check.proofs.EventsFollowed.{all_of_none, not_all}
+use Rattle.shape_check.proofs.events.ThinJudge.finished.Goals as goal
 
 -- whether there is none, of what tells either
 none_tells : {A : Type 0} (o : Option A) (b : Bool) (E All : Type 0) (N : A → Type 0) → MatchOption o E N → is_some o ≡ not b

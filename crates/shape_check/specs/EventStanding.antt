@@ -4,7 +4,7 @@ use Rattle.std.specs.Prelude.{ℕ, List}
 use Rattle.shape_terms.specs.Pictures.{Picture}
 use Rattle.shape_terms.specs.Thinning.{Rule, Event}
 use Rattle.thin_steps.specs.Standing as Steps
-use Rattle.judge_thin.specs.declared.judge.ThinJudge.{ThinJudge}
+use Rattle.shape_check.specs.declared.events.ThinJudge.{ThinJudge}
 
 module _ {P : Type 0} {pairs : _} {point : _} {eq : _} {order : _} {partial : _} where
   -- the judge has taken these events of the thinning of X by the rule, which is in this state now
