@@ -16,7 +16,7 @@ use crate::gatherer::Gatherer;
 use crate::kind::{Kind, kind_of};
 use crate::line::OverLine;
 use crate::part::Mark;
-use edge_text::EdgeLine;
+use edge_forms::EdgeLine;
 use judge_balls::BallLine;
 use judge_pieces::PieceLine;
 use report_text::{CheckFault, Judgement, check_from};

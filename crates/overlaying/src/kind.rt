@@ -9,7 +9,7 @@ ghost use Rattle.drawing.specs.Seen.{flat};
 
 use crate::line::OverLine;
 use crate::part::Part;
-use edge_text::EdgeLine;
+use edge_forms::EdgeLine;
 use judge_balls::BallLine;
 use judge_pieces::PieceLine;
 use shape_space::P2;

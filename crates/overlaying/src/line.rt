@@ -8,7 +8,7 @@ ghost use Rattle.overlaying.specs.Seen.{part_of};
 ghost use Rattle.overlaying.specs.Ends.{only_ball_end, only_piece_end, only_edge_end};
 
 use crate::part::{Mark, Part};
-use edge_text::EdgeLine;
+use edge_forms::EdgeLine;
 use judge_balls::BallLine;
 use judge_pieces::PieceLine;
 use report_text::ReportLine;
