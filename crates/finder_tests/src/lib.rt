@@ -6,7 +6,6 @@
 mod bits;
 #[cfg(test)]
 mod boxes;
-pub mod close;
 #[cfg(test)]
 mod cover;
 #[cfg(test)]
@@ -22,8 +21,6 @@ mod plane;
 mod refute;
 #[cfg(test)]
 mod rules;
-#[cfg(test)]
-mod segment;
 #[cfg(test)]
 mod slope;
 #[cfg(test)]

@@ -1,5 +1,5 @@
 //! What the calls of a segment ask of a point, so that a case may make them.
-//! It is no test itself: a wrong body here is refused without one.
+//! Another test of the same is a change here alone.
 ghost use Rattle.std.specs.Prelude.{IsTrue, ◌≤◌, ◌-ℤ◌, nat_abs};
 ghost use Rattle.shape_terms.specs.Steps.{AreClose};
 ghost use Rattle.shape_refute.specs.Terms.{flat_point};
@@ -8,7 +8,7 @@ ghost use Rattle.shape_refute.specs.PairTerms.{IsSmall};
 use shape_space::{MOST_COORDINATE, P2};
 
 /// Whether the coordinates are small.
-pub fn is_small(p: P2) -> bool
+pub(crate) fn is_small(p: P2) -> bool
     ensures { IsTrue result → IsSmall p }
 {
     p.x.unsigned_abs() <= MOST_COORDINATE && p.y.unsigned_abs() <= MOST_COORDINATE
@@ -23,7 +23,7 @@ fn is_beside(a: i32, b: i32) -> bool
 
 /// Whether two points are close.
 #[tactic(auto, using(crate::proofs::ClosePoints::close_flat))]
-pub fn is_close(p: P2, q: P2) -> bool
+pub(crate) fn is_close(p: P2, q: P2) -> bool
     ensures { IsTrue result → AreClose (flat_point p) (flat_point q) }
 {
     if !is_beside(p.x, q.x) {
