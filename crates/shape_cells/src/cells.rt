@@ -3,7 +3,7 @@
 ghost use Rattle.std.specs.Prelude.{◌≡◌, ◌+◌, ◌*◌, ◌<◌, ◌≤◌, ℕ, IfOk, MatchOption, Some, true, false, length, map, slice_get, slice_index_or};
 ghost use Rattle.std.specs.List.{range_with_len};
 ghost use Rattle.shape_terms.specs.Limits.{most_framed, most_coordinate};
-ghost use Rattle.shape_bits.specs.Truths.{IsFirstTrue};
+ghost use Rattle.shape_grid.specs.Truths.{IsFirstTrue};
 ghost use Rattle.shape_cells.specs.Counting.{trues};
 ghost use Rattle.shape_cells.specs.Held.{HasCell, IsBareElsewhere, with_value, all_kept};
 
@@ -11,7 +11,7 @@ use crate::cell::Cell;
 use crate::counts::count;
 use crate::few;
 use crate::numbering::Numbering;
-use shape_bits::Bits;
+use shape_grid::Bits;
 use shape_space::NoMemory;
 use std::alloc::Global;
 use std::marker::Model;
