@@ -1,3 +1,16 @@
+pub mod Parts
+pub mod Kinds
+pub mod Ends
+pub mod Headings
+pub mod Contours
+pub mod Borders
+pub mod Going
+pub mod Circles
+pub mod Corners
+pub mod Layers
+pub mod Seen
+pub mod Standing
+pub mod Answers
 pub mod Words
 pub mod Numbers
 pub mod Overs

@@ -1,14 +1,14 @@
 -- What a run did that draws a further report over the object of an analysis, outcome by outcome.
--- Which drawing that is, and why there is none, stands in `overlaying`.
+-- Which drawing that is, and why there is none, stands in `Answers`.
 use Rattle.std.specs.Prelude.{◌⊎◌, ℕ, List}
 use Rattle.shape_desk.specs.Desk.{DeskState, Rose, IsMissing, Puts, PutsFront}
 use Rattle.shape_desk.specs.Files.{OfFile, IsSilent}
 use Rattle.report_making.specs.Outcomes as Making
 use Rattle.report_making.specs.declared.outcome.Outcome.{Outcome}
 use Rattle.report_making.specs.declared.outcome.Outcome.TheVariants as outcome
-use Rattle.overlaying.specs.Answers.{OfFiles, AreDrawnAs, AreNotOver, IsNoAnalysis}
-use Rattle.overlaying.specs.declared.fault.OverFault.{OverFault}
-use Rattle.overlaying.specs.declared.fault.OverFault.TheVariants as fault
+use Rattle.draw_report.specs.Answers.{OfFiles, AreDrawnAs, AreNotOver, IsNoAnalysis}
+use Rattle.draw_report.specs.declared.fault.OverFault.{OverFault}
+use Rattle.draw_report.specs.declared.fault.OverFault.TheVariants as fault
 
 -- the outcome where nothing is drawn
 abbrev pub refusal_of : OverFault → Outcome

@@ -1,11 +1,12 @@
 //! A further report drawn over the object of an analysis, and written.
-//! What is drawn is known to `overlaying`.
+//! What is drawn is known to `overlay`.
 ghost use Rattle.std.specs.Prelude.{◌≡◌};
 ghost use Rattle.shape_desk.specs.Files.{KeepsFiles};
 ghost use Rattle.report_making.specs.Outcomes as Making;
 ghost use Rattle.draw_report.specs.Overs.{refusal_of, RanOver};
 
-use overlaying::{OverFault, overlaid};
+use crate::fault::OverFault;
+use crate::overlay::overlaid;
 use report_lines::ReportFault;
 use report_making::Outcome;
 use shape_desk::{Desk, put_all};

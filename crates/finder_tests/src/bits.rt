@@ -1,6 +1,6 @@
 //! The least number of a set of bits, far beyond the first word of each level, and after the numbers below it are gone.
 //! Three values of a row of bits at once, at all places of its words. How a thinning fills such bits belongs elsewhere.
-use shape_bits::{Bits, Numbers};
+use shape_grid::{Bits, Numbers};
 use std::test::Fail;
 
 #[test]

@@ -6,11 +6,8 @@
 mod bits;
 #[cfg(test)]
 mod boxes;
-pub mod close;
 #[cfg(test)]
 mod cover;
-#[cfg(test)]
-mod crack;
 #[cfg(test)]
 mod grid;
 pub mod mask;
@@ -26,8 +23,6 @@ mod plane;
 mod refute;
 #[cfg(test)]
 mod rules;
-#[cfg(test)]
-mod segment;
 #[cfg(test)]
 mod slope;
 #[cfg(test)]

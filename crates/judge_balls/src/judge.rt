@@ -10,8 +10,7 @@ ghost use Rattle.shape_window.specs.Marks.{is_marked};
 ghost use Rattle.judge_balls.specs.Tests.{PassesTests, IsFreeIn, AllMarked};
 
 use judge_field::{Scans, is_least};
-use shape_bits::Bits;
-use shape_grid::Grid;
+use shape_grid::{Bits, Grid};
 use shape_space::{NoMemory, Point, squared_distance};
 use shape_window::{holds_mark, mark_ball};
 use std::alloc::Global;

@@ -6,10 +6,10 @@ ghost use Rattle.shape_terms.specs.Covers.{arc};
 ghost use Rattle.edge_terms.specs.Corners.{IsSign, place_of, IsCorner, across_by, down_by};
 ghost use Rattle.edge_terms.specs.EdgeStraight.{HoldsCorner, IsStandardFor};
 ghost use Rattle.shape_crack.specs.Terms.{point_of};
-ghost use Rattle.shape_corner.specs.Lines.{standard_of, IsNatural};
+ghost use Rattle.edge_forms.specs.Lines.{standard_of, IsNatural};
 ghost use Rattle.judge_edges.specs.Steps.{step_from, IsProper};
 
-use shape_corner::{Arc, Corners, Standard};
+use edge_forms::{Arc, Corners, Standard};
 use shape_space::P2;
 
 // A difference of two coordinates.

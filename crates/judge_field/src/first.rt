@@ -5,8 +5,8 @@ ghost use Rattle.shape_terms.specs.Limits.{most_coordinate, most_way, most_frame
 ghost use Rattle.shape_cells.specs.Held.{HasCell};
 ghost use Rattle.judge_field.specs.Scanned.{AreLeastAlong, AreWaysBack, HasScanned, HasTwo, IsLeastAlong, first_line, first_squares};
 
-use shape_bits::Bits;
 use shape_cells::Cells;
+use shape_grid::Bits;
 use shape_space::{MOST_WAY, NoMemory};
 use std::alloc::Global;
 

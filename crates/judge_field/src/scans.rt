@@ -9,9 +9,8 @@ ghost use Rattle.judge_field.specs.Scanned.{AreObjects, AreSquaresOn, IsLeastSqu
 
 use crate::first::scan_first;
 use crate::line::scan_lines;
-use shape_bits::Bits;
 use shape_cells::Cells;
-use shape_grid::Grid;
+use shape_grid::{Bits, Grid};
 use shape_space::{NoMemory, Point, Steps};
 use std::alloc::Global;
 use std::marker::{Brand, Model};

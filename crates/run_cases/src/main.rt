@@ -5,6 +5,7 @@
 mod boxes;
 mod case;
 mod changes;
+mod close;
 mod escapes;
 mod faults;
 mod finders;

@@ -1,8 +1,8 @@
 //! What is told of runs of points: a segment that takes one after another, and the verdict on a whole run.
 ghost use Rattle.std.specs.Prelude.{◌<◌};
 
+use crate::close::{is_close, is_small};
 use crate::numbers::{number, points};
-use finder_tests::close::{is_close, is_small};
 use shape_line::Segment;
 use shape_refute::{holds, is_proper, refuses};
 use shape_space::P2;

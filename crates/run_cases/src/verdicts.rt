@@ -7,8 +7,8 @@ ghost use Rattle.shape_refute.specs.PairTerms.{IsSmall};
 ghost use Rattle.shape_line.specs.Runs.{AreInside, AreNear};
 ghost use Rattle.shape_line.specs.Verdict.{IsVerdict, IsHeld};
 
+use crate::close::is_close;
 use crate::numbers::{number, points};
-use finder_tests::close::is_close;
 use shape_line::{RunVerdict, bounds_of, decide_run};
 use shape_refute::{Bounds, Naive, Refutation, holds, is_least, is_proper, refutes, turns};
 use shape_space::{MOST_FLAT, P2, Sides};

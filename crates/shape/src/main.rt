@@ -1,13 +1,14 @@
 //! The program `shape`: the words of the command line, the real desk, and what the user sees of the run.
-//! All that it decides is decided by `run_words`, but where the system has no words for it.
+//! All that it decides is decided by `run_words`, but where the system has no words for it; `host` is the trusted edge to the system.
 #![tactic(auto)]
 
 mod ending;
+mod host;
 mod product;
 mod program;
 
 use ending::Ending;
-use host_desk::HostDesk;
+use host::HostDesk;
 use program::run_words;
 use std::env::{self, Env};
 use std::io;

@@ -13,7 +13,7 @@ use Rattle.shape_terms.specs.Adjacency.{moved, origin, cube_steps, near_steps, n
 use Rattle.shape_terms.proofs.Boxes.{in_box_first, abs_is, raster_below, raster_point_in}
 use Rattle.shape_terms.proofs.ShiftedSteps.{moved-origin}
 use Rattle.shape_terms.proofs.ObjectPlaces.{length-raster_point}
-use Rattle.shape_bits.specs.Truths.{AreThree}
+use Rattle.shape_grid.specs.Truths.{AreThree}
 use Rattle.shape_adj.specs.NearMasks.{near_total, IsNearMask, cube_total, cube_step, cube_point, IsCubeMask, IsRowMask}
 
 -- ---- the centre

@@ -9,7 +9,7 @@ use native.Mathlib.Decide.{ℕ_discrete, dec_lt}
 use Rattle.shape_terms.specs.Parts.{InOrder}
 use Rattle.shape_adj.specs.Flood.{Flooding, Flooded, Put}
 use Rattle.shape_terms.specs.Net.{IsNet}
-use Rattle.shape_bits.specs.Truths.{IsFirstTrue}
+use Rattle.shape_grid.specs.Truths.{IsFirstTrue}
 use Rattle.shape_adj.specs.Labels.{Kept, Growing, Following, Grown, Labelling, Searched, LabelsNet}
 use Rattle.shape_adj.specs.Todo.{Marked, IsTodo}
 use Rattle.shape_adj.proofs.Flooding.{flood_start, flood_work, flood_end, named_as_well}

@@ -13,7 +13,7 @@ use Rattle.shape_terms.proofs.BoxLists.{at_raster_point}
 use Rattle.shape_terms.specs.Places.{framed_number, BackgroundPlace}
 use Rattle.shape_terms.proofs.FramedEnds.{in_box_in_frame}
 use Rattle.shape_terms.proofs.FramedNumbers.{framed_number_below, framed_point-framed_number, framed_number-framed_point}
-use Rattle.shape_bits.specs.Truths.{IsFirstTrue}
+use Rattle.shape_grid.specs.Truths.{IsFirstTrue}
 use Rattle.shape_adj.specs.Todo.{Marked}
 use Rattle.shape_adj.specs.Rows.{placed, IsRow}
 use Rattle.shape_adj.proofs.OpenLinks.{marked_within}

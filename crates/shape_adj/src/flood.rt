@@ -7,7 +7,7 @@ ghost use Rattle.shape_adj.specs.Todo.{Marked, trues};
 
 use crate::net::Net;
 use crate::store::LabelStore;
-use shape_bits::Bits;
+use shape_grid::Bits;
 use shape_space::NoMemory;
 use std::alloc::{AllocError, Global};
 

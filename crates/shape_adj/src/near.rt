@@ -9,7 +9,7 @@ ghost use Rattle.shape_adj.specs.NearMasks.{IsNearMask, IsCubeMask, IsRowMask};
 
 use crate::number::{is_inner, near_number};
 use crate::pairing::Pairing;
-use shape_bits::Bits;
+use shape_grid::Bits;
 use shape_space::{NoMemory, Sides};
 use std::alloc::Global;
 

@@ -4,7 +4,7 @@ ghost use Rattle.std.specs.Prelude.{◌≡◌, ◌<◌, ◌↔◌, ℕ, Option, 
 ghost use Rattle.shape_terms.specs.Net.{IsNet};
 ghost use Rattle.shape_adj.specs.Todo.{Marked, IsRowOf, IsOpen};
 
-use shape_bits::Bits;
+use shape_grid::Bits;
 use shape_space::NoMemory;
 use std::alloc::Global;
 

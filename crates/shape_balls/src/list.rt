@@ -9,9 +9,8 @@ ghost use Rattle.shape_balls.specs.Keeping.{fact_at, InKept, IsKeeping};
 
 use crate::keep::keep_all;
 use judge_balls::Ball;
-use shape_bits::Bits;
 use shape_dist::{Field, nearest};
-use shape_grid::Grid;
+use shape_grid::{Bits, Grid};
 use shape_space::{NoMemory, Point};
 use std::alloc::Global;
 

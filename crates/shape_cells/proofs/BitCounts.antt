@@ -11,7 +11,7 @@ use Rattle.std.proofs.lemmas.Nat.Bits.{bit_at-lt}
 use Rattle.std.proofs.lemmas.List.{take_all, length-take, length-append, get_or_append_left, get_or_past, get_or_default}
 use Rattle.std.proofs.lemmas.List.Sums.{count_by_more_yes, count_by_more_no, count_by-le-length}
 use native.Mathlib.Decide.{dec_lt, ℕ_discrete}
-use Rattle.shape_bits.specs.Truths.{AreOfWord}
+use Rattle.shape_grid.specs.Truths.{AreOfWord}
 use Rattle.shape_cells.specs.Counting.{trues, trues_before, AreCounts}
 
 -- a bit counts as much as it is

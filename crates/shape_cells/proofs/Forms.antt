@@ -9,7 +9,7 @@ use Rattle.std.proofs.lemmas.Option.{slice_get-get_or}
 use Rattle.std.specs.List.{range_with_len}
 use Rattle.std.proofs.lemmas.List.FromFn.{length-map-range_with_len, get_or-map-range_with_len}
 use native.Mathlib.Decide.{dec_lt}
-use Rattle.shape_bits.specs.Truths.{IsFirstTrue}
+use Rattle.shape_grid.specs.Truths.{IsFirstTrue}
 use Rattle.shape_cells.specs.Held.{Held, HasCell, IsBareElsewhere, with_value, all_kept, trues_kept, value_at, held}
 use Rattle.shape_cells.proofs.HeldLaws.{length-values, value_of, of_other}
 

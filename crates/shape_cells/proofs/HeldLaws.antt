@@ -7,7 +7,7 @@ use Rattle.std.proofs.lemmas.List.{length-set, length-append, get_or_append_left
 use Rattle.std.proofs.Math.Seq.{get_or-append_seam}
 use Rattle.std.proofs.lemmas.List.FromFn.{length-map-range_with_len, get_or-map-range_with_len}
 use native.Mathlib.Decide.{dec_lt, ℕ_discrete}
-use Rattle.shape_bits.specs.Truths.{IsFirstTrue}
+use Rattle.shape_grid.specs.Truths.{IsFirstTrue}
 use Rattle.shape_cells.specs.Counting.{trues, trues_before}
 use Rattle.shape_cells.specs.Held.{value_at, trues_kept, with_value}
 use Rattle.shape_cells.proofs.BitCounts.{number_within, numbers_differ, more_true, none_true, all_true, true_within}

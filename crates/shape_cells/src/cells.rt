@@ -3,7 +3,7 @@
 ghost use Rattle.std.specs.Prelude.{◌≡◌, ◌+◌, ◌*◌, ◌<◌, ◌≤◌, ℕ, IfOk, MatchOption, Some, true, false, length, map, slice_get, slice_index_or};
 ghost use Rattle.std.specs.List.{range_with_len};
 ghost use Rattle.shape_terms.specs.Limits.{most_framed, most_coordinate};
-ghost use Rattle.shape_bits.specs.Truths.{IsFirstTrue};
+ghost use Rattle.shape_grid.specs.Truths.{IsFirstTrue};
 ghost use Rattle.shape_cells.specs.Counting.{trues};
 ghost use Rattle.shape_cells.specs.Held.{HasCell, IsBareElsewhere, with_value, all_kept};
 
@@ -11,7 +11,7 @@ use crate::cell::Cell;
 use crate::counts::count;
 use crate::few;
 use crate::numbering::Numbering;
-use shape_bits::Bits;
+use shape_grid::Bits;
 use shape_space::NoMemory;
 use std::alloc::Global;
 use std::marker::Model;
@@ -151,24 +151,6 @@ impl<T: Cell> Cells<T> {
         match &self.objects {
             Some(objects) => few::put(objects, &mut self.cells, place, value),
             None => self.cells[place as usize] = value,
-        }
-    }
-
-    /// Copies what so many places from a place on hold.
-    pub fn take_row(&self, row: &mut [T], start: u32)
-        requires { start + length row.old ≤ length self.now.values }
-        ensures taken { (d : T) (y : ℕ) → y < length row.old
-            → slice_index_or row.new y d ≡ slice_index_or self.now.values (start + y) d }
-        ensures long { length row.new ≡ length row.old }
-    {
-        match &self.objects {
-            Some(objects) => {
-                few::take_places(objects, self.cells.as_slice(), row, start, 0, 1, row.len());
-            }
-            None => {
-                let from = start as usize;
-                row.copy_from_slice(&self.cells[from..from + row.len()]);
-            }
         }
     }
 

@@ -4,7 +4,7 @@ ghost use Rattle.std.specs.Prelude.{◌≡◌, ◌%◌, ◌^◌, ◌<◌, ◌≤
 ghost use Rattle.shape_terms.specs.Limits.{most_framed};
 ghost use Rattle.shape_cells.specs.Counting.{trues, AreCounts};
 
-use shape_bits::Bits;
+use shape_grid::Bits;
 use shape_space::NoMemory;
 use std::alloc::Global;
 

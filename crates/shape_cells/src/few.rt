@@ -53,7 +53,7 @@ pub(crate) fn put<T: Cell>(objects: &Numbering, cells: &mut [T], place: u32, val
 }
 
 /// Copies what so many places in a row hold, from a place on, to the places number y of the lines of a block.
-pub(crate) fn take_places<T: Cell>(
+fn take_places<T: Cell>(
     objects: &Numbering,
     cells: &[T],
     block: &mut [T],

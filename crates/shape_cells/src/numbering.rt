@@ -2,11 +2,11 @@
 //! How bits are counted belongs elsewhere.
 ghost use Rattle.std.specs.Prelude.{◌≡◌, ◌<◌, ◌≤◌, ℕ, IfOk, MatchOption, length, false, slice_index_or};
 ghost use Rattle.shape_terms.specs.Limits.{most_framed};
-ghost use Rattle.shape_bits.specs.Truths.{IsFirstTrue};
+ghost use Rattle.shape_grid.specs.Truths.{IsFirstTrue};
 ghost use Rattle.shape_cells.specs.Counting.{trues, trues_before, AreCounts};
 
 use crate::counts::{counts_of, ones_below};
-use shape_bits::Bits;
+use shape_grid::Bits;
 use shape_space::NoMemory;
 use std::alloc::Global;
 use std::marker::Model;

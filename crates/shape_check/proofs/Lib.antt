@@ -1,3 +1,4 @@
+pub mod EventsFollowed
 pub mod RowLaws
 pub mod OneLine
 pub mod FirstLine

@@ -1,3 +1,4 @@
+pub mod EventStanding
 pub mod Rows
 pub mod Entered
 pub mod Going

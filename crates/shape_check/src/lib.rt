@@ -1,10 +1,11 @@
 //! The checker: whether a report holds of a picture, and else which of its lines is the first bad one.
-//! It goes through the report line by line and stands on no crate that analyses pictures.
+//! It goes through the report line by line, follows the thinning with `thin_steps`, and stands on no crate that analyses pictures or lists events.
 #![tactic(auto)]
 
 mod check;
 mod counts;
 mod end;
+mod events;
 mod heading;
 mod judges;
 pub mod law;
@@ -12,8 +13,10 @@ mod outline;
 mod sections;
 mod then;
 mod thinned;
+mod uncounted;
 mod whole;
 
 pub use check::{check_flat, check_solid};
+pub use events::ThinJudge;
 pub use report_text::{CheckFault, Judgement};
 pub use thinned::distances_of;

@@ -1,5 +1,5 @@
 //! The judge of the lines of the thinning: its events, and the counts of the points left.
-//! How the events are followed stands in `judge_thin`.
+//! How the events are followed stands in `events`.
 ghost use Rattle.std.specs.Prelude.{◌≡◌, ◌↔◌, ◌+◌, ◌<◌, true, false, IsTrue, IfOk, ℕ, List, [], ◌∷◌, ◌++◌};
 ghost use Rattle.shape_terms.specs.Pictures.{Picture};
 ghost use Rattle.shape_terms.specs.Thinning.{Rule, Event};
@@ -10,9 +10,9 @@ ghost use Rattle.shape_terms.specs.Distances.{AreDistances};
 ghost use Rattle.shape_check.specs.Followed.{Thins, HasFollowed};
 
 use crate::counts::PictureCounts;
+use crate::events::ThinJudge;
 use crate::judges::SectionJudge;
 use judge_field::Scans;
-use judge_thin::ThinJudge;
 use shape_cells::Cells;
 use shape_report::Line;
 use shape_rules::EndRule;
@@ -53,7 +53,7 @@ pub fn distances_of<P: Point>(alloc: Global, scans: &Scans<P>) -> Result<Cells<u
 }
 
 impl<P: SimpleMask> ThinnedJudge<P> {
-    ghost use Rattle.judge_thin.specs.Standing.{StandsFor};
+    ghost use Rattle.shape_check.specs.EventStanding.{StandsFor};
 
     // Lets the rule begin anew, before the first line.
     fn start(&mut self, rule: &mut dyn EndRule)
@@ -96,7 +96,7 @@ impl<P: SimpleMask> ThinnedJudge<P> {
 
 impl<P: SimpleMask> SectionJudge<P> for ThinnedJudge<P> {
     ghost use Rattle.std.specs.Prelude.{if◌then◌else◌};
-    ghost use Rattle.judge_thin.specs.Standing.{StandsFor, room_of};
+    ghost use Rattle.shape_check.specs.EventStanding.{StandsFor, room_of};
 
     ghost section = { Section.Thinned };
 

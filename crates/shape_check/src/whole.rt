@@ -4,11 +4,12 @@ ghost use Rattle.std.specs.Prelude.{◌≡◌, ◌<◌, ◌^◌, ℕ, false, Lis
 ghost use Rattle.shape_terms.specs.Parts.{Counts};
 ghost use Rattle.shape_terms.specs.Thinning.{Rule};
 ghost use Rattle.judge_field.specs.FieldState as Field;
-ghost use Rattle.judge_thin.specs.Standing as Thin;
+ghost use Rattle.shape_check.specs.EventStanding as Thin;
 ghost use Rattle.shape_check.specs.Followed.{Thins};
 
 use crate::counts::{CountsJudge, PictureCounts};
 use crate::end::EndJudge;
+use crate::events::ThinJudge;
 use crate::judges::Row;
 use crate::outline::{NoContours, NoFaces};
 use crate::then::{Then, before};
@@ -16,7 +17,6 @@ use crate::thinned::{ThinnedJudge, distances_of};
 use judge_cover::CoverJudge;
 use judge_field::FieldJudge;
 use judge_plane::PlaneJudge;
-use judge_thin::ThinJudge;
 use shape_adj::parts;
 use shape_grid::Grid;
 use shape_space::{NoMemory, P2, P3};

@@ -106,26 +106,6 @@ fn fill(points: &mut Vec<P2>, p: P2) -> Result<(), NoMemory>
     Ok(())
 }
 
-/// The contour that begins with a crack, which need not be the least of its cycle.
-///
-/// It takes memory for the points alone, and time by the number of cracks.
-pub fn trace(alloc: Global, grid: &Grid<P2>, start: Crack) -> Result<Contour, NoMemory>
-    requires { IsCrack grid.now (crack_of start) }
-    ensures { IfOk result (IsContourFrom grid.now (crack_of start)) }
-{
-    grid.is_picture();
-    let mut points = Vec::new(alloc);
-    let mut c = advance(&mut points, grid, start)?;
-    // No crack comes twice before the first one, so the steps are at most as many as there are cracks.
-    let mut steps: u32 = 1;
-    while c != start {
-        c = advance(&mut points, grid, c)?;
-        steps += 1;
-    }
-    fill(&mut points, start.p)?;
-    Ok(Contour { start, points })
-}
-
 // The number of a crack: four for each pixel, in raster order.
 fn number(grid: &Grid<P2>, c: Crack) -> u32
     requires { IsCrack grid.now (crack_of c) }
@@ -148,7 +128,8 @@ fn pass(grid: &Grid<P2>, c: Crack, marks: &mut CrackMarks)
     }
 }
 
-// The contour that `trace` finds, with the level cracks of its cycle marked on the way.
+// The contour that begins with a crack, with the level cracks of its cycle marked on the way. It takes memory for the points alone, and time by
+// the number of cracks.
 pub(crate) fn trace_marked(
     alloc: Global,
     grid: &Grid<P2>,
@@ -166,6 +147,7 @@ pub(crate) fn trace_marked(
     let mut points = Vec::new(alloc);
     pass(grid, start, marks);
     let mut c = advance(&mut points, grid, start)?;
+    // No crack comes twice before the first one, so the steps are at most as many as there are cracks.
     let mut steps: u32 = 1;
     while c != start {
         pass(grid, c, marks);

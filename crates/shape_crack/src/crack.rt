@@ -1,6 +1,6 @@
 //! Cracks of a flat picture, and which crack follows which along the edge of the object.
 //! Nothing here takes memory or looks at more than two pixels beside the crack's own.
-ghost use Rattle.std.specs.Prelude.{◌≡◌, ◌<◌, ◌≤◌, ◌↔◌, ◌-ℤ◌, nat_abs, IsTrue};
+ghost use Rattle.std.specs.Prelude.{◌≡◌, ◌<◌, ◌≤◌, ◌-ℤ◌, nat_abs};
 ghost use Rattle.shape_terms.specs.Adjacency.{moved};
 ghost use Rattle.shape_terms.specs.Contours.{normal, IsCrack, successor as successor_of};
 ghost use Rattle.shape_crack.specs.Terms.{point_of, crack_of, LeavesRoom};
@@ -32,14 +32,6 @@ fn neighbour(p: P2, side: u8) -> P2
         2 => P2 { x: p.x, y: p.y + 1 },
         _ => P2 { x: p.x - 1, y: p.y },
     }
-}
-
-/// Whether a pixel and a side are a crack of the picture; any coordinates and any side may be asked for.
-pub fn is_crack(grid: &Grid<P2>, c: Crack) -> bool
-    ensures { IsTrue result ↔ IsCrack grid.now (crack_of c) }
-{
-    grid.is_picture();
-    c.side < 4 && grid.has(c.p) && !grid.has(neighbour(c.p, c.side))
 }
 
 /// The crack that follows along the edge of the object, which lies to the right of one who walks it.

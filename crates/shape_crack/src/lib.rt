@@ -8,7 +8,7 @@ mod cycles;
 mod list;
 mod marks;
 
-pub use contour::{Contour, GREATEST_SIDE, trace};
-pub use crack::{Crack, is_crack, successor};
+pub use contour::{Contour, GREATEST_SIDE};
+pub use crack::{Crack, successor};
 pub use cycles::contours;
 pub use list::Contours;

@@ -7,8 +7,7 @@ ghost use Rattle.shape_terms.specs.FramedBox.{framed_sides, framed_point};
 ghost use Rattle.shape_dist.specs.FirstAxis.{line_length, IsLine};
 ghost use Rattle.shape_dist.specs.Objects.{AreValuesTo, AreFramedValues};
 
-use shape_bits::Bits;
-use shape_grid::Grid;
+use shape_grid::{Bits, Grid};
 use shape_space::{NoMemory, Point};
 use std::alloc::Global;
 

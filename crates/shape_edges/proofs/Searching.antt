@@ -13,11 +13,11 @@ use Rattle.shape_terms.proofs.RunArcs.{run_arcs}
 use Rattle.edge_terms.proofs.EdgeCoverOf.{edge_straightness}
 use Rattle.edge_terms.proofs.EdgeExcludes.{evidence_excludes}
 use Rattle.edge_terms.proofs.ShortEdges.{short_edge}
-use Rattle.shape_corner.specs.Lines.{standard_of}
-use Rattle.shape_corner.specs.Gaps.{gap_of}
+use Rattle.edge_forms.specs.Lines.{standard_of}
+use Rattle.edge_forms.specs.Gaps.{gap_of}
 use Rattle.shape_edges.specs.declared.grow.Grown.{Grown}
-use Rattle.shape_corner.specs.declared.arc.Arc.{Arc}
-use Rattle.shape_corner.specs.Arcs.{stretch_of}
+use Rattle.edge_forms.specs.declared.arc.Arc.{Arc}
+use Rattle.edge_forms.specs.Arcs.{stretch_of}
 use Rattle.shape_edges.specs.Searches.{IsForward, IsBack, IsReach}
 use Rattle.shape_edges.proofs.PathSteps.{taken_straight}
 

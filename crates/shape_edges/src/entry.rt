@@ -1,6 +1,6 @@
 //! What a cover keeps of one arc.
 //! How arcs are found belongs elsewhere.
-use shape_corner::{Arc, EdgeGap};
+use edge_forms::{Arc, EdgeGap};
 
 /// An arc, and why the gap after it is not straight.
 #[derive(Clone, Copy)]

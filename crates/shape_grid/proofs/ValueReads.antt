@@ -7,7 +7,7 @@ use native.Mathlib.Decide.{dec_lt}
 use Rattle.shape_terms.specs.Points.{box_count, box_points, raster_point}
 use Rattle.shape_terms.specs.Pictures.{Picture, at, objects_from}
 use Rattle.shape_terms.proofs.BoxLists.{objects_next, objects_skip, length-box_points}
-use Rattle.shape_bits.specs.Truths.{IsFirstTrue}
+use Rattle.shape_grid.specs.Truths.{IsFirstTrue}
 
 -- points without a true value are passed
 passed : (X : Picture) (n from : ℕ) → from + n ≤ box_count X.sides → ((k : ℕ) → from ≤ k → k < from + n → get_or X.values k false ≡ false) → objects_from X from ≡ objects_from X (from + n)

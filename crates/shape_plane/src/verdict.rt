@@ -87,7 +87,8 @@ fn verdict_of(d: Decided) -> Verdict
     }
 }
 
-/// Decides whether a proper naive line or plane of an axis holds all points of a list.
+/// Decides whether a proper naive line or plane of an axis holds all points of a list. No run of the program makes this call: it is for those who use
+/// the crate, for every list of points in range; `Growing::try_add` gives the same answer as the list grows.
 ///
 /// # Errors
 ///

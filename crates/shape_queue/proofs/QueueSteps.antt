@@ -7,8 +7,8 @@ use Rattle.std.proofs.lemmas.List.{length-replicate, get_or-replicate, length-se
 use Rattle.std.specs.Bool.{beq}
 use Rattle.std.specs.BTreeMap.{is_at}
 use native.Mathlib.Decide.{ℕ_discrete, dec_lt}
-use Rattle.shape_bits.specs.Sets.{In, bit_of, IsPut, IsLeast}
-use Rattle.shape_bits.specs.Truths.{is_in}
+use Rattle.shape_grid.specs.Sets.{In, bit_of, IsPut, IsLeast}
+use Rattle.shape_grid.specs.Truths.{is_in}
 use Rattle.shape_cells.specs.Held.{Held}
 use Rattle.shape_queue.specs.declared.key.Key.{Key}
 use Rattle.shape_queue.specs.declared.ranked_key.RankedKey.{RankedKey}

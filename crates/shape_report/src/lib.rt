@@ -12,4 +12,3 @@ pub use law::one_spelling;
 pub use line::{Line, SeenLine};
 pub use read::read_claim;
 pub use report_text::{Next, ReadFault, Report, WriteFault, next_claim, write_report};
-pub use spell::put_claim;

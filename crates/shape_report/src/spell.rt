@@ -16,7 +16,6 @@ ghost use Rattle.shape_report.specs.Spelling.{kind_text, split_text};
 use crate::field::{put_number, put_sense};
 use crate::line::Line;
 use report_text::{Text, kind, put_why};
-use shape_desk::put_word;
 use shape_refute::{Bounds, Naive, Refusal, Refutation, Sense};
 use shape_rules::Name;
 use shape_space::Point;
@@ -278,17 +277,4 @@ pub(crate) fn spell<P: Point>(line: &Line<P>, text: &mut Text)
 {
     text.clear();
     put_line(line, text)
-}
-
-/// Writes the spelling of a line, without its LF, at the front of the buffer, and answers its length.
-///
-/// It takes no memory.
-pub fn put_claim<P: Point>(line: &Line<P>, buf: &mut [u8; 1024]) -> usize
-    requires { IsLineOf P.DIM (line_of P.coords line.now) }
-    ensures spelled { take result buf.new ≡ spelling (line_of P.coords line.now) }
-    ensures room { result ≤ 1024 }
-{
-    let mut text = Text::new();
-    spell(line, &mut text);
-    put_word(text.bytes(), buf, 0)
 }

@@ -24,6 +24,6 @@ pub use limits::{
 pub use memory::NoMemory;
 pub use point::{P2, Point};
 pub use row::Row;
-pub use sides::{Sides, raster_order};
+pub use sides::Sides;
 pub use solid::P3;
 pub use vector::dot;

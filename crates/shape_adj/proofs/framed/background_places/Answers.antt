@@ -1,7 +1,7 @@
 use Rattle.std.proofs.Common.{◌≡◌, ◌≤◌, ◌+◌, ◌-◌, ℕ, Bool, false, List, get_or, ap, arith, subst}
 use Rattle.shape_terms.specs.Points.{box_count}
 use Rattle.shape_terms.specs.FramedBox.{framed_sides}
-use Rattle.shape_bits.specs.Truths.{IsFirstTrue}
+use Rattle.shape_grid.specs.Truths.{IsFirstTrue}
 use Rattle.shape_adj.specs.Rows.{IsRow}
 use Rattle.shape_adj.proofs.ObjectRows.{clear_more, clear_end, place_is, place_below}
 use Rattle.shape_adj.proofs.framed.background_places.Goals as goal

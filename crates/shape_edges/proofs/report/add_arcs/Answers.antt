@@ -1,7 +1,7 @@
 use Rattle.std.proofs.Common.{◌≡◌, ◌<◌, ◌≤◌, ◌++◌, length, arith, subst, sym}
 use Rattle.text_terms.specs.Spellings.{line_text}
-use Rattle.shape_corner.specs.Arcs.{stretch_of}
-use Rattle.shape_corner.specs.Lines.{standard_of}
+use Rattle.edge_forms.specs.Arcs.{stretch_of}
+use Rattle.edge_forms.specs.Lines.{standard_of}
 use Rattle.edge_terms.specs.EdgeCovers.{arc_in}
 use Rattle.edge_terms.specs.EdgeFacts.{arc_line}
 use Rattle.edge_terms.specs.Lines.{Line, spelled}

@@ -2,7 +2,7 @@ use Rattle.std.proofs.Common.{arith, ◌≡◌, ◌+◌, length, subst, []}
 use Rattle.shape_terms.specs.RunWalks.{IsWalk}
 use Rattle.shape_terms.proofs.WalkSteps.{walk_begins}
 use Rattle.edge_terms.specs.EdgeWalks.{edge_walk}
-use Rattle.shape_corner.specs.Arcs.{stretch_of}
+use Rattle.edge_forms.specs.Arcs.{stretch_of}
 use Rattle.shape_edges.proofs.Searching.{reach_longest}
 use Rattle.shape_edges.proofs.Passing.{goes_on, comes_round, few_entries}
 use Rattle.shape_edges.proofs.walk.go_round.Goals as goal

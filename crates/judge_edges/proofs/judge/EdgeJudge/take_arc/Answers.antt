@@ -1,6 +1,6 @@
 use Rattle.std.proofs.Common.{◌≡◌, ◌<◌, length, map, refl, ap, sym, ◌∙◌, arith}
 use Rattle.std.proofs.lemmas.List.{length-map}
-use Rattle.shape_corner.specs.Lines.{standard_of}
+use Rattle.edge_forms.specs.Lines.{standard_of}
 use Rattle.judge_edges.specs.EdgeState.{EdgeState}
 use Rattle.shape_refute.specs.Places.{stretch_of}
 use Rattle.judge_edges.proofs.Standings.{next_arc}

@@ -1,4 +1,4 @@
-use Rattle.edge_text.specs.LineOf.{line_of}
+use Rattle.edge_forms.specs.LineOf.{line_of}
 use Rattle.judge_edges.proofs.Taken.{good_exactly}
 use Rattle.judge_edges.proofs.whole.WholeJudgeReportJudgeEdgeLine.take.Goals as goal
 

@@ -5,7 +5,7 @@ use Rattle.std.proofs.lemmas.Result.{IfOk-weaker}
 use Rattle.shape_terms.specs.Thinning.{Event}
 use Rattle.report_terms.specs.Lines.{Line}
 use Rattle.report_terms.specs.ThinningLines.{events_of}
-use Rattle.judge_thin.specs.Standing.{StandsFor}
+use Rattle.shape_check.specs.EventStanding.{StandsFor}
 use Rattle.shape_check.proofs.ThinningJudged.{restarted, early, event_stands, kept_stands, event_answer, kept_answer}
 use Rattle.shape_check.proofs.thinned.ThinnedJudgeSectionJudge.take.Goals as goal
 

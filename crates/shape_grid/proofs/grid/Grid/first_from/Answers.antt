@@ -1,6 +1,6 @@
 use Rattle.std.proofs.Common.{◌≡◌, ◌≤◌, ℕ, false, get_or, subst}
 use Rattle.shape_terms.specs.Pictures.{Picture}
-use Rattle.shape_bits.specs.Truths.{IsFirstTrue}
+use Rattle.shape_grid.specs.Truths.{IsFirstTrue}
 use Rattle.shape_grid.proofs.ValueReads.{found, none_found}
 use Rattle.shape_grid.proofs.grid.Grid.first_from.Goals as goal
 

@@ -1,6 +1,6 @@
 use Rattle.std.proofs.Common.{◌≡◌, ◌<◌, ◌≤◌, ℕ, List, Bool, false, length, get_or, Option, Some, None, ap, sym, arith, ◌∙◌}
 use Rattle.std.specs.Prelude.{MatchOption, IfSome}
-use Rattle.shape_bits.specs.Truths.{IsFirstTrue}
+use Rattle.shape_grid.specs.Truths.{IsFirstTrue}
 use Rattle.shape_queue.specs.SpotCells.{kept_in}
 use Rattle.shape_queue.proofs.SpotLaws.{spots_long}
 use Rattle.shape_queue.proofs.spots.Spots.first_from.Goals as goal

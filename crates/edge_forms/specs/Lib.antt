@@ -1,0 +1,5 @@
+pub mod Lines
+pub mod Gaps
+pub mod Ways
+pub mod Arcs
+pub mod LineOf

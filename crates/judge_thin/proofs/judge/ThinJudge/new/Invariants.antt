@@ -1,4 +1,0 @@
-use Rattle.judge_thin.proofs.judge.ThinJudge.new.Given as goal
-
-abbrev pub ghosts-begun : goal.ghosts-begun
-ghosts-begun g a = record { name = a.blank.name; parts = a.blank.parts }

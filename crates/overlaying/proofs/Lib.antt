@@ -1,8 +1,0 @@
-pub mod Gathering
-pub mod HeadingLaws
-pub mod CircleLaws
-pub mod ContourLaws
-pub mod BorderLaws
-pub mod PathLaws
-pub mod CornerLaws
-pub mod Overs

@@ -1,8 +1,0 @@
-use Rattle.std.proofs.Common.{◌≡◌, ◌++◌, take}
-use Rattle.std.specs.List.{flat_map}
-use Rattle.overlaying.specs.Circles.{dot_text}
-use Rattle.overlaying.specs.Seen.{all_balls}
-use Rattle.overlaying.proofs.balls.put_centres.Given as goal
-
-abbrev pub invariant-loop-b : goal.invariant-loop-b
-invariant-loop-b l = l.svg ≡ l.initial.svg ++ flat_map dot_text (all_balls (take l.b-index l.balls))

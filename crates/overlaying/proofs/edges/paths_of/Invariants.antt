@@ -1,7 +1,0 @@
-use Rattle.std.proofs.Common.{◌≡◌, take}
-use Rattle.overlaying.specs.Corners.{paths_of}
-use Rattle.overlaying.specs.Seen.{all_paths}
-use Rattle.overlaying.proofs.edges.paths_of.Given as goal
-
-abbrev pub invariant-loop-k : goal.invariant-loop-k
-invariant-loop-k l = all_paths l.paths.items ≡ paths_of (take l.k l.cycles)
