@@ -6,7 +6,6 @@ use Rattle.std.specs.List.{Contains}
 use Rattle.shape_terms.specs.Points.{Point, in_box, box_points}
 use Rattle.shape_terms.specs.Pictures.{Picture, at, object_points}
 use Rattle.shape_terms.proofs.Numbered.{object_in_box}
-use Rattle.report_lines.specs.Tells.{AreSquares}
 use Rattle.measure_terms.specs.Measures.{Measures, greatest}
 use Rattle.measure_terms.specs.Feret.{Feret}
 use Rattle.measure_terms.specs.Tables.{IsTable}
@@ -21,8 +20,8 @@ use Rattle.measure_terms.proofs.HullComponents.{hulls_table, hulls_are_one}
 use Rattle.measure_terms.proofs.MomentComponents.{moments_table}
 use Rattle.measure_terms.proofs.EllipseOnce.{ellipse_once}
 use Rattle.measure_terms.proofs.ThicknessComponents.{sums_measure}
-use Rattle.shape_thickness.specs.Greatest.{told_square}
-use Rattle.shape_thickness.proofs.ThicknessLaws.{greatest_are_thicknesses, one_list}
+use Rattle.shape_thickness.specs.Greatest.{greatest_squares, told_square}
+use Rattle.shape_thickness.proofs.ThicknessLaws.{one_list}
 use Rattle.measure_report.specs.FeretColumns.{no_feret}
 use Rattle.measure_report.specs.MinkowskiColumns.{no_minkowski}
 use Rattle.measure_report.specs.HullColumns.{no_hull}
@@ -31,27 +30,30 @@ use Rattle.measure_report.specs.ThicknessColumns.{no_thickness}
 use Rattle.measure_report.specs.Further.{Further, AreThick, AreFurther, ThickComponents, FurtherComponents}
 use Rattle.measure_report.specs.declared.groups.Groups.{Groups}
 use Rattle.measure_report.proofs.FeretsOnce.{feret_once}
-use Rattle.measure_report.proofs.Squares.{told_distances}
+use Rattle.measure_report.proofs.Squares.{AreBalls}
 
 -- ---- what is told is true of the components
 
-thick_measure : (object left : Picture) (squares : List ℕ) (rows : List Measures) (ss : List ThicknessSum) → AreSquares object squares → (h : IsTable object squares left rows)
+thick_measure : (object left : Picture) (squares : List ℕ) (rows : List Measures) (ss : List ThicknessSum) → AreBalls object squares → (h : IsTable object squares left rows)
     → AreThick object squares h.labels (greatest h.labels) ss → ThickComponents object h.labels (length rows) ss
-thick_measure object left squares rows ss least h a = record {
-  local = a.balls;
-  are = greatest_are_thicknesses object (map told_square squares) a.balls (told_distances object squares least) a.greatest;
-  sums = subst (λ n. ThicknessSumsComponents object h.labels n a.balls ss) (sym (table_length object left squares rows h)) (sums_measure object h.labels (greatest h.labels) a.balls ss h.named a.sums);
-}
+unfolding AreBalls
+thick_measure object left squares rows ss balls h a =
+    let local = greatest_squares object (map told_square squares) in
+    record {
+      local = local;
+      are = balls;
+      sums = subst (λ n. ThicknessSumsComponents object h.labels n local ss) (sym (table_length object left squares rows h)) (sums_measure object h.labels (greatest h.labels) local ss h.named a);
+    }
 
-pub further_measure : (g : Groups) (d : ℕ) (object left : Picture) (squares : List ℕ) (rows : List Measures) (f : Further) → AreSquares object squares → (h : IsTable object squares left rows)
+pub further_measure : (g : Groups) (d : ℕ) (object left : Picture) (squares : List ℕ) (rows : List Measures) (f : Further) → AreBalls object squares → (h : IsTable object squares left rows)
     → AreFurther g d object squares h.labels (greatest h.labels) f → FurtherComponents g d object h.labels (length rows) f
-further_measure g d object left squares rows f least h a = record {
+further_measure g d object left squares rows f balls h a = record {
   ferets = λ e. ferets_measure object left squares rows f.ferets h (a.ferets e);
   minkowski = minkowski_table object left squares rows f.minkowski h a.minkowski;
   hulls = λ e. hulls_table object left squares rows f.hulls h (a.hulls e);
   moments = λ asked. moments_table object left squares rows f.moments h (a.moments asked);
   ellipses = λ asked e. subst (λ n. AreEllipses n f.moments f.ellipses) (sym (table_length object left squares rows h)) (a.ellipses asked e);
-  thicknesses = λ asked. thick_measure object left squares rows f.thicknesses least h (a.thicknesses asked);
+  thicknesses = λ asked. thick_measure object left squares rows f.thicknesses balls h (a.thicknesses asked);
 }
 
 -- ---- and the same of the same components

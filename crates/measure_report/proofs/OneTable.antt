@@ -20,6 +20,7 @@ use Rattle.report_terms.proofs.NamedRules.{one_on_shelf}
 use Rattle.report_lines.specs.Reports.{Space, IsReport, flat, solid}
 use Rattle.report_lines.specs.Said.{said}
 use Rattle.report_lines.specs.Tells.{StandsIn, AreSquares}
+use Rattle.report_making.specs.Made.{IsSpace}
 use Rattle.report_lines.proofs.Telling as Lines
 use Rattle.report_lines.proofs.TextLines.{one_list}
 use Rattle.measure_terms.specs.Facts.{facts}
@@ -45,6 +46,7 @@ use Rattle.measure_report.specs.declared.groups.Groups.{Groups}
 use Rattle.measure_report.proofs.FurtherOnce.{SameEntries, further_measure, further_once}
 use Rattle.measure_report.proofs.SameFurther.{same_solid, solid_names, flat_groups, flat_names, same_ratios}
 use Rattle.measure_report.proofs.TableMade.{areas_of}
+use Rattle.measure_report.proofs.Squares.{AreBalls, balls_of}
 use Rattle.measure_report.proofs.SameTables.{same_table}
 use Rattle.measure_report.proofs.SameHoles.{same_cells}
 
@@ -144,7 +146,7 @@ same_borders n m number X bs cs e f flat a b told =
 
 -- ---- the tables
 
-module _ (g : Groups) (s : Space) (X : Subject) (number : ℕ) (name text other bytes more : List ℕ) (names : AreNames (names_of X.shelf)) (i : StandsIn s X.picture)
+module _ (g : Groups) (s : Space) (X : Subject) (number : ℕ) (name text other bytes more : List ℕ) (names : AreNames (names_of X.shelf)) (known : IsSpace s) (i : StandsIn s X.picture)
     (h : HasTable g s X number name text bytes) (k : HasTable g s X number name other more) where
   a : TellAll s X name h.lines
   a = tell_all g s X number name text bytes i h
@@ -171,20 +173,20 @@ module _ (g : Groups) (s : Space) (X : Subject) (number : ℕ) (name text other 
   abbrev table : List Measures
   table = k.table.rows
 
-  -- the squared distances of a table's lines are the least ones
-  least_of : (lines : List Line) → TellAll s X name lines → AreSquares (said lines).object (said lines).squares
-  least_of lines t = subst (λ (Y : Picture). AreSquares Y (said lines).squares) (sym t.object) t.squares
+  -- the balls that a table's lines tell
+  balls : (lines : List Line) → TellAll s X name lines → AreBalls (said lines).object (said lines).squares
+  balls lines t = balls_of s known X.picture (said lines).object i t.object (said lines).squares t.squares
 
   -- what the further columns of the one table and of the other tell of the components
   mine : FurtherComponents g s.axes (said k.lines).object labels (length table) h.table.further
   mine =
-      let first = further_measure g s.axes (said h.lines).object (said h.lines).left (said h.lines).squares h.table.rows h.table.further (least_of h.lines a) h.table.table h.table.are in
+      let first = further_measure g s.axes (said h.lines).object (said h.lines).left (said h.lines).squares h.table.rows h.table.further (balls h.lines a) h.table.table h.table.are in
       subst (λ (Y : Picture). FurtherComponents g s.axes Y labels (length table) h.table.further) same.object
       (subst (λ (ls : List ℕ). FurtherComponents g s.axes (said h.lines).object ls (length table) h.table.further) same_row.labels_are
       (subst (λ (ms : List Measures). FurtherComponents g s.axes (said h.lines).object h.table.table.labels (length ms) h.table.further) same_row.rows_are first))
 
   theirs : FurtherComponents g s.axes (said k.lines).object labels (length table) k.table.further
-  theirs = further_measure g s.axes (said k.lines).object (said k.lines).left (said k.lines).squares k.table.rows k.table.further (least_of k.lines b) k.table.table k.table.are
+  theirs = further_measure g s.axes (said k.lines).object (said k.lines).left (said k.lines).squares k.table.rows k.table.further (balls k.lines b) k.table.table k.table.are
 
   entries : (j : ℕ) → j < length table → SameEntries g s.axes h.table.further k.table.further j
   entries j l = further_once g s.axes (said k.lines).object labels (length table) h.table.further k.table.further mine theirs j l
@@ -240,7 +242,7 @@ unfolding columns
 solid_once g X number name text other bytes more names i h k =
     let f = h.table.further in
     let u = k.table.further in
-    one g solid X number name text other bytes more names i h k (solid_names g f u) (λ j l. same_solid g f u j (entries g solid X number name text other bytes more names i h k j l))
+    one g solid X number name text other bytes more names (inr refl) i h k (solid_names g f u) (λ j l. same_solid g f u j (entries g solid X number name text other bytes more names (inr refl) i h k j l))
 
 -- a row of flat objects whose parts are the same
 flat_row : {a b c d e f a2 b2 c2 d2 e2 f2 : List ℕ} → a ≡ a2 → b ≡ b2 → c ≡ c2 → d ≡ d2 → e ≡ e2 → f ≡ f2 → a ++ (b ++ (c ++ (d ++ (e ++ f)))) ≡ a2 ++ (b2 ++ (c2 ++ (d2 ++ (e2 ++ f2))))
@@ -254,11 +256,11 @@ flat_once g X number name text other bytes more names i h k =
     let f = h.table.further in
     let u = k.table.further in
     let heads = flat_names g f u in
-    one g flat X number name text other bytes more names i h k
+    one g flat X number name text other bytes more names (inl refl) i h k
     (λ z. codes ",holes,border,hole_border" ++ (codes ",feret,from_x,from_y,to_x,to_y" ++ (codes ",euler"
         ++ (codes ",convex_area,convex_perimeter,min_feret,side_x,side_y" ++ (codes ",solidity,circularity" ++ heads z)))))
     (λ j l.
-        let border = same_border g flat X number name text other bytes more names i h k refl is_flat j in
-        let ratio = same_ratio g flat X number name text other bytes more names i h k refl is_flat j l in
-        let e = entries g flat X number name text other bytes more names i h k j l in
+        let border = same_border g flat X number name text other bytes more names (inl refl) i h k refl is_flat j in
+        let ratio = same_ratio g flat X number name text other bytes more names (inl refl) i h k refl is_flat j l in
+        let e = entries g flat X number name text other bytes more names (inl refl) i h k j l in
         flat_row border (ap feret_cells (e.ferets refl)) (ap (minkowski_cells false) e.minkowski) (ap hull_cells (e.hulls refl)) ratio (flat_groups g f u j e))

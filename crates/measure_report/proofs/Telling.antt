@@ -13,7 +13,7 @@ use Rattle.report_terms.specs.Shows.{TextShows}
 use Rattle.report_terms.proofs.HoldsShows.{holds_shows}
 use Rattle.report_lines.specs.Reports.{Space}
 use Rattle.report_lines.specs.Said.{said}
-use Rattle.report_lines.specs.Tells.{StandsIn, Tells, AreSquares}
+use Rattle.report_lines.specs.Tells.{StandsIn, Tells}
 use Rattle.report_lines.proofs.Telling as Lines
 use Rattle.report_lines.proofs.TextLines.{one_list}
 use Rattle.measure_terms.specs.Measures.{Measures}
@@ -30,6 +30,8 @@ use Rattle.measure_report.specs.FurtherColumns.{further_columns}
 use Rattle.measure_report.specs.TableTexts.{IsTableText}
 use Rattle.measure_report.specs.Holding.{SpellsMeasures, TableTells}
 use Rattle.measure_report.specs.declared.groups.Groups.{Groups}
+use Rattle.report_making.specs.Made.{IsSpace}
+use Rattle.measure_report.proofs.Squares.{balls_of}
 use Rattle.measure_report.proofs.FurtherOnce.{further_measure}
 use Rattle.measure_report.proofs.TableMade.{areas_of}
 
@@ -50,9 +52,9 @@ borders_so s X text t h i e =
     subst (λ ls. BordersShow (number_of ls) X.picture (borders ls)) (lines_same s X text t u i) (text_borders X text (i.picture.axes ∙ e) u)
 
 -- bytes that are the table of its lines spell the measures of the picture's components
-pub spelled_so : (g : Groups) (s : Space) (X : Subject) (text bytes : List ℕ) (t : Tells s X text) → Holds X text → StandsIn s X.picture → IsTableText g s.axes t.lines bytes → SpellsMeasures g s.axes X t.lines bytes
+pub spelled_so : (g : Groups) (s : Space) → IsSpace s → (X : Subject) (text bytes : List ℕ) (t : Tells s X text) → Holds X text → StandsIn s X.picture → IsTableText g s.axes t.lines bytes → SpellsMeasures g s.axes X t.lines bytes
 unfolding WithLabels
-spelled_so g s X text bytes t holds i h =
+spelled_so g s known X text bytes t holds i h =
     let said_left = (said t.lines).left in
     let said_object = (said t.lines).object in
     let squares = (said t.lines).squares in
@@ -78,11 +80,11 @@ spelled_so g s X text bytes t holds i h =
       further = h.further;
       are = subst (λ (ls : List ℕ). FurtherComponents g s.axes X.picture ls (length h.rows) h.further) same
           (subst (λ (Y : Picture). FurtherComponents g s.axes Y labels (length h.rows) h.further) t.object
-          (further_measure g s.axes said_object said_left squares h.rows h.further (subst (λ (Y : Picture). AreSquares Y squares) (sym t.object) t.squares) h.table h.are));
+          (further_measure g s.axes said_object said_left squares h.rows h.further (balls_of s known X.picture said_object i t.object squares t.squares) h.table h.are));
       text = h.text ∙ (λ j. table_text s.axes (further_columns g s.axes (number_of t.lines) (t.object j).sides (same j) (borders t.lines) (areas_of h.rows) h.further) h.rows);
     }
 
-pub table_tells : (g : Groups) (s : Space) (X : Subject) (text bytes : List ℕ) → Holds X text → StandsIn s X.picture → TableTells g s X text bytes
-table_tells g s X text bytes h i =
+pub table_tells : (g : Groups) (s : Space) (X : Subject) (text bytes : List ℕ) → IsSpace s → Holds X text → StandsIn s X.picture → TableTells g s X text bytes
+table_tells g s X text bytes known h i =
     let t = Lines.holding_tells s X text h i in
-    record { lines = t.lines; report = t.report; told = spelled_so g s X text bytes t h i }
+    record { lines = t.lines; report = t.report; told = spelled_so g s known X text bytes t h i }

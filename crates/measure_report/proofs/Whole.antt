@@ -25,7 +25,7 @@ module _ (g : Groups) (s : Space) (X : Subject) (name text : List ℕ) (old new 
   measures_written file ran =
       let t = holding_tells s X text holds stands in
       let w = writes_of (IsTableText g) s name text t.lines old new known t.report file ran in
-      record { lines = t.lines; report = t.report; bytes = w.bytes; spells = spelled_so g s X text w.bytes t holds stands w.made; puts = w.puts }
+      record { lines = t.lines; report = t.report; bytes = w.bytes; spells = spelled_so g s known X text w.bytes t holds stands w.made; puts = w.puts }
 
 -- ---- two runs
 

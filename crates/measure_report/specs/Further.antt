@@ -10,7 +10,7 @@ use Rattle.measure_terms.specs.Ellipse.{Ellipse}
 use Rattle.measure_terms.specs.Thickness.{AreThicknesses}
 use Rattle.measure_terms.specs.ThicknessColumns.{ThicknessSum, AreThicknessSums, ThicknessSumsComponents}
 use Rattle.measure_terms.specs.Components.{FeretsComponents}
-use Rattle.shape_thickness.specs.Greatest.{AreGreatest, told_square}
+use Rattle.shape_thickness.specs.Greatest.{greatest_squares, told_square}
 use Rattle.measure_report.specs.MomentColumns.{AreEllipses}
 use Rattle.measure_report.specs.declared.groups.Groups.{Groups}
 
@@ -26,10 +26,8 @@ pub record Further : Type 0 where
 -- ---- by labels
 
 -- the sums of the objects 1 to n, where the balls are those that the squares tell; a square of 2 ^ 32 and more counts as one of 2 ^ 32 - 1
-pub record AreThick (object : Picture) (squares labels : List ℕ) (n : ℕ) (ss : List ThicknessSum) : Type 0 where
-  pub balls : List ℕ
-  pub greatest : AreGreatest object (map told_square squares) balls
-  pub sums : AreThicknessSums object.sides labels n balls ss
+abbrev pub AreThick : (object : Picture) (squares labels : List ℕ) (n : ℕ) → List ThicknessSum → Type 0
+AreThick object squares labels n ss = AreThicknessSums object.sides labels n (greatest_squares object (map told_square squares)) ss
 
 -- those of the objects 1 to n of a picture with d axes, each the points with its label, as far as a table with these groups spells them
 pub record AreFurther (g : Groups) (d : ℕ) (object : Picture) (squares labels : List ℕ) (n : ℕ) (f : Further) : Type 0 where

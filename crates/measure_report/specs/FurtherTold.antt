@@ -2,7 +2,7 @@
 -- A further kind is one more line of each.
 use Rattle.std.specs.Prelude.{List, [], map}
 use Rattle.extents.specs.Told.{ferets_told}
-use Rattle.extents.specs.Sizes.{hull_told}
+use Rattle.extents.specs.Sizes.{hulls_told}
 use Rattle.octants.specs.Told as Octants
 use Rattle.moments.specs.Told as Moments
 use Rattle.measure_report.specs.RatioColumns as Ratios
@@ -20,7 +20,7 @@ abbrev pub flat_told : FlatColumns → Further
 flat_told c = record {
   ferets = ferets_told c.ferets.ferets.items;
   minkowski = Octants.all_told c.numbers.numbers.items;
-  hulls = map hull_told c.hulls.hulls.items;
+  hulls = hulls_told c.hulls.hulls.items;
   moments = Moments.all_told c.moments.moments.items;
   ellipses = map Moments.ellipse_told c.moments.ellipses.items;
   thicknesses = c.thickness.sums.items;

@@ -1,6 +1,11 @@
 pub mod Outlined
 pub mod BorderColumns
 pub mod FeretColumns
+pub mod HullColumns
+pub mod MinkowskiColumns
+pub mod MomentColumns
+pub mod RatioColumns
+pub mod ThicknessColumns
 pub mod Words
 pub mod Wholes
 pub mod Further

@@ -26,14 +26,29 @@ pub record AreEllipses (n : ℕ) (ms : List Moments) (es : List Ellipse) : Type 
 
 -- ---- cells
 
+-- the sums of the coordinates of the plane
+abbrev pub plane_sums : Moments → List ℕ
+plane_sums m = whole m.x ++ whole m.y
+
+-- the sums of the products of two of them
+abbrev pub plane_products : Moments → List ℕ
+plane_products m = whole m.xx ++ (whole m.xy ++ whole m.yy)
+
+-- the sums of the products with z
+abbrev pub space_products : Moments → List ℕ
+space_products m = whole m.xz ++ (whole m.yz ++ whole m.zz)
+
+-- an ellipse
+abbrev pub ellipse_cells : Ellipse → List ℕ
+ellipse_cells e = thousandths e.major ++ (thousandths e.minor ++ (signed e.double_x ++ signed e.double_y))
+
 -- those of an object of the plane
 abbrev pub flat_cells : Moments → Ellipse → List ℕ
-flat_cells m e =
-    whole m.x ++ (whole m.y ++ (whole m.xx ++ (whole m.xy ++ (whole m.yy ++ (thousandths e.major ++ (thousandths e.minor ++ (signed e.double_x ++ signed e.double_y)))))))
+flat_cells m e = plane_sums m ++ (plane_products m ++ ellipse_cells e)
 
 -- those of an object of space
 abbrev pub solid_cells : Moments → List ℕ
-solid_cells m = whole m.x ++ (whole m.y ++ (whole m.z ++ (whole m.xx ++ (whole m.xy ++ (whole m.yy ++ (whole m.xz ++ (whole m.yz ++ whole m.zz)))))))
+solid_cells m = plane_sums m ++ (whole m.z ++ (plane_products m ++ space_products m))
 
 -- the columns of flat objects with these moments and ellipses
 abbrev pub flat_moment_columns : List Moments → List Ellipse → Columns

@@ -17,7 +17,7 @@ use crate::further::{FlatColumns, SolidColumns};
 use crate::groups::Groups;
 use crate::hulls::HullColumns;
 use crate::minkowski::{FlatNumbers, SolidNumbers};
-use crate::moments::{FlatMoments, SolidMoments, ellipses};
+use crate::moment_columns::{FlatMoments, SolidMoments, ellipses};
 use crate::thickness::ThicknessColumns;
 use bordering::{Border, object_bounds};
 use diameters::{ThicknessSum, thickness_sums};
@@ -36,8 +36,8 @@ fn areas(alloc: Global, rows: &[Measures]) -> Result<Vec<u32>, NoMemory>
     ensures { IfOk result (λ v. v.items ≡ map (λ m. m.area) rows.now) }
 {
     let mut found = Vec::new(alloc);
-    for row in rows {
-        found.push(row.area)?;
+    for i in 0..rows.len() {
+        found.push(rows[i].area)?;
     }
     Ok(found)
 }

@@ -1,8 +1,8 @@
 //! The columns of a table behind those of the measures, in their order.
 //! What each kind puts is told in its own module; a further kind is one more field and one more piece of both methods.
-ghost use Rattle.std.specs.Prelude.{◌≡◌, ◌++◌, OnOk, slice_index, slice_index_or, map};
+ghost use Rattle.std.specs.Prelude.{◌≡◌, ◌++◌, OnOk, slice_index};
 ghost use Rattle.bordering.specs.Told.{all_bounds};
-ghost use Rattle.extents.specs.Sizes.{hull_told};
+ghost use Rattle.extents.specs.Sizes.{hulls_told};
 ghost use Rattle.measure_report.specs.FurtherColumns.{where_asked};
 ghost use Rattle.measure_report.specs.FurtherTold.{sizes_told};
 ghost use Rattle.measure_report.specs.RatioColumns.{sizes_at, ratio_cells};
@@ -12,7 +12,7 @@ use crate::ferets::FeretColumns;
 use crate::groups::Groups;
 use crate::hulls::{HullColumns, hull_at};
 use crate::minkowski::{FlatNumbers, SolidNumbers};
-use crate::moments::{FlatMoments, SolidMoments};
+use crate::moment_columns::{FlatMoments, SolidMoments};
 use crate::ratios::{Sizes, put_ratios};
 use crate::thickness::ThicknessColumns;
 use bordering::thousandths;
@@ -79,7 +79,7 @@ impl FlatColumns {
     // What the ratios of the object in a row go by.
     fn sizes(&self, i: usize) -> Sizes
         ensures { sizes_told result ≡ sizes_at self.now.areas.items
-            (map hull_told self.now.hulls.hulls.items)
+            (hulls_told self.now.hulls.hulls.items)
             (all_bounds self.now.borders.bounds.items) i }
     {
         let bounds = bounds_at(self.borders.bounds.as_slice(), i);

@@ -1,9 +1,9 @@
 //! The columns of convex hulls: area, perimeter, least width, and the side across which an object is so wide.
 //! A further column is one more piece in both methods, in the same place as in `specs/HullColumns.antt`.
-ghost use Rattle.std.specs.Prelude.{◌≡◌, ◌++◌, OnOk, map, slice_index_or};
-ghost use Rattle.measure_terms.specs.HullSizes.{convex_area, convex_perimeter};
-ghost use Rattle.extents.specs.Sizes.{hull_told};
-ghost use Rattle.measure_report.specs.HullColumns.{hull_cells, no_hull};
+ghost use Rattle.std.specs.Prelude.{◌≡◌, ◌++◌, OnOk, slice_index_or};
+ghost use Rattle.measure_terms.specs.HullSizes.{convex_area};
+ghost use Rattle.extents.specs.Sizes.{hull_told, hulls_told};
+ghost use Rattle.measure_report.specs.HullColumns.{convex_perimeter, hull_cells, no_hull};
 
 use extents::HullSize;
 use measuring::{Columns, Csv};
@@ -17,7 +17,7 @@ pub(crate) struct HullColumns {
 
 /// The hull of the object in a row with a place, and zeros where there is no such object.
 pub(crate) fn hull_at(all: &[HullSize], i: usize) -> HullSize
-    ensures { hull_told result ≡ slice_index_or (map hull_told all.now) i no_hull }
+    ensures { hull_told result ≡ slice_index_or (hulls_told all.now) i no_hull }
 {
     if i < all.len() {
         all[i]
@@ -61,11 +61,10 @@ fn put_hull(z: &HullSize, csv: &mut Csv) -> Result<(), NoMemory>
 }
 
 impl Columns for HullColumns {
-    ghost use Rattle.std.specs.Prelude.{map};
-    ghost use Rattle.extents.specs.Sizes.{hull_told};
+    ghost use Rattle.extents.specs.Sizes.{hulls_told};
     ghost use Rattle.measure_report.specs.HullColumns.{hull_columns};
 
-    ghost columns = { λ c. hull_columns (map hull_told c.hulls.items) };
+    ghost columns = { λ c. hull_columns (hulls_told c.hulls.items) };
 
     fn put_names(&self, csv: &mut Csv) -> Result<(), NoMemory> {
         csv.put(b",convex_area,convex_perimeter,min_feret,side_x,side_y")

@@ -22,8 +22,8 @@ ghost use Rattle.measure_report.specs.declared.groups.Groups.{Groups};
 /// of the picture that begin in it, and its holes are counted: the bounded components of what is not in it. Where the first
 /// line gives the number 2, each border is measured along the least lines of its tangential cover; else no length is told.
 pub fn holding_measures()
-    ensures { (g : Groups) (s : Space) (X : Subject) (text bytes : List ℕ) → Holds X text
-        → StandsIn s X.picture → TableTells g s X text bytes }
+    ensures { (g : Groups) (s : Space) (X : Subject) (text bytes : List ℕ) → IsSpace s
+        → Holds X text → StandsIn s X.picture → TableTells g s X text bytes }
 {}
 
 /// Two reports that hold of one picture, with one number and of one rule, have one table: their tables are equal byte by byte,

@@ -11,7 +11,7 @@ mod groups;
 mod hulls;
 mod law;
 mod minkowski;
-mod moments;
+mod moment_columns;
 mod outlined;
 mod ratios;
 mod tables;

@@ -1,7 +1,7 @@
 //! The numbers of the whole object of a report: its points and pieces, the pieces of its background, its Euler number, and in space
 //! its tunnels and its surface. What the numbers are, and how they are spelled, stands in `measure_terms`.
-ghost use Rattle.std.specs.Prelude.{◌≡◌, ◌≤◌, ◌^◌, ◌++◌, IfOk, OnOk, ℕ, unsigned_abs};
-ghost use Rattle.measure_terms.specs.Whole.{IsWholeText, tunnels, flat_whole, solid_whole, whole_text};
+ghost use Rattle.std.specs.Prelude.{◌≡◌, ◌++◌, IfOk, OnOk};
+ghost use Rattle.measure_terms.specs.Whole.{IsWholeText, tunnels, flat_whole, solid_numbers, solid_whole};
 ghost use Rattle.octants.specs.Told.{told};
 
 use measuring::Csv;
@@ -39,20 +39,28 @@ fn flat_text(alloc: Global, points: u32, counted: Parts, m: &Minkowski) -> Resul
     Ok(csv.into_text())
 }
 
+// Puts the numbers of a volume's object that stand behind its points.
+fn put_solid(counted: Parts, m: &Minkowski, csv: &mut Csv) -> Result<(), NoMemory>
+    ensures { OnOk result (csv.new
+        ≡ csv.old ++ solid_numbers counted.object counted.background (told m.now)) }
+{
+    let pores = counted.background.saturating_sub(1);
+    csv.whole(counted.object as u128)?;
+    csv.whole(pores as u128)?;
+    csv.signed(tunnels(counted.object, pores, m.euler))?;
+    csv.signed(m.euler as i128)?;
+    csv.thousandths(surface(m))
+}
+
 // The text of a volume's object.
 fn solid_text(alloc: Global, points: u32, counted: Parts, m: &Minkowski) -> Result<Vec<u8>, NoMemory>
     ensures { IfOk result (λ v. v.items
         ≡ solid_whole points counted.object counted.background (told m.now)) }
 {
-    let pores = counted.background.saturating_sub(1);
     let mut csv = Csv::new(alloc);
     csv.put(b"voxels,pieces,pores,tunnels,euler,surface\n")?;
     csv.number(points as u128)?;
-    csv.whole(counted.object as u128)?;
-    csv.whole(pores as u128)?;
-    csv.signed(tunnels(counted.object, pores, m.euler))?;
-    csv.signed(m.euler as i128)?;
-    csv.thousandths(surface(m))?;
+    put_solid(counted, m, &mut csv)?;
     csv.put(b"\n")?;
     Ok(csv.into_text())
 }

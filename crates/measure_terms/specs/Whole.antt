@@ -24,11 +24,14 @@ abbrev pub flat_whole : (points pieces background : ℕ) → Minkowski → List 
 flat_whole points pieces background m =
     codes "pixels,pieces,holes,euler\n" ++ (decimal points ++ (whole pieces ++ (whole (background - 1) ++ (signed m.euler ++ codes "\n"))))
 
--- of a volume; each component of the background but the one outside is a pore
+-- the numbers of a volume behind its points; each component of the background but the one outside is a pore
+abbrev pub solid_numbers : (pieces background : ℕ) → Minkowski → List ℕ
+solid_numbers pieces background m =
+    whole pieces ++ (whole (background - 1) ++ (signed (tunnels pieces (background - 1) m.euler) ++ (signed m.euler ++ thousandths (surface m))))
+
+-- of a volume
 abbrev pub solid_whole : (points pieces background : ℕ) → Minkowski → List ℕ
-solid_whole points pieces background m =
-    codes "voxels,pieces,pores,tunnels,euler,surface\n"
-    ++ (decimal points ++ (whole pieces ++ (whole (background - 1) ++ (signed (tunnels pieces (background - 1) m.euler) ++ (signed m.euler ++ (thousandths (surface m) ++ codes "\n"))))))
+solid_whole points pieces background m = codes "voxels,pieces,pores,tunnels,euler,surface\n" ++ (decimal points ++ (solid_numbers pieces background m ++ codes "\n"))
 
 abbrev pub whole_text : (d points pieces background : ℕ) → Minkowski → List ℕ
 whole_text d points pieces background m = if d == 2 then flat_whole points pieces background m else solid_whole points pieces background m

@@ -4,7 +4,7 @@ use Rattle.measuring.specs.TellsTable.{TellsTable}
 use Rattle.measure_report.proofs.tables.table_of.Goals as goal
 
 pub returns : goal.returns
-returns c =
+returns g c =
     let s = c.args.seen.now in
     let table = c.in_ok-table.table in
     subst (λ (X : Picture). TellsTable X s.squares s.left table) c.object.ensures

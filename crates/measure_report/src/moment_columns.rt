@@ -2,7 +2,7 @@
 //! A further column is one more piece of both spaces, in the same place as in `specs/MomentColumns.antt`.
 ghost use Rattle.std.specs.Prelude.{◌≡◌, ◌≤◌, ◌++◌, IfOk, OnOk, List, length, map, slice_index_or};
 ghost use Rattle.moments.specs.Told.{moments_told, all_told, ellipse_told};
-ghost use Rattle.measure_report.specs.MomentColumns.{flat_cells, solid_cells, no_moments, no_ellipse, IsEllipseOf, AreEllipses};
+ghost use Rattle.measure_report.specs.MomentColumns.{plane_sums, plane_products, space_products, ellipse_cells, flat_cells, solid_cells, no_moments, no_ellipse, IsEllipseOf, AreEllipses};
 
 use measuring::{Columns, Csv};
 use moments::{Ellipse, Moments};
@@ -72,10 +72,46 @@ pub(crate) fn ellipses(alloc: Global, all: &[Moments]) -> Result<Vec<Ellipse>, N
         (map ellipse_told es.items)) }
 {
     let mut found = Vec::new(alloc);
-    for m in all {
-        found.push(ellipse_of(m))?;
+    for i in 0..all.len() {
+        found.push(ellipse_of(&all[i]))?;
     }
     Ok(found)
+}
+
+// Puts the sums of the coordinates of the plane.
+fn put_plane_sums(m: &Moments, csv: &mut Csv) -> Result<(), NoMemory>
+    ensures { OnOk result (csv.new ≡ csv.old ++ plane_sums (moments_told m.now)) }
+{
+    csv.whole(m.x as u128)?;
+    csv.whole(m.y as u128)
+}
+
+// Puts the sums of the products of two of them.
+fn put_plane_products(m: &Moments, csv: &mut Csv) -> Result<(), NoMemory>
+    ensures { OnOk result (csv.new ≡ csv.old ++ plane_products (moments_told m.now)) }
+{
+    csv.whole(m.xx as u128)?;
+    csv.whole(m.xy as u128)?;
+    csv.whole(m.yy as u128)
+}
+
+// Puts the sums of the products with z.
+fn put_space_products(m: &Moments, csv: &mut Csv) -> Result<(), NoMemory>
+    ensures { OnOk result (csv.new ≡ csv.old ++ space_products (moments_told m.now)) }
+{
+    csv.whole(m.xz as u128)?;
+    csv.whole(m.yz as u128)?;
+    csv.whole(m.zz as u128)
+}
+
+// Puts an ellipse.
+fn put_ellipse(e: &Ellipse, csv: &mut Csv) -> Result<(), NoMemory>
+    ensures { OnOk result (csv.new ≡ csv.old ++ ellipse_cells (ellipse_told e.now)) }
+{
+    csv.thousandths(e.major as u128)?;
+    csv.thousandths(e.minor as u128)?;
+    csv.signed(e.double_x)?;
+    csv.signed(e.double_y)
 }
 
 // Puts the sums and the ellipse of an object of the plane.
@@ -83,15 +119,9 @@ fn put_flat(m: &Moments, e: &Ellipse, csv: &mut Csv) -> Result<(), NoMemory>
     ensures { OnOk result (csv.new
         ≡ csv.old ++ flat_cells (moments_told m.now) (ellipse_told e.now)) }
 {
-    csv.whole(m.x as u128)?;
-    csv.whole(m.y as u128)?;
-    csv.whole(m.xx as u128)?;
-    csv.whole(m.xy as u128)?;
-    csv.whole(m.yy as u128)?;
-    csv.thousandths(e.major as u128)?;
-    csv.thousandths(e.minor as u128)?;
-    csv.signed(e.double_x)?;
-    csv.signed(e.double_y)?;
+    put_plane_sums(m, csv)?;
+    put_plane_products(m, csv)?;
+    put_ellipse(e, csv)?;
     Ok(())
 }
 
@@ -99,15 +129,10 @@ fn put_flat(m: &Moments, e: &Ellipse, csv: &mut Csv) -> Result<(), NoMemory>
 fn put_solid(m: &Moments, csv: &mut Csv) -> Result<(), NoMemory>
     ensures { OnOk result (csv.new ≡ csv.old ++ solid_cells (moments_told m.now)) }
 {
-    csv.whole(m.x as u128)?;
-    csv.whole(m.y as u128)?;
+    put_plane_sums(m, csv)?;
     csv.whole(m.z as u128)?;
-    csv.whole(m.xx as u128)?;
-    csv.whole(m.xy as u128)?;
-    csv.whole(m.yy as u128)?;
-    csv.whole(m.xz as u128)?;
-    csv.whole(m.yz as u128)?;
-    csv.whole(m.zz as u128)?;
+    put_plane_products(m, csv)?;
+    put_space_products(m, csv)?;
     Ok(())
 }
 

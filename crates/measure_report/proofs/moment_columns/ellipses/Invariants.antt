@@ -1,0 +1,7 @@
+use Rattle.std.proofs.Common.{map}
+use Rattle.moments.specs.Told.{all_told, ellipse_told}
+use Rattle.measure_report.specs.MomentColumns.{AreEllipses}
+use Rattle.measure_report.proofs.moment_columns.ellipses.Given as goal
+
+abbrev pub invariant-loop-i : goal.invariant-loop-i
+invariant-loop-i l = AreEllipses l.i (all_told l.all) (map ellipse_told l.found.items)
