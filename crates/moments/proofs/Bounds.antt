@@ -13,14 +13,11 @@ pub product_small : (a b n : ℕ) → a ≤ most_coordinate * n → b ≤ most_c
 product_small a b n h k = let e = mul-le a b (most_coordinate * n) (most_coordinate * n) h k in omega (arith, e)
 
 -- n points have so many pairs at most
-pub few_pairs : (n : ℕ) → n ≤ most_points → n * n ≤ 2 ^ 60
+few_pairs : (n : ℕ) → n ≤ most_points → n * n ≤ 2 ^ 60
 few_pairs n l = mul-le n n most_points most_points l l
 
 pub small_entry : (n p : ℕ) → n ≤ most_points → p ≤ most_product * (n * n) → p ≤ 2 ^ 90
 small_entry n p l h = let e = few_pairs n l in omega (arith, e, h)
-
-pub small_number : (n : ℕ) (z : ℤ) → n ≤ most_points → nat_abs z ≤ 2 * most_entry * (n * n) → nat_abs z ≤ 2 ^ 94
-small_number n z l h = let e = few_pairs n l in omega (arith, e, h)
 
 pub small_thrice : (n odd : ℕ) → n ≤ most_points → odd ≤ 2 ^ 30 → 3 * (n * n) * (odd * odd) ≤ 2 ^ 122
 small_thrice n odd l m =

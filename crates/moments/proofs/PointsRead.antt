@@ -20,7 +20,7 @@ use Rattle.moments.specs.SoFar.{moments_with, labelled_below, AreMomentsSoFar}
 
 -- ---- one point more
 
-pub moments_more : (ps : List Point) (p : Point) → moments_of (ps ++ p ∷ []) ≡ moments_with (moments_of ps) p
+moments_more : (ps : List Point) (p : Point) → moments_of (ps ++ p ∷ []) ≡ moments_with (moments_of ps) p
 moments_more ps p =
     let n : length (ps ++ p ∷ []) ≡ length ps + 1 = omega (arith, length-append ps (p ∷ [])) in
     let x = sum_by_push (place 0) ps p in
