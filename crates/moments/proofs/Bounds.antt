@@ -1,10 +1,9 @@
 -- How large the sums of products of an object's points are, and the entries of its covariance matrix.
 -- Numbers alone.
 use Rattle.std.proofs.Common.{ℕ, ◌*◌, ◌^◌, ◌≤◌, arith}
-use Rattle.std.specs.Prelude.{ℤ, nat_abs}
 use Rattle.std.proofs.lemmas.Nat.{mul-le}
 use Rattle.shape_terms.specs.Limits.{most_points, most_coordinate}
-use Rattle.moments.specs.Fitting.{most_product, most_entry}
+use Rattle.moments.specs.Fitting.{most_product}
 
 pub moment_small : (n s : ℕ) → s ≤ most_product * n → n * s ≤ most_product * (n * n)
 moment_small n s h = let e = mul-le n s n (most_product * n) (omega arith) h in omega (arith, e)
