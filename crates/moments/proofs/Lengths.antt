@@ -1,17 +1,16 @@
 -- Every axis is less than the greatest length that is searched, and what is less than a length is less than a greater one.
 -- Matrices as plain numbers.
 use Rattle.std.proofs.Common.{◌≡◌, inl, inr, ℕ, ◌+◌, ◌*◌, ◌<◌, ◌≤◌, subst, ap, ◌∙◌, arith}
-use Rattle.std.specs.Prelude.{ℤ, pos, ◌+ℤ◌, ◌-ℤ◌, ◌*ℤ◌, ◌<ℤ◌, ◌≤ℤ◌, nat_abs}
+use Rattle.std.specs.Prelude.{ℤ, pos, ◌-ℤ◌, ◌*ℤ◌, ◌<ℤ◌, ◌≤ℤ◌, nat_abs}
 use Rattle.std.proofs.lemmas.Int.{ints, unsigned_abs-mul}
 use Rattle.std.proofs.lemmas.Nat.{mul-le}
-use Rattle.measure_terms.specs.Ellipse.{IsMajorBelow, IsMinorBelow, IsRootBelow, IsRounded, room, square, trace, discriminant}
-use Rattle.measure_terms.specs.Moments.{Moments}
+use Rattle.measure_terms.specs.Ellipse.{IsMajorBelow, IsMinorBelow, IsRootBelow, room, square}
 use Rattle.measure_terms.proofs.EllipseOnce.{major_rises, minor_rises}
 use Rattle.moments.specs.declared.matrix.Matrix.{Matrix}
 use Rattle.moments.specs.declared.below.Axis.{Axis}
 use Rattle.moments.specs.declared.below.Axis.TheVariants.{Major, Minor}
 use Rattle.moments.specs.Fitting.{most_entry, most_axis, AreSmall}
-use Rattle.moments.specs.Matrices.{IsBelow, TellsMatrix}
+use Rattle.moments.specs.Matrices.{IsBelow}
 use Rattle.moments.proofs.Squares.{scaled_squares}
 
 -- ---- tests
@@ -84,13 +83,3 @@ below_at_most Minor a some h = inl (root_at_most a.count a.trace a.double_x a.do
 pub below_rises : (axis : Axis) (a : Matrix) (r s : ℕ) → r ≤ s → IsBelow axis a r → IsBelow axis a s
 below_rises Major a = major_rises a.count a.trace (square a.double_x + square a.double_y)
 below_rises Minor a = minor_rises a.count a.trace (square a.double_x + square a.double_y)
-
--- ---- the ellipse
-
--- a length of a matrix is that of the moments that it tells
-pub rounded_told : (P : (n : ℕ) (t : ℤ) (d r : ℕ) → Type 0) (m : Moments) (a : Matrix) (r : ℕ) → TellsMatrix m a
-    → IsRounded (P a.count a.trace (square a.double_x + square a.double_y)) r → IsRounded (P m.count (trace m) (discriminant m)) r
-rounded_told P m a r h x =
-    let b = subst (λ n. IsRounded (P n a.trace (square a.double_x + square a.double_y)) r) h.count x in
-    let c = subst (λ t. IsRounded (P m.count t (square a.double_x + square a.double_y)) r) h.trace b in
-    subst (λ d. IsRounded (P m.count (trace m) d) r) (λ i. square (h.double_x i) + square (h.double_y i)) c

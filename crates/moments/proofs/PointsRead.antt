@@ -1,7 +1,7 @@
 -- The moments of the objects with one point of the box more.
 -- Labels and lists of moments alone.
 use Rattle.std.proofs.Common.{◌≡◌, ◌⊎◌, inl, inr, ℕ, ◌+◌, ◌*◌, ◌<◌, ◌≤◌, Bool, true, false, List, [], ◌∷◌, ◌++◌, length, map, get_or, set, sym, ap, ◌∙◌, arith}
-use Rattle.std.specs.Prelude.{◌==◌, filter, sum_by}
+use Rattle.std.specs.Prelude.{◌==◌, filter}
 use Rattle.std.specs.List.{range_with_len}
 use Rattle.std.proofs.lemmas.Bool.{cond-true, cond-false}
 use Rattle.std.proofs.lemmas.Bool.Decides.{nat_tests}
@@ -12,7 +12,7 @@ use Rattle.std.proofs.lemmas.List.Sums.{sum_by_push, length-filter, count_by-le-
 use Rattle.std.proofs.Math.ListN.{get_or-append}
 use Rattle.std.proofs.Math.Seq.{get_or-append_seam}
 use native.Mathlib.Decide.{ℕ_discrete}
-use Rattle.shape_terms.specs.Points.{Point, box_count, box_points, raster_number, raster_point}
+use Rattle.shape_terms.specs.Points.{Point, box_count, raster_number, raster_point}
 use Rattle.shape_terms.proofs.Boxes.{raster_number-raster_point}
 use Rattle.shape_terms.proofs.BoxLists.{box_points_are}
 use Rattle.measure_terms.specs.Moments.{Moments, place, moments_of, AreMoments}
@@ -20,7 +20,7 @@ use Rattle.moments.specs.SoFar.{moments_with, labelled_below, AreMomentsSoFar}
 
 -- ---- one point more
 
-pub moments_more : (ps : List Point) (p : Point) → moments_of (ps ++ p ∷ []) ≡ moments_with (moments_of ps) p
+moments_more : (ps : List Point) (p : Point) → moments_of (ps ++ p ∷ []) ≡ moments_with (moments_of ps) p
 moments_more ps p =
     let n : length (ps ++ p ∷ []) ≡ length ps + 1 = omega (arith, length-append ps (p ∷ [])) in
     let x = sum_by_push (place 0) ps p in

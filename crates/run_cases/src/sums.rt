@@ -22,7 +22,11 @@ fn put_ellipse(text: &mut String, m: &Moments) -> io::Result<()> {
 // Puts the moments of an object behind a text, and its ellipse.
 fn put_moments(text: &mut String, m: &Moments) -> io::Result<()> {
     write!(text, " {}: {} {} {}", m.count, m.x, m.y, m.z)?;
-    write!(text, ", {} {} {} {} {} {}", m.xx, m.xy, m.yy, m.xz, m.yz, m.zz)?;
+    write!(
+        text,
+        ", {} {} {} {} {} {}",
+        m.xx, m.xy, m.yy, m.xz, m.yz, m.zz
+    )?;
     put_ellipse(text, m)
 }
 

@@ -1,4 +1,4 @@
-use Rattle.std.proofs.Common.{◌+◌, ◌*◌, arith}
+use Rattle.std.proofs.Common.{arith}
 use Rattle.moments.proofs.Bounds.{small_thrice}
 use Rattle.moments.proofs.below.thrice.Goals as goal
 

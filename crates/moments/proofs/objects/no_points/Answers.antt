@@ -1,4 +1,4 @@
-use Rattle.std.proofs.Common.{◌≡◌, sym, subst, arith}
+use Rattle.std.proofs.Common.{◌≡◌, subst, arith}
 use Rattle.moments.specs.SoFar.{AreMomentsSoFar}
 use Rattle.moments.specs.Told.{moments_told, all_told}
 use Rattle.moments.proofs.RowsTold.{one_empty_more}

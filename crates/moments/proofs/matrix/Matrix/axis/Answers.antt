@@ -1,4 +1,4 @@
-use Rattle.std.proofs.Common.{◌≡◌, ◌+◌, ◌/◌, ◌<◌, ◌≤◌, sym, subst, arith}
+use Rattle.std.proofs.Common.{◌≡◌, ◌+◌, ◌/◌, subst, arith}
 use Rattle.moments.specs.Matrices.{IsBelow}
 use Rattle.moments.proofs.Lengths.{below_at_most, below_rises}
 use Rattle.moments.proofs.matrix.Matrix.axis.Goals as goal
@@ -21,8 +21,8 @@ loop-low-preserved-then-is_below c =
       high = c.is_below.ensures.0 c.if-is_below.true;
     }
 
-pub loop-low-preserved-else-is_below : goal.loop-low-preserved-else-is_below
-loop-low-preserved-else-is_below c =
+pub loop-low-preserved : goal.loop-low-preserved
+loop-low-preserved c =
     let middle = (c.loop-low.low + c.loop-low.high) / 2 in
     let order = c.loop-low.invariant.order in
     let most = c.loop-low.invariant.most in record {
