@@ -1,4 +1,4 @@
-//! Tests of points, grids, exact tests, finders, rules and thinnings, each crate by its public names alone: of what no run of a program shows.
+//! Tests of points, grids, exact tests, finders, rules, thinnings and Euler numbers, each crate by its public names alone: of what no run of a program shows.
 //! The crates that they call have none of their own: what is proved of them is proved once.
 #![tactic(auto)]
 
