@@ -20,3 +20,5 @@ pub mod AreaSigns
 pub mod OneWidth
 pub mod OneHull
 pub mod HullComponents
+pub mod Narrowest
+pub mod NarrowestSides
