@@ -34,6 +34,13 @@ fn greatest(a: i32, b: i32) -> i32
     if a < b { b } else { a }
 }
 
+// The line with these coordinates.
+fn line(y: i32, left: i32, right: i32) -> Line
+    ensures { result ≡ record { y = y; left = left; right = right } }
+{
+    Line { y, left, right }
+}
+
 impl Line {
     /// The line above a row.
     pub(crate) fn above(row: Row) -> Line
@@ -66,10 +73,10 @@ impl Line {
         ensures joined { IsJoined self other result }
         ensures short { IsShortLine result }
     {
-        Line {
-            y: other.y,
-            left: least(self.left, other.left),
-            right: greatest(self.right, other.right),
-        }
+        line(
+            other.y,
+            least(self.left, other.left),
+            greatest(self.right, other.right),
+        )
     }
 }
