@@ -35,7 +35,7 @@ fn greatest(a: i32, b: i32) -> i32
 }
 
 // The line with these coordinates.
-fn line(y: i32, left: i32, right: i32) -> Line
+fn line_of(y: i32, left: i32, right: i32) -> Line
     ensures { result ≡ record { y = y; left = left; right = right } }
 {
     Line { y, left, right }
@@ -73,7 +73,7 @@ impl Line {
         ensures joined { IsJoined self other result }
         ensures short { IsShortLine result }
     {
-        line(
+        line_of(
             other.y,
             least(self.left, other.left),
             greatest(self.right, other.right),

@@ -4,7 +4,7 @@ use Rattle.extents.proofs.LinesPut.{joined_short}
 use Rattle.extents.proofs.line.Line.joined.Goals as goal
 
 pub returns-clause-joined : goal.returns-clause-joined
-returns-clause-joined c = subst (IsJoined c.args.self c.args.other) (sym c.line.ensures) (record {
+returns-clause-joined c = subst (IsJoined c.args.self c.args.other) (sym c.line_of.ensures) (record {
   row = refl;
   left = c.least.ensures.left;
   left_too = c.least.ensures.right;
