@@ -145,13 +145,13 @@ end_seen S rows k p h e = elim e.end.one [
 ]
 
 -- a point of the object lies in a row
-record IsHeld (rows : List Row) (p : Point) : Type 0 where
+pub record IsHeld (rows : List Row) (p : Point) : Type 0 where
   pub spot : Spot
   pub is : point_of spot ≡ p
   pub place : ℕ
   pub row : IsInRow rows place spot
 
-held : (w h : ℕ) (labels : List ℕ) (k : ℕ) (rows : List Row) (p : Point) → AreRowsOf (IsSeen (w ∷ h ∷ []) labels k (box_count (w ∷ h ∷ []))) rows → HasLabel (w ∷ h ∷ []) labels k p → IsHeld rows p
+pub held : (w h : ℕ) (labels : List ℕ) (k : ℕ) (rows : List Row) (p : Point) → AreRowsOf (IsSeen (w ∷ h ∷ []) labels k (box_count (w ∷ h ∷ []))) rows → HasLabel (w ∷ h ∷ []) labels k p → IsHeld rows p
 held w h labels k rows p o l =
     let sides = w ∷ h ∷ [] in
     let s = spot_is w h p l.inside in

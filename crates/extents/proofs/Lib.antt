@@ -18,3 +18,6 @@ mod Summing
 mod Narrowing
 mod LinesPut
 mod Shorts
+mod Roots
+mod LabelledHulls
+mod Sized

@@ -1,6 +1,6 @@
 -- The corners of rows line by line, with one line more.
 -- Rows, lines and lists of corners alone.
-use Rattle.std.proofs.Common.{◌≡◌, ◌⊎◌, inl, inr, ℕ, zero, suc, ◌+◌, ◌<◌, ◌≤◌, List, [], ◌∷◌, ◌++◌, length, ap, refl, sym, subst, ◌∙◌, arith, length-append}
+use Rattle.std.proofs.Common.{◌≡◌, ◌⊎◌, inl, inr, ℕ, zero, suc, ◌+◌, ◌-◌, ◌^◌, ◌<◌, ◌≤◌, unsigned_abs, List, [], ◌∷◌, ◌++◌, length, ap, refl, sym, subst, ◌∙◌, add-one, arith, length-append}
 use Rattle.std.proofs.Math.IntN.{ℤ, pos, negsuc}
 use Rattle.std.proofs.Math.ListN.{get_or-append}
 use Rattle.std.proofs.Math.Seq.{get_or-append_seam}
@@ -128,6 +128,21 @@ put_line rows n m y l ps h down wide short begins ends cover = record {
     }
   ];
 }
+
+-- a line that reaches over two of a box lies in it
+pub joined_short : (a b l : Line) → IsJoined a b l → IsShortLine a → IsShortLine b → IsShortLine l
+joined_short a b l j h k =
+    let y : unsigned_abs l.y ≤ 2 ^ 16 = subst (λ z. unsigned_abs z ≤ 2 ^ 16) (sym j.row) k.first.y in
+    record {
+      first = record {
+        x = elim j.begins [ inl e ↦ subst (λ z. unsigned_abs z ≤ 2 ^ 16) (sym e) h.first.x | inr e ↦ subst (λ z. unsigned_abs z ≤ 2 ^ 16) (sym e) k.first.x ];
+        y = y;
+      };
+      last = record {
+        x = elim j.ends [ inl e ↦ subst (λ z. unsigned_abs z ≤ 2 ^ 16) (sym e) h.last.x | inr e ↦ subst (λ z. unsigned_abs z ≤ 2 ^ 16) (sym e) k.last.x ];
+        y = y;
+      };
+    }
 
 -- ---- corners of rows on lines
 
@@ -277,3 +292,70 @@ module _ (rows : List Row) (are : AreRows rows) where
         let r = no_lower_row a.place n (omega (arith, w, e)) (omega (arith, e)) in
         h.hold p b (omega (arith, ints, q, r)));
   }
+
+-- ---- as the program puts them
+
+reach_next : (rows : List Row) (n : ℕ) → reach rows (n + 1) ≡ pos (row_at rows n).y
+reach_next rows n = rw add-one refl
+
+reach_second : (rows : List Row) (n : ℕ) → reach rows (n + 2) ≡ pos (row_at rows (n + 1)).y
+reach_second rows n = let e : n + 1 + 1 ≡ n + 2 = omega arith in subst (λ k. reach rows k ≡ pos (row_at rows (n + 1)).y) e (reach_next rows (n + 1))
+
+-- where the lines between two rows are one
+pub put_joined : (rows : List Row) (n : ℕ) (u v : Row) (a b l : Line) (old new : List Corner) → AreRows rows → n + 1 < length rows → u ≡ row_at rows n → v ≡ row_at rows (n + 1)
+    → a ≡ below u → b ≡ above v → a.y ≡ b.y → IsJoined a b l → IsShortLine l → new ≡ with_line old l → AreLines rows (n + 1) (reach rows (n + 1)) old → AreLines rows (n + 2) (reach rows (n + 2)) new
+put_joined rows n u v a b l old new are k up low is is' level j short put h =
+    let one : a ≡ below (row_at rows n) = is ∙ ap below up in
+    let two : b ≡ above (row_at rows (n + 1)) = is' ∙ ap above low in
+    let e = ap (λ (z : Line). z.y) one in
+    let f = ap (λ (z : Line). z.y) two in
+    let near : (row_at rows n).y + 1 ≡ (row_at rows (n + 1)).y = whole _ _ (sym e ∙ level ∙ f) in
+    let j' = subst (λ z. IsJoined z (above (row_at rows (n + 1))) l) one (subst (λ z. IsJoined a z l) two j) in
+    subst (λ ps. AreLines rows (n + 2) (reach rows (n + 2)) ps) (sym put)
+    (subst (λ y. AreLines rows (n + 2) y (with_line old l)) (sym (reach_second rows n)) (line_between rows are n k near l j' short old (subst (λ y. AreLines rows (n + 1) y old) (reach_next rows n) h)))
+  where
+    whole : (x y : ℕ) → pos x ≡ pos y → x ≡ y
+    whole x y e = omega (arith, ints, e)
+
+-- where they are apart
+pub put_apart : (rows : List Row) (n : ℕ) (u v : Row) (a b : Line) (old mid new : List Corner) → AreRows rows → n + 1 < length rows → u ≡ row_at rows n → v ≡ row_at rows (n + 1)
+    → a ≡ below u → b ≡ above v → (a.y ≡ b.y → ⊥) → IsShortLine a → IsShortLine b → mid ≡ with_line old a → new ≡ with_line mid b
+    → AreLines rows (n + 1) (reach rows (n + 1)) old → AreLines rows (n + 2) (reach rows (n + 2)) new
+put_apart rows n u v a b old mid new are k up low is is' apart short short' put put' h =
+    let one : a ≡ below (row_at rows n) = is ∙ ap below up in
+    let two : b ≡ above (row_at rows (n + 1)) = is' ∙ ap above low in
+    let e = ap (λ (z : Line). z.y) one in
+    let f = ap (λ (z : Line). z.y) two in
+    let rises = are.rising n (n + 1) (omega arith) k in
+    let far : (row_at rows n).y + 1 < (row_at rows (n + 1)).y = farther _ _ rises (λ g. apart (e ∙ ap pos g ∙ sym f)) in
+    let first' = subst (λ z. AreLines rows (n + 1) (pos ((row_at rows n).y + 1)) (with_line old z)) (sym one)
+    (line_below rows are n (omega (arith, k)) (subst IsShortLine one short) old (subst (λ y. AreLines rows (n + 1) y old) (reach_next rows n) h)) in
+    let mid' = subst (AreLines rows (n + 1) (pos ((row_at rows n).y + 1))) (sym put) first' in
+    let last' = line_above rows are n k far (subst IsShortLine two short') mid mid' in
+    subst (λ ps. AreLines rows (n + 2) (reach rows (n + 2)) ps) (sym put')
+    (subst (λ z. AreLines rows (n + 2) (reach rows (n + 2)) (with_line mid z)) (sym two) (subst (λ y. AreLines rows (n + 2) y (with_line mid (above (row_at rows (n + 1))))) (sym (reach_second rows n)) last'))
+  where
+    farther : (x y : ℕ) → x < y → (x + 1 ≡ y → ⊥) → x + 1 < y
+    farther x y l no = (let c : (x + 1 < y) ⊎ (x + 1 ≡ y) = grind arith in elim c [ inl m ↦ m | inr g ↦ absurd (no g) ])
+
+-- the first row
+pub put_first : (rows : List Row) (at : ℕ) (u : Row) (a : Line) (old new : List Corner) → AreRows rows → at < length rows → at ≡ 0 → u ≡ row_at rows at → a ≡ above u → IsShortLine a → new ≡ with_line old a
+    → AreLines rows at (reach rows at) old → AreLines rows (at + 1) (reach rows (at + 1)) new
+put_first rows at u a old new are k zero' up is short put h =
+    let one : a ≡ above (row_at rows 0) = is ∙ ap above (up ∙ ap (row_at rows) zero') in
+    let e : 1 ≡ at + 1 = omega (arith, zero') in
+    let r = first_line rows are (omega (arith, k, zero')) (subst IsShortLine one short) old (subst (λ n. AreLines rows n (reach rows n) old) zero' h) in
+    subst (λ ps. AreLines rows (at + 1) (reach rows (at + 1)) ps) (sym put)
+    (subst (λ n. AreLines rows n (reach rows n) (with_line old a)) e (subst (λ z. AreLines rows 1 (reach rows 1) (with_line old z)) (sym one) r))
+
+-- the last one
+pub put_end : (rows : List Row) (u : Row) (a : Line) (old new : List Corner) → AreRows rows → 1 ≤ length rows → u ≡ row_at rows (length rows - 1) → a ≡ below u → IsShortLine a → new ≡ with_line old a
+    → AreLines rows (length rows) (reach rows (length rows)) old → (y : ℤ) × AreLines rows (length rows) y new × AreEndsOf (IsCornerOfRows rows (length rows)) (IsOf new)
+put_end rows u a old new are some up is short put h =
+    let n = length rows - 1 in
+    let e : length rows ≡ n + 1 = omega (arith, some) in
+    let one : a ≡ below (row_at rows n) = is ∙ ap below up in
+    let h' = subst (λ y. AreLines rows (n + 1) y old) (reach_next rows n) (subst (λ k. AreLines rows k (reach rows k) old) e h) in
+    let r = line_below rows are n (omega (arith, some)) (subst IsShortLine one short) old h' in
+    let r' = subst (AreLines rows (n + 1) (pos ((row_at rows n).y + 1))) (sym put) (subst (λ z. AreLines rows (n + 1) (pos ((row_at rows n).y + 1)) (with_line old z)) (sym one) r) in
+    (pos ((row_at rows n).y + 1), subst (λ k. AreLines rows k (pos ((row_at rows n).y + 1)) new) (sym e) r', all_lines rows are n (sym e) new r')

@@ -1,10 +1,10 @@
 //! The corners of an object that bound it in each line of the grid, in raster order, from its rows.
 //! A line between a row and the one right below has the outermost corners of both.
-ghost use Rattle.std.specs.Prelude.{◌≡◌, ◌<◌, ◌≤◌, ◌+◌, ◌*◌, ℕ, List, length, IfOk, OnOk};
+ghost use Rattle.std.specs.Prelude.{◌≡◌, ◌↔◌, ◌<◌, ◌≤◌, ◌+◌, ◌^◌, ℕ, List, length, IfOk, OnOk, IsTrue};
 ghost use Rattle.extents.specs.Rows.{row_at, AreRows};
 ghost use Rattle.extents.specs.declared.row.Row.{Row};
 ghost use Rattle.extents.specs.Corners.{corners, IsOf, AreInRasterOrder, AreShort, AreEndsOf, IsCornerOfRows};
-ghost use Rattle.extents.specs.Lines.{IsShortLine, with_line, AreLines, reach};
+ghost use Rattle.extents.specs.Lines.{with_line, AreLines, reach};
 
 use crate::line::Line;
 use crate::row::Row;
@@ -27,22 +27,48 @@ fn put_line(points: &mut Vec<P2>, line: Line) -> Result<(), NoMemory>
     Ok(())
 }
 
-// Puts the line between two rows, where they are apart, and the one above the lower of them.
+// Puts both ends of one line and of another.
+fn put_lines(points: &mut Vec<P2>, upper: Line, lower: Line) -> Result<(), NoMemory>
+    ensures ends { OnOk result (corners points.new.items
+        ≡ with_line (with_line (corners points.old.items) upper) lower) }
+    ensures few { OnOk result (length points.new.items ≡ length points.old.items + 4) }
+{
+    put_line(points, upper)?;
+    put_line(points, lower)?;
+    Ok(())
+}
+
+// Whether two lines lie as far down.
+fn are_level(a: Line, b: Line) -> bool
+    ensures { IsTrue result ↔ a.y ≡ b.y }
+{
+    a.y == b.y
+}
+
+// Puts the line between two rows, or where they are apart the one below the upper and the one above the lower of them.
 fn put_between(points: &mut Vec<P2>, before: Row, row: Row) -> Result<(), NoMemory>
-    requires { before.y < row.y }
-    ensures lines { (rows : List Row) (n : ℕ) → AreRows rows → n + 1 < length rows → before ≡ row_at rows n → row ≡ row_at rows (n + 1)
+    ensures lines { (rows : List Row) (n : ℕ) → AreRows rows → n + 1 < length rows
+        → before ≡ row_at rows n → row ≡ row_at rows (n + 1)
         → AreLines rows (n + 1) (reach rows (n + 1)) (corners points.old.items)
         → OnOk result (AreLines rows (n + 2) (reach rows (n + 2)) (corners points.new.items)) }
     ensures few { OnOk result (length points.new.items ≤ length points.old.items + 4) }
 {
-    let (upper, lower) = (Line::below(before), Line::above(row));
-    if upper.y == lower.y {
+    let upper = Line::below(before);
+    let lower = Line::above(row);
+    if are_level(upper, lower) {
         put_line(points, upper.joined(lower))?;
         return Ok(());
     }
-    put_line(points, upper)?;
-    put_line(points, lower)?;
+    put_lines(points, upper, lower)?;
     Ok(())
+}
+
+// The row with a place.
+fn row_of(rows: &[Row], i: usize) -> Row
+    requires { i < length rows.now }
+    ensures { result ≡ row_at rows.now i }
+{
+    rows[i]
 }
 
 // Puts the lines above the row with a place.
@@ -50,15 +76,16 @@ fn put_row(points: &mut Vec<P2>, rows: &[Row], at: usize) -> Result<(), NoMemory
     requires within { at < length rows.now }
     requires rows { AreRows rows.now }
     ensures lines { AreLines rows.now at (reach rows.now at) (corners points.old.items)
-        → OnOk result (AreLines rows.now (at + 1) (reach rows.now (at + 1)) (corners points.new.items)) }
+        → OnOk result
+        (AreLines rows.now (at + 1) (reach rows.now (at + 1)) (corners points.new.items)) }
     ensures few { OnOk result (length points.new.items ≤ length points.old.items + 4) }
 {
-    let row = rows[at];
+    let row = row_of(rows, at);
     if at == 0 {
         put_line(points, Line::above(row))?;
         return Ok(());
     }
-    put_between(points, rows[at - 1], row)?;
+    put_between(points, row_of(rows, at - 1), row)?;
     Ok(())
 }
 
@@ -68,13 +95,15 @@ pub(crate) fn bounds(alloc: Global, rows: &[Row]) -> Result<Vec<P2>, NoMemory>
     requires rows { AreRows rows.now }
     ensures order { IfOk result (λ ps. AreInRasterOrder (corners ps.items)) }
     ensures short { IfOk result (λ ps. AreShort (corners ps.items)) }
-    ensures ends { IfOk result (λ ps. AreEndsOf (IsCornerOfRows rows.now (length rows.now)) (IsOf (corners ps.items))) }
-    ensures few { IfOk result (λ ps. length ps.items ≤ 4 * length rows.now + 2) }
+    ensures ends { IfOk result (λ ps. AreEndsOf (IsCornerOfRows rows.now (length rows.now))
+        (IsOf (corners ps.items))) }
+    ensures few { IfOk result (λ ps. length ps.items ≤ 2 ^ 19) }
 {
     let mut points = Vec::new(alloc);
     for at in 0..rows.len() {
         put_row(&mut points, rows, at)?;
     }
-    put_line(&mut points, Line::below(rows[rows.len() - 1]))?;
+    let last = row_of(rows, rows.len() - 1);
+    put_line(&mut points, Line::below(last))?;
     Ok(points)
 }

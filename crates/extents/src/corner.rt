@@ -6,13 +6,21 @@ ghost use Rattle.extents.specs.Corners.{corner, corners, IsShort, AreShort};
 
 use shape_space::P2;
 
-/// The corner with a place.
+// The corner with a place.
+fn read(round: &[P2], i: usize) -> P2
+    requires { i < length round.now }
+    ensures { corner result ≡ vertex (corners round.now) i }
+{
+    round[i]
+}
+
+/// The corner with a place, which lies in a box where all do.
 pub(crate) fn vertex(round: &[P2], i: usize) -> P2
     requires { i < length round.now }
     ensures is { corner result ≡ vertex (corners round.now) i }
     ensures short { AreShort (corners round.now) → IsShort (corner result) }
 {
-    round[i]
+    read(round, i)
 }
 
 // The place behind a place of a round.

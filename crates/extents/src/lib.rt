@@ -10,6 +10,7 @@ mod chain;
 mod convex;
 mod corner;
 mod diameters;
+mod law;
 mod line;
 mod objects;
 mod outline;
@@ -25,6 +26,7 @@ mod width;
 
 pub use convex::hulls;
 pub use diameters::ferets;
+pub use law::hulls_measure_components;
 pub use search::Feret;
 pub use size::HullSize;
 pub use spot::Spot;

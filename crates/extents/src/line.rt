@@ -1,6 +1,6 @@
 //! Lines of the grid, each from its first to its last corner of an object, and those above and below a row.
 //! What a list of them is for is told in `bounds`.
-ghost use Rattle.std.specs.Prelude.{◌≡◌};
+ghost use Rattle.std.specs.Prelude.{◌≡◌, ◌⊎◌, ◌≤ℤ◌};
 ghost use Rattle.extents.specs.Lines.{above, below, IsShortLine, IsJoined};
 
 use crate::row::Row;
@@ -14,6 +14,31 @@ pub(crate) struct Line {
     pub(crate) left: i32,
     /// Where its last corner lies.
     pub(crate) right: i32,
+}
+
+// The lesser of two numbers.
+fn least(a: i32, b: i32) -> i32
+    ensures one { (result ≡ a) ⊎ (result ≡ b) }
+    ensures left { result ≤ℤ a }
+    ensures right { result ≤ℤ b }
+{
+    if b < a { b } else { a }
+}
+
+// The greater of two numbers.
+fn greatest(a: i32, b: i32) -> i32
+    ensures one { (result ≡ a) ⊎ (result ≡ b) }
+    ensures left { a ≤ℤ result }
+    ensures right { b ≤ℤ result }
+{
+    if a < b { b } else { a }
+}
+
+// The line with these coordinates.
+fn line_of(y: i32, left: i32, right: i32) -> Line
+    ensures { result ≡ record { y = y; left = left; right = right } }
+{
+    Line { y, left, right }
 }
 
 impl Line {
@@ -48,10 +73,10 @@ impl Line {
         ensures joined { IsJoined self other result }
         ensures short { IsShortLine result }
     {
-        Line {
-            y: other.y,
-            left: self.left.min(other.left),
-            right: self.right.max(other.right),
-        }
+        line_of(
+            other.y,
+            least(self.left, other.left),
+            greatest(self.right, other.right),
+        )
     }
 }

@@ -41,20 +41,20 @@ no_more a b ex ey fx fy zx zy d p q he hf =
 
 -- ---- along a direction
 
-step_along : (a b : ℤ) (p q : Corner) → a *ℤ (q.x -ℤ p.x) +ℤ b *ℤ (q.y -ℤ p.y) ≡ along a b q -ℤ along a b p
+pub step_along : (a b : ℤ) (p q : Corner) → a *ℤ (q.x -ℤ p.x) +ℤ b *ℤ (q.y -ℤ p.y) ≡ along a b q -ℤ along a b p
 step_along a b p q = omega (arith, ints, rings)
 
-at_most : (a b : ℤ) (p q : Corner) → along a b q ≤ℤ along a b p → (a *ℤ (q.x -ℤ p.x) +ℤ b *ℤ (q.y -ℤ p.y)) ≤ℤ pos 0
+pub at_most : (a b : ℤ) (p q : Corner) → along a b q ≤ℤ along a b p → (a *ℤ (q.x -ℤ p.x) +ℤ b *ℤ (q.y -ℤ p.y)) ≤ℤ pos 0
 at_most a b p q h = let e = step_along a b p q in omega (arith, ints, e, h)
 
-at_least : (a b : ℤ) (p q : Corner) → along a b p ≤ℤ along a b q → pos 0 ≤ℤ (a *ℤ (q.x -ℤ p.x) +ℤ b *ℤ (q.y -ℤ p.y))
+pub at_least : (a b : ℤ) (p q : Corner) → along a b p ≤ℤ along a b q → pos 0 ≤ℤ (a *ℤ (q.x -ℤ p.x) +ℤ b *ℤ (q.y -ℤ p.y))
 at_least a b p q h = let e = step_along a b p q in omega (arith, ints, e, h)
 
 from_at_most : (a b : ℤ) (p q : Corner) → (a *ℤ (q.x -ℤ p.x) +ℤ b *ℤ (q.y -ℤ p.y)) ≤ℤ pos 0 → along a b q ≤ℤ along a b p
 from_at_most a b p q h = let e = step_along a b p q in omega (arith, ints, e, h)
 
 -- t is no less than the points before and behind it on a round that turns left there: no point left of both sides is more
-corner_greatest : (a b : ℤ) (u t q s : Corner) → pos 0 <ℤ turn u t q → pos 0 ≤ℤ turn u t s → pos 0 ≤ℤ turn t q s → along a b u ≤ℤ along a b t → along a b q ≤ℤ along a b t → along a b s ≤ℤ along a b t
+pub corner_greatest : (a b : ℤ) (u t q s : Corner) → pos 0 <ℤ turn u t q → pos 0 ≤ℤ turn u t s → pos 0 ≤ℤ turn t q s → along a b u ≤ℤ along a b t → along a b q ≤ℤ along a b t → along a b s ≤ℤ along a b t
 corner_greatest a b u t q s d p r before behind =
     from_at_most a b t s
     (no_more a b (t.x -ℤ u.x) (t.y -ℤ u.y) (q.x -ℤ t.x) (q.y -ℤ t.y) (s.x -ℤ t.x) (s.y -ℤ t.y)
@@ -62,10 +62,10 @@ corner_greatest a b u t q s d p r before behind =
 
 -- ---- a place and the one before it
 
-next_below : (n i : ℕ) → i < n → next n i < n
+pub next_below : (n i : ℕ) → i < n → next n i < n
 next_below n i l = grind (arith, nat_tests)
 
-previous : (n k : ℕ) → k < n → (i : ℕ) × (i < n) × (next n i ≡ k)
+pub previous : (n k : ℕ) → k < n → (i : ℕ) × (i < n) × (next n i ≡ k)
 previous n k l =
     let c : (k ≡ 0) ⊎ (1 ≤ k) = grind arith in
     elim c [
@@ -95,7 +95,7 @@ greatest S h a b k is many l most s here =
 
 -- ---- across a side
 
-turn_along : (ax ay bx by px py : ℤ) → (neg_ℤ (by -ℤ ay) *ℤ px +ℤ (bx -ℤ ax) *ℤ py) -ℤ (neg_ℤ (by -ℤ ay) *ℤ ax +ℤ (bx -ℤ ax) *ℤ ay) ≡ det (bx -ℤ ax) (by -ℤ ay) (px -ℤ ax) (py -ℤ ay)
+pub turn_along : (ax ay bx by px py : ℤ) → (neg_ℤ (by -ℤ ay) *ℤ px +ℤ (bx -ℤ ax) *ℤ py) -ℤ (neg_ℤ (by -ℤ ay) *ℤ ax +ℤ (bx -ℤ ax) *ℤ ay) ≡ det (bx -ℤ ax) (by -ℤ ay) (px -ℤ ax) (py -ℤ ay)
 turn_along ax ay bx by px py = plain (bx -ℤ ax) (by -ℤ ay) px py ax ay
   where
     plain : (x y p q r s : ℤ) → (neg_ℤ y *ℤ p +ℤ x *ℤ q) -ℤ (neg_ℤ y *ℤ r +ℤ x *ℤ s) ≡ det x y (p -ℤ r) (q -ℤ s)

@@ -14,12 +14,13 @@ use Rattle.measure_terms.specs.Measures.{Measures, greatest}
 use Rattle.measure_terms.specs.Tables.{IsTable}
 use Rattle.measure_terms.specs.Components.{component}
 use Rattle.measure_terms.specs.Hulls.{Corner, IsCornerOf, IsCornerOfPixel, IsHull, end, turn, vertex}
-use Rattle.measure_terms.specs.Widths.{Width, IsLeastSide}
+use Rattle.measure_terms.specs.Widths.{Width, IsLeastSide, IsLeastWidth}
 use Rattle.measure_terms.specs.HullSizes.{HullSize, IsSizeOfPolygon, IsHullSize, AreHulls, HullsComponents}
 use Rattle.measure_terms.proofs.TableOfComponents.{some_of_labels, has_label, in_component, table_length}
 use Rattle.measure_terms.proofs.Hulled.{same_hull, hull_of_three}
 use Rattle.measure_terms.proofs.OneWidth.{one_across, one_length, one_side}
 use Rattle.measure_terms.proofs.OneHull.{one_hull}
+use Rattle.measure_terms.proofs.NarrowestSides.{least_of_all}
 
 -- ---- the same set of pixels
 
@@ -97,6 +98,12 @@ pub one_size : (S : Point → Type 0) (y z : HullSize) → IsHullSize S y → Is
 one_size S y z a b =
     let e = one_hull (IsCornerOf S) a.hull b.hull a.is b.is (hull_of_corners S a.hull a.is) (hull_of_corners S b.hull b.is) in
     size_of_polygon b.hull a.width b.width y z (subst (λ h. IsSizeOfPolygon h a.width y) e a.size) b.size
+
+-- the least width that it tells is the least of all directions
+pub size_is_least : (S : Point → Type 0) (z : HullSize) → IsHullSize S z → IsLeastWidth (IsCornerOf S) (pos z.across) (pos z.length)
+size_is_least S z h =
+    let l = least_of_all (IsCornerOf S) h.hull h.is (hull_of_corners S h.hull h.is) h.width h.size.least in
+    subst (λ x. IsLeastWidth (IsCornerOf S) x (pos z.length)) (sym h.size.across) (subst (λ x. IsLeastWidth (IsCornerOf S) h.width.across x) (sym h.size.length) l)
 
 -- ---- components
 

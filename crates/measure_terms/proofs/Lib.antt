@@ -24,3 +24,5 @@ pub mod MomentComponents
 pub mod EllipseOnce
 pub mod ThicknessComponents
 pub mod DeviationFound
+pub mod Narrowest
+pub mod NarrowestSides
