@@ -6,6 +6,7 @@ Points are tuples, and sets of them have no bounds.
 import itertools
 
 from secondreading.geometry import around, edge_steps, near_steps, plus, raster, side_steps, square
+from secondreading.masks import thickness
 from secondreading.thinning import is_marked
 
 SIDES = ((0, -1), (1, 0), (0, 1), (-1, 0))
@@ -33,6 +34,12 @@ def squares(picture):
     """The least squared distance of each object point to the background."""
     dark = [q for q in framed_points(picture) if q not in picture.points]
     return {p: min(square(p, q) for q in dark) for p in picture.order}
+
+
+def thicknesses(picture):
+    """Of each object point the greatest square of a ball that holds it: the points that are nearer to an object point than the background."""
+    least = squares(picture)
+    return {p: max(s for c, s in least.items() if square(c, p) < s) for p in picture.order}
 
 
 def counts(picture, points):
@@ -94,6 +101,7 @@ def agrees(picture, rules):
     """Whether all that the second reading finds of a picture is what the searches find."""
     same = picture.square == squares(picture) and picture.parts == counts(picture, picture.points)
     same = same and (picture.axes == 3 or picture.contours == contours(picture))
+    same = same and dict(zip(picture.order, thickness(picture.squares)[picture.framed].tolist())) == thicknesses(picture)
     for rule in rules:
         events, left = thinning(picture, rule)
         told, _, told_counts = picture.thinning(rule)

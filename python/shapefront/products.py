@@ -23,6 +23,9 @@ from .programs import Answer, call, explained, made
 # The words for a drawing, the best one first: with the numbers of the objects, where the program knows this word; and of the contours alone, where any other is too large.
 DRAWINGS = (("draw", "labels"), ("draw",), ("draw", "contours"))
 
+# The masks that have two bytes for each point.
+GREY = ("distances", "thickness")
+
 
 def measured(image: Path, stem: Path, rule: str, about: str) -> Path:
     """Analyses a picture's file, checks the report, and writes its table. The report's file.
@@ -99,8 +102,8 @@ def mask_suffix(kind: str, sides: Sequence[int]) -> str:
     if kind == "squares":
         return f".{kind}.{'x'.join(map(str, sides))}.32bit.raw"
     if len(sides) == 2:
-        return f".{kind}" + (".pgm" if kind == "distances" else ".pbm")
-    return f".{kind}" + (told_suffix(sides).removesuffix("raw") + "16bit.raw" if kind == "distances" else told_suffix(sides))
+        return f".{kind}" + (".pgm" if kind in GREY else ".pbm")
+    return f".{kind}" + (told_suffix(sides).removesuffix("raw") + "16bit.raw" if kind in GREY else told_suffix(sides))
 
 
 def suffixes_of(record: dict[str, Any], sides: Sequence[int], packed: str) -> set[str]:

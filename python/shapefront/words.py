@@ -13,7 +13,7 @@ from .channels import NAMES as CHANNELS
 from .filters import Filters
 from .thresholds import Settings
 
-MASKS = ("object", "skeleton", "distances", "squares")
+MASKS = ("object", "skeleton", "distances", "squares", "thickness")
 _STATUS = """
 status: 0 all is well; 1 an image failed, or something in a folder is not as it has to be; 2 the words are no command; 3 nothing could be done;
 130 stopped: the same command goes on where it was.

@@ -1,6 +1,7 @@
 """`shapes measure` and `shapes volume`: folders of good and bad images, stopped and begun again."""
 import csv
 import json
+import math
 import os
 import re
 import signal
@@ -146,13 +147,14 @@ class Measuring(InFolder):
 
     def test_masks(self):
         self.save(1)
-        words = ("--masks", "skeleton", "--masks", "distances", "--masks", "object", "--masks", "squares", "-o", "out")
+        words = ("--masks", "skeleton", "--masks", "distances", "--masks", "object", "--masks", "squares", "--masks", "thickness", "-o", "out")
         self.assertEqual(self.shapes("measure", "in", *words)[0], 0)
         report = read("out/evidence/000.png.report.gz")
         for kind, suffix, wanted in (
             ("skeleton", "pbm", ~report.skeleton_mask),
             ("object", "pbm", ~report.mask),
             ("distances", "pgm", report.mask),
+            ("thickness", "pgm", report.mask),
         ):
             values = np.array(Image.open(f"out/evidence/000.png.{kind}.{suffix}"))
             np.testing.assert_array_equal(values > 0, wanted)
@@ -160,6 +162,7 @@ class Measuring(InFolder):
         squares = np.fromfile(f"out/evidence/000.png.squares.{x}x{y}.32bit.raw", "<u4").reshape(y, x)
         np.testing.assert_array_equal(squares[report.points[:, 1], report.points[:, 0]], report.squares)
         self.assertEqual(squares[~report.mask].max(initial=0), 0)
+        self.assertEqual(np.array(Image.open("out/evidence/000.png.thickness.pgm")).max(), math.isqrt(40000 * int(report.squares.max())))
         self.assertEqual(self.shapes("check", "out")[0], 0)
         Path("out/evidence/000.png.skeleton.pbm").write_text("P1 1 1 1")
         self.assertIn("but out/evidence/000.png.skeleton.pbm is not what `shape mask` makes of it", self.shapes("check", "out")[1][0])

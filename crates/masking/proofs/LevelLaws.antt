@@ -10,7 +10,7 @@ use Rattle.masking.specs.Roots.{IsRoot, root}
 use Rattle.masking.specs.Pictures.{side, header, level, high_first, low_first, pgm, depths}
 use Rattle.masking.specs.Levels.{IsLevel, AreLevels, high_number, low_number, number_at}
 use Rattle.masking.specs.Shown.{grey_front}
-use Rattle.masking.proofs.RootLaws.{root_is}
+use Rattle.masking.proofs.RootLaws.{root_is, at_most_square}
 
 -- ---- roots
 
@@ -76,6 +76,13 @@ is_level square = by_root (root (10000 * square)) (root_of (10000 * square))
           let q : 65535 * 65535 ≤ r * r = mul-le 65535 65535 r r m m in
           record { most = omega arith; less = λ l. absurd (omega arith); great = λ _. omega (arith, q, h.low) }
     ]
+
+-- the level of nothing is 0
+pub no_level : (v : ℕ) → IsLevel 0 v → v ≡ 0
+no_level v h = elim (cases_lt v 65535) [
+  | inl l ↦ let r = (h.less l).low in let q = at_most_square v in omega (arith, r, q)
+  | inr m ↦ let most = h.most in let e : v ≡ 65535 = omega arith in let g = h.great e in absurd (omega (arith, g))
+]
 
 -- ---- bytes
 

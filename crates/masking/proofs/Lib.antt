@@ -5,4 +5,5 @@ pub mod ByteBits
 pub mod PbmSpelled
 pub mod LevelLaws
 pub mod SquareLaws
+pub mod ThicknessLaws
 pub mod Shown

@@ -1,8 +1,7 @@
 -- What a run wrote that makes a mask of a report that holds of a picture.
--- The laws of the bytes stand in `PbmSpelled`, `LevelLaws` and `SquareLaws`.
+-- The laws of the bytes stand in `PbmSpelled`, `LevelLaws`, `SquareLaws` and `ThicknessLaws`.
 use Rattle.std.proofs.Common.{◌≡◌, inl, inr, ℕ, ◌*◌, ◌<◌, refl, sym, ap, ◌∙◌, subst, arith, List, [], ◌∷◌, ◌++◌, length, get_or, map, pos}
 use Rattle.std.specs.Prelude.{slice_get, Some}
-use Rattle.std.proofs.lemmas.Bool.{cases_lt}
 use Rattle.std.proofs.lemmas.List.{append-nil}
 use Rattle.std.proofs.lemmas.Option.{slice_get-get_or}
 use Rattle.shape_terms.specs.Points.{AreSides, box_count}
@@ -27,15 +26,16 @@ use Rattle.report_making.specs.Runs.{Ran}
 use Rattle.report_making.specs.Complete.{FileIs}
 use Rattle.report_making.specs.declared.outcome.Outcome.TheVariants.{Done}
 use Rattle.report_making.proofs.Written.{writes_of}
+use Rattle.masking.specs.Pictures.{squared_diameters}
 use Rattle.masking.specs.Levels.{IsLevel, AreLevels, AreDepths, number_at}
 use Rattle.masking.specs.Masks.{points_mask, distances_mask, mask_bytes}
-use Rattle.masking.specs.Shown.{Spell, ShowDepths, ShowLeft, Show, WritesShown}
+use Rattle.masking.specs.Shown.{Spell, ShowDepths, ShowDiameters, ShowLeft, Show, WritesShown}
 use Rattle.masking.specs.declared.mask.Mask.{Mask}
-use Rattle.masking.specs.declared.mask.Mask.TheVariants.{Skeleton, Object, Distances, Squares}
-use Rattle.masking.proofs.RootLaws.{at_most_square}
+use Rattle.masking.specs.declared.mask.Mask.TheVariants.{Skeleton, Object, Distances, Squares, Thickness}
 use Rattle.masking.proofs.PbmSpelled.{picture_spelled, volume_spelled}
-use Rattle.masking.proofs.LevelLaws.{low_levels, grey_levels}
+use Rattle.masking.proofs.LevelLaws.{low_levels, grey_levels, no_level}
 use Rattle.masking.proofs.SquareLaws.{squares_shown}
+use Rattle.masking.proofs.ThicknessLaws.{diameters_shown}
 
 -- ---- points
 
@@ -44,13 +44,6 @@ points_shown s (inl e) Y stands = subst (λ (u : Space). StandsIn u Y → Spell 
 points_shown s (inr e) Y stands = subst (λ (u : Space). StandsIn u Y → Spell u.axes Y (points_mask u.axes Y)) (sym e) (λ t. volume_spelled Y t.picture.filled) stands
 
 -- ---- distances
-
--- the level of nothing is 0
-no_level : (v : ℕ) → IsLevel 0 v → v ≡ 0
-no_level v h = elim (cases_lt v 65535) [
-  | inl l ↦ let r = (h.less l).low in let q = at_most_square v in omega (arith, r, q)
-  | inr m ↦ let most = h.most in let e : v ≡ 65535 = omega arith in let g = h.great e in absurd (omega (arith, g))
-]
 
 module _ (number : ℕ → ℕ → ℕ) (X : Picture) (squares bytes : List ℕ) (are : AreSquares X squares) (levels : AreLevels number squares bytes) where
   square_at : (i : ℕ) → i < box_count X.sides → slice_get squares i ≡ Some (get_or squares i 0)
@@ -112,6 +105,9 @@ module _ (s : Space) (known : IsSpace s) (X : Subject) (text : List ℕ) (stands
   shown Distances =
       subst (λ (Y : Picture). ShowDepths s.axes X.picture (distances_mask s.axes Y.sides (said tells.lines).squares)) (sym tells.object) (depths_shown s known X.picture (said tells.lines).squares tells.squares)
   shown Squares = squares_shown s known X.picture stands (said tells.lines).squares tells.squares
+  shown Thickness =
+      let squares = (said tells.lines).squares in
+      subst (λ (Y : Picture). ShowDiameters s.axes X.picture (distances_mask s.axes Y.sides (squared_diameters Y squares))) (sym tells.object) (diameters_shown s known X.picture stands squares tells.squares)
 
 pub masks_shown : (mask : Mask) (s : Space) (X : Subject) (name text : List ℕ) (old new : DeskState) → IsSpace s → StandsIn s X.picture → Holds X text → FileIs old.files name (λ bytes. bytes ≡ text) → Ran (exactly (mask_bytes mask)) name old new Done
     → WritesShown mask s.axes X text old new

@@ -82,7 +82,7 @@ module _ (s : Space) (known : IsSpace s) (X : Picture) (stands : StandsIn s X) w
       by_space greatest box most few = apart_small X.sides (map pos X.sides) greatest i 0 (sym (naturals_kept X.sides)) box most (simp length-map few)
 
   -- no squared distance of a point of the box is too great for 32 bits
-  few : (p : Point) (n : ℕ) → IsTrue (in_box X.sides p) → HasDistance X p n → n < 2 ^ 32
+  pub few : (p : Point) (n : ℕ) → IsTrue (in_box X.sides p) → HasDistance X p n → n < 2 ^ 32
   few p n inside has =
       let h : n ≤ squared_distance p (framed_point X.sides 0) = has.1.least (framed_point X.sides 0) (corner_background X some) in
       let e : apart X.sides (framed_number X.sides p) 0 ≡ squared_distance p (framed_point X.sides 0) = ap (λ q. squared_distance q (framed_point X.sides 0)) (framed_point-framed_number X.sides p (in_box_in_frame X.sides p inside)) in

@@ -1,9 +1,10 @@
--- The distances that a mask of them tells, or their squares, place by place.
+-- The distances that a mask of them tells, their squares, or the thicknesses, place by place.
 -- How the bytes are put together stands in `Pictures`.
 use Rattle.std.specs.Prelude.{◌≡◌, ◌+◌, ◌*◌, ◌^◌, ◌<◌, ◌≤◌, ℕ, IsTrue, false, List, length, slice_get, slice_index, Some}
 use Rattle.shape_terms.specs.Points.{box_count, raster_point}
 use Rattle.shape_terms.specs.Pictures.{Picture, at}
 use Rattle.shape_terms.specs.Thinning.{HasDistance}
+use Rattle.measure_terms.specs.Thickness.{IsThickness}
 use Rattle.masking.specs.Roots.{IsRoot}
 
 -- v is the distance in hundredths, rounded down, of which the square is given; it is 65535 where that is greater
@@ -54,3 +55,10 @@ pub record AreSquaredDepths (X : Picture) (bytes : List ℕ) : Type 0 where
   pub as_many : length bytes ≡ 4 * box_count X.sides
   pub object : (i : ℕ) → i < box_count X.sides → IsTrue (at X (raster_point X.sides i)) → HasDistance X (raster_point X.sides i) (number32_at bytes i)
   pub background : (i : ℕ) → i < box_count X.sides → at X (raster_point X.sides i) ≡ false → number32_at bytes i ≡ 0
+
+-- the bytes have two for each point of the box, in raster order: at an object point the level of the squared diameter of the greatest ball of the object that holds it, and at any other 0
+pub record AreDiameters (number : ℕ → ℕ → ℕ) (X : Picture) (bytes : List ℕ) : Type 0 where
+  pub as_many : length bytes ≡ 2 * box_count X.sides
+  pub object : (i : ℕ) → i < box_count X.sides → IsTrue (at X (raster_point X.sides i))
+      → (t : ℕ) × IsThickness X (raster_point X.sides i) t × IsLevel (4 * t) (number_at number bytes i)
+  pub background : (i : ℕ) → i < box_count X.sides → at X (raster_point X.sides i) ≡ false → number_at number bytes i ≡ 0

@@ -4,6 +4,7 @@ use Rattle.std.specs.Prelude.{ℕ, ◌+◌, ◌*◌, ◌/◌, ◌%◌, min, pos,
 use Rattle.std.specs.List.{flat_map, range_with_len}
 use Rattle.std.specs.Fmt.{decimal}
 use Rattle.shape_terms.specs.Pictures.{Picture, at}
+use Rattle.shape_thickness.specs.Greatest.{greatest_squares}
 use Rattle.masking.specs.Roots.{root}
 
 -- the side of a box on an axis
@@ -77,3 +78,13 @@ low_first32 n = n % 256 ∷ n / 256 % 256 ∷ n / 65536 % 256 ∷ n / 16777216 %
 -- four bytes for the squared distance of each point, in raster order
 abbrev pub square_bytes : (squares : List ℕ) → List ℕ
 square_bytes squares = flat_map (λ s. low_first32 (told_square s)) squares
+
+-- ---- thickness
+
+-- the squared diameter of a ball of which the squared radius is given, as a number of 32 bits
+abbrev pub told_diameter : ℕ → ℕ
+told_diameter square = told_square (4 * square)
+
+-- of each point of a box, in raster order, the squared diameter of the greatest ball that holds it, where a list gives the squared radius of the ball of each object point
+unfoldable pub squared_diameters : Picture → (squares : List ℕ) → List ℕ
+squared_diameters X squares = map told_diameter (greatest_squares X (map told_square squares))

@@ -9,9 +9,9 @@ use Rattle.shape_picture.specs.Answers.{Format, pbm, raw}
 use Rattle.report_terms.specs.Subjects.{Subject, IsOnShelf}
 use Rattle.report_terms.specs.Holds.{GivesRule}
 use Rattle.masking.specs.Pictures.{side, header}
-use Rattle.masking.specs.Levels.{high_number, low_number, AreDepths, AreSquaredDepths}
+use Rattle.masking.specs.Levels.{high_number, low_number, AreDepths, AreSquaredDepths, AreDiameters}
 use Rattle.masking.specs.declared.mask.Mask.{Mask}
-use Rattle.masking.specs.declared.mask.Mask.TheVariants.{Skeleton, Object, Distances, Squares}
+use Rattle.masking.specs.declared.mask.Mask.TheVariants.{Skeleton, Object, Distances, Squares, Thickness}
 
 -- the format in which the program reads pictures with so many axes and these sides: PBM, or a raw volume of the sides
 abbrev pub picture_format : ℕ → List ℕ → Format
@@ -31,6 +31,11 @@ abbrev pub ShowDepths : ℕ → Picture → List ℕ → Type 0
 ShowDepths (suc (suc zero)) X bytes = (rest : List ℕ) × (bytes ≡ grey_front X.sides ++ rest) × AreDepths high_number X rest
 ShowDepths _ X bytes = AreDepths low_number X bytes
 
+-- the bytes are a raw PGM of the thicknesses of a flat picture, or those of a volume alone
+abbrev pub ShowDiameters : ℕ → Picture → List ℕ → Type 0
+ShowDiameters (suc (suc zero)) X bytes = (rest : List ℕ) × (bytes ≡ grey_front X.sides ++ rest) × AreDiameters high_number X rest
+ShowDiameters _ X bytes = AreDiameters low_number X bytes
+
 -- the bytes spell what the thinning of the picture leaves, by the rule on the shelf that the text names
 pub record ShowLeft (d : ℕ) (X : Subject) (text bytes : List ℕ) : Type 0 where
   pub name : List ℕ
@@ -48,6 +53,7 @@ Show Skeleton d X text bytes = ShowLeft d X text bytes
 Show Object d X text bytes = Spell d X.picture bytes
 Show Distances d X text bytes = ShowDepths d X.picture bytes
 Show Squares d X text bytes = AreSquaredDepths X.picture bytes
+Show Thickness d X text bytes = ShowDiameters d X.picture bytes
 
 -- bytes were written that show it
 pub record WritesShown (mask : Mask) (d : ℕ) (X : Subject) (text : List ℕ) (old new : DeskState) : Type 0 where

@@ -30,7 +30,8 @@ pub fn masks_are_pictures()
 {}
 
 /// A run that ends well for a file whose text is a report that holds of a picture has written the picture itself, what the
-/// thinning by the rule that the text names leaves of it, how far its points are from the background, or the squares of that.
+/// thinning by the rule that the text names leaves of it, how far its points are from the background, the
+/// squares of that, or how thick the object is at each of its points.
 pub fn masks_of_what_holds()
     ensures { (mask : Mask) (s : Space) (X : Subject) (name text : List ℕ) (old new : DeskState)
         → IsSpace s → StandsIn s X.picture → Holds X text

@@ -6,6 +6,7 @@ ghost use Rattle.masking.specs.Words.{mask_word};
 use crate::bits::bits;
 use crate::distances::{depths, greys};
 use crate::squares::square_bytes;
+use crate::thickness::{thickness_depths, thickness_greys};
 use crate::voxels::voxels;
 use report_lines::{Heading, Seen};
 use report_making::Making;
@@ -23,6 +24,8 @@ pub enum Mask {
     Distances,
     /// The squared distances to the background.
     Squares,
+    /// The diameters of the greatest balls of the object.
+    Thickness,
 }
 
 // The mask with this word.
@@ -42,6 +45,9 @@ pub(crate) fn mask_called(word: &[u8]) -> Option<Mask>
     if word == b"squares".as_slice() {
         return Some(Mask::Squares);
     }
+    if word == b"thickness".as_slice() {
+        return Some(Mask::Thickness);
+    }
     None
 }
 
@@ -57,6 +63,7 @@ impl Mask {
             Mask::Object => bits(alloc, seen.object()),
             Mask::Distances => greys(alloc, seen.object(), seen.squares()),
             Mask::Squares => square_bytes(alloc, seen.squares()),
+            Mask::Thickness => thickness_greys(alloc, seen),
         }
     }
 
@@ -69,6 +76,7 @@ impl Mask {
             Mask::Object => voxels(alloc, seen.object()),
             Mask::Distances => depths(alloc, seen.squares()),
             Mask::Squares => square_bytes(alloc, seen.squares()),
+            Mask::Thickness => thickness_depths(alloc, seen),
         }
     }
 }

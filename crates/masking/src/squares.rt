@@ -7,8 +7,8 @@ use shape_space::NoMemory;
 use shape_squares::Squares;
 use std::alloc::Global;
 
-// The number of 32 bits that stands for a square.
-fn told_square(square: u64) -> u32
+/// The number of 32 bits that stands for a square.
+pub(crate) fn told_square(square: u64) -> u32
     ensures { result ≡ told_square square }
 {
     square.min(4_294_967_295) as u32

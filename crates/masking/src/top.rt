@@ -13,7 +13,7 @@ use shape_desk::Desk;
 use std::alloc::Global;
 
 /// What the program says of words that it does not take.
-pub const USAGE: &str = "usage: shape mask skeleton|object|distances|squares REPORT";
+pub const USAGE: &str = "usage: shape mask skeleton|object|distances|squares|thickness REPORT";
 
 /// Does what the words of a command line say, without the program's name: the first is that of a mask, the second the name of
 /// a report's file, and the mask is written.

@@ -20,7 +20,8 @@ use Rattle.measure_terms.proofs.HullComponents.{hulls_table, hulls_are_one}
 use Rattle.measure_terms.proofs.MomentComponents.{moments_table}
 use Rattle.measure_terms.proofs.EllipseOnce.{ellipse_once}
 use Rattle.measure_terms.proofs.ThicknessComponents.{sums_measure}
-use Rattle.shape_thickness.specs.Greatest.{greatest_squares, told_square}
+use Rattle.shape_thickness.specs.Greatest.{greatest_squares}
+use Rattle.masking.specs.Pictures.{told_square}
 use Rattle.shape_thickness.proofs.ThicknessLaws.{one_list}
 use Rattle.measure_report.specs.FeretColumns.{no_feret}
 use Rattle.measure_report.specs.MinkowskiColumns.{no_minkowski}

@@ -10,7 +10,8 @@ use Rattle.measure_terms.specs.Ellipse.{Ellipse}
 use Rattle.measure_terms.specs.Thickness.{AreThicknesses}
 use Rattle.measure_terms.specs.ThicknessColumns.{ThicknessSum, AreThicknessSums, ThicknessSumsComponents}
 use Rattle.measure_terms.specs.Components.{FeretsComponents}
-use Rattle.shape_thickness.specs.Greatest.{greatest_squares, told_square}
+use Rattle.shape_thickness.specs.Greatest.{greatest_squares}
+use Rattle.masking.specs.Pictures.{told_square}
 use Rattle.measure_report.specs.MomentColumns.{AreEllipses}
 use Rattle.measure_report.specs.declared.groups.Groups.{Groups}
 

@@ -22,13 +22,13 @@ use crate::thickness::ThicknessColumns;
 use bordering::{Border, object_bounds};
 use diameters::{ThicknessSum, thickness_sums};
 use extents::{ferets, hulls};
+use masking::greatest_balls;
 use measuring::{Measures, Table};
 use moments::{Moments, second_moments};
 use octants::minkowski_numbers;
 use report_lines::Seen;
 use shape_adj::Labels;
 use shape_space::{NoMemory, P2, P3, Point, Sides};
-use shape_thickness::greatest_of;
 use std::alloc::Global;
 
 // How many points each object has.
@@ -77,7 +77,7 @@ fn sums_where<P: Point>(
     if !asked {
         return Ok(Vec::new(alloc));
     }
-    let balls = greatest_of(alloc, seen.object(), seen.squares())?;
+    let balls = greatest_balls(alloc, seen.object(), seen.squares())?;
     thickness_sums(alloc, seen.sides(), labels, count, balls.as_slice())
 }
 

@@ -34,7 +34,7 @@ AreNoWords product.Mask words = (mask : Mask) (name : List ℕ) → words ≢ ma
 abbrev pub usage_of : Product → List ℕ
 usage_of product.Drawing = codes "usage: shape draw [labels|contours] REPORT, shape draw REPORT FURTHER"
 usage_of product.Table = codes "usage: shape measure [moments] [thickness] REPORT, shape measure whole REPORT"
-usage_of product.Mask = codes "usage: shape mask skeleton|object|distances|squares REPORT"
+usage_of product.Mask = codes "usage: shape mask skeleton|object|distances|squares|thickness REPORT"
 
 -- what a run did that draws what these words say
 abbrev pub Drew : List (List ℕ) → DeskState → DeskState → Outcome → Type 0

@@ -1,6 +1,6 @@
 //! The squared distance of each point of a box in raster order: four bytes each, unless one is beyond them.
 //! How many bytes a square takes changes nothing outside this file.
-ghost use Rattle.std.specs.Prelude.{◌≡◌, ◌<◌, IfOk, OnOk, OnErr, length, replicate, slice_index, slice_set};
+ghost use Rattle.std.specs.Prelude.{◌≡◌, ◌<◌, ◌^◌, ℕ, IfOk, OnOk, OnErr, IfSome, length, replicate, slice_index, slice_set};
 
 use shape_space::NoMemory;
 use std::alloc::Global;
@@ -22,6 +22,14 @@ fn widened(short: &Vec<u32>) -> Result<Vec<u64>, NoMemory>
         long.push(u64::from(square))?;
     }
     Ok(long)
+}
+
+// Numbers of four bytes, as they stand.
+fn lent(short: &[u32]) -> &[u32]
+    ensures same { result.now ≡ short.now }
+    ensures few { (k : ℕ) → slice_index result.now k < 2 ^ 32 }
+{
+    short
 }
 
 /// A squared distance of each point of a box, in raster order.
@@ -50,6 +58,26 @@ impl Squares {
         Ok(Squares {
             kept: Kept::Short(short),
         })
+    }
+
+    /// The squares, each in four bytes.
+    pub fn of(squares: Vec<u32>) -> Squares
+        ensures { result ≡ squares.items }
+    {
+        Squares {
+            kept: Kept::Short(squares),
+        }
+    }
+
+    /// The squares, lent as they stand where each is kept in four bytes. `None` tells nothing of them.
+    pub fn short(&self) -> Option<&[u32]>
+        ensures same { IfSome result (λ s. s.now ≡ self.now) }
+        ensures few { IfSome result (λ s. (k : ℕ) → slice_index s.now k < 2 ^ 32) }
+    {
+        match &self.kept {
+            Kept::Short(squares) => Some(lent(squares.as_slice())),
+            Kept::Long(_) => None,
+        }
     }
 
     /// How many squares there are.
