@@ -4,6 +4,7 @@ mod Telling
 mod LabelsOnce
 mod FeretsOnce
 mod Squares
+mod EllipsesMore
 mod FurtherOnce
 mod SameFurther
 mod SameTables

@@ -15,7 +15,7 @@ unfoldable pub AreBalls : Picture → List ℕ → Type 0
 AreBalls X squares = AreThicknesses X (greatest_squares X (map told_square squares))
 
 balls_are : (s : Space) → IsSpace s → (X : Picture) → StandsIn s X → (squares : List ℕ) → AreSquares X squares → AreBalls X squares
-unfolding AreBalls, thicknesses
+unfolding AreBalls thicknesses
 balls_are s known X stands squares are =
     subst (λ (ns : List ℕ). AreThicknesses X (greatest_squares X ns)) (sym (told_same squares (small s known X stands squares are))) (thick s known X stands squares are)
 

@@ -1,7 +1,10 @@
-use Rattle.std.proofs.Common.{map}
+use Rattle.std.proofs.Common.{◌≡◌, length, map}
 use Rattle.moments.specs.Told.{all_told, ellipse_told}
 use Rattle.measure_report.specs.MomentColumns.{AreEllipses}
 use Rattle.measure_report.proofs.moment_columns.ellipses.Given as goal
 
 abbrev pub invariant-loop-i : goal.invariant-loop-i
-invariant-loop-i l = AreEllipses l.i (all_told l.all) (map ellipse_told l.found.items)
+invariant-loop-i l = record {
+  many : length l.found.items ≡ l.i;
+  are : AreEllipses l.i (all_told l.all) (map ellipse_told l.found.items);
+}
