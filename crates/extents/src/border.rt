@@ -9,17 +9,17 @@ use crate::quotient::quotient_root;
 use crate::short::short_length;
 use shape_space::P2;
 
-// The length of a side in thousandths, rounded to nearest.
+// The length of a side in millionths, rounded to nearest.
 fn side_length(p: P2, q: P2) -> u64
     requires p { IsShort (corner p) }
     requires q { IsShort (corner q) }
     ensures value { pos result ≡ side_length (corner p) (corner q) }
-    ensures small { result ≤ 2 ^ 30 }
+    ensures small { result ≤ 2 ^ 40 }
 {
-    quotient_root(short_length(p, q).unsigned_abs() as u128, 1) as u64
+    quotient_root(1_000_000 * short_length(p, q).unsigned_abs() as u128, 1) as u64
 }
 
-/// The lengths of the sides of a polygon, each rounded to nearest in thousandths, added up.
+/// The lengths of the sides of a polygon, each rounded to nearest in millionths, added up.
 pub(crate) fn perimeter(round: &[P2]) -> u64
     requires few { length round.now ≤ 2 ^ 20 }
     requires short { AreShort (corners round.now) }

@@ -9,7 +9,7 @@ pub(crate) fn quotient_root(square: u128, by: u64) -> u128
     requires some { 0 < by }
     ensures nearest { IsQuotientRoot square by result }
     ensures small { result ≤ 2 ^ 52 }
-    ensures root { square ≤ 2 ^ 35 → result ≤ 2 ^ 30 }
+    ensures root { square ≤ 2 ^ 55 → result ≤ 2 ^ 40 }
 {
     let whole = (4_000_000 * square / by as u128).isqrt();
     (whole + 1) / 2

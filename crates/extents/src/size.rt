@@ -25,7 +25,7 @@ use std::alloc::Global;
 pub struct HullSize {
     /// Twice its area, in pixels.
     pub double_area: u64,
-    /// The lengths of its sides in thousandths, each rounded to nearest, added up.
+    /// The lengths of its sides in millionths, each rounded to nearest, added up.
     pub perimeter: u64,
     /// Its least width over its sides is this number by the root of `length`.
     pub across: u64,

@@ -15,7 +15,7 @@ use Rattle.measure_terms.specs.Widths.{Width, IsLeastSide}
 pub record HullSize : Type 0 where
   -- twice the area
   pub double_area : ℕ
-  -- the lengths of the sides, each rounded to nearest in thousandths, added up
+  -- the lengths of the sides, each rounded to nearest in millionths, added up
   pub perimeter : ℕ
   -- the least width is `across` by the root of `length`
   pub across : ℕ

@@ -1,6 +1,6 @@
 -- The area of a polygon and the length of its border: sums over its sides.
 -- The polygon is the list of its vertices, one round.
-use Rattle.std.specs.Prelude.{ℕ, zero, suc, List, length, ℤ, pos, nat_abs, ◌+ℤ◌, ◌-ℤ◌, ◌*ℤ◌}
+use Rattle.std.specs.Prelude.{◌*◌, ℕ, zero, suc, List, length, ℤ, pos, nat_abs, ◌+ℤ◌, ◌-ℤ◌, ◌*ℤ◌}
 use Rattle.measure_terms.specs.Rounding.{root}
 use Rattle.measure_terms.specs.Hulls.{Corner, vertex, end}
 
@@ -31,10 +31,10 @@ double_area h = sum_of_sides side_area h
 abbrev pub squared_length : Corner → Corner → ℤ
 squared_length p q = (q.x -ℤ p.x) *ℤ (q.x -ℤ p.x) +ℤ (q.y -ℤ p.y) *ℤ (q.y -ℤ p.y)
 
--- the length of a side in thousandths, rounded to nearest
+-- the length of a side in millionths, rounded to nearest: a thousand times as many thousandths as it has, so a million times its square under the root
 abbrev pub side_length : Corner → Corner → ℤ
-side_length p q = pos (root (nat_abs (squared_length p q)))
+side_length p q = pos (root (1000000 * nat_abs (squared_length p q)))
 
--- the lengths of the sides, each rounded to nearest in thousandths, added up
+-- the lengths of the sides, each rounded to nearest in millionths, added up
 abbrev pub perimeter : List Corner → ℤ
 perimeter h = sum_of_sides side_length h

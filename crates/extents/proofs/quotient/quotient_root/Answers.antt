@@ -17,4 +17,4 @@ returns-clause-small c =
 pub returns-clause-root : goal.returns-clause-root
 returns-clause-root c = λ l.
     let w = c.isqrt-whole.result in
-    half w (2 ^ 29) (2 ^ 30) (small_whole (4000000 * c.args.square) c.args.by w (2 ^ 29) c.isqrt-whole.ensures.square_le (omega (arith, l))) (omega arith)
+    half w (2 ^ 39) (2 ^ 40) (small_whole (4000000 * c.args.square) c.args.by w (2 ^ 39) c.isqrt-whole.ensures.square_le (omega (arith, l))) (omega arith)
