@@ -43,8 +43,8 @@ pub fn diameter(square: u32) -> u32
 }
 
 impl ThicknessSum {
-    // That of no point.
-    pub(crate) fn none() -> ThicknessSum
+    /// That of no point.
+    pub fn none() -> ThicknessSum
         ensures { result ≡ sum_of [] }
     {
         ThicknessSum {

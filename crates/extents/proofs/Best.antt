@@ -1,11 +1,11 @@
 -- The best pair of ends of rows: one row more, and what it is among all spots of the rows.
 -- How the rows are tried is told in `Trying`.
-use Rattle.std.proofs.Common.{◌≡◌, ◌⊎◌, inl, inr, ℕ, ◌+◌, ◌*◌, ◌<◌, ◌≤◌, List, length, ap, sym, ◌∙◌, refl, subst, arith}
+use Rattle.std.proofs.Common.{◌≡◌, ◌⊎◌, inl, inr, ℕ, ◌+◌, ◌<◌, ◌≤◌, List, length, ap, sym, ◌∙◌, refl, subst, arith}
 use Rattle.extents.specs.declared.spot.Spot.{Spot}
 use Rattle.extents.specs.declared.row.Row.{Row}
 use Rattle.extents.specs.declared.search.Feret.{Feret}
-use Rattle.extents.specs.Rows.{squared_gap, square_between, IsUpTo, row_at, first_spot, last_spot, IsIn, IsInRow, IsEnd, AreRows}
-use Rattle.extents.specs.Search.{IsEndOf, IsFurther, AreTried, IsDone, IsPair, IsBest, IsFarthest}
+use Rattle.extents.specs.Rows.{squared_gap, square_between, IsUpTo, row_at, first_spot, last_spot, IsInRow, AreRows}
+use Rattle.extents.specs.Search.{IsEndOf, AreTried, IsDone, IsPair, IsBest, IsFarthest}
 use Rattle.extents.proofs.Gaps.{between, gap_turned, no_gap}
 use Rattle.extents.proofs.Ends.{end_row}
 use Rattle.extents.proofs.Trying.{end_in_row}

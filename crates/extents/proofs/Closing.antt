@@ -1,10 +1,9 @@
 -- The corner where a chain ends and the chain back begins: the way turns left there, unless both are one step.
 -- Both chains go over the same set.
 use Rattle.std.proofs.Common.{◌≡◌, ◌⊎◌, inl, inr, ℕ, ◌+◌, ◌-◌, ◌≤◌, Bool, true, false, not, ap, sym, subst, ◌∙◌, arith}
-use Rattle.std.proofs.Math.IntN.{ℤ, pos, ◌-ℤ◌, neg_ℤ}
+use Rattle.std.proofs.Math.IntN.{ℤ, pos, ◌-ℤ◌}
 use lib.Signed.{◌<ℤ◌, ◌≤ℤ◌}
 use Rattle.std.proofs.lemmas.Int.{ints, by_lt_z}
-use Rattle.shape_terms.proofs.Products.{rings}
 use Rattle.measure_terms.specs.Hulls.{Corner, turn}
 use Rattle.extents.specs.Chains.{Reaches, Leads, IsChain}
 use Rattle.measure_terms.proofs.Turns.{det, swap, around, toward, apart, round}

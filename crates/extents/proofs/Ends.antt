@@ -1,12 +1,12 @@
 -- Spots of a row, and its ends.
 -- One row at a time; lists of rows stand elsewhere.
-use Rattle.std.proofs.Common.{◌≡◌, ◌⊎◌, inl, inr, ℕ, ◌+◌, ◌*◌, ◌<◌, ◌≤◌, ap, sym, ◌∙◌, refl, arith}
+use Rattle.std.proofs.Common.{◌≡◌, inl, inr, ℕ, ◌<◌, ◌≤◌, ap, sym, ◌∙◌, refl, arith}
 use Rattle.std.specs.Int.{abs_diff}
 use Rattle.extents.specs.declared.spot.Spot.{Spot}
 use Rattle.extents.specs.declared.row.Row.{Row}
 use Rattle.extents.specs.declared.search.Feret.{Feret}
-use Rattle.extents.specs.Rows.{squared_gap, square_between, IsUpTo, first_spot, last_spot, IsIn, IsEnd, IsFarEnd}
-use Rattle.extents.specs.Search.{IsFurtherIn, IsTried}
+use Rattle.extents.specs.Rows.{squared_gap, square_between, IsUpTo, IsIn, IsEnd, IsFarEnd}
+use Rattle.extents.specs.Search.{IsTried}
 use Rattle.extents.proofs.Gaps.{square_le, square_same}
 
 pub end_row : (r : Row) (p : Spot) → IsEnd r p → p.y ≡ r.y

@@ -1,19 +1,19 @@
 -- The rows of all objects with one point of the box more, and the Feret diameters in the end.
 -- Labels and lists of rows alone stand here.
-use Rattle.std.proofs.Common.{◌≡◌, ◌≢◌, ◌⊎◌, inl, inr, ℕ, ◌+◌, ◌<◌, ◌≤◌, List, [], ◌∷◌, ◌++◌, length, get_or, set, ap, sym, ◌∙◌, refl, subst, arith}
+use Rattle.std.proofs.Common.{◌≡◌, ◌≢◌, ◌⊎◌, inl, inr, ℕ, ◌+◌, ◌<◌, ◌≤◌, List, [], ◌∷◌, ◌++◌, length, get_or, set, ap, sym, ◌∙◌, subst, arith}
 use Rattle.std.specs.Prelude.{IsTrue}
 use Rattle.std.proofs.Math.ListN.{get_or-append}
 use Rattle.std.proofs.Math.Seq.{get_or-append_seam}
 use Rattle.std.proofs.lemmas.List.{length-append, length-set, get_or-set_same, get_or-set_other, get_or-map, get_or_default}
 use Rattle.shape_terms.specs.Points.{Point, box_count, squared_distance, in_box, raster_number}
-use Rattle.shape_terms.proofs.Boxes.{raster_below, raster_point-raster_number}
+use Rattle.shape_terms.proofs.Boxes.{raster_below}
 use Rattle.measure_terms.specs.Feret.{IsFeret, HasLabel, AreFerets}
 use Rattle.extents.specs.declared.spot.Spot.{Spot}
 use Rattle.extents.specs.declared.row.Row.{Row}
 use Rattle.extents.specs.declared.outline.Outline.{Outline}
 use Rattle.extents.specs.declared.search.Feret.{Feret}
 use Rattle.extents.specs.Told.{point_of, feret_told, ferets_told}
-use Rattle.extents.specs.Rows.{square_between, IsUpTo, row_at, first_spot, last_spot, IsInRow, AreRowsOf}
+use Rattle.extents.specs.Rows.{square_between, IsInRow, AreRowsOf}
 use Rattle.extents.specs.Search.{IsEndOf, IsFarthest}
 use Rattle.extents.specs.Seen.{IsSeen, IsWidened, IsBegun, HaveRows, AreInOrder, HaveFarthest}
 use Rattle.extents.proofs.Widening.{same_rows, one_more}

@@ -9,7 +9,7 @@ use Rattle.std.proofs.lemmas.List.{length-append, get_or-map, get_or_default}
 use lib.Signed.{◌≤ℤ◌}
 use Rattle.shape_terms.specs.Points.{Point, box_count}
 use Rattle.measure_terms.specs.Feret.{HasLabel}
-use Rattle.measure_terms.specs.Hulls.{Corner, IsCornerOf, IsCornerOfPixel, IsHull}
+use Rattle.measure_terms.specs.Hulls.{Corner, IsCornerOf, IsCornerOfPixel}
 use Rattle.measure_terms.specs.HullSizes.{IsHullSize, AreHulls}
 use Rattle.measure_terms.specs.HullSizes as Terms
 use Rattle.extents.specs.declared.spot.Spot.{Spot}
@@ -22,7 +22,7 @@ use Rattle.extents.specs.Seen.{IsSeen, HaveRows}
 use Rattle.extents.specs.Corners.{AreEndsOf, IsBetween, IsCornerOfRow, IsCornerOfRows}
 use Rattle.extents.specs.Sizes.{hull_told, hulls_told, IsSizeOfRows, HaveSizes}
 use Rattle.extents.proofs.Between.{hull_of_ends}
-use Rattle.extents.proofs.Labelled.{IsHeld, held, some_row}
+use Rattle.extents.proofs.Labelled.{held, some_row}
 
 -- ---- rows and pixels
 

@@ -1,6 +1,6 @@
 -- The corners of rows line by line, with one line more.
 -- Rows, lines and lists of corners alone.
-use Rattle.std.proofs.Common.{◌≡◌, ◌⊎◌, inl, inr, ℕ, zero, suc, ◌+◌, ◌-◌, ◌^◌, ◌<◌, ◌≤◌, unsigned_abs, List, [], ◌∷◌, ◌++◌, length, ap, refl, sym, subst, ◌∙◌, add-one, arith, length-append}
+use Rattle.std.proofs.Common.{◌≡◌, ◌⊎◌, inl, inr, ℕ, ◌+◌, ◌-◌, ◌^◌, ◌<◌, ◌≤◌, unsigned_abs, List, [], ◌∷◌, ◌++◌, length, ap, refl, sym, subst, ◌∙◌, add-one, arith, length-append}
 use Rattle.std.proofs.Math.IntN.{ℤ, pos, negsuc}
 use Rattle.std.proofs.Math.ListN.{get_or-append}
 use Rattle.std.proofs.Math.Seq.{get_or-append_seam}
@@ -10,7 +10,7 @@ use Rattle.measure_terms.specs.Hulls.{Corner, IsUpTo, origin, vertex}
 use Rattle.extents.specs.declared.row.Row.{Row}
 use Rattle.extents.specs.declared.line.Line.{Line}
 use Rattle.extents.specs.Rows.{row_at, AreRows}
-use Rattle.extents.specs.Corners.{IsOf, AreInRasterOrder, IsShort, AreShort, IsBetween, AreEndsOf, IsCornerOfRow, IsCornerOfRows}
+use Rattle.extents.specs.Corners.{IsOf, AreInRasterOrder, IsShort, AreShort, AreEndsOf, IsCornerOfRow, IsCornerOfRows}
 use Rattle.extents.specs.Lines.{first, last, above, below, IsShortLine, IsJoined, with_line, AreLines, reach}
 
 -- ---- one corner more
@@ -336,7 +336,7 @@ put_apart rows n u v a b old mid new are k up low is is' apart short short' put 
     (subst (λ z. AreLines rows (n + 2) (reach rows (n + 2)) (with_line mid z)) (sym two) (subst (λ y. AreLines rows (n + 2) y (with_line mid (above (row_at rows (n + 1))))) (sym (reach_second rows n)) last'))
   where
     farther : (x y : ℕ) → x < y → (x + 1 ≡ y → ⊥) → x + 1 < y
-    farther x y l no = (let c : (x + 1 < y) ⊎ (x + 1 ≡ y) = grind arith in elim c [ inl m ↦ m | inr g ↦ absurd (no g) ])
+    farther x y l apart = (let c : (x + 1 < y) ⊎ (x + 1 ≡ y) = grind arith in elim c [ inl m ↦ m | inr g ↦ absurd (apart g) ])
 
 -- the first row
 pub put_first : (rows : List Row) (at : ℕ) (u : Row) (a : Line) (old new : List Corner) → AreRows rows → at < length rows → at ≡ 0 → u ≡ row_at rows at → a ≡ above u → IsShortLine a → new ≡ with_line old a

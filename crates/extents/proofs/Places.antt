@@ -1,6 +1,6 @@
 -- Spots of a box as points of the plane: raster order, distances, and which points are spots.
 -- One box; objects stand elsewhere.
-use Rattle.std.proofs.Common.{◌≡◌, ◌⊎◌, inl, inr, ℕ, ◌+◌, ◌*◌, ◌<◌, ◌≤◌, ℤ, pos, negsuc, List, [], ◌∷◌, ap, sym, ◌∙◌, refl, arith}
+use Rattle.std.proofs.Common.{◌≡◌, ◌⊎◌, inl, inr, ℕ, ◌+◌, ◌*◌, ◌<◌, ◌≤◌, pos, negsuc, [], ◌∷◌, ap, ◌∙◌, refl, arith}
 use Rattle.std.specs.Prelude.{IsTrue, nat_abs, ◌-ℤ◌}
 use Rattle.std.specs.Int.{abs_diff}
 use Rattle.std.proofs.Math.Nat.{mul-le-mul_left}

@@ -1,7 +1,7 @@
 -- Left of left at points that come in raster order, one way or the other.
 -- Three forms: a point gone back to, a point behind the last, and an older step.
 use Rattle.std.proofs.Common.{◌≡◌, ◌⊎◌, inl, inr, Bool, true, false, sym, subst, arith}
-use Rattle.std.proofs.Math.IntN.{ℤ, pos, ◌-ℤ◌, neg_ℤ}
+use Rattle.std.proofs.Math.IntN.{ℤ, pos, ◌-ℤ◌}
 use lib.Signed.{◌<ℤ◌, ◌≤ℤ◌}
 use Rattle.std.proofs.lemmas.Int.{ints, by_lt_z}
 use Rattle.shape_terms.proofs.Products.{rings}

@@ -1,9 +1,9 @@
 -- A corner of a list that the program keeps, as one of the list that it stands for.
 -- Lists alone.
-use Rattle.std.proofs.Common.{◌≡◌, ℕ, ◌-◌, ◌<◌, List, [], ◌∷◌, ◌++◌, map, length, reverse, take, drop, get_or, refl, sym, ap, ◌∙◌}
+use Rattle.std.proofs.Common.{◌≡◌, ℕ, ◌-◌, ◌<◌, List, [], ◌∷◌, ◌++◌, length, reverse, take, drop, get_or, refl, sym, ap, ◌∙◌}
 use Rattle.std.proofs.lemmas.List.{get_or-map, length-map, map-append, map_push, take-map, drop-map, reverse-append}
 use Rattle.shape_space.specs.declared.point.P2.{P2}
-use Rattle.measure_terms.specs.Hulls.{Corner, origin, vertex}
+use Rattle.measure_terms.specs.Hulls.{origin, vertex}
 use Rattle.extents.specs.Corners.{corner, corners}
 
 pub read : (points : List P2) (i : ℕ) (p : P2) → i < length points → p ≡ get_or points i p → corner p ≡ vertex (corners points) i

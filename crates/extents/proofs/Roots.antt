@@ -1,6 +1,6 @@
 -- Sizes of whole roots of quotients.
 -- Numbers alone.
-use Rattle.std.proofs.Common.{ℕ, ◌+◌, ◌*◌, ◌/◌, ◌^◌, ◌<◌, ◌≤◌, arith}
+use Rattle.std.proofs.Common.{ℕ, ◌+◌, ◌*◌, ◌/◌, ◌<◌, ◌≤◌, arith}
 use Rattle.std.proofs.Math.Nat.{div-le_self}
 use Rattle.measure_terms.proofs.RootFound.{no_greater}
 

@@ -1,6 +1,6 @@
 -- Sizes of turns and lengths of corners that lie in a box.
 -- Numbers alone.
-use Rattle.std.proofs.Common.{◌≡◌, ◌^◌, ◌≤◌, unsigned_abs, arith}
+use Rattle.std.proofs.Common.{◌^◌, ◌≤◌, unsigned_abs, arith}
 use Rattle.std.proofs.Math.IntN.{ℤ, ◌+ℤ◌, ◌-ℤ◌, ◌*ℤ◌}
 use Rattle.std.proofs.lemmas.Int.{ints, unsigned_abs-mul}
 use Rattle.std.proofs.lemmas.Nat.{mul-le}

@@ -1,18 +1,17 @@
 -- What a hull of corners of rows has that its sizes rest on: it is convex, short, of few corners, and no side of it is a point.
 -- Lists of corners and rows alone.
-use Rattle.std.proofs.Common.{◌≡◌, ◌⊎◌, inl, inr, ℕ, zero, suc, ◌+◌, ◌-◌, ◌^◌, ◌<◌, ◌≤◌, List, length, nat_abs, unsigned_abs, ap, refl, sym, subst, ◌∙◌, add-one, arith}
+use Rattle.std.proofs.Common.{◌≡◌, inl, inr, ℕ, zero, suc, ◌+◌, ◌-◌, ◌^◌, ◌<◌, ◌≤◌, List, length, nat_abs, unsigned_abs, ap, refl, sym, subst, arith}
 use Rattle.std.proofs.Math.IntN.{ℤ, pos}
 use lib.Signed.{◌<ℤ◌, ◌≤ℤ◌}
 use Rattle.std.proofs.lemmas.Int.{ints}
-use Rattle.measure_terms.specs.Hulls.{Corner, IsHull, end, turn, vertex}
+use Rattle.measure_terms.specs.Hulls.{Corner, IsHull, vertex}
 use Rattle.measure_terms.specs.Widths.{HaveLengths, IsOfSide, Width}
 use Rattle.measure_terms.proofs.Hulled.{hull_of_two}
 use Rattle.extents.specs.declared.row.Row.{Row}
 use Rattle.extents.specs.declared.line.Line.{Line}
 use Rattle.extents.specs.Rows.{row_at, AreRows}
-use Rattle.extents.specs.Corners.{IsAmong, IsOf, IsConvex, IsShort, AreShort, AreEndsOf, IsCornerOfRow, IsCornerOfRows}
+use Rattle.extents.specs.Corners.{IsOf, IsConvex, IsShort, AreShort, AreEndsOf, IsCornerOfRows}
 use Rattle.extents.specs.Lines.{below, IsShortLine}
-use Rattle.extents.proofs.Between.{hull_of_ends}
 
 -- a hull is that of its own corners
 pub convex : (S : Corner → Type 0) (h : List Corner) → IsHull S h → IsConvex h
@@ -42,15 +41,15 @@ corner_below rows some = record { place = 0; within = omega (arith, some); corne
 pub some_bounds : (rows : List Row) (ps : List Corner) → 1 ≤ length rows → AreEndsOf (IsCornerOfRows rows (length rows)) (IsOf ps) → 1 ≤ length ps
 some_bounds rows ps some ends = (let b = (ends.hold _ (corner_in rows some)).left_in.within in omega (arith, b))
 
-apart : (x : ℤ) (n : ℕ) → record { x = x; y = pos n } ≡ record { x = x; y = pos (n + 1) } → ⊥
-apart x n e = (let f = ap (λ (c : Corner). c.y) e in absurd (omega (arith, ints, f)))
+apart : (p q : Corner) (n : ℕ) → p.y ≡ pos n → q.y ≡ pos (n + 1) → p ≡ q → ⊥
+apart p q n a b e = (let f = ap (λ (c : Corner). c.y) e in absurd (omega (arith, ints, a, b, f)))
 
 pub many_corners : (rows : List Row) (h : List Corner) → 1 ≤ length rows → IsHull (IsCornerOfRows rows (length rows)) h → 2 ≤ length h
 many_corners rows h some is =
     let r = row_at rows 0 in
     let p : Corner = record { x = pos r.left; y = pos r.y } in
     let q : Corner = record { x = pos r.left; y = pos (r.y + 1) } in
-    hull_of_two (IsCornerOfRows rows (length rows)) h p q is (corner_in rows some) (corner_below rows some) (apart (pos r.left) r.y)
+    hull_of_two (IsCornerOfRows rows (length rows)) h p q is (corner_in rows some) (corner_below rows some) (apart p q r.y refl refl)
 
 -- the row with a place lies no higher than that
 low : (rows : List Row) → AreRows rows → (k : ℕ) → k < length rows → k ≤ (row_at rows k).y

@@ -1,12 +1,12 @@
 -- The rows that were tried as other ends of a spot: one row more, and all rows that are left.
 -- Lists of rows and pairs of spots alone stand here.
-use Rattle.std.proofs.Common.{◌≡◌, ◌⊎◌, inl, inr, ℕ, ◌+◌, ◌*◌, ◌<◌, ◌≤◌, List, length, ap, sym, ◌∙◌, refl, subst, arith}
+use Rattle.std.proofs.Common.{◌≡◌, ◌⊎◌, inl, inr, ℕ, ◌+◌, ◌<◌, ◌≤◌, List, length, ap, sym, refl, subst, arith}
 use Rattle.std.specs.Int.{abs_diff}
 use Rattle.extents.specs.declared.spot.Spot.{Spot}
 use Rattle.extents.specs.declared.row.Row.{Row}
 use Rattle.extents.specs.declared.search.Feret.{Feret}
-use Rattle.extents.specs.Rows.{squared_gap, square_between, IsUpTo, row_at, IsIn, IsInRow, IsEnd, AreRows}
-use Rattle.extents.specs.Search.{IsAcross, AreBetween, IsEndOf, IsFurtherIn, IsTried, IsFurther, AreTried}
+use Rattle.extents.specs.Rows.{squared_gap, square_between, IsUpTo, row_at, IsIn, IsInRow, AreRows}
+use Rattle.extents.specs.Search.{IsAcross, AreBetween, IsEndOf, IsTried, IsFurther, AreTried}
 use Rattle.extents.proofs.Gaps.{square_le, gap_within}
 use Rattle.extents.proofs.Ends.{end_row, end_in}
 

@@ -1,7 +1,7 @@
 -- Turns of steps that all go forth in raster order: left of left is left.
 -- Plain numbers alone, one way or the other.
 use Rattle.std.proofs.Common.{◌≡◌, ap, Bool, true, false, subst, sym, arith}
-use Rattle.std.proofs.Math.IntN.{ℤ, pos, ◌-ℤ◌, ◌*ℤ◌, neg_ℤ}
+use Rattle.std.proofs.Math.IntN.{ℤ, pos, ◌*ℤ◌, neg_ℤ}
 use lib.Signed.{◌<ℤ◌, ◌≤ℤ◌}
 use Rattle.std.proofs.lemmas.Int.{ints, by_lt_z}
 use Rattle.shape_terms.proofs.Products.{rings}

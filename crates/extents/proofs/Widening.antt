@@ -1,9 +1,9 @@
 -- The rows of a set of spots with one spot more, which comes last in raster order.
 -- Sets and rows alone; nothing is known of labels here.
-use Rattle.std.proofs.Common.{◌≡◌, ◌≢◌, ◌⊎◌, inl, inr, ℕ, ◌+◌, ◌-◌, ◌<◌, ◌≤◌, List, length, ap, sym, ◌∙◌, refl, subst, arith}
+use Rattle.std.proofs.Common.{◌≡◌, ◌⊎◌, inl, inr, ℕ, ◌+◌, ◌-◌, ◌<◌, ◌≤◌, List, length, ap, sym, ◌∙◌, subst, arith}
 use Rattle.extents.specs.declared.spot.Spot.{Spot}
 use Rattle.extents.specs.declared.row.Row.{Row}
-use Rattle.extents.specs.Rows.{IsUpTo, row_at, first_spot, last_spot, IsIn, IsInRow, AreRows, AreRowsOf}
+use Rattle.extents.specs.Rows.{IsUpTo, row_at, first_spot, last_spot, IsIn, AreRowsOf}
 use Rattle.extents.specs.Seen.{IsWidened, IsBegun}
 
 -- the same set

@@ -1,6 +1,6 @@
 -- Lists of corners as the program keeps them, and the sets that they stand for.
 -- A point of the plane stands for the corner with its coordinates.
-use Rattle.std.specs.Prelude.{◌≡◌, ◌⊎◌, ℕ, ◌+◌, ◌<◌, ◌≤◌, ◌^◌, List, map, length, ℤ, pos, ◌+ℤ◌, ◌≤ℤ◌, unsigned_abs}
+use Rattle.std.specs.Prelude.{◌≡◌, ◌⊎◌, ℕ, ◌+◌, ◌<◌, ◌≤◌, ◌^◌, List, map, length, pos, ◌≤ℤ◌, unsigned_abs}
 use Rattle.shape_space.specs.declared.point.P2.{P2}
 use Rattle.measure_terms.specs.Hulls.{Corner, IsUpTo, IsHull, vertex}
 use Rattle.extents.specs.declared.row.Row.{Row}

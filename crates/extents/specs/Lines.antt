@@ -1,6 +1,6 @@
 -- The corners of an object line by line: from its rows, the outermost corners of each line of the grid.
 -- Rows and corners alone.
-use Rattle.std.specs.Prelude.{◌≡◌, ◌⊎◌, ℕ, zero, suc, ◌+◌, ◌<◌, List, [], ◌∷◌, ◌++◌, length, ℤ, pos, negsuc, ◌≤ℤ◌}
+use Rattle.std.specs.Prelude.{◌≡◌, ◌⊎◌, ℕ, zero, suc, ◌+◌, List, [], ◌∷◌, ◌++◌, length, ℤ, pos, negsuc, ◌≤ℤ◌}
 use Rattle.measure_terms.specs.Hulls.{Corner}
 use Rattle.extents.specs.declared.row.Row.{Row}
 use Rattle.extents.specs.declared.line.Line.{Line}

@@ -1,6 +1,6 @@
 -- What is known of the best pair of spots while rows are searched, and in the end.
 -- How a row is searched is not told here.
-use Rattle.std.specs.Prelude.{◌≡◌, ◌⊎◌, ℕ, ◌+◌, ◌*◌, ◌<◌, ◌≤◌, List, length}
+use Rattle.std.specs.Prelude.{◌≡◌, ◌⊎◌, ℕ, ◌<◌, ◌≤◌, List, length}
 use Rattle.extents.specs.declared.spot.Spot.{Spot}
 use Rattle.extents.specs.declared.row.Row.{Row}
 use Rattle.extents.specs.declared.search.Feret.{Feret}

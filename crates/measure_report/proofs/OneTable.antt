@@ -258,9 +258,9 @@ flat_once g X number name text other bytes more names i h k =
     let heads = flat_names g f u in
     one g flat X number name text other bytes more names (inl refl) i h k
     (λ z. codes ",holes,border,hole_border" ++ (codes ",feret,from_x,from_y,to_x,to_y" ++ (codes ",euler"
-        ++ (codes ",convex_area,convex_perimeter,min_feret,side_x,side_y" ++ (codes ",solidity,circularity" ++ heads z)))))
+    ++ (codes ",convex_area,convex_perimeter,min_feret,side_x,side_y" ++ (codes ",solidity,circularity" ++ heads z)))))
     (λ j l.
-        let border = same_border g flat X number name text other bytes more names (inl refl) i h k refl is_flat j in
-        let ratio = same_ratio g flat X number name text other bytes more names (inl refl) i h k refl is_flat j l in
-        let e = entries g flat X number name text other bytes more names (inl refl) i h k j l in
-        flat_row border (ap feret_cells (e.ferets refl)) (ap (minkowski_cells false) e.minkowski) (ap hull_cells (e.hulls refl)) ratio (flat_groups g f u j e))
+    let border = same_border g flat X number name text other bytes more names (inl refl) i h k refl is_flat j in
+    let ratio = same_ratio g flat X number name text other bytes more names (inl refl) i h k refl is_flat j l in
+    let e = entries g flat X number name text other bytes more names (inl refl) i h k j l in
+    flat_row border (ap feret_cells (e.ferets refl)) (ap (minkowski_cells false) e.minkowski) (ap hull_cells (e.hulls refl)) ratio (flat_groups g f u j e))

@@ -31,7 +31,7 @@ asked_names false some other h = refl
 pub flat_groups : (g : Groups) (f h : Further) (j : ℕ) → SameEntries g 2 f h j → (group_columns g 2 f).cells j ≡ (group_columns g 2 h).cells j
 flat_groups g f h j e =
     let moments = asked_cells g.moments (moment_columns 2 f.moments f.ellipses) (moment_columns 2 h.moments h.ellipses) j
-        (λ asked. (let m = e.moments asked in let n = e.ellipses asked refl in λ z. flat_cells (m z) (n z))) in
+    (λ asked. (let m = e.moments asked in let n = e.ellipses asked refl in λ z. flat_cells (m z) (n z))) in
     let thickness = asked_cells g.thickness (thickness_columns f.thicknesses) (thickness_columns h.thicknesses) j (λ asked. ap thickness_cells (e.thicknesses asked)) in
     λ z. moments z ++ thickness z
 

@@ -59,11 +59,7 @@ fn moments_at(all: &[Moments], i: usize) -> Moments
 fn ellipse_at(all: &[Ellipse], i: usize) -> Ellipse
     ensures { ellipse_told result ≡ slice_index_or (map ellipse_told all.now) i no_ellipse }
 {
-    if i < all.len() {
-        all[i]
-    } else {
-        no_ellipse()
-    }
+    if i < all.len() { all[i] } else { no_ellipse() }
 }
 
 /// The ellipses of objects with these moments.

@@ -14,7 +14,8 @@ use shape_desk::Desk;
 use std::alloc::Global;
 
 /// What the program says of words that it does not take.
-pub const USAGE: &str = "usage: shape measure [moments] [thickness] REPORT, shape measure whole REPORT";
+pub const USAGE: &str =
+    "usage: shape measure [moments] [thickness] REPORT, shape measure whole REPORT";
 
 // Makes what is wanted of the report in the file with this name, and writes it.
 fn run_wanted<D: Desk>(alloc: Global, wanted: Wanted, name: &[u8], desk: &mut D) -> Outcome

@@ -53,7 +53,12 @@ fn put_solid(counted: Parts, m: &Minkowski, csv: &mut Csv) -> Result<(), NoMemor
 }
 
 // The text of a volume's object.
-fn solid_text(alloc: Global, points: u32, counted: Parts, m: &Minkowski) -> Result<Vec<u8>, NoMemory>
+fn solid_text(
+    alloc: Global,
+    points: u32,
+    counted: Parts,
+    m: &Minkowski,
+) -> Result<Vec<u8>, NoMemory>
     ensures { IfOk result (λ v. v.items
         ≡ solid_whole points counted.object counted.background (told m.now)) }
 {

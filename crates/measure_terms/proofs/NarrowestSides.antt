@@ -27,14 +27,22 @@ top f (suc zero) l = (0, omega arith, λ j m. (let e : 0 ≡ j = omega (arith, m
 top f (suc (suc n)) l =
     let r = top f (suc n) (omega arith) in
     by_lt_z (f r.0) (f (suc n))
-    (λ (m : f r.0 <ℤ f (suc n)). (suc n, omega arith, λ j g. elim (split j n g) [
-      | inl a ↦ less (f j) (f r.0) (f (suc n)) (r.2 j a) m
-      | inr e ↦ subst (λ i. f i ≤ℤ f (suc n)) (sym e) (no_more (f (suc n)))
-    ]))
-    (λ (m : f (suc n) ≤ℤ f r.0). (r.0, (let w = r.1 in omega (arith, w)), λ j g. elim (split j n g) [
-      | inl a ↦ r.2 j a
-      | inr e ↦ subst (λ i. f i ≤ℤ f r.0) (sym e) m
-    ]))
+    (λ (m : f r.0 <ℤ f (suc n)). (
+      suc n,
+      omega arith,
+      λ j g. elim (split j n g) [
+        | inl a ↦ less (f j) (f r.0) (f (suc n)) (r.2 j a) m
+        | inr e ↦ subst (λ i. f i ≤ℤ f (suc n)) (sym e) (no_more (f (suc n)))
+      ],
+    ))
+    (λ (m : f (suc n) ≤ℤ f r.0). (
+      r.0,
+      (let w = r.1 in omega (arith, w)),
+      λ j g. elim (split j n g) [
+        | inl a ↦ r.2 j a
+        | inr e ↦ subst (λ i. f i ≤ℤ f r.0) (sym e) m
+      ],
+    ))
   where
     no_more : (z : ℤ) → z ≤ℤ z
     no_more z = omega (arith, ints)
@@ -129,18 +137,25 @@ module _ (S : Corner → Type 0) (h : List Corner) (is : IsHull S h) (many : 3 �
   module _ (a b : ℤ) (k m : ℕ) (ends : AreEnds h a b k m) (some : IsNone a b → ⊥) where
     abbrev p : Corner
     p = vertex h k
+
     abbrev q : Corner
     q = vertex h m
+
     abbrev before : ℕ
     before = (previous (length h) k ends.most).0
+
     abbrev before' : ℕ
     before' = (previous (length h) m ends.least).0
+
     abbrev u : Corner
     u = vertex h before
+
     abbrev u' : Corner
     u' = vertex h before'
+
     abbrev v : Corner
     v = end h k
+
     abbrev v' : Corner
     v' = end h m
 
@@ -193,6 +208,7 @@ module _ (S : Corner → Type 0) (h : List Corner) (is : IsHull S h) (many : 3 �
 
     abbrev x : ℤ
     x = p.x -ℤ q.x
+
     abbrev y : ℤ
     y = p.y -ℤ q.y
 

@@ -52,18 +52,25 @@ module _ (p q r s t : Corner) (one : pos 0 ≤ℤ turn p q r) (other : pos 0 ≤
     (far : pos 0 ≤ℤ turn q s r) (far' : pos 0 ≤ℤ turn r t q) (side : pos 0 ≤ℤ turn p r s) (side' : pos 0 ≤ℤ turn p q t) where
   abbrev ex : ℤ
   ex = q.x -ℤ p.x
+
   abbrev ey : ℤ
   ey = q.y -ℤ p.y
+
   abbrev gx : ℤ
   gx = r.x -ℤ p.x
+
   abbrev gy : ℤ
   gy = r.y -ℤ p.y
+
   abbrev fx : ℤ
   fx = s.x -ℤ p.x
+
   abbrev fy : ℤ
   fy = s.y -ℤ p.y
+
   abbrev hx : ℤ
   hx = t.x -ℤ p.x
+
   abbrev hy : ℤ
   hy = t.y -ℤ p.y
 

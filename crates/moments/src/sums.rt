@@ -45,7 +45,7 @@ fn with_product(sum: u64, count: u32, a: u32, b: u32) -> u64
 
 impl Moments {
     /// The moments of no point.
-    pub(crate) fn none() -> Moments
+    pub fn none() -> Moments
         ensures { moments_told result ≡ moments_of [] }
     {
         Moments {

@@ -1,4 +1,4 @@
-use Rattle.std.proofs.Common.{ℕ, pos, ap, ◌∙◌, arith}
+use Rattle.std.proofs.Common.{pos, ◌∙◌, arith}
 use Rattle.std.proofs.lemmas.Int.{ints}
 use Rattle.measure_terms.specs.Hulls.{vertex, end}
 use Rattle.measure_terms.specs.Polygons.{side_length}

@@ -1,4 +1,4 @@
-use Rattle.std.proofs.Common.{◌≡◌, ◌+◌, ◌-◌, sym, subst, ap, ◌∙◌, arith}
+use Rattle.std.proofs.Common.{◌≡◌, ◌+◌, ◌-◌, subst, ap, ◌∙◌, arith}
 use Rattle.extents.specs.Rows.{row_at}
 use Rattle.extents.specs.Corners.{corners}
 use Rattle.extents.specs.Lines.{AreLines, reach}

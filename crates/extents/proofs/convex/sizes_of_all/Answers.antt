@@ -1,6 +1,5 @@
-use Rattle.std.proofs.Common.{◌≡◌, ◌+◌, List, length, sym, subst, arith}
+use Rattle.std.proofs.Common.{◌≡◌, ◌+◌, length, sym, subst, arith}
 use Rattle.extents.specs.declared.outline.Outline.{Outline}
-use Rattle.extents.specs.declared.size.HullSize.{HullSize}
 use Rattle.extents.specs.Rows.{AreRows}
 use Rattle.extents.specs.Sizes.{HaveSizes}
 use Rattle.extents.proofs.LabelledHulls.{one_size_more}
@@ -14,7 +13,7 @@ pub loop-outline-preserved : goal.loop-outline-preserved
 loop-outline-preserved c =
     let i = c.loop-outline.outline-index in
     subst (HaveSizes c.args.outlines.now (i + 1)) (sym c.in_ok-push.ensures.items)
-    (one_size_more c.args.outlines.now i c.loop-outline.all.items c.outline-item.result c.in_ok-size_of.size_of c.loop-outline-test.true c.outline-item.is c.in_ok-size_of.ensures c.loop-outline.invariant)
+    (one_size_more c.args.outlines.now i c.loop-outline.all.items c.outline-item.result c.in_ok-size_of.field-0 c.loop-outline-test.true c.outline-item.is c.in_ok-size_of.ensures c.loop-outline.invariant)
 
 pub returns : goal.returns
 returns c =

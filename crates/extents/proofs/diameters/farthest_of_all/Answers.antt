@@ -1,6 +1,5 @@
-use Rattle.std.proofs.Common.{◌≡◌, ◌+◌, List, length, sym, subst, arith}
+use Rattle.std.proofs.Common.{◌≡◌, ◌+◌, length, sym, subst, arith}
 use Rattle.extents.specs.declared.outline.Outline.{Outline}
-use Rattle.extents.specs.declared.search.Feret.{Feret}
 use Rattle.extents.specs.Rows.{AreRows}
 use Rattle.extents.specs.Seen.{HaveFarthest}
 use Rattle.extents.proofs.Labelled.{one_found}

@@ -1,5 +1,5 @@
 use Rattle.std.proofs.Common.{◌≡◌, subst, arith}
-use Rattle.shape_terms.specs.Points.{sides_of, box_count}
+use Rattle.shape_terms.specs.Points.{sides_of}
 use Rattle.extents.specs.Told.{flat}
 use Rattle.extents.specs.Seen.{HaveRows}
 use Rattle.extents.proofs.objects.outlines.Goals as goal

@@ -1,4 +1,4 @@
-use Rattle.std.proofs.Common.{◌≡◌, ◌+◌, ◌-◌, ◌<◌, ◌≤◌, pos, length, ap, sym, subst, ◌∙◌, arith}
+use Rattle.std.proofs.Common.{pos, ap, sym, subst, ◌∙◌, arith}
 use Rattle.std.proofs.lemmas.Int.{ints}
 use Rattle.std.proofs.lemmas.List.{length-map}
 use Rattle.measure_terms.specs.Widths.{IsLeastSide}
@@ -9,24 +9,24 @@ use Rattle.extents.specs.Narrower.{width_told}
 use Rattle.extents.proofs.Sized.{across_sign, length_sign, whole, above_zero}
 use Rattle.extents.proofs.size.size_of_polygon.Goals as goal
 
-pub least_width-width-requires-lengths : goal.least_width-width-requires-lengths
-least_width-width-requires-lengths c =
+pub least_width-width-requires-clause-lengths : goal.least_width-width-requires-clause-lengths
+least_width-width-requires-clause-lengths c =
     let h = corners c.args.round.now in
     let many = c.requires.many in
     let all = length-map c.args.round.now corner in
     hull_lengths (IsOf h) h (omega (arith, many, all)) c.requires.convex
 
-pub with_width-requires-side : goal.with_width-requires-side
-with_width-requires-side c =
+pub with_width-requires-clause-side : goal.with_width-requires-clause-side
+with_width-requires-clause-side c =
     let l = c.least_width-width.ensures.least.is.side in
     let all = length-map c.args.round.now corner in
     omega (arith, l, all)
 
-pub with_width-requires-left : goal.with_width-requires-left
-with_width-requires-left c = (let h = corners c.args.round.now in area_sign (IsOf h) h c.requires.convex)
+pub with_width-requires-clause-left : goal.with_width-requires-clause-left
+with_width-requires-clause-left c = (let h = corners c.args.round.now in area_sign (IsOf h) h c.requires.convex)
 
-pub with_width-requires-length : goal.with_width-requires-length
-with_width-requires-length c =
+pub with_width-requires-clause-length : goal.with_width-requires-clause-length
+with_width-requires-clause-length c =
     let h = corners c.args.round.now in
     let many = c.requires.many in
     let all = length-map c.args.round.now corner in

@@ -1,4 +1,4 @@
-use Rattle.std.proofs.Common.{◌≡◌, ◌≤◌, ◌^◌, List, length, sym, subst, ◌∙◌, ap, arith}
+use Rattle.std.proofs.Common.{◌≤◌, ◌^◌, List, length, sym, subst, ap, arith}
 use Rattle.std.proofs.lemmas.List.{length-map}
 use Rattle.shape_space.specs.declared.point.P2.{P2}
 use Rattle.measure_terms.specs.Hulls.{IsHull}
@@ -8,22 +8,22 @@ use Rattle.extents.proofs.Between.{hull_of_ends}
 use Rattle.extents.proofs.Sized.{convex, short_hull, some_bounds, many_corners}
 use Rattle.extents.proofs.size.size_of_rows.Goals as goal
 
-pub hull-round-requires-some : goal.hull-round-requires-some
-hull-round-requires-some c =
+pub hull-requires-clause-some : goal.hull-requires-clause-some
+hull-requires-clause-some c =
     let ps = c.in_ok-points.points.items in
     let all = length-map ps corner in
     let l = some_bounds c.args.rows.now (corners ps) c.requires.some c.in_ok-points.ensures.ends in
     subst (λ (l : List P2). 1 ≤ length l) (sym c.as_slice.ensures.value) (omega (arith, l, all))
 
-pub hull-round-requires-order : goal.hull-round-requires-order
-hull-round-requires-order c = subst (λ (l : List P2). AreInRasterOrder (corners l)) (sym c.as_slice.ensures.value) c.in_ok-points.ensures.order
+pub hull-requires-clause-order : goal.hull-requires-clause-order
+hull-requires-clause-order c = subst (λ (l : List P2). AreInRasterOrder (corners l)) (sym c.as_slice.ensures.value) c.in_ok-points.ensures.order
 
-pub size_of_polygon-requires-convex : goal.size_of_polygon-requires-convex
-size_of_polygon-requires-convex c =
+pub size_of_polygon-requires-clause-convex : goal.size_of_polygon-requires-clause-convex
+size_of_polygon-requires-clause-convex c =
     subst (λ (l : List P2). IsConvex (corners l)) (sym c.as_slice-2.ensures.value) (convex (IsOf (corners c.as_slice.result.now)) (corners c.in_ok-round.round.items) c.in_ok-round.ensures.hull)
 
-pub size_of_polygon-requires-many : goal.size_of_polygon-requires-many
-size_of_polygon-requires-many c =
+pub size_of_polygon-requires-clause-many : goal.size_of_polygon-requires-clause-many
+size_of_polygon-requires-clause-many c =
     let rows = c.args.rows.now in
     let ps = c.in_ok-points.points.items in
     let h = c.in_ok-round.round.items in
@@ -32,15 +32,15 @@ size_of_polygon-requires-many c =
     let l = many_corners rows (corners h) c.requires.some (hull_of_ends (IsCornerOfRows rows (length rows)) (IsOf (corners ps)) (corners h) c.in_ok-points.ensures.ends is) in
     subst (λ (r : List P2). 2 ≤ length r) (sym c.as_slice-2.ensures.value) (omega (arith, l, all))
 
-pub size_of_polygon-requires-few : goal.size_of_polygon-requires-few
-size_of_polygon-requires-few c =
+pub size_of_polygon-requires-clause-few : goal.size_of_polygon-requires-clause-few
+size_of_polygon-requires-clause-few c =
     let a = c.in_ok-points.ensures.few in
     let b = c.in_ok-round.ensures.few in
     let d = ap (λ (l : List P2). length l) c.as_slice.ensures.value in
     subst (λ (r : List P2). length r ≤ 2 ^ 20) (sym c.as_slice-2.ensures.value) (omega (arith, a, b, d))
 
-pub size_of_polygon-requires-short : goal.size_of_polygon-requires-short
-size_of_polygon-requires-short c =
+pub size_of_polygon-requires-clause-short : goal.size_of_polygon-requires-clause-short
+size_of_polygon-requires-clause-short c =
     let short = subst (λ (l : List P2). AreShort (corners l)) (sym c.as_slice.ensures.value) c.in_ok-points.ensures.short in
     subst (λ (r : List P2). AreShort (corners r)) (sym c.as_slice-2.ensures.value) (short_hull (corners c.as_slice.result.now) (corners c.in_ok-round.round.items) c.in_ok-round.ensures.hull short)
 

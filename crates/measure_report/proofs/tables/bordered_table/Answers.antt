@@ -27,8 +27,8 @@ returns c = λ lines tells told border.
     IfOk-weaker c.table_text.result (λ t. t.items ≡ table_text 2 (flat_columns more.groups more.borders.told more.areas.items all f) (map (measures_told sides) c.as_slice.result.now))
     (λ t. IsTableText g 2 lines t.items)
     (λ t h. flat_made g lines seen.object seen.squares seen.left table.labels table.count ms more.borders.told (all_borders c.args.borders.now) more.areas.items all f t.items
-        (are_said lines seen seen.object seen.squares seen.left told refl refl refl)
-        (record { named = c.requires.labels; count_is = c.requires.count; rows_are = c.requires.rows })
-        (made.told ∙ tells) border (made.areas ∙ areas_told seen.object.sides table.rows.items) made.bounds made.further
-        (h ∙ (λ i. table_text 2 (flat_columns (groups i) more.borders.told more.areas.items all f) (map (measures_told (side i)) (slice i)))))
+    (are_said lines seen seen.object seen.squares seen.left told refl refl refl)
+    (record { named = c.requires.labels; count_is = c.requires.count; rows_are = c.requires.rows })
+    (made.told ∙ tells) border (made.areas ∙ areas_told seen.object.sides table.rows.items) made.bounds made.further
+    (h ∙ (λ i. table_text 2 (flat_columns (groups i) more.borders.told more.areas.items all f) (map (measures_told (side i)) (slice i)))))
     c.table_text.ensures

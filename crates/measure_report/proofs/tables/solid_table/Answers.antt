@@ -25,7 +25,7 @@ returns c = λ lines told.
     let ms = map (measures_told seen.object.sides) table.rows.items in
     IfOk-weaker c.table_text.result (λ t. t.items ≡ table_text 3 (solid_columns more.groups f) (map (measures_told sides) c.as_slice.result.now)) (λ t. IsTableText g 3 lines t.items)
     (λ t h. solid_made g lines seen.object seen.squares seen.left table.labels table.count ms f t.items
-        (are_said lines seen seen.object seen.squares seen.left told refl refl refl)
-        (record { named = tells.labels; count_is = tells.count; rows_are = tells.rows })
-        c.in_ok-more.ensures.further (h ∙ (λ i. table_text 3 (solid_columns (groups i) f) (map (measures_told (side i)) (slice i)))))
+    (are_said lines seen seen.object seen.squares seen.left told refl refl refl)
+    (record { named = tells.labels; count_is = tells.count; rows_are = tells.rows })
+    c.in_ok-more.ensures.further (h ∙ (λ i. table_text 3 (solid_columns (groups i) f) (map (measures_told (side i)) (slice i)))))
     c.table_text.ensures
