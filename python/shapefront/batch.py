@@ -14,6 +14,7 @@ from .files import shown, sum_of, sum_of_bytes
 from .images import SUFFIXES
 from .making import Record, make
 from .plan import Plan
+from .scans.kinds import file_of
 
 Convert = Callable[[Path, str], Picture]
 
@@ -45,7 +46,7 @@ def images_of(paths: Iterable[Path], is_volume: bool) -> tuple[list[Image], int]
     absolute = {Path(os.path.abspath(path)): path for path in files}
     if not absolute:
         return [], passed
-    base = os.path.commonpath([path.parent for path in absolute])
+    base = os.path.commonpath([file_of(path).parent for path in absolute])
     return [Image(shown_path, str(path.relative_to(base))) for path, shown_path in absolute.items()], passed
 
 
@@ -78,6 +79,7 @@ def _one(image: Image, plan: Plan, convert: Convert) -> None:
 
 def source_sum(path: Path) -> str | None:
     """The SHA-256 sum of an image's file, or of the names and sums of a folder's files."""
+    path = file_of(path)
     if path.is_dir():
         told = "".join(f"{sum_of(p)}  {p.name}\n" for p in sorted(path.iterdir()) if p.is_file())
         return sum_of_bytes(told.encode())

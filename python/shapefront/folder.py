@@ -99,7 +99,7 @@ def originals(folder: Path, made: dict[str, Any]) -> Iterator[str]:
     """The names of the images of a run that lie in its own folder as they were measured."""
     for image in made["images"]:
         path = folder / image["image"]
-        if path.exists() and image["sum"] and source_sum(path) == image["sum"]:
+        if file_of(path).exists() and image["sum"] and source_sum(path) == image["sum"]:
             yield image["image"]
 
 

@@ -23,6 +23,7 @@ from .layout import FURTHER, evidence
 from .making import Record, head_of
 from .pictures import pbm_mask, suffix_of
 from .plan import Plan
+from .scans.kinds import file_of
 from .tables import spelled_rows
 from .words import settings_told
 
@@ -43,7 +44,7 @@ class ImageCheck:
 
     def _image(self, told: dict[str, Any]) -> Finding:
         path = self.originals / told["image"]
-        if not path.exists():
+        if not file_of(path).exists():
             return Finding(shown(path), False, "it is missing")
         own = source_sum(path)
         is_same = own == told["sum"] and own is not None

@@ -9,6 +9,8 @@ import numpy as np
 
 from .channels import grey_of
 from .faults import Fault, Missing
+from .scans.kinds import NUMPY, kind_of, refused
+from .spacing import Spacing
 from .tiffs import Pages, better_read, pages
 
 TIFF = (".tif", ".tiff")
@@ -20,7 +22,7 @@ class Grey:
     """An image of one value a pixel, indexed [y, x], dark where the value is small, and what was done to make it, in words.
 
     `objects` is `dark` or `light` where the file's format itself says which side is the object, as a PBM does. `colours` is the image
-    in colours of eight bits, [y, x, 3], where it has some.
+    in colours of eight bits, [y, x, 3], where it has some; `spacing` the size of a voxel, where a volume's file tells it.
     """
 
     name: str
@@ -28,6 +30,7 @@ class Grey:
     notes: tuple[str, ...] = ()
     objects: str | None = None
     colours: np.ndarray | None = None
+    spacing: Spacing | None = None
 
 
 def pillow():
@@ -57,7 +60,9 @@ def load(path: Path, labels: bool = False, channel: str | None = None) -> Grey:
     """
     if not path.is_file():
         raise Fault(path, "no such file" if not path.exists() else "not a file", "is the name right?")
-    if path.suffix.lower() == ".npy":
+    if kind := kind_of(path):
+        if kind is not NUMPY:
+            raise refused(path, kind)
         return _array(path)
     frames = list(_frames(path, 2, labels, channel))
     if len(frames) > 1:

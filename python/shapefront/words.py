@@ -11,6 +11,8 @@ from . import __version__
 from .arrays import RULES
 from .channels import NAMES as CHANNELS
 from .filters import Filters
+from .scans.asked import Asked
+from .scans.words import size_words, volume_words
 from .thresholds import Settings
 
 MASKS = ("object", "skeleton", "distances", "squares")
@@ -98,8 +100,8 @@ def _conversion(parser: argparse.ArgumentParser) -> None:
     parser.add_argument("--fit", action="store_true", help=f"make images that are too large smaller, by whole numbers of pixels: sides go up to {MOST_FLAT} pixels, or {MOST_SOLID} voxels")
 
 
-def _making(parser: argparse.ArgumentParser) -> None:
-    """The words that say what is made of the pictures."""
+def _making(parser: argparse.ArgumentParser) -> argparse._MutuallyExclusiveGroup:
+    """The words that say what is made of the pictures; those about the size of a pixel are given back."""
     size = parser.add_mutually_exclusive_group()
     size.add_argument(
         "--pixel-size", nargs=2, metavar=("L", "UNIT"), help="how wide a pixel is: lengths and areas are told in this unit, too"
@@ -115,31 +117,37 @@ def _making(parser: argparse.ArgumentParser) -> None:
         "--masks", action="append", choices=MASKS, default=[], help="also write a picture of this; may be given again for another"
     )
     parser.add_argument("-o", dest="folder", type=Path, default=Path("measured"), metavar="FOLDER", help="where all is written (measured)")
+    return size
 
 
 def _further(measure: argparse.ArgumentParser) -> None:
     """The words of `shapes measure` alone: what is made of a picture beside its table."""
+    network_words(measure)
     measure.add_argument(
+        "--sides", action="store_true", help="also find straight sides, corners and circles: sides.csv, corners.csv, circles.csv"
+    )
+    measure.add_argument("--long", type=_count, default=20, metavar="STEPS", help="a straight side has at least so many steps (20)")
+
+
+def network_words(parser: argparse.ArgumentParser) -> None:
+    """The words about networks, of images and of volumes."""
+    parser.add_argument(
         "--network",
         action="store_true",
         help="also measure each skeleton as a network: networks.csv, branches.csv with a row for each branch, and widths.csv",
     )
-    measure.add_argument(
+    parser.add_argument(
         "--prune",
         type=_size,
         metavar="L",
         help="with --network, leave out branches shorter than L: in the unit of the pixel's size if that is given, else in pixels",
     )
-    measure.add_argument(
+    parser.add_argument(
         "--classes",
         type=_classes,
         metavar="W,W,..",
         help="with --network, the widths between the classes of widths.csv, in the same unit (else some 2 pixels each)",
     )
-    measure.add_argument(
-        "--sides", action="store_true", help="also find straight sides, corners and circles: sides.csv, corners.csv, circles.csv"
-    )
-    measure.add_argument("--long", type=_count, default=20, metavar="STEPS", help="a straight side has at least so many steps (20)")
 
 
 def _checking(words: argparse._SubParsersAction) -> argparse.ArgumentParser:
@@ -179,12 +187,13 @@ def parser() -> argparse.ArgumentParser:
     measure.add_argument("images", nargs="+", type=Path, metavar="IMAGE", help="an image, or a folder of images")
     _further(measure)
     volume = words.add_parser("volume", help="the same for volumes", epilog=_STATUS)
-    volume.add_argument(
-        "images", nargs="+", type=Path, metavar="VOLUME", help="a folder of slices, a TIFF of several pages, or a .npy file [z, y, x]"
-    )
-    volume.set_defaults(network=False, prune=None, classes=None, sides=False, long=20)
+    volume_words(volume)
+    network_words(volume)
+    volume.set_defaults(sides=False, long=20)
     for part in (measure, volume):
-        _making(part)
+        sizes = _making(part)
+        if part is volume:
+            size_words(sizes)
     check = _checking(words)
     for part in (measure, volume, check):
         _conversion(part)
@@ -211,10 +220,11 @@ def settings_of(words: argparse.Namespace) -> Settings:
 def settings_told(options: dict[str, Any]) -> Settings:
     """How images are made black and white, by the options of a command or of a run."""
     fit = None if options["fit"] else 1
-    return Settings(options["threshold"], options["objects"], options["labels"], fit, options["channel"], Filters.told(options))
+    return Settings(options["threshold"], options["objects"], options["labels"], fit, options["channel"], Filters.told(options), Asked.told(options))
 
 
 def options_of(words: argparse.Namespace) -> dict[str, object]:
     """The options for the record of a run, but those that change no number."""
     left_out = ("command", "images", "jobs", "folder")
-    return {"command": words.command, **{name: value for name, value in vars(words).items() if name not in left_out}}
+    told = {name: str(value) if isinstance(value, Path) else value for name, value in vars(words).items() if name not in left_out}
+    return {"command": words.command, **told}
