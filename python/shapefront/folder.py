@@ -22,7 +22,9 @@ from .making import Record
 from .page import Page, Shown, jinja_version, page_version
 from .pictures import told_sides
 from .programs import sums
+from .scans.kinds import file_of
 from .seals import sealed
+from .spacing import InUnit, Spacing, measure_of
 from .tables import Part, Row, joined, marked, rows_of, spelled_rows, text_of
 from .units import Pixel
 from .workbook import openpyxl_version, workbook
@@ -36,7 +38,7 @@ class Run:
     """A run: its options, the pixel's size, what became of its images, and the versions of what made it."""
 
     options: dict[str, Any]
-    pixel: Pixel | None
+    pixel: Pixel | InUnit | None
     images: list[Image]
     versions: dict[str, Any]
 
@@ -48,7 +50,7 @@ class Run:
         """The tables and the summary of all, by the names of their files. A Fault where the tables do not fit together."""
         files = {PICTURES: marked(spelled_rows(pictures(self.records)))}
         for name, suffix in JOINED.items():
-            if own := [_part(record, table, suffix, FURTHER.get(name)) for record in self.records if _has(record, suffix)]:
+            if own := [_part(record, table, suffix, FURTHER.get(name), self.pixel) for record in self.records if _has(record, suffix)]:
                 rows = list(joined(own, self.pixel))
                 files |= {name: marked(spelled_rows(rows))} if len(rows) > 1 or suffix == ".csv" else {}
         return {**files, SUMMARY: encoded("".join(line + "\n" for line in summary(self)))}
@@ -77,9 +79,9 @@ class Run:
         })  # fmt: skip
 
 
-def finish(folder: Path, images: list[Image], pixel: Pixel | None, options: dict[str, Any]) -> dict[str, Any]:
+def finish(folder: Path, images: list[Image], options: dict[str, Any]) -> dict[str, Any]:
     """Writes the tables, the summary and the record of a run; the record. A Fault where the folder cannot be written."""
-    run = Run(options, pixel, images, versions())
+    run = Run(options, measure_of(options, (image.record for image in images if image.record)), images, versions())
     files = run.of_all(lambda record, suffix: _read(folder / evidence(record["image"], suffix)))
     if openpyxl_version() and (book := run.workbook(files)):
         files[WORKBOOK] = book
@@ -124,9 +126,10 @@ def _has(record: Record, suffix: str) -> bool:
     return evidence(record["image"], suffix) in record["files"]
 
 
-def _part(record: Record, table: Table, suffix: str, further: str | None) -> Part:
+def _part(record: Record, table: Table, suffix: str, further: str | None, pixel: Pixel | InUnit | None) -> Part:
     rest = table(record, further) if further and _has(record, further) else None
-    return Part(record["image"], record["fit"], record["original"], table(record, suffix), rest)
+    size = pixel.size_of(record) if isinstance(pixel, InUnit) else None
+    return Part(record["image"], record["fit"], record["original"], table(record, suffix), rest, size)
 
 
 def _read(path: Path) -> str:
@@ -157,7 +160,7 @@ def summary(run: Run) -> Iterator[str]:
     """The lines of `summary.txt`: what was made of each image, how, and what failed."""
     images, failed = run.images, [image for image in run.images if image.failure]
     yield f"{len(images)} image{'s' if len(images) != 1 else ''}: {len(images) - len(failed)} measured, {len(failed)} failed"
-    yield f"thinned by the rule {run.options['rule']}; " + (f"a pixel is {run.pixel} wide" if run.pixel else "lengths in pixels")
+    yield f"thinned by the rule {run.options['rule']}; " + (run.pixel.in_words if run.pixel else "lengths in pixels" if run.options["command"] != "volume" else "lengths in voxels")
     yield from _warnings(run.records)
     for record in run.records:
         points, pieces, background = record["parts"]
@@ -165,11 +168,21 @@ def summary(run: Run) -> Iterator[str]:
         yield f"{record['image']}: {told_sides(tuple(record['sides']))}"
         yield f"  object points {points}, pieces {pieces}, pieces of the background {background}, points of the skeleton {record['kept'][0]}"
         yield from (f"  {note}" for note in record["notes"])
-        if run.pixel and record["fit"] > 1:
-            yield f"  a pixel of this picture is {replace(run.pixel, size=run.pixel.size * record['fit'])} wide"
+        yield from (f"  {note}" for note in _size(run, record))
     if failed:
         yield ""
         yield from (f"failed: {image.failure}" for image in failed)
+
+
+def _size(run: Run, record: Record) -> Iterator[str]:
+    """How wide a pixel of the picture is, where it is not one of the image's; and what is not told of voxels that are no cubes."""
+    if isinstance(run.pixel, Pixel) and record["fit"] > 1:
+        yield f"a pixel of this picture is {replace(run.pixel, size=run.pixel.size * record['fit'])} wide"
+    spacing = Spacing.recorded(record["spacing"])
+    if spacing and not spacing.is_cubic:
+        yield "its voxels are no cubes: volumes and places are told in the unit, lengths and areas are not, and those in voxels take them for cubes; --cubes makes cubes"
+    if spacing and record["fit"] > 1:
+        yield f"a voxel of this picture is {spacing.by(record['fit'])}"
 
 
 def _warnings(records: list[Record]) -> Iterator[str]:

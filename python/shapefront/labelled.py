@@ -23,7 +23,7 @@ from .tables import dicts_of
 
 def make_labels(picture: Picture, plan: Plan, stem: Path) -> dict[str, Any]:
     """Writes the files of a label image, whose names begin with `stem`; what the record says of them."""
-    own, sides, wanted = boxes(picture.labels), sides_of(picture.labels), plan.wanted(picture.fit)
+    own, sides, wanted = boxes(picture.labels), sides_of(picture.labels), plan.wanted(picture.fit, picture.spacing)
     with tempfile.TemporaryDirectory(dir=stem.parent) as place:
         folder = Path(place)
         reports = [evidence_of(box.mask, folder / str(box.label), plan, wanted, f"{picture.image}, label {box.label}") for box in own]

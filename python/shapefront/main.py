@@ -34,10 +34,14 @@ DONE, FAILED, USAGE, NOTHING, STOPPED = 0, 1, 2, 3, 130
 
 def measure(words: argparse.Namespace) -> int:
     """`shapes measure` and `shapes volume`: all that the images give, in one folder."""
-    pixel, is_volume, settings = Pixel.told(vars(words)), words.command == "volume", settings_of(words)
+    is_volume, settings = words.command == "volume", settings_of(words)
+    if not is_volume:
+        Pixel.told(vars(words))
     find()
     if words.network and words.rule != "curve":
         raise Fault("--network", f"the rule {words.rule} does not keep the ends of branches", "leave out --rule")
+    if words.network and is_volume and words.labels == "each":
+        raise Fault("--network", "not of labels one by one", "give --labels-together")
     if not words.network and (words.prune is not None or words.classes is not None):
         raise Fault("--prune, --classes", "they are about a network", "give --network, too")
     images, passed = images_of(words.images, is_volume)
@@ -52,7 +56,7 @@ def measure(words: argparse.Namespace) -> int:
     plan = Plan.told(words.folder, options_of(words))
     convert = volume_of if is_volume else picture_of
     run(images, plan, lambda path, name: convert(path, name, settings), words.jobs)
-    made = finish(words.folder, images, pixel, options_of(words))
+    made = finish(words.folder, images, options_of(words))
     if PAGE not in made["files"]:
         print(f"no {PAGE}, as Jinja2 is not installed: `apt install python3-jinja2`, or `pip install jinja2`", file=sys.stderr)
     _tell_of_others(words.folder, made)

@@ -22,10 +22,10 @@ from .files import ASIDE, gzipped, read_json, shown, sum_of, sum_of_bytes, write
 from .intensities import intensities
 from .labelled import make_labels
 from .labels import boxes
-from .layout import FURTHER, is_own, named, part, record_of_key
+from .layout import FURTHER, REGION, is_own, named, part, record_of_key
 from .networks import BRANCHES_OF
 from .overlay import Overlay, borders, branches, numbers
-from .pictures import sides_of, spelled
+from .pictures import sides_of, spelled, suffix_of
 from .plan import Plan
 from .products import draw, evidence_of, write_network_shown, write_shown, write_slice
 from .programs import sums
@@ -37,7 +37,7 @@ Record = dict[str, Any]
 
 # The members of a record, in their order; the sum of its own comes behind them.
 MEMBERS = (
-    "image", "labels", "sides", "fit", "original", "channel", "filters", "cut", "notes", "rule", "plain", "masks", "wanted", "grey", "picture", "programs", "parts", "kept", "files",
+    "image", "labels", "sides", "fit", "original", "channel", "filters", "spacing", "scan", "region", "cut", "notes", "rule", "plain", "masks", "wanted", "grey", "picture", "programs", "parts", "kept", "files",
 )  # fmt: skip
 
 # What the record of a run is called, without its ending: an image cannot be called so.
@@ -78,7 +78,9 @@ def head_of(picture: Picture, plan: Plan) -> Record:
     return {
         "image": picture.image, "labels": labels, "sides": list(sides_of(picture.mask)), "fit": picture.fit, "original": list(picture.original_sides),
         "channel": picture.settings.channel, "filters": asdict(picture.settings.filters),
-        "cut": asdict(picture.cut) if picture.cut else None, "notes": list(picture.notes), "rule": plan.rule, "plain": plan.plain, "masks": list(plan.masks), "wanted": plan.wanted(picture.fit).record,
+        "spacing": picture.spacing.record if picture.spacing else None, "scan": picture.settings.scan.record,
+        "region": sum_of_bytes(spelled(picture.region)) if picture.region is not None and picture.labels is None else None,
+        "cut": asdict(picture.cut) if picture.cut else None, "notes": list(picture.notes), "rule": plan.rule, "plain": plan.plain, "masks": list(plan.masks), "wanted": plan.wanted(picture.fit, picture.spacing).record,
         "grey": None if picture.grey is None else sum_of_bytes(picture.grey.tobytes()), "picture": sum_of_bytes(told), "programs": sums(),
     }  # fmt: skip
 
@@ -117,12 +119,14 @@ def _products(picture: Picture, plan: Plan, work: Path) -> Record:
     stem = work / Path(picture.image).name
     if picture.labels is not None:
         return make_labels(picture, plan, stem)
-    report, is_flat = evidence_of(picture.mask, stem, plan, plan.wanted(picture.fit), picture.image), picture.mask.ndim == 2
+    if picture.region is not None:
+        part(stem, REGION, suffix_of(picture.mask)).write_bytes(spelled(picture.region))
+    report, is_flat = evidence_of(picture.mask, stem, plan, plan.wanted(picture.fit, picture.spacing), picture.image), picture.mask.ndim == 2
     draw(report, stem, picture.image, is_flat)
     if is_flat:
         rows = dicts_of(stem.with_name(stem.name + ".csv").read_text())
         write_shown(Overlay(picture.original, borders(report.read_bytes()), numbers(rows), picture.fit), stem)
-        if plan.wanted(picture.fit).network:
+        if plan.wanted(picture.fit, picture.spacing).network:
             own = Overlay(picture.original, *branches(part(stem, BRANCHES_OF, ".report").read_bytes()), picture.fit)
             write_network_shown(own, stem)
     else:

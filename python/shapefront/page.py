@@ -22,6 +22,7 @@ from .faults import Fault
 from .files import parsed, sum_of_bytes, write
 from .layout import JOINED, MADE, PICTURES, PLACES, SUMMARY, THUMBNAIL, WORKBOOK, drawing
 from .overlay import THUMBNAIL as LONGEST
+from .spacing import InUnit
 from .tables import Row
 from .units import Pixel
 
@@ -77,7 +78,7 @@ class Page:
 
     images: list[tuple[str, dict[str, Any] | None, str | None]]
     options: dict[str, Any]
-    pixel: Pixel | None
+    pixel: Pixel | InUnit | None
     versions: dict[str, Any]
     warnings: list[str]
     files: list[str]
@@ -96,7 +97,7 @@ class Page:
         return text.encode("utf-8", "surrogateescape")
 
     def _told(self) -> str:
-        return f"thinned by the rule {self.options['rule']}; " + (f"a pixel is {self.pixel} wide" if self.pixel else "lengths in pixels")
+        return f"thinned by the rule {self.options['rule']}; " + (self.pixel.in_words if self.pixel else "lengths in pixels" if self.options["command"] != "volume" else "lengths in voxels")
 
     def _said(self) -> str:
         count = sum(record is not None for _, record, _ in self.images)
@@ -168,6 +169,7 @@ def _template() -> Any:
 _DRAWINGS = (("over the image", ".png"), ("its branches", ".network.png"), ("lines and skeleton", ".svg"))
 _ROWS = {
     "holes.csv": "a row for each hole", "networks.csv": "a row for each network", "branches.csv": "a row for each branch", "widths.csv": "a row for each class of width",
+    "nodes.csv": "a row for each end and junction of a network", "volumes.csv": "a row for each volume: volume fraction, thickness, connectivity",
     "sides.csv": "a row for each straight side", "corners.csv": "a row for each corner", "circles.csv": "a row for each circle",
 }  # fmt: skip
 _FILES = [

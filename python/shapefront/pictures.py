@@ -1,6 +1,7 @@
 """Pictures and volumes of two values, as the proved program reads them: a raw PBM, or a file of one byte a voxel."""
 from __future__ import annotations
 
+import glob
 import re
 from collections.abc import Sequence
 from dataclasses import dataclass
@@ -34,6 +35,26 @@ def suffix_of(mask: np.ndarray) -> str:
 def told_suffix(sides: Sequence[int]) -> str:
     """What a file of a picture with these sides ends in."""
     return ".pbm" if len(sides) == 2 else ".%dx%dx%d.raw" % tuple(sides)
+
+
+def suffix_beside(stem: Path) -> str | None:
+    """What the name of the picture ends in whose files' names begin with `stem`; None where none lies there, or several volumes do."""
+    if stem.with_name(stem.name + ".pbm").is_file():
+        return ".pbm"
+    found = [path.name.removeprefix(stem.name) for path in stem.parent.glob(glob.escape(stem.name) + ".*x*x*.raw")]
+    found = [suffix for suffix in found if _SIDES_IN_NAME.fullmatch(suffix)]
+    return found[0] if len(found) == 1 else None
+
+
+def solid_sides(suffix: str) -> tuple[int, int, int] | None:
+    """The sides of a volume whose name ends so; None of a flat picture."""
+    told = _SIDES_IN_NAME.fullmatch(suffix)
+    return tuple(map(int, told.groups())) if told else None
+
+
+def solid_mask(path: Path, sides: Sequence[int]) -> np.ndarray:
+    """The volume with these sides in a file, indexed [z, y, x]."""
+    return np.frombuffer(path.read_bytes(), np.uint8).reshape(tuple(sides)[::-1]) > 0
 
 
 def spelled(mask: np.ndarray) -> bytes:

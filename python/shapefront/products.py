@@ -3,7 +3,7 @@ from __future__ import annotations
 
 from collections.abc import Sequence
 from pathlib import Path
-from typing import Any
+from typing import IO, Any
 
 import numpy as np
 
@@ -11,17 +11,22 @@ from .archives import SUFFIX as ARCHIVE
 from .arrays import verdict
 from .faults import Fault
 from .images import pillow_version
-from .layout import FURTHER, HOLES, PLACES, THUMBNAIL, drawing, evidence, part
+from .layout import FACES, FURTHER, HOLES, MESH, PLACES, REGION, SHEET, SKELETON_VIEWS, SLICES, THUMBNAIL, drawing, evidence, part
 from .networks import SKELETON
 from .overlay import Overlay, middle_slice
 from .parts import names_in, tables_of, works
 from .parts import suffixes_of as part_suffixes
-from .pictures import Source, sides_of, spelled, suffix_of, told_suffix
+from .pictures import Source, sides_of, spelled, suffix_beside, suffix_of, told_suffix
 from .plan import Plan, Wanted
 from .programs import Answer, call, explained, made
 
 # The words for a drawing, the best one first: with the numbers of the objects, where the program knows this word; and of the contours alone, where any other is too large.
 DRAWINGS = (("draw", "labels"), ("draw",), ("draw", "contours"))
+
+
+def tables_words(is_solid: bool) -> tuple[tuple[str, ...], ...]:
+    """The words for the table of a report, the best ones first: of a volume with the thickness, where the program knows it."""
+    return (("measure", "thickness"), ("measure",)) if is_solid else (("measure",),)
 
 
 def measured(image: Path, stem: Path, rule: str, about: str) -> Path:
@@ -36,8 +41,19 @@ def measured(image: Path, stem: Path, rule: str, about: str) -> Path:
     if not answer:
         raise Fault(about, f"its fresh report does not hold ({answer})", "this must never be: is the disk or the memory broken?")
     with open(stem.with_name(stem.name + ".csv"), "wb") as out:
-        made("measure", report, out=out, about=about)
+        write_table(report, bool(source.sides), out, about)
     return report
+
+
+def write_table(report: Path, is_solid: bool, out: IO[bytes], about: str) -> None:
+    """Writes the table of a report by the first of the words for it that the program knows. A Fault about the image `about` where it refuses."""
+    for words in tables_words(is_solid):
+        answer = call(*words, report, out=out)
+        if not answer.status:
+            return
+        out.seek(0)
+        out.truncate()
+    raise explained(about, answer)
 
 
 def evidence_of(mask: np.ndarray, stem: Path, plan: Plan, wanted: Wanted, about: str) -> Path:
@@ -108,6 +124,8 @@ def suffixes_of(record: dict[str, Any], sides: Sequence[int], packed: str) -> se
     suffixes = {told_suffix(sides), ".report" + packed, *(mask_suffix(kind, sides) for kind in record["masks"])}
     if record["grey"]:
         suffixes.add(FURTHER["objects.csv"])
+    if record["region"]:
+        suffixes.add(f".{REGION}{told_suffix(sides)}")
     return suffixes | tables_of(Wanted.of(record), len(sides) == 2)
 
 
@@ -116,11 +134,12 @@ def names_of(key: str, record: dict[str, Any]) -> set[str]:
 
     Those that show the original image, the drawing of a volume, and what is about holes and other parts are there where the record names them.
     """
-    shown = {drawing(key, ".png"), drawing(key, ".network.png"), evidence(key, THUMBNAIL), evidence(key, PLACES), evidence(key, HOLES), drawing(key, ".svg")} & record["files"].keys()
+    shown = {drawing(key, ".png"), drawing(key, ".network.png"), evidence(key, THUMBNAIL), evidence(key, PLACES), evidence(key, HOLES), drawing(key, ".svg")}
+    shown = (shown | {evidence(key, SHEET), *(drawing(key, suffix) for suffix in (FACES, SKELETON_VIEWS, SLICES, MESH))}) & record["files"].keys()
     if record["labels"] is not None:
         return shown | {evidence(key, suffix) for suffix in {ARCHIVE, *tables_of(Wanted.of(record), len(record["sides"]) == 2)}}
     drawn, packed = {drawing(key, ".svg")} if len(record["sides"]) == 2 else set(), "" if record["plain"] else ".gz"
-    suffixes = suffixes_of(record, record["sides"], packed) | part_suffixes(names_in(Path(key), record["files"]), packed)
+    suffixes = suffixes_of(record, record["sides"], packed) | part_suffixes(names_in(Path(key), record["files"]), packed, told_suffix(record["sides"]))
     return shown | drawn | {evidence(key, suffix) for suffix in suffixes}
 
 
@@ -129,13 +148,14 @@ def write_parts(stem: Path, report: Path, wanted: Wanted, about: str) -> None:
 
     A Fault about the image `about` where the program refuses.
     """
-    if wanted.network:
+    suffix = suffix_beside(stem)
+    if wanted.network and suffix == ".pbm":
         with open(part(stem, SKELETON, ".pbm"), "wb") as out:
             made("mask", "skeleton", report, out=out, about=about)
     for work in works(stem, wanted):
         tables = {}
         for name, data in work.pictures.items():
-            image = part(stem, name, ".pbm")
+            image = part(stem, name, suffix)
             image.write_bytes(data)
             measured(image, part(stem, name, ""), work.rule, about)
             tables[name] = part(stem, name, ".csv").read_text()

@@ -27,6 +27,7 @@ from .layout import EVIDENCE, HOLES, MADE, PAGE, SUMMARY, WORKBOOK, drawing, evi
 from .making import Record
 from .page import jinja_version, page_version, tell, without_verdict
 from .parts import Again, names_in
+from .pictures import suffix_beside
 from .plan import Wanted
 from .programs import sums
 from .report import heading_of
@@ -199,7 +200,7 @@ class RunCheck:
             return [(stem, refused(shown(stem), fault))], {}
         wrong = list(wrong_in_parts(stem, again))
         told = {stem.with_name(stem.name + suffix): suffix in again.tables for suffix in (HOLES,)}
-        told |= {part(stem, name, ".pbm"): name in again.pictures for name in again.pictures.keys() | set(names)}
+        told |= {part(stem, name, suffix_beside(stem) or ".pbm"): name in again.pictures for name in again.pictures.keys() | set(names)}
         for path, is_made in told.items():
             if is_made != (str(path.relative_to(self.folder)) in self.made["files"]):
                 wrong.append((path, Finding(shown(path), False, "made.json does not name it" if is_made else "nothing made it")))

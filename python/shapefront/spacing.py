@@ -10,7 +10,7 @@ from decimal import Context, Decimal, InvalidOperation
 from typing import Any
 
 from .faults import Fault
-from .units import POWERS, in_unit
+from .units import POWERS, Pixel, in_unit
 
 # The units of length that are known, with the power of ten of a metre that each is; and by what other names files call them.
 _POWERS_OF_TEN = {"nm": -9, "um": -6, "mm": -3, "cm": -2, "m": 0}
@@ -127,6 +127,10 @@ class Spacing:
         size = self.volume ** (power // 3) if power % 3 == 0 else self.sizes[0] ** power
         return spelled(Decimal(number) * size * Decimal(fit) ** power)
 
+    def column(self, name: str) -> str | None:
+        """The name of a column in the unit; None where a column has no unit, or none is told."""
+        return in_unit(name, self.unit) if self.unit and name in POWERS else None
+
     def along(self, axis: int, place: str) -> str:
         """A place along an axis, counted in voxels, in the unit."""
         return spelled(Decimal(place) * self.sizes[axis]) if place else ""
@@ -148,6 +152,11 @@ class InUnit:
         """The unit of the first volume that tells one."""
         return next((cls(told["unit"]) for record in records if (told := record.get("spacing")) and told["unit"]), None)
 
+    def size_of(self, record: dict[str, Any]) -> Spacing | None:
+        """The size of a volume's voxels in this unit; None where it tells none that can be told in it."""
+        found = Spacing.recorded(record.get("spacing"))
+        return found.within(self.unit) if found else None
+
     def column(self, name: str) -> str | None:
         """The name of a column in the unit; None where a column has no unit."""
         return in_unit(name, self.unit) if name in POWERS else None
@@ -159,7 +168,7 @@ class InUnit:
         return ""
 
     @property
-    def told(self) -> str:
+    def in_words(self) -> str:
         return f"lengths in voxels, and in {self.unit} where the size of a voxel is told"
 
     @property
@@ -170,3 +179,8 @@ class InUnit:
 def spelled(value: Decimal) -> str:
     """A number with nine digits, as tables have it."""
     return f"{_DIGITS.plus(value).normalize():f}"
+
+
+def measure_of(options: dict[str, Any], records: Iterable[dict[str, Any]]) -> Pixel | InUnit | None:
+    """In what a run with these options, which has these records, tells lengths: the size of a pixel of all images, or of volumes a unit alone."""
+    return InUnit.of(records) if options["command"] == "volume" else Pixel.told(options)

@@ -3,7 +3,7 @@ from __future__ import annotations
 
 from dataclasses import dataclass
 from decimal import Context, Decimal, InvalidOperation
-from typing import Any
+from typing import Any, Protocol
 
 from .faults import Fault
 
@@ -16,6 +16,19 @@ POWERS = {
     **{f"Tb.{name}{kind}": 1 for name in ("Th", "Sp") for kind in ("", "_sd", "_max")},
 }
 _DIGITS = Context(prec=9)
+
+
+class Size(Protocol):
+    """The size of a pixel or of a voxel in a unit, as tables tell lengths by it; a cell is empty where a number would be wrong."""
+
+    @property
+    def unit(self) -> str | None: ...
+
+    def column(self, name: str) -> str | None: ...
+
+    def times(self, number: str, power: int, fit: int = 1) -> str: ...
+
+    def along(self, axis: int, place: str) -> str: ...
 
 
 def in_unit(name: str, unit: str) -> str:
@@ -73,7 +86,7 @@ class Pixel:
         return self.times(place, 1)
 
     @property
-    def told(self) -> str:
+    def in_words(self) -> str:
         """What a summary says of it."""
         return f"a pixel is {self} wide"
 
