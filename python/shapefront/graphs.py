@@ -52,7 +52,7 @@ class Graph:
     @classmethod
     def of(cls, points: np.ndarray, joined: Iterable[Point] = ()) -> Graph:
         """The graph of the points of a skeleton; `joined` are some that are of junctions, though they have fewer neighbours."""
-        pairs = _pairs(points)
+        pairs = pairs_of(points)
         beside: list[list[int]] = [[] for _ in range(len(points))]
         for one, other in pairs.tolist():
             beside[one].append(other)
@@ -189,7 +189,7 @@ def _around(point: Sequence[int], steps: Iterable[Point]) -> list[Point]:
     return [(x + dx, y + dy, z + dz) for dx, dy, dz in steps]
 
 
-def _pairs(points: np.ndarray) -> np.ndarray:
+def pairs_of(points: np.ndarray) -> np.ndarray:
     """The pairs of neighbours among points in raster order, each by their places."""
     if not len(points):
         return np.zeros((0, 2), int)

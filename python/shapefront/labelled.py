@@ -16,8 +16,9 @@ from .overlay import Border, Overlay, borders, coloured, numbers
 from .parts import tables_of
 from .pictures import sides_of
 from .plan import Plan
-from .products import evidence_of, write_shown, write_slice
+from .products import evidence_of, write_shown, write_solid_shown
 from .report import counts_of
+from .solidviews import Solid
 from .tables import dicts_of
 
 
@@ -35,7 +36,7 @@ def make_labels(picture: Picture, plan: Plan, stem: Path) -> dict[str, Any]:
             lines = [border for row, (box, report) in enumerate(zip(own, reports), 1) for border in _moved(report.read_bytes(), box, row)]
             write_shown(Overlay(coloured(picture.original), lines, numbers(dicts_of(made[".csv"].decode()), "label"), picture.fit), stem)
         else:
-            write_slice(picture.original, picture.mask, picture.fit, stem)
+            write_solid_shown(Solid(picture.mask, picture.original, picture.fit, picture.spacing), None, stem)
         counts = [counts_of(report) for report in reports]
     return {"parts": total([parts for parts, _ in counts]), "kept": total([kept for _, kept in counts])}
 

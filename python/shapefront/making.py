@@ -22,15 +22,17 @@ from .files import ASIDE, gzipped, read_json, shown, sum_of, sum_of_bytes, write
 from .intensities import intensities
 from .labelled import make_labels
 from .labels import boxes
-from .layout import FURTHER, REGION, is_own, named, part, record_of_key
+from .layout import FURTHER, MESH, REGION, is_own, named, part, record_of_key
+from .meshes import mesh
 from .networks import BRANCHES_OF
 from .overlay import Overlay, borders, branches, numbers
 from .pictures import sides_of, spelled, suffix_of
 from .plan import Plan
-from .products import draw, evidence_of, write_network_shown, write_shown, write_slice
+from .products import draw, evidence_of, write_network_shown, write_shown, write_solid_shown
 from .programs import sums
-from .report import counts_of
+from .report import counts_of, read
 from .seals import is_sealed, sealed
+from .solidviews import Solid
 from .tables import dicts_of, spelled_rows
 
 Record = dict[str, Any]
@@ -114,6 +116,14 @@ def clear_aside(folder: Path) -> None:
             work.unlink(missing_ok=True)
 
 
+def _draw_solid(picture: Picture, skeleton: np.ndarray, has_mesh: bool, stem: Path) -> None:
+    """Writes the drawings of a volume, and its mesh where it is wanted."""
+    solid = Solid(picture.mask, picture.original, picture.fit, picture.spacing)
+    write_solid_shown(solid, skeleton, stem)
+    if has_mesh:
+        stem.with_name(stem.name + MESH).write_bytes(mesh(solid.mask, picture.spacing.by(picture.fit) if picture.spacing else None))
+
+
 def _products(picture: Picture, plan: Plan, work: Path) -> Record:
     """Writes the files of a picture into the folder `work`; what the record says of them."""
     stem = work / Path(picture.image).name
@@ -130,7 +140,7 @@ def _products(picture: Picture, plan: Plan, work: Path) -> Record:
             own = Overlay(picture.original, *branches(part(stem, BRANCHES_OF, ".report").read_bytes()), picture.fit)
             write_network_shown(own, stem)
     else:
-        write_slice(picture.original, picture.mask, picture.fit, stem)
+        _draw_solid(picture, read(report).skeleton, plan.wanted(picture.fit, picture.spacing).mesh, stem)
     if picture.grey is not None:
         stem.with_name(stem.name + FURTHER["objects.csv"]).write_bytes(spelled_rows(intensities(picture.mask, picture.grey)))
     counts = dict(zip(("parts", "kept"), counts_of(report)))

@@ -169,17 +169,6 @@ class Overlay:
                 left += sign.width - 2 * _RIM
 
 
-def middle_slice(original: np.ndarray, mask: np.ndarray, fit: int) -> np.ndarray:
-    """The middle slice of a volume [z, y, x] in colours, with the outermost points of the object in it marked; a point of the mask is `fit` of the volume's wide."""
-    at = len(mask) // 2
-    grey = shown(original[min(at * fit + fit // 2, len(original) - 1)])
-    inside = np.pad(mask[at].repeat(fit, 0).repeat(fit, 1)[: grey.shape[0], : grey.shape[1]], 1)
-    around = [np.roll(inside, step, axis) for axis in (0, 1) for step in (-1, 1)]
-    colours = np.repeat(grey[:, :, None], 3, 2)
-    colours[(inside & ~np.logical_and.reduce(around))[1:-1, 1:-1]] = OUTER
-    return colours
-
-
 def coloured(labels: np.ndarray) -> np.ndarray:
     """A label image in colours: those of labels that follow one another lie far apart, and 0 is nearly black."""
     found, where = np.unique(labels, return_inverse=True)

@@ -10,7 +10,7 @@ import json
 import re
 from collections.abc import Callable, Iterator
 from contextlib import suppress
-from dataclasses import dataclass
+from dataclasses import asdict, dataclass
 from datetime import UTC, datetime
 from functools import lru_cache
 from pathlib import Path
@@ -20,8 +20,9 @@ from .badges import Badge, badges_of
 from .columns import columns_of
 from .faults import Fault
 from .files import parsed, sum_of_bytes, write
-from .layout import JOINED, MADE, PICTURES, PLACES, SUMMARY, THUMBNAIL, WORKBOOK, drawing
+from .layout import FACES, JOINED, MADE, MESH, PICTURES, PLACES, SHEET, SKELETON_VIEWS, SLICES, SUMMARY, THUMBNAIL, WORKBOOK, drawing
 from .overlay import THUMBNAIL as LONGEST
+from .solidviews import Tiles
 from .spacing import InUnit
 from .tables import Row
 from .units import Pixel
@@ -54,7 +55,7 @@ def jinja_version() -> str | None:
 @lru_cache
 def page_version() -> str:
     """The sum of all that shapes a page: its templates, and the modules that say what stands in it."""
-    sources = [*sorted(WEB.iterdir()), *(WEB.parent / name for name in ("page.py", "columns.py", "badges.py"))]
+    sources = [*sorted(WEB.iterdir()), *(WEB.parent / name for name in ("page.py", "columns.py", "badges.py", "solidviews.py"))]
     return sum_of_bytes(b"".join(path.read_bytes() for path in sources if path.is_file()))
 
 
@@ -92,7 +93,7 @@ class Page:
         text = _template().render(
             title=told, told=self._told(), things=thing + "s", warnings=[*self.warnings, *self._left_out()], limits=_LIMITS, said=self._said(), foot=list(self._foot()),
             images=list(self._cards()), files=[(name, about) for name, about in _FILES if name in self.files],
-            data=_safe(self._data()), style=_safe_text("page.css"), script=_safe_text("page.js"),
+            data=_safe(self._data()), style=_safe_text("page.css"), script=_safe_text("page.js") + _safe_text("slices.js"),
         )  # fmt: skip
         return text.encode("utf-8", "surrogateescape")
 
@@ -155,7 +156,13 @@ class Page:
         if record is None:
             return {"name": name, "first": first, "places": None, "scale": 1, "fit": 1}
         scale = LONGEST / max(record["original"])
-        return {"name": name, "first": first, "places": self._picture(k, record, PLACES, "png"), "scale": round(scale, 6), "fit": record["fit"]}
+        told = {"name": name, "first": first, "places": self._picture(k, record, PLACES, "png"), "scale": round(scale, 6), "fit": record["fit"]}
+        return told | ({"slices": slices} if (slices := self._slices(k, record)) else {})
+
+    def _slices(self, k: int, record: dict[str, Any]) -> dict[str, Any] | None:
+        """The slices of a volume, for those who slide through them; None of a flat image, and where they were not drawn."""
+        sheet = self._picture(k, record, SHEET, "jpeg") if len(record["sides"]) == 3 else None
+        return {"sheet": sheet, **asdict(Tiles.of(record["sides"], record["original"])), "depth": record["sides"][2]} if sheet else None
 
 
 @lru_cache
@@ -166,7 +173,9 @@ def _template() -> Any:
     return Environment(loader=FileSystemLoader(WEB), autoescape=True, undefined=StrictUndefined, trim_blocks=True, keep_trailing_newline=True).get_template("page.html")
 
 
-_DRAWINGS = (("over the image", ".png"), ("its branches", ".network.png"), ("lines and skeleton", ".svg"))
+_DRAWINGS = (
+    ("over the image", ".png"), ("its branches", ".network.png"), ("faces", FACES), ("skeleton", SKELETON_VIEWS), ("slices", SLICES), ("mesh", MESH), ("lines and skeleton", ".svg"),
+)  # fmt: skip
 _ROWS = {
     "holes.csv": "a row for each hole", "networks.csv": "a row for each network", "branches.csv": "a row for each branch", "widths.csv": "a row for each class of width",
     "nodes.csv": "a row for each end and junction of a network", "volumes.csv": "a row for each volume: volume fraction, thickness, connectivity",

@@ -13,12 +13,13 @@ from .faults import Fault
 from .images import pillow_version
 from .layout import FACES, FURTHER, HOLES, MESH, PLACES, REGION, SHEET, SKELETON_VIEWS, SLICES, THUMBNAIL, drawing, evidence, part
 from .networks import SKELETON
-from .overlay import Overlay, middle_slice
+from .overlay import Overlay
 from .parts import names_in, tables_of, works
 from .parts import suffixes_of as part_suffixes
 from .pictures import Source, sides_of, spelled, suffix_beside, suffix_of, told_suffix
 from .plan import Plan, Wanted
 from .programs import Answer, call, explained, made
+from .solidviews import Solid
 
 # The words for a drawing, the best one first: with the numbers of the objects, where the program knows this word; and of the contours alone, where any other is too large.
 DRAWINGS = (("draw", "labels"), ("draw",), ("draw", "contours"))
@@ -91,10 +92,14 @@ def _drawn(report: Path, drawing: Path) -> Answer:
     return answer
 
 
-def write_slice(original: np.ndarray, mask: np.ndarray, fit: int, stem: Path) -> None:
-    """Writes the middle slice of a volume for the page, with what was found in it; nothing where Pillow is not installed."""
+def write_solid_shown(solid: Solid, skeleton: np.ndarray | None, stem: Path) -> None:
+    """Writes drawings of a volume, and what the page shows of it; of its skeleton where its points are given. Nothing where Pillow is not installed."""
     if pillow_version() is not None:
-        stem.with_name(stem.name + THUMBNAIL).write_bytes(Overlay(middle_slice(original, mask, fit), [], []).thumbnail())
+        data = {FACES: solid.faces(), SLICES: solid.slices(), SHEET: solid.sheet(), THUMBNAIL: solid.thumbnail()}
+        if skeleton is not None:
+            data[SKELETON_VIEWS] = solid.skeleton(skeleton)
+        for suffix, own in data.items():
+            stem.with_name(stem.name + suffix).write_bytes(own)
 
 
 def write_shown(overlay: Overlay, stem: Path) -> None:
@@ -148,14 +153,14 @@ def write_parts(stem: Path, report: Path, wanted: Wanted, about: str) -> None:
 
     A Fault about the image `about` where the program refuses.
     """
-    suffix = suffix_beside(stem)
-    if wanted.network and suffix == ".pbm":
+    picture = suffix_beside(stem)
+    if wanted.network and picture == ".pbm":
         with open(part(stem, SKELETON, ".pbm"), "wb") as out:
             made("mask", "skeleton", report, out=out, about=about)
     for work in works(stem, wanted):
         tables = {}
         for name, data in work.pictures.items():
-            image = part(stem, name, suffix)
+            image = part(stem, name, picture)
             image.write_bytes(data)
             measured(image, part(stem, name, ""), work.rule, about)
             tables[name] = part(stem, name, ".csv").read_text()
