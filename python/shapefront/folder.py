@@ -59,14 +59,14 @@ class Run:
         """The workbook of these tables of all; None where they are too long. Missing where openpyxl is not installed."""
         return workbook({name: data for name, data in of_all.items() if name.endswith(".csv")})
 
-    def page(self, of_all: Iterable[str], objects: bytes, shown: Shown) -> bytes:
-        """The page, where these are the names of the files of all, this is the table of all objects, and `shown` gives what the page shows of an image.
+    def page(self, of_all: Iterable[str], tables: dict[str, bytes], shown: Shown) -> bytes:
+        """The page, where these are the names of the files of all, these are the tables of all, and `shown` gives what the page shows of an image.
 
         Missing where Jinja2 is not installed.
         """
         images = [(image.name, image.record, image.failure) for image in self.images]
-        rows = rows_of(text_of(objects))
-        return Page(images, self.options, self.pixel, self.versions, list(_warnings(self.records)), list(of_all), rows, shown).spelled()
+        rows, volumes = (rows_of(text_of(tables.get(name, b""))) for name in ("objects.csv", "volumes.csv"))
+        return Page(images, self.options, self.pixel, self.versions, list(_warnings(self.records)), list(of_all), rows, shown, volumes).spelled()
 
     def made(self, of_all: dict[str, bytes], kept: dict[str, str] | None = None) -> dict[str, Any]:
         """What `made.json` says, where these are the files of all, and these the sums of such as are not made again."""
@@ -86,7 +86,7 @@ def finish(folder: Path, images: list[Image], options: dict[str, Any]) -> dict[s
     if openpyxl_version() and (book := run.workbook(files)):
         files[WORKBOOK] = book
     if jinja_version():
-        files[PAGE] = run.page(files, files.get("objects.csv", b""), lambda record, suffix: _bytes(folder / evidence(record["image"], suffix)))
+        files[PAGE] = run.page(files, files, lambda record, suffix: _bytes(folder / evidence(record["image"], suffix)))
     for name, data in files.items():
         write(folder / name, data)
     for name in {*JOINED, PAGE, WORKBOOK} - files.keys():

@@ -10,7 +10,7 @@ import json
 import re
 from collections.abc import Callable, Iterator
 from contextlib import suppress
-from dataclasses import asdict, dataclass
+from dataclasses import asdict, dataclass, field
 from datetime import UTC, datetime
 from functools import lru_cache
 from pathlib import Path
@@ -26,6 +26,7 @@ from .solidviews import Tiles
 from .spacing import InUnit
 from .tables import Row
 from .units import Pixel
+from .wholes import whole_of
 
 WEB = Path(__file__).parent / "web"
 # A page has at most so many rows, and small pictures of so many images: with more no browser is quick.
@@ -55,7 +56,7 @@ def jinja_version() -> str | None:
 @lru_cache
 def page_version() -> str:
     """The sum of all that shapes a page: its templates, and the modules that say what stands in it."""
-    sources = [*sorted(WEB.iterdir()), *(WEB.parent / name for name in ("page.py", "columns.py", "badges.py", "solidviews.py"))]
+    sources = [*sorted(WEB.iterdir()), *(WEB.parent / name for name in ("page.py", "columns.py", "badges.py", "solidviews.py", "wholes.py"))]
     return sum_of_bytes(b"".join(path.read_bytes() for path in sources if path.is_file()))
 
 
@@ -85,20 +86,26 @@ class Page:
     files: list[str]
     rows: list[Row]
     shown: Shown
+    volumes: list[Row] = field(default_factory=list)
+
+    @property
+    def _is_solid(self) -> bool:
+        return self.options["command"] == "volume"
 
     def spelled(self) -> bytes:
         """The page's bytes, without a verdict. Missing where Jinja2 is not installed; see `jinja_version`."""
         thing = "label" if self.rows and "label" in self.rows[0] else "object"
-        told = f"{_count(len(self.images), 'image')}, {_count(max(len(self.rows) - 1, 0), thing)}"
+        what = "volume" if self._is_solid else "image"
+        told = f"{_count(len(self.images), what)}, {_count(max(len(self.rows) - 1, 0), thing)}"
         text = _template().render(
             title=told, told=self._told(), things=thing + "s", warnings=[*self.warnings, *self._left_out()], limits=_LIMITS, said=self._said(), foot=list(self._foot()),
-            images=list(self._cards()), files=[(name, about) for name, about in _FILES if name in self.files],
+            what=what, whole=whole_of(self.volumes, self.pixel), images=list(self._cards()), files=[(name, about) for name, about in _FILES if name in self.files],
             data=_safe(self._data()), style=_safe_text("page.css"), script=_safe_text("page.js") + _safe_text("slices.js"),
         )  # fmt: skip
         return text.encode("utf-8", "surrogateescape")
 
     def _told(self) -> str:
-        return f"thinned by the rule {self.options['rule']}; " + (self.pixel.in_words if self.pixel else "lengths in pixels" if self.options["command"] != "volume" else "lengths in voxels")
+        return f"thinned by the rule {self.options['rule']}; " + (self.pixel.in_words if self.pixel else "lengths in voxels" if self._is_solid else "lengths in pixels")
 
     def _said(self) -> str:
         count = sum(record is not None for _, record, _ in self.images)
@@ -196,7 +203,7 @@ def _counts(record: dict[str, Any]) -> str:
     """How many objects, or labels, and holes an image has."""
     _, pieces, background = record["parts"]
     things = _count(pieces, "object") if record["labels"] is None else _count(len(record["labels"]), "label")
-    return f"{things} · {_count(background - 1, 'hole')}"
+    return f"{things} · {_count(background - 1, 'hole' if len(record['sides']) == 2 else 'closed pore')}"
 
 
 def _sides(record: dict[str, Any]) -> str:

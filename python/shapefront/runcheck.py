@@ -232,7 +232,7 @@ class RunCheck:
             book = run.workbook(files)
             yield from self._same(WORKBOOK, lambda own: book is not None and is_same(own, book), "its cells are not those of the tables")
         if PAGE in self.made["files"] and PAGE not in kept:
-            files[PAGE] = page = run.page([*files, *kept], files.get("objects.csv", b""), self._shown)
+            files[PAGE] = page = run.page([*files, *kept], files, self._shown)
             yield from self._same(PAGE, lambda own: without_verdict(own) == page, "it is not the page that the tables and the records give")
         why = of_members(self.made, run.made(files, kept))
         yield self.folder / MADE, Finding(shown(self.folder / MADE), why is None, why or "")

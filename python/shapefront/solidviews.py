@@ -6,10 +6,12 @@ from __future__ import annotations
 
 from collections.abc import Iterator, Sequence
 from dataclasses import dataclass
+from functools import cached_property
 from typing import Any
 
 import numpy as np
 
+from .blocks import has_two_values
 from .graphs import pairs_of
 from .images import pillow
 from .lettering import QUIET, bar, text
@@ -94,9 +96,14 @@ class Solid:
         tiles = Tiles.of(self.mask.shape[::-1], self.original.shape[::-1])
         sheet = _sheet(tiles.row * tiles.width, -(-len(tiles.places) // tiles.row) * tiles.height)
         for k, at in enumerate(tiles.places):
-            tile = image_of.fromarray(self._bordered(0, at)).resize((tiles.width, tiles.height), image_of.BOX)
+            tile = image_of.fromarray(self._bordered(0, at)).resize((tiles.width, tiles.height), image_of.NEAREST if tiles.width >= self.original.shape[2] else image_of.BOX)
             sheet.paste(tile, (k % tiles.row * tiles.width, k // tiles.row * tiles.height))
         return _saved(sheet, "JPEG", quality=80)
+
+    @cached_property
+    def _most(self) -> Any:
+        """The greater of the two values of the file, where it has no more; else None."""
+        return self.original.max() if has_two_values(self.original) else None
 
     @property
     def _own(self) -> Spacing | None:
@@ -109,6 +116,7 @@ class Solid:
         values, own = (values.T, own.T) if axis == 2 else (values, own)
         inside = np.pad(own, 1)
         around = [np.roll(inside, step, side) for side in (0, 1) for step in (-1, 1)]
+        values = values == self._most if self._most is not None else values
         colours = np.repeat(shown(np.ascontiguousarray(values))[:, :, None], 3, 2)
         colours[(inside & ~np.logical_and.reduce(around))[1:-1, 1:-1]] = OUTER
         return colours
@@ -126,7 +134,8 @@ class Tiles:
     @classmethod
     def of(cls, sides: Sequence[int], original: Sequence[int]) -> Tiles:
         """That of a volume with these sides, whose file has those."""
-        scale = min(1.0, TILE / max(original[:2]))
+        longest = max(original[:2])
+        scale = TILE // longest if longest < TILE else TILE / longest
         places = np.unique(np.linspace(0, sides[2] - 1, min(sides[2], TILES)).round().astype(int)).tolist()
         wide, high = (max(1, round(side * scale)) for side in original[:2])
         return cls(places, int(np.ceil(np.sqrt(len(places)))), wide, high)

@@ -13,7 +13,8 @@ function slide(card, { sheet, places, row, width, height, depth }) {
     stage.getContext("2d").drawImage(image, (k % row) * width, Math.floor(k / row) * height, width, height, 0, 0, width, height);
   };
   image.addEventListener("load", () => {
-    picture.replaceChildren(stage);
+    picture.classList.add("sliced");
+    picture.append(stage);
     picture.after(element("p", { class: "sliding" }, slider, told));
     draw();
   });
