@@ -12,6 +12,7 @@ import numpy as np
 from .layout import REGION, part
 from .pictures import solid_mask, told_suffix
 from .report import counts_of
+from .spacing import spelled
 from .tables import Row, dicts_of
 
 # The name of the part that is the background, measured as an object.
@@ -74,7 +75,7 @@ def _sum(rows: Iterable[dict[str, str]], name: str) -> Decimal | None:
 
 def _ratio(part_: Decimal | int, whole: Decimal | int) -> str | None:
     """How much a part is of a whole, with nine digits; None of nothing."""
-    return f"{Decimal(part_) / Decimal(whole):.9g}" if whole else None
+    return spelled(Decimal(part_) / Decimal(whole)) if whole else None
 
 
 def _thickness(name: str, rows: list[dict[str, str]]) -> dict[str, str | None]:
