@@ -90,7 +90,7 @@ class Page:
 
     @property
     def _is_solid(self) -> bool:
-        return self.options["command"] == "volume"
+        return self.options.get("command") == "volume"
 
     def spelled(self) -> bytes:
         """The page's bytes, without a verdict. Missing where Jinja2 is not installed; see `jinja_version`."""
