@@ -168,7 +168,7 @@ class Page:
 
     def _slices(self, k: int, record: dict[str, Any]) -> dict[str, Any] | None:
         """The slices of a volume, for those who slide through them; None of a flat image, and where they were not drawn."""
-        sheet = self._picture(k, record, SHEET, "jpeg") if len(record["sides"]) == 3 else None
+        sheet = self._picture(k, record, SHEET, "jpeg") if len(record["original"]) == 3 else None
         return {"sheet": sheet, **asdict(Tiles.of(record["sides"], record["original"])), "depth": record["sides"][2]} if sheet else None
 
 
@@ -203,7 +203,7 @@ def _counts(record: dict[str, Any]) -> str:
     """How many objects, or labels, and holes an image has."""
     _, pieces, background = record["parts"]
     things = _count(pieces, "object") if record["labels"] is None else _count(len(record["labels"]), "label")
-    return f"{things} · {_count(background - 1, 'hole' if len(record['sides']) == 2 else 'closed pore')}"
+    return f"{things} · {_count(background - 1, 'hole' if len(record['original']) == 2 else 'closed pore')}"
 
 
 def _sides(record: dict[str, Any]) -> str:

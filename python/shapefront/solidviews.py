@@ -19,7 +19,7 @@ from .overlay import OUTER, THUMBNAIL, _pen, _saved, shown
 from .spacing import Spacing
 
 # How wide a drawing is at least about, and a slice of the page at most; and how many of these there are at most.
-WIDE, TILE, TILES = 1500, 256, 64
+WIDE, TILE, TILES = 1900, 256, 64
 _PAPER, _NEAR, _FAR, _SHADOW = np.array([255.0] * 3), np.array([233.0, 214.0, 178.0]), np.array([70.0, 78.0, 104.0]), np.array([226.0, 227.0, 232.0])
 _LINE_NEAR, _LINE_FAR = np.array([86.0, 10.0, 122.0]), np.array([206.0, 200.0, 216.0])
 # The lines of a skeleton cover at most this part of a view.
@@ -143,7 +143,7 @@ class Tiles:
 
 def _scale(width: int) -> float:
     """How many points wide a voxel is in a drawing of so many voxels: a whole number, or less than one."""
-    return max(1, WIDE // width) if width <= 2 * WIDE else 2 * WIDE / width
+    return max(1, round(WIDE / width)) if width <= 2 * WIDE else 2 * WIDE / width
 
 
 def _sheet(width: int, height: int) -> Any:
