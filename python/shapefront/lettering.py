@@ -1,13 +1,46 @@
-"""Letters and scale bars on drawings of volumes, by Pillow."""
+"""Sheets to draw volumes on, with letters and scale bars, by Pillow."""
 from __future__ import annotations
 
+import io
 from decimal import Decimal
+from functools import lru_cache
 from typing import Any
 
-from .overlay import _font as font
+from .images import pillow
 from .spacing import Spacing, spelled
 
 INK, QUIET = (40, 40, 48), (120, 120, 132)
+
+
+def sheet_of(width: int, height: int) -> Any:
+    """A white sheet."""
+    image_of, _ = pillow()
+    return image_of.new("RGB", (width, height), "white")
+
+
+def pen_of(sheet: Any) -> Any:
+    """What draws on a sheet."""
+    from PIL import ImageDraw
+
+    return ImageDraw.Draw(sheet)
+
+
+def spelled_as(sheet: Any, kind: str) -> bytes:
+    """The bytes of a sheet as a PNG or a JPEG."""
+    out = io.BytesIO()
+    sheet.save(out, kind, **({"quality": 80} if kind == "JPEG" else {"compress_level": 4}))
+    return out.getvalue()
+
+
+@lru_cache
+def font(size: int) -> Any:
+    """A font of that size where the system has the common one, else that of Pillow."""
+    from PIL import ImageFont
+
+    try:
+        return ImageFont.truetype("DejaVuSans-Bold.ttf", size)
+    except OSError:
+        return ImageFont.load_default()
 
 
 def text(pen: Any, at: tuple[float, float], words: str, size: int, fill: tuple[int, int, int] = INK, anchor: str = "mm") -> None:

@@ -14,8 +14,8 @@ import numpy as np
 from .blocks import has_two_values
 from .graphs import pairs_of
 from .images import pillow
-from .lettering import QUIET, bar, text
-from .overlay import OUTER, THUMBNAIL, _pen, _saved, shown
+from .lettering import QUIET, bar, pen_of, sheet_of, spelled_as, text
+from .overlay import OUTER, THUMBNAIL, shown
 from .spacing import Spacing
 
 # How wide a drawing is at least about, and a slice of the page at most; and how many of these there are at most.
@@ -39,23 +39,23 @@ class Solid:
         """The six faces as a PNG: the box unfolded about the face z -, each seen from outside, lit from the upper left and darker the deeper it lies."""
         depth, height, width = self.mask.shape
         scale, size, gap = _scale(2 * (width + depth)), 22, 34
-        sheet = _sheet(round(scale * 2 * (width + depth)) + 5 * gap, round(scale * (height + 2 * depth)) + 4 * gap + 2 * size)
-        pen = _pen(sheet)
+        sheet = sheet_of(round(scale * 2 * (width + depth)) + 5 * gap, round(scale * (height + 2 * depth)) + 4 * gap + 2 * size)
+        pen = pen_of(sheet)
         rows = [gap, 2 * gap + round(scale * depth), 3 * gap + round(scale * (depth + height))]
         columns = [gap, 2 * gap + round(scale * depth), 3 * gap + round(scale * (depth + width)), 4 * gap + round(scale * (2 * depth + width))]
         for name, (across, down), (column, row), view in _faces(self.mask):
             picture = _pasted(sheet, _lit(view, self.mask.shape), (columns[column], rows[row]), scale)
             _letters(pen, name, across, down, (columns[column], rows[row]), picture.size, size)
         bar(pen, (columns[2], sheet.size[1] - gap), min(scale * (width + depth), 400), scale, self._own, size)
-        return _saved(sheet, "PNG", compress_level=6)
+        return spelled_as(sheet, "PNG")
 
     def skeleton(self, points: np.ndarray) -> bytes:
         """Three views of a skeleton, whose points are these (x, y, z), as a PNG: lines fade the deeper they lie, over the shadow of the object. Lines end where they
         would cover the view; how deep that is stands below."""
         depth, height, width = self.mask.shape
         scale, size, gap = _scale(2 * width + depth), 22, 44
-        sheet = _sheet(round(scale * (2 * width + depth)) + 4 * gap, round(scale * max(height, depth)) + 2 * gap + 3 * size)
-        pen, left, pairs = _pen(sheet), gap, pairs_of(points)
+        sheet = sheet_of(round(scale * (2 * width + depth)) + 4 * gap, round(scale * max(height, depth)) + 2 * gap + 3 * size)
+        pen, left, pairs = pen_of(sheet), gap, pairs_of(points)
         for axis, name, (across, down) in ((2, "along z", ("x", "y")), (1, "along y", ("x", "z")), (0, "along x", ("z", "y"))):
             shadow = self.mask.any(2 - axis)
             shadow = shadow.T if axis == 0 else shadow
@@ -66,21 +66,21 @@ class Solid:
                 text(pen, (left + picture.size[0] / 2, gap + picture.size[1] + 1.6 * size), f"lines down to {deepest} voxels", size * 3 // 4, QUIET)
             left += picture.size[0] + gap
         bar(pen, (gap, sheet.size[1] - gap // 2), min(scale * width, 400), scale, self._own, size)
-        return _saved(sheet, "PNG", compress_level=6)
+        return spelled_as(sheet, "PNG")
 
     def slices(self) -> bytes:
         """The three slices through the middle as a PNG, with the borders of the object."""
         depth, height, width = self.mask.shape
         scale, size, gap = _scale(2 * width + depth), 22, 44
-        sheet = _sheet(round(scale * (2 * width + depth)) + 4 * gap, round(scale * max(height, depth)) + 2 * gap + 2 * size)
-        pen, left = _pen(sheet), gap
+        sheet = sheet_of(round(scale * (2 * width + depth)) + 4 * gap, round(scale * max(height, depth)) + 2 * gap + 2 * size)
+        pen, left = pen_of(sheet), gap
         for axis, (across, down) in enumerate((("x", "y"), ("x", "z"), ("z", "y"))):
             at = self.mask.shape[axis] // 2
             picture = _pasted(sheet, self._bordered(axis, at), (left, gap), scale / self.fit)
             _letters(pen, f"{'zyx'[axis]} = {at}", across, down, (left, gap), picture.size, size)
             left += picture.size[0] + gap
         bar(pen, (gap, sheet.size[1] - gap // 2), min(scale * width, 400), scale, self._own, size)
-        return _saved(sheet, "PNG", compress_level=6)
+        return spelled_as(sheet, "PNG")
 
     def thumbnail(self) -> bytes:
         """The middle slice with the borders of the object, as a JPEG for the page."""
@@ -88,17 +88,17 @@ class Solid:
         picture = image_of.fromarray(self._bordered(0, len(self.mask) // 2))
         scale = THUMBNAIL / max(picture.size)
         sides = max(1, round(picture.size[0] * scale)), max(1, round(picture.size[1] * scale))
-        return _saved(picture.resize(sides, image_of.BOX if scale < 1 else image_of.NEAREST), "JPEG", quality=80)
+        return spelled_as(picture.resize(sides, image_of.BOX if scale < 1 else image_of.NEAREST), "JPEG")
 
     def sheet(self) -> bytes:
         """Slices from the first to the last, evenly apart, side by side in one JPEG, as `Tiles` tells."""
         image_of, _ = pillow()
         tiles = Tiles.of(self.mask.shape[::-1], self.original.shape[::-1])
-        sheet = _sheet(tiles.row * tiles.width, -(-len(tiles.places) // tiles.row) * tiles.height)
+        sheet = sheet_of(tiles.row * tiles.width, -(-len(tiles.places) // tiles.row) * tiles.height)
         for k, at in enumerate(tiles.places):
             tile = image_of.fromarray(self._bordered(0, at)).resize((tiles.width, tiles.height), image_of.NEAREST if tiles.width >= self.original.shape[2] else image_of.BOX)
             sheet.paste(tile, (k % tiles.row * tiles.width, k // tiles.row * tiles.height))
-        return _saved(sheet, "JPEG", quality=80)
+        return spelled_as(sheet, "JPEG")
 
     @cached_property
     def _most(self) -> Any:
@@ -144,11 +144,6 @@ class Tiles:
 def _scale(width: int) -> float:
     """How many points wide a voxel is in a drawing of so many voxels: a whole number, or less than one."""
     return max(1, round(WIDE / width)) if width <= 2 * WIDE else 2 * WIDE / width
-
-
-def _sheet(width: int, height: int) -> Any:
-    image_of, _ = pillow()
-    return image_of.new("RGB", (width, height), "white")
 
 
 def _pasted(sheet: Any, colours: np.ndarray, at: tuple[int, int], scale: float) -> Any:
