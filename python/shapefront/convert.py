@@ -86,7 +86,7 @@ def _made(image: Grey, name: str, settings: Settings, limit: int, region: np.nda
         mask = mask & region
     if looks_like_labels(image.values):
         notes.append(f"its values are 0 to {image.values.max()}: if these are labels, give --labels")
-    return Picture(name, mask, fit, cut, (str(cut), *notes), original, None, grey, settings, image.spacing, region)
+    return Picture(name, mask, fit, cut, (str(cut), *notes), original, None, grey, settings, spacing=image.spacing, region=region)
 
 
 def _cut(image: Grey, settings: Settings, fit: int) -> tuple[Cut, np.ndarray, np.ndarray | None, list[str]]:
