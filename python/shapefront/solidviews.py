@@ -211,7 +211,7 @@ def _lines(pen: Any, points: np.ndarray, pairs: np.ndarray, axis: int, at: tuple
     kept = pairs[(depth[pairs] <= deepest).all(1)] if len(pairs) else pairs
     kept = kept[np.argsort(-depth[kept].mean(1), kind="stable")] if len(kept) else kept
     alone = np.setdiff1d(np.flatnonzero(depth <= deepest), kept)
-    wide = max(1, round(scale * 0.7))
+    wide = max(1, int(np.ceil(scale * 0.6)))
     for one, other in kept.tolist():
         far = ((depth[one] + depth[other]) / 2 / whole) ** 0.8
         pen.line([*places[one], *places[other]], tuple((_LINE_NEAR + (_LINE_FAR - _LINE_NEAR) * far).astype(int)), wide)
