@@ -157,8 +157,7 @@ def _short(graph: Graph, least: float) -> list[Branch]:
     """The branches below a length that end freely: all of those at no junction, and the shortest one of each junction."""
     goes, of_junction = [], {}
     for branch in graph.branches:
-        own = length(graph.line(branch))
-        if own >= least or branch.ends == 0 and not branch.is_ring:
+        if branch.ends == 0 and not branch.is_ring or (own := length(graph.line(branch))) >= least:
             continue
         if branch.junctions == 0:
             goes.append(branch)
