@@ -205,7 +205,7 @@ class Networks(InFolder):
                 self.assertLess(abs(found - true), 2.5)
             for branch in own:
                 self.assertLess(abs(float(branch["width"]) - 2 * radius), 1.3)
-                self.assertLess(float(branch["tortuosity"]), 1.05)
+                self.assertLess(float(branch["tortuosity"]), 1.08)
                 self.assertGreaterEqual(float(branch["tortuosity"]), 1)
             nodes = [node for node in table("out/nodes.csv") if node["image"] == row["image"]]
             self.assertEqual([node["kind"] for node in nodes], ["junction"] * 3 + ["end"] * 5)
