@@ -25,6 +25,9 @@ if installed("PIL"):
     from PIL import Image
 
 
+UNU = shutil.which("unu") or shutil.which("teem-unu")
+
+
 def needs(*packages):
     return unittest.skipUnless(installed(*packages), f"{', '.join(packages)} not installed")
 
@@ -272,15 +275,15 @@ class Headers(OfScans):
                 writer.Write()
                 self.same(name, values(kind), Spacing.of(("0.1", "0.2", "0.5"), None))
 
-    @unittest.skipUnless(shutil.which("unu"), "unu (teem-apps) not installed")
+    @unittest.skipUnless(UNU, "unu (teem-apps) not installed")
     def test_nrrd_of_unu(self):
         for kind, told in ((np.uint8, "uchar"), (np.uint16, "ushort"), (np.float32, "float")):
             values(kind).tofile("v.raw")
-            made = ["unu", "make", "-i", "v.raw", "-t", told, "-s", "6", "5", "4", "-e", "raw", "-en", "little", "-sp", "0.1", "0.2", "0.5", "-u", "um", "um", "um"]
+            made = [UNU, "make", "-i", "v.raw", "-t", told, "-s", "6", "5", "4", "-e", "raw", "-en", "little", "-sp", "0.1", "0.2", "0.5"]
             for name, encoding in (("raw.nrrd", ["raw"]), ("packed.nrrd", ["gzip"]), ("bz.nrrd", ["bzip2"]), ("text.nrrd", ["ascii"]), ("beside.nhdr", ["raw"])):
                 with subprocess.Popen([*made, "-o", "-"], stdout=subprocess.PIPE) as first:
-                    subprocess.run(["unu", "save", "-f", "nrrd", "-e", *encoding, "-o", name], stdin=first.stdout, check=True)
-                self.same(name, values(kind), um(0.1, 0.2, 0.5))
+                    subprocess.run([UNU, "save", "-f", "nrrd", "-e", *encoding, "-o", name], stdin=first.stdout, check=True)
+                self.same(name, values(kind), Spacing.of(("0.1", "0.2", "0.5"), None))
 
     def test_nrrd_as_slicer_writes_it(self):
         head = "NRRD0004\n# by hand\ntype: unsigned short\ndimension: 3\nspace: left-posterior-superior\nsizes: 6 5 4\n"
@@ -291,6 +294,9 @@ class Headers(OfScans):
         Path("v.nhdr").write_text(head + "data file: v.raw.gz\n")
         Path("v.raw.gz").write_bytes(data)
         self.same("v.nhdr", values(), Spacing.of(("0.1", "0.2", "0.5"), None))
+        told = 'NRRD0003\ntype: uint16\ndimension: 3\nsizes: 6 5 4\nspacings: 0.1 0.2 0.5\nunits: "um" "um" "um"\nendian: little\nencoding: raw\n\n'
+        Path("um.nrrd").write_bytes(told.encode() + values().tobytes())
+        self.same("um.nrrd", values(), um(0.1, 0.2, 0.5))
         Path("cut.nrrd").write_bytes(head.encode() + b"\n" + data[:-20])
         self.refused("cut.nrrd", "a NRRD file that cannot be read")
 
