@@ -3,17 +3,16 @@ from __future__ import annotations
 
 import argparse
 from pathlib import Path
-from typing import Any
+from typing import TYPE_CHECKING, Any
 
 from secondreading.limits import MOST_FLAT, MOST_SOLID
 
 from . import __version__
-from .arrays import RULES
-from .channels import NAMES as CHANNELS
-from .filters import Filters
-from .thresholds import Settings
+from .choices import CHANNELS, MASKS, RULES
 
-MASKS = ("object", "skeleton", "distances", "squares")
+if TYPE_CHECKING:
+    from .thresholds import Settings
+
 _STATUS = """
 status: 0 all is well; 1 an image failed, or something in a folder is not as it has to be; 2 the words are no command; 3 nothing could be done;
 130 stopped: the same command goes on where it was.
@@ -210,6 +209,9 @@ def settings_of(words: argparse.Namespace) -> Settings:
 
 def settings_told(options: dict[str, Any]) -> Settings:
     """How images are made black and white, by the options of a command or of a run."""
+    from .filters import Filters
+    from .thresholds import Settings
+
     fit = None if options["fit"] else 1
     return Settings(options["threshold"], options["objects"], options["labels"], fit, options["channel"], Filters.told(options))
 
