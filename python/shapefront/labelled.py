@@ -33,7 +33,8 @@ def make_labels(picture: Picture, plan: Plan, stem: Path) -> dict[str, Any]:
             stem.with_name(stem.name + suffix).write_bytes(table)
         if picture.labels.ndim == 2:
             lines = [border for row, (box, report) in enumerate(zip(own, reports), 1) for border in _moved(report.read_bytes(), box, row)]
-            write_shown(Overlay(coloured(picture.original), lines, numbers(dicts_of(made[".csv"].decode()), "label"), picture.fit), stem)
+            backdrop = coloured(picture.original) if picture.valued is None else picture.backdrop
+            write_shown(Overlay(backdrop, lines, numbers(dicts_of(made[".csv"].decode()), "label"), picture.fit), stem)
         else:
             write_slice(picture.original, picture.mask, picture.fit, stem)
         counts = [counts_of(report) for report in reports]

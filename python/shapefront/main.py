@@ -82,7 +82,7 @@ def check(words: argparse.Namespace) -> int:
     if not words.report:
         if not words.image.is_dir():
             raise Fault(shown(words.image), "not a folder", "give a folder, or an image and its report")
-        findings = list(_printed(check_folder(words.image, Asked(words.jobs, tuple(words.allow), originals=words.originals))))
+        findings = list(_printed(check_folder(words.image, Asked(words.jobs, tuple(words.allow), originals=words.originals, intensities=words.intensities))))
     else:
         findings = list(_printed([check_original(words.image, words.report[0], settings_of(words))]))
     return DONE if all(finding.holds for finding in findings) else FAILED

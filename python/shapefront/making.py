@@ -37,7 +37,7 @@ Record = dict[str, Any]
 
 # The members of a record, in their order; the sum of its own comes behind them.
 MEMBERS = (
-    "image", "labels", "sides", "fit", "original", "channel", "filters", "cut", "notes", "rule", "plain", "masks", "wanted", "grey", "picture", "programs", "parts", "kept", "files",
+    "image", "labels", "sides", "fit", "original", "channel", "filters", "cut", "notes", "rule", "plain", "masks", "wanted", "grey", "intensities", "picture", "programs", "parts", "kept", "files",
 )  # fmt: skip
 
 # What the record of a run is called, without its ending: an image cannot be called so.
@@ -79,7 +79,7 @@ def head_of(picture: Picture, plan: Plan) -> Record:
         "image": picture.image, "labels": labels, "sides": list(sides_of(picture.mask)), "fit": picture.fit, "original": list(picture.original_sides),
         "channel": picture.settings.channel, "filters": asdict(picture.settings.filters),
         "cut": asdict(picture.cut) if picture.cut else None, "notes": list(picture.notes), "rule": plan.rule, "plain": plan.plain, "masks": list(plan.masks), "wanted": plan.wanted(picture.fit).record,
-        "grey": None if picture.grey is None else sum_of_bytes(picture.grey.tobytes()), "picture": sum_of_bytes(told), "programs": sums(),
+        "grey": None if picture.grey is None else sum_of_bytes(picture.grey.tobytes()), "intensities": picture.valued and picture.valued.record, "picture": sum_of_bytes(told), "programs": sums(),
     }  # fmt: skip
 
 
@@ -115,20 +115,20 @@ def clear_aside(folder: Path) -> None:
 def _products(picture: Picture, plan: Plan, work: Path) -> Record:
     """Writes the files of a picture into the folder `work`; what the record says of them."""
     stem = work / Path(picture.image).name
+    if picture.grey is not None:
+        stem.with_name(stem.name + FURTHER["objects.csv"]).write_bytes(spelled_rows(intensities(picture)))
     if picture.labels is not None:
         return make_labels(picture, plan, stem)
     report, is_flat = evidence_of(picture.mask, stem, plan, plan.wanted(picture.fit), picture.image), picture.mask.ndim == 2
     draw(report, stem, picture.image, is_flat)
     if is_flat:
         rows = dicts_of(stem.with_name(stem.name + ".csv").read_text())
-        write_shown(Overlay(picture.original, borders(report.read_bytes()), numbers(rows), picture.fit), stem)
+        write_shown(Overlay(picture.backdrop, borders(report.read_bytes()), numbers(rows), picture.fit), stem)
         if plan.wanted(picture.fit).network:
-            own = Overlay(picture.original, *branches(part(stem, BRANCHES_OF, ".report").read_bytes()), picture.fit)
+            own = Overlay(picture.backdrop, *branches(part(stem, BRANCHES_OF, ".report").read_bytes()), picture.fit)
             write_network_shown(own, stem)
     else:
         write_slice(picture.original, picture.mask, picture.fit, stem)
-    if picture.grey is not None:
-        stem.with_name(stem.name + FURTHER["objects.csv"]).write_bytes(spelled_rows(intensities(picture.mask, picture.grey)))
     counts = dict(zip(("parts", "kept"), counts_of(report)))
     for path in sorted(work.glob("*.report")) if not plan.plain else ():
         path.with_name(path.name + ".gz").write_bytes(gzipped(path.read_bytes()))

@@ -141,6 +141,16 @@ def _further(measure: argparse.ArgumentParser) -> None:
     measure.add_argument("--long", type=_count, default=20, metavar="STEPS", help="a straight side has at least so many steps (20)")
 
 
+def _valued(parser: argparse.ArgumentParser) -> None:
+    """The word that says whose grey values are measured."""
+    parser.add_argument(
+        "--intensities",
+        metavar="IMAGES",
+        help="measure the intensities of other images, as those of labels or masks: the folder that has one of the same name, with any ending, for each; "
+        "or such an image. --channel is then one of theirs",
+    )
+
+
 def _checking(words: argparse._SubParsersAction) -> argparse.ArgumentParser:
     """The words of `shapes check` alone."""
     check = words.add_parser("check", help="whether all of a folder, or a report of an image, is right, and why not", epilog=_STATUS)
@@ -176,6 +186,7 @@ def parser() -> argparse.ArgumentParser:
     words = top.add_subparsers(dest="command", required=True, metavar="COMMAND")
     measure = words.add_parser("measure", help="images to tables, drawings and reports", epilog=_STATUS)
     measure.add_argument("images", nargs="+", type=Path, metavar="IMAGE", help="an image, or a folder of images")
+    _valued(measure)
     _further(measure)
     volume = words.add_parser("volume", help="the same for volumes", epilog=_STATUS)
     volume.add_argument(
@@ -185,6 +196,7 @@ def parser() -> argparse.ArgumentParser:
     for part in (measure, volume):
         _making(part)
     check = _checking(words)
+    _valued(check)
     for part in (measure, volume, check):
         _conversion(part)
         part.add_argument("--jobs", type=_count, default=1, metavar="N", help="how many images at once")
@@ -213,7 +225,7 @@ def settings_told(options: dict[str, Any]) -> Settings:
     from .thresholds import Settings
 
     fit = None if options["fit"] else 1
-    return Settings(options["threshold"], options["objects"], options["labels"], fit, options["channel"], Filters.told(options))
+    return Settings(options["threshold"], options["objects"], options["labels"], fit, options["channel"], Filters.told(options), options.get("intensities"))
 
 
 def options_of(words: argparse.Namespace) -> dict[str, object]:
