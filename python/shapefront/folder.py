@@ -25,7 +25,7 @@ from .programs import sums
 from .seals import sealed
 from .tables import Part, Row, joined, marked, rows_of, spelled_rows, text_of
 from .units import Pixel
-from .workbook import openpyxl_version, workbook
+from .workbook import workbook, workbook_version
 
 # The text of a record's own table, by what its name ends in.
 Table = Callable[[Record, str], str]
@@ -54,7 +54,7 @@ class Run:
         return {**files, SUMMARY: encoded("".join(line + "\n" for line in summary(self)))}
 
     def workbook(self, of_all: dict[str, bytes]) -> bytes | None:
-        """The workbook of these tables of all; None where they are too long. Missing where openpyxl is not installed."""
+        """The workbook of these tables of all; None where they are too long."""
         return workbook({name: data for name, data in of_all.items() if name.endswith(".csv")})
 
     def page(self, of_all: Iterable[str], objects: bytes, shown: Shown) -> bytes:
@@ -81,7 +81,7 @@ def finish(folder: Path, images: list[Image], pixel: Pixel | None, options: dict
     """Writes the tables, the summary and the record of a run; the record. A Fault where the folder cannot be written."""
     run = Run(options, pixel, images, versions())
     files = run.of_all(lambda record, suffix: _read(folder / evidence(record["image"], suffix)))
-    if openpyxl_version() and (book := run.workbook(files)):
+    if book := run.workbook(files):
         files[WORKBOOK] = book
     if jinja_version():
         files[PAGE] = run.page(files, files.get("objects.csv", b""), lambda record, suffix: _bytes(folder / evidence(record["image"], suffix)))
@@ -105,7 +105,7 @@ def originals(folder: Path, made: dict[str, Any]) -> Iterator[str]:
 
 def versions() -> dict[str, Any]:
     """What made a run: the versions of this package, of those that it stands on and of the page, and the sum of the program."""
-    packages = {"Python": platform.python_version(), "numpy": np.__version__, "Pillow": pillow_version(), "Jinja2": jinja_version(), "openpyxl": openpyxl_version(), "page": page_version()}
+    packages = {"Python": platform.python_version(), "numpy": np.__version__, "Pillow": pillow_version(), "Jinja2": jinja_version(), "page": page_version(), "workbook": workbook_version()}
     return {"shapefront": __version__, "versions": packages, "programs": sums()}
 
 

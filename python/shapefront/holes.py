@@ -36,20 +36,26 @@ class Holes:
         """The holes of the objects of a flat picture."""
         background = numbered(np.pad(~mask, 1, constant_values=True), by_corners=False)[1:-1, 1:-1]
         numbers = np.maximum(background - 1, 0)
-        places = np.flatnonzero(numbers)
+        places = np.flatnonzero(numbers > 0)
+        if not places.size:
+            return cls(numbers, [], [])
         first = places[np.diff(np.maximum.accumulate(numbers.ravel()[places]), prepend=0) > 0]
         objects = numbered(mask, by_corners=True).ravel()[first - mask.shape[1]].tolist()
         return cls(numbers, objects, _layers(numbers, len(objects)))
 
     def pictures(self) -> list[np.ndarray]:
         """The holes as objects of pictures, no two of which touch at a corner."""
+        if not self.layers:
+            return []
         layer = np.array([-1, *self.layers], np.int16)[self.numbers]
-        return [layer == k for k in range(max(self.layers, default=-1) + 1)]
+        return [layer == k for k in range(max(self.layers) + 1)]
 
     def rows(self, tables: Sequence[str]) -> list[Row]:
         """A row for each hole, the header first, by the program's tables of the pictures."""
+        if not self.objects:
+            return [COLUMNS]
         measured = [iter(dicts_of(table)) for table in tables]
-        y, x = np.nonzero(self.numbers)
+        y, x = np.nonzero(self.numbers > 0)
         widths = least_widths(self.numbers[y, x], x, y)
         found = [COLUMNS]
         for k, (of, layer, width) in enumerate(zip(self.objects, self.layers, widths), 1):

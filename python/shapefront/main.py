@@ -56,10 +56,9 @@ def measure(words: argparse.Namespace) -> int:
     if PAGE not in made["files"]:
         print(f"no {PAGE}, as Jinja2 is not installed: `apt install python3-jinja2`, or `pip install jinja2`", file=sys.stderr)
     _tell_of_others(words.folder, made)
-    if PAGE in made["files"] and sys.stderr.isatty():
-        print(f"open {shown(words.folder / PAGE)} in a browser", file=sys.stderr)
     failed = sum(image.failure is not None for image in images)
-    print(f"{len(images) - failed} of {len(images)} measured, in {words.folder}: summary.txt tells how")
+    what_next = f"; open {words.folder / PAGE}" if PAGE in made["files"] else ": summary.txt tells how"
+    print(f"{len(images) - failed} of {len(images)} measured, in {words.folder}{what_next}")
     return FAILED if failed else DONE
 
 

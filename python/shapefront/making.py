@@ -18,13 +18,14 @@ import numpy as np
 
 from .convert import Picture
 from .faults import Fault
-from .files import ASIDE, gzipped, read_json, shown, sum_of, sum_of_bytes, write_json
+from .files import ASIDE, read_json, shown, sum_of, sum_of_bytes, write_json
 from .intensities import intensities
 from .labelled import make_labels
 from .labels import boxes
 from .layout import FURTHER, is_own, named, part, record_of_key
 from .networks import BRANCHES_OF
 from .overlay import Overlay, borders, branches, numbers
+from .packing import gzipped
 from .pictures import sides_of, spelled
 from .plan import Plan
 from .products import draw, evidence_of, write_network_shown, write_shown, write_slice

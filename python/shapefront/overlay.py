@@ -13,6 +13,7 @@ from typing import Any
 import numpy as np
 
 from .images import pillow
+from .packing import png
 from .report import borders_of
 
 # The longest side of a drawing is at most the first, small images are enlarged to about the second, and that of a thumbnail is the third.
@@ -87,7 +88,7 @@ class Overlay:
         sheet = self._sheet(scale, image_of.NEAREST if scale > 1 else image_of.BOX)
         self._draw_borders(sheet, scale, thick * max(1, round(longest * scale / WANTED)))
         self._draw_numbers(sheet, scale)
-        return _saved(sheet, "PNG", compress_level=2)
+        return png(np.array(sheet), sheet.getpalette() if sheet.mode == "P" else ())
 
     def thumbnail(self) -> bytes:
         """The image with its borders, as a JPEG whose longest side has `THUMBNAIL` pixels."""
@@ -95,7 +96,9 @@ class Overlay:
         scale = 2 * THUMBNAIL / max(self.image.shape[:2])
         sheet = self._sheet(scale, image_of.BOX if scale < 1 else image_of.NEAREST)
         self._draw_borders(sheet, scale, 2)
-        return _saved(sheet.convert("RGB").reduce(2), "JPEG", quality=80)
+        out = io.BytesIO()
+        sheet.convert("RGB").reduce(2).save(out, "JPEG", quality=80)
+        return out.getvalue()
 
     def places(self) -> bytes:
         """The numbers of the objects at each point of the thumbnail, as a PNG: red and 256 times green and 65536 times blue; 0 is background."""
@@ -109,7 +112,7 @@ class Overlay:
                 own = sheet.getpixel(tuple(min(max(round(at), 0), side - 1) for at, side in zip(points, sheet.size)))
             _fill(pen, points, border.number, own)
         values = np.array(sheet)
-        return _saved(image_of.fromarray(np.stack([values >> shift & 255 for shift in (0, 8, 16)], 2).astype(np.uint8)), "PNG")
+        return png(np.stack([values >> shift & 255 for shift in (0, 8, 16)], 2).astype(np.uint8))
 
     def _sides(self, scale: float) -> tuple[int, int]:
         height, width = self.image.shape[:2]
@@ -251,9 +254,3 @@ def _pen(sheet: Any) -> Any:
     from PIL import ImageDraw
 
     return ImageDraw.Draw(sheet)
-
-
-def _saved(sheet: Any, kind: str, **options: int) -> bytes:
-    out = io.BytesIO()
-    sheet.save(out, kind, **options)
-    return out.getvalue()

@@ -32,7 +32,7 @@ from .programs import sums
 from .report import heading_of
 from .seals import SEAL
 from .tables import rows_of, text_of
-from .workbook import is_same, openpyxl_version
+from .workbook import is_same, workbook_version
 
 _BY_ORIGINALS = "what only the original images tell (names, labels, thresholds, intensities, what was done to them), and "
 _BY_VALUED = "the intensities, as --intensities was not given, and "
@@ -240,7 +240,7 @@ class RunCheck:
     def _untold(self) -> list[str]:
         """The files of all that are compared by their sums alone, as another version made them, or what makes them is not installed."""
         versions = self.made["versions"]
-        is_there = {PAGE: bool(jinja_version()) and page_version() == versions.get("page"), WORKBOOK: openpyxl_version() == versions.get("openpyxl")}
+        is_there = {PAGE: bool(jinja_version()) and page_version() == versions.get("page"), WORKBOOK: workbook_version() == versions.get("workbook")}
         return [name for name, here in is_there.items() if name in self.made["files"] and not here]
 
     def _shown(self, record: Record, suffix: str) -> bytes | None:
