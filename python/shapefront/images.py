@@ -95,6 +95,8 @@ def _array(path: Path) -> Grey:
 def _frames(path: Path, most: int | None, labels: bool, channel: str | None) -> Iterator[Grey]:
     """The pages of a file, at most so many; tifffile is asked of a TIFF that Pillow does not know, or keeps a part of."""
     image_of, _ = pillow()
+    if path.suffix.lower() in TIFF:
+        from PIL import TiffImagePlugin  # noqa: F401  without it Pillow loads all of its plugins to find this one
     try:
         image = image_of.open(path)
     except Exception as error:  # noqa: BLE001  Pillow raises errors of many kinds on files that are no images

@@ -66,7 +66,7 @@ def _packer(library: ctypes.CDLL, kind: str) -> Callable[[bytes], bytes]:
             raise MemoryError
         try:
             room = ctypes.create_string_buffer(bound(compressor, len(data)))
-            return room.raw[: pack(compressor, data, len(data), room, len(room))]
+            return ctypes.string_at(room, pack(compressor, data, len(data), room, len(room)))
         finally:
             library.libdeflate_free_compressor(compressor)
 
