@@ -20,11 +20,11 @@ def least_widths(numbers: np.ndarray, x: np.ndarray, y: np.ndarray) -> Iterator[
     is_first = np.append(True, (numbers[1:] != numbers[:-1]) | (y[1:] != y[:-1]))[: len(x)]
     is_last = np.append(is_first[1:], True)[: len(x)]
     left, right = _chain(numbers[is_first], y[is_first], x[is_first]), _chain(numbers[is_last], y[is_last], -x[is_last])
-    for (own_y, own_x), (other_y, other_x) in zip(left, right):
-        yield _width([*zip(own_x.tolist(), own_y.tolist()), *zip((-other_x[::-1]).tolist(), other_y[::-1].tolist())])
+    for own, other in zip(left, right):
+        yield _width([*((x, y) for y, x in own), *((-x, y) for y, x in reversed(other))])
 
 
-def _chain(numbers: np.ndarray, t: np.ndarray, v: np.ndarray) -> Iterator[tuple[np.ndarray, np.ndarray]]:
+def _chain(numbers: np.ndarray, t: np.ndarray, v: np.ndarray) -> Iterator[list[tuple[int, int]]]:
     """For each set the points (t, v), in order of their t, at which the greatest convex function below them turns, with the first and the last."""
     while True:
         (before_t, after_t), (before_v, after_v) = _beside(t), _beside(v)
@@ -33,8 +33,8 @@ def _chain(numbers: np.ndarray, t: np.ndarray, v: np.ndarray) -> Iterator[tuple[
         if not goes.any():
             break
         numbers, t, v = numbers[~goes], t[~goes], v[~goes]
-    ends = np.flatnonzero(np.diff(numbers)) + 1
-    yield from zip(np.split(t, ends), np.split(v, ends)) if len(t) else ()
+    points, ends = [*zip(t.tolist(), v.tolist())], [*(np.flatnonzero(np.diff(numbers)) + 1).tolist(), len(t)]
+    yield from (points[start:end] for start, end in zip([0, *ends], ends) if end)
 
 
 def _beside(values: np.ndarray) -> tuple[np.ndarray, np.ndarray]:

@@ -16,6 +16,7 @@ from typing import Any
 
 import numpy as np
 
+from .components import numbered
 from .convert import Picture
 from .faults import Fault
 from .files import ASIDE, read_json, shown, sum_of, sum_of_bytes, write_json
@@ -124,7 +125,7 @@ def _products(picture: Picture, plan: Plan, work: Path) -> Record:
     draw(report, stem, picture.image, is_flat)
     if is_flat:
         rows = dicts_of(stem.with_name(stem.name + ".csv").read_text())
-        write_shown(Overlay(picture.backdrop, borders(report.read_bytes()), numbers(rows), picture.fit), stem)
+        write_shown(Overlay(picture.backdrop, borders(report.read_bytes()), numbers(rows), picture.fit, numbered(picture.mask, by_corners=True)), stem)
         if plan.wanted(picture.fit).network:
             own = Overlay(picture.backdrop, *branches(part(stem, BRANCHES_OF, ".report").read_bytes()), picture.fit)
             write_network_shown(own, stem)

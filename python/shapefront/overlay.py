@@ -72,12 +72,14 @@ def branches(report: bytes) -> tuple[list[Border], list[Number]]:
 
 @dataclass(frozen=True)
 class Overlay:
-    """An image [y, x] or, in colours, [y, x, 3], with the borders and numbers of its picture, of which one pixel is `fit` of the image's wide."""
+    """An image [y, x] or, in colours, [y, x, 3], with the borders and numbers of its picture, of which one pixel is `fit` of the image's wide; and for each
+    point of the picture the number of the row that it is of, 0 for background."""
 
     image: np.ndarray
     borders: list[Border]
     numbers: list[Number]
     fit: int = 1
+    rows: np.ndarray | None = None
 
     def drawing(self, thick: int = 1) -> bytes:
         """The drawing as a PNG: the image, enlarged by whole numbers where it is small, its borders so many times as thick as they are usually, and as many
@@ -101,17 +103,11 @@ class Overlay:
         return out.getvalue()
 
     def places(self) -> bytes:
-        """The numbers of the objects at each point of the thumbnail, as a PNG: red and 256 times green and 65536 times blue; 0 is background."""
-        image_of, _ = pillow()
-        scale = THUMBNAIL / max(self.image.shape[:2])
-        sheet = image_of.new("I", self._sides(scale))
-        pen = _pen(sheet)
-        for border, points in zip(self.borders, self._lines(scale)):
-            own = border.number
-            if border.is_hole:
-                own = sheet.getpixel(tuple(min(max(round(at), 0), side - 1) for at, side in zip(points, sheet.size)))
-            _fill(pen, points, border.number, own)
-        values = np.array(sheet)
+        """The numbers of the rows at each point of the thumbnail, as a PNG: red and 256 times green and 65536 times blue; 0 is background."""
+        values, scale = self.rows, THUMBNAIL / max(self.image.shape[:2])
+        for axis, side in enumerate(reversed(self._sides(scale))):
+            first = np.minimum((np.arange(side) / (scale * self.fit)).astype(int), values.shape[axis] - 1)
+            values = np.maximum.reduceat(values, first, axis) if scale * self.fit < 1 else values.take(first, axis)
         return png(np.stack([values >> shift & 255 for shift in (0, 8, 16)], 2).astype(np.uint8))
 
     def _sides(self, scale: float) -> tuple[int, int]:
@@ -143,6 +139,12 @@ class Overlay:
                 yield flat[end - 2 * len(border.points) : end]
 
     def _draw_borders(self, sheet: Any, scale: float, width: int) -> None:
+        """The borders of holes over the others: as points where these are next to one another, which is quicker, and else as lines."""
+        if scale <= 1:
+            for colour, is_hole in ((OUTER, False), (INNER, True)):
+                if own := [border.points for border in self.borders if border.is_hole == is_hole]:
+                    _paint(sheet, np.rint(self._placed(np.concatenate(own), scale)).astype(int), colour, width)
+            return
         pen = _pen(sheet)
         for border, points in zip(self.borders, self._lines(scale)):
             colour = INNER if border.is_hole else OUTER
@@ -155,10 +157,10 @@ class Overlay:
         """The numbers, those of the greatest objects first, beside an object that is smaller; one that would lie over another is left out."""
         size = max(11, max(sheet.size) // 90)
         taken = np.zeros((sheet.size[1] // 4 + 1, sheet.size[0] // 4 + 1), bool)
-        for number in sorted(self.numbers, key=lambda number: -number.area):
+        places = self._placed(np.array([(number.x, number.y) for number in self.numbers]).reshape(-1, 2), scale).tolist()
+        for number, (x, y) in sorted(zip(self.numbers, places), key=lambda own: -own[0].area):
             signs = [_sign(sign, size, sheet.mode) for sign in number.text]
             width, height = sum(sign.width - 2 * _RIM for sign, _ in signs), signs[0][0].height
-            x, y = self._placed(np.array([number.x, number.y]), scale).tolist()
             if (radius := number.radius * self.fit * scale) < width / 2:
                 x += radius + width / 2 + 1
             left, top = (int(min(max(at - own / 2, 0), side - own)) for at, own, side in ((x, width, sheet.size[0]), (y, height, sheet.size[1])))
@@ -212,13 +214,16 @@ def _palette(levels: list[int]) -> list[int]:
     return [own for level in levels for own in (level,) * 3] + [0] * 3 * (GREYS - len(levels)) + [*_COLOURS]
 
 
-def _fill(pen: Any, points: list[float], number: int, own: int) -> None:
-    """Fills a border with a number, and draws it with that of its object."""
-    if len(points) > 4:
-        pen.polygon(points, number, own)
-    else:
-        pen.line(points + points[:2], own)
-    pen.point(points[:2], own)
+def _paint(sheet: Any, points: np.ndarray, colour: tuple[int, int, int], width: int) -> None:
+    """Paints a square of this width about each of these points (x, y)."""
+    image_of, _ = pillow()
+    shape = np.zeros(sheet.size[::-1], np.uint8)
+    steps = range((1 - width) // 2, (1 - width) // 2 + width)
+    columns, rows = ([np.clip(own + step, 0, side - 1) for step in steps] for own, side in zip(points.T, sheet.size))
+    for row in rows:
+        for column in columns:
+            shape[row, column] = 255
+    sheet.paste(GREYS + _SHADES + (colour == INNER) if sheet.mode == "P" else colour, None, image_of.fromarray(shape))
 
 
 @lru_cache

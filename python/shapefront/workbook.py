@@ -7,7 +7,6 @@ from __future__ import annotations
 import io
 import re
 import zipfile
-from collections.abc import Iterator
 from functools import lru_cache
 from html import escape
 from pathlib import Path
@@ -18,7 +17,8 @@ from .tables import Row, rows_of, text_of
 # With more cells in all than these a workbook takes longer to open than anybody waits.
 MOST_CELLS = 500_000
 
-_NUMBER = re.compile(r"-?(0|[1-9][0-9]*)(\.[0-9]+)?([eE][-+]?[0-9]+)?")
+_DIGITS = r"-?(?:0|[1-9][0-9]*)(?:\.[0-9]+)?(?:[eE][-+]?[0-9]+)?"
+_NUMBER, _NUMBERS = re.compile(_DIGITS), re.compile(f"{_DIGITS}(?:,{_DIGITS})*")
 # What no text of XML may hold.
 _NO_TEXT = re.compile("[\x00-\x08\x0b\x0c\x0e-\x1f\ud800-\udfff\ufffe\uffff]")
 _HEAD = '<?xml version="1.0" encoding="UTF-8" standalone="yes"?>\n'
@@ -70,17 +70,20 @@ def _sheet(rows: list[Row]) -> str:
     """The sheet of a table, whose first row and first column stay in sight."""
     pane = '<pane xSplit="1" ySplit="1" topLeftCell="B2" activePane="bottomRight" state="frozen"/>'
     texts = {k for k, name in enumerate(rows[0] if rows else []) if name == "image"}
-    lines = "".join(f"<row>{''.join(_cells(row, texts))}</row>" for row in rows)
+    lines = "".join(f"<row>{_cells(row, texts)}</row>" for row in rows)
     return f'<worksheet xmlns="{_MAIN}"><sheetViews><sheetView workbookViewId="0">{pane}</sheetView></sheetViews><sheetData>{lines}</sheetData></worksheet>'
 
 
-def _cells(row: Row, texts: set[int]) -> Iterator[str]:
+def _cells(row: Row, texts: set[int]) -> str:
     """The cells of a row: numbers, and texts, as those in these columns are; so a name that begins with `=` is no formula, and 007 stays a name."""
-    for k, word in enumerate(row):
-        if k not in texts and _NUMBER.fullmatch(word):
-            yield f"<c><v>{word}</v></c>"
-        else:
-            yield f'<c t="inlineStr"><is><t xml:space="preserve">{escape(_NO_TEXT.sub("?", word))}</t></is></c>' if word else "<c/>"
+    if texts == {0} and _NUMBERS.fullmatch(",".join(row[1:])):
+        return _text(row[0]) + "<c><v>" + "</v></c><c><v>".join(row[1:]) + "</v></c>"
+    return "".join(f"<c><v>{word}</v></c>" if k not in texts and _NUMBER.fullmatch(word) else _text(word) for k, word in enumerate(row))
+
+
+@lru_cache
+def _text(word: str) -> str:
+    return f'<c t="inlineStr"><is><t xml:space="preserve">{escape(_NO_TEXT.sub("?", word))}</t></is></c>' if word else "<c/>"
 
 
 def is_same(one: bytes, other: bytes) -> bool:

@@ -88,7 +88,7 @@ class InBrowser(InFolder):
         for name, few, all_of_it in ((name, *cells) for own, whole in zip(shown, told) for name, *cells in zip(names, own, whole)):
             if name.startswith("intensity_"):
                 self.assertLessEqual(len(few.partition(".")[2].lstrip("0")), 4, few)
-                self.assertLess(abs(float(few) - float(all_of_it)), 5.001e-4 * abs(float(all_of_it)))
+                self.assertLessEqual(abs(float(few) - float(all_of_it)), 5.001e-4 * abs(float(all_of_it)))
             else:
                 self.assertEqual(few, all_of_it)
         self.assertTrue(any(len(few) < len(whole) for own in zip(shown, told) for few, whole in zip(*own)))
