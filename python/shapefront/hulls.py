@@ -43,14 +43,29 @@ def _beside(values: np.ndarray) -> tuple[np.ndarray, np.ndarray]:
 
 
 def _width(corners: list[tuple[int, int]]) -> Decimal:
-    """The least width of a polygon with these corners, of which some may be told twice; it lies on one hand of each edge."""
-    least = (0, 1)
-    for k, (x, y) in enumerate(corners):
-        edge_x, edge_y = corners[k - 1][0] - x, corners[k - 1][1] - y
-        if square := edge_x * edge_x + edge_y * edge_y:
-            across = max([abs(edge_x * (other_y - y) - edge_y * (other_x - x)) for other_x, other_y in corners])
-            if least == (0, 1) or across * across * least[1] < least[0] * least[0] * square:
-                least = across, square
-            if not across:
-                break
+    """The least width of a convex polygon with these corners in order, of which some may be told twice: as one goes round by edges, the corner that is
+    farthest from the edge goes round, too."""
+    ring = [corner for k, corner in enumerate(corners) if corner != corners[k - 1]] or corners[:1]
+    least, far = (0, 1), 0
+    for k, (x, y) in enumerate(ring):
+        edge_x, edge_y = ring[k - 1][0] - x, ring[k - 1][1] - y
+        across, far = _farthest(ring, far, edge_x, edge_y, edge_x * y - edge_y * x)
+        square = edge_x * edge_x + edge_y * edge_y
+        if not across:
+            return Decimal(0).quantize(_THOUSANDTH)
+        if least == (0, 1) or across * across * least[1] < least[0] * least[0] * square:
+            least = across, square
     return (least[0] / Decimal(least[1]).sqrt()).quantize(_THOUSANDTH)
+
+
+def _farthest(ring: list[tuple[int, int]], far: int, edge_x: int, edge_y: int, at: int) -> tuple[int, int]:
+    """How far across an edge a corner goes, from this one on as long as they go farther, times the edge's length; and which corner that is."""
+    count = len(ring)
+    across = abs(edge_x * ring[far][1] - edge_y * ring[far][0] - at)
+    for step in range(1, count + 1):
+        x, y = ring[(far + step) % count]
+        further = abs(edge_x * y - edge_y * x - at)
+        if further <= across:
+            return across, (far + step - 1) % count
+        across = further
+    return across, far
