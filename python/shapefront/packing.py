@@ -65,8 +65,8 @@ def _packer(library: ctypes.CDLL, kind: str) -> Callable[[bytes], bytes]:
         if not compressor:
             raise MemoryError
         try:
-            room = ctypes.create_string_buffer(bound(compressor, len(data)))
-            return ctypes.string_at(room, pack(compressor, data, len(data), room, len(room)))
+            room = np.empty(bound(compressor, len(data)), np.uint8)
+            return room[: pack(compressor, data, len(data), room.ctypes.data, room.size)].tobytes()
         finally:
             library.libdeflate_free_compressor(compressor)
 
