@@ -58,6 +58,7 @@ def _bytes(path: Path, kind: str) -> np.ndarray:
     """The bytes that Pillow keeps of an image where it unpacks it in this way, as numbers with room for another byte."""
     from PIL import Image
 
+    image: Any
     with Image.open(path) as image:
         image.tile = [(*tile[:3], kind) for tile in image.tile]
         return np.array(image).astype(np.uint16)

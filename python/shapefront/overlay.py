@@ -6,7 +6,7 @@ from __future__ import annotations
 
 import io
 from collections.abc import Iterable, Iterator
-from dataclasses import dataclass
+from dataclasses import dataclass, field
 from functools import lru_cache
 from typing import Any
 
@@ -79,7 +79,7 @@ class Overlay:
     borders: list[Border]
     numbers: list[Number]
     fit: int = 1
-    rows: np.ndarray | None = None
+    rows: np.ndarray = field(default_factory=lambda: np.zeros((1, 1), np.int32))
 
     def drawing(self, thick: int = 1) -> bytes:
         """The drawing as a PNG: the image, enlarged by whole numbers where it is small, its borders so many times as thick as they are usually, and as many
