@@ -55,7 +55,7 @@ class Holes:
         if not self.objects:
             return [COLUMNS]
         measured = [iter(dicts_of(table)) for table in tables]
-        y, x = np.nonzero(self.numbers > 0)
+        y, x = _ends_in_rows(self.numbers > 0)
         widths = least_widths(self.numbers[y, x], x, y)
         found = [COLUMNS]
         for k, (of, layer, width) in enumerate(zip(self.objects, self.layers, widths), 1):
@@ -64,6 +64,13 @@ class Holes:
             own = {**{name: row[name] for name in _MEASURED}, "object": of, "hole": k, "equivalent_diameter": diameter, "min_feret": width}
             found.append([str(own[name]) for name in COLUMNS])
         return found
+
+
+def _ends_in_rows(mask: np.ndarray) -> tuple[np.ndarray, ...]:
+    """The points, as rows and columns, that are the first or the last of a stretch of true points in a row: the corners of hulls are among them."""
+    before, after = np.zeros_like(mask), np.zeros_like(mask)
+    before[:, 1:], after[:, :-1] = mask[:, :-1], mask[:, 1:]
+    return np.nonzero(mask & ~(before & after))
 
 
 def _layers(numbers: np.ndarray, count: int) -> list[int]:
