@@ -9,12 +9,11 @@ from pathlib import Path
 
 import numpy as np
 
+from .choices import RULES
 from .faults import Fault
 from .pictures import Source, checked_mask, spelled, suffix_of
 from .programs import call, explained
 from .report import Analysis, read, text_of
-
-RULES = ("none", "curve", "few")
 
 
 @dataclass(frozen=True)

@@ -26,12 +26,13 @@ SUFFIXES = (".report", ".report.gz")
 @dataclass(frozen=True)
 class Asked:
     """How a folder is to be checked: how many reports at once, what may lie there though nothing made it, who judges reports, and where
-    the original images lie, if they are to be looked at."""
+    the original images lie, if they are to be looked at, and those whose intensities were measured, if they are others."""
 
     jobs: int = 1
     allowed: tuple[str, ...] = ()
     judge: Judge = verdict
     originals: Path | None = None
+    intensities: str | None = None
 
 
 @dataclass(frozen=True)

@@ -11,6 +11,8 @@ from secondreading.limits import MOST_FLAT, MOST_SOLID
 from .blocks import bias, has_two_values, mean_of, most_of, smaller
 from .evenness import unevenness
 from .faults import Fault
+from .files import shown, sum_of
+from .greys import partner
 from .images import Grey, load
 from .pictures import sides_of, told_sides
 from .scans.asked import Asked
@@ -22,6 +24,20 @@ from .thresholds import Cut, Settings, cut_of, looks_like_labels
 
 
 @dataclass(frozen=True)
+class Valued:
+    """Another image whose grey values are measured: its name, the sum of its file, and the image as it is shown."""
+
+    name: str
+    sum: str | None
+    image: np.ndarray
+
+    @property
+    def record(self) -> dict[str, str | None]:
+        """What the record of a picture says of it."""
+        return {"image": self.name, "sum": self.sum}
+
+
+@dataclass(frozen=True)
 class Picture:
     """A picture or volume of two values: the name of its image, and how it was made, in words.
 
@@ -29,6 +45,7 @@ class Picture:
     the image's values were taken as labels; `labels` has the label of each pixel where each is a picture of its own.
     `original` is the image as it was before it was made smaller, [y, x] or in colours [y, x, 3]. `grey` are the grey values that the image
     has where the picture is, before any filter; None where it has no more than two values. `settings` are those that a user asked for.
+    `valued` is the other image that these values are of, where a user named one: its name, its file's sum, and how it is shown.
     `spacing` is the size of one of the image's voxels where it is told, and `region` what alone is looked at, where that is not all.
     """
 
@@ -41,8 +58,14 @@ class Picture:
     labels: np.ndarray | None = None
     grey: np.ndarray | None = None
     settings: Settings = Settings()
+    valued: Valued | None = None
     spacing: Spacing | None = None
     region: np.ndarray | None = None
+
+    @property
+    def backdrop(self) -> np.ndarray:
+        """The image that is shown behind what was found: that of the grey values where a user named one."""
+        return self.original if self.valued is None else self.valued.image
 
     @property
     def original_sides(self) -> tuple[int, ...]:
@@ -52,7 +75,23 @@ class Picture:
 
 def picture_of(path: Path, name: str, settings: Settings) -> Picture:
     """The picture that an image's file gives. A Fault where it gives none."""
-    return _made(load(path, bool(settings.labels), settings.channel), name, settings, MOST_FLAT)
+    channel = settings.channel if settings.intensities is None else None
+    picture = _made(load(path, bool(settings.labels), channel), name, settings, MOST_FLAT)
+    return _with_values(picture, path, Path(settings.intensities)) if settings.intensities else picture
+
+
+def _with_values(picture: Picture, path: Path, place: Path) -> Picture:
+    """The picture with the grey values of another image, of the channel that a user named. A Fault where there is none that fits."""
+    own = partner(path, picture.image, place)
+    grey = load(own, channel=picture.settings.channel)
+    if sides_of(grey.values) != picture.original_sides:
+        told = f"it has {told_sides(picture.original_sides)}, and {shown(own)} has {told_sides(sides_of(grey.values))}"
+        raise Fault(shown(path), told, "an image and that of its intensities have to show the same")
+    name = str(own.relative_to(place)) if place.is_dir() else own.name
+    notes = (*picture.notes, "; ".join([f"intensities of {name}", *grey.notes]))
+    values = mean_of(grey.values, picture.fit) if picture.fit > 1 else grey.values
+    valued = Valued(name, sum_of(own), grey.values if grey.colours is None else grey.colours)
+    return replace(picture, notes=notes, grey=values, valued=valued)
 
 
 def volume_of(path: Path, name: str, settings: Settings) -> Picture:

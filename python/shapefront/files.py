@@ -1,7 +1,6 @@
 """Files written aside and renamed, their sums, and their names in messages."""
 from __future__ import annotations
 
-import gzip
 import hashlib
 import json
 import os
@@ -101,11 +100,6 @@ def sum_of(path: Path) -> str | None:
 def sum_of_bytes(data: bytes) -> str:
     """The SHA-256 sum of some bytes."""
     return hashlib.sha256(data).hexdigest()
-
-
-def gzipped(data: bytes) -> bytes:
-    """The same bytes for the same data: without a time; at the level that takes least time, since packing takes as long as measuring else."""
-    return gzip.compress(data, 1, mtime=0)
 
 
 def shown(path: Path | str) -> str:

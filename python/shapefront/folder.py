@@ -27,7 +27,7 @@ from .seals import sealed
 from .spacing import InUnit, Spacing, measure_of
 from .tables import Part, Row, joined, marked, rows_of, spelled_rows, text_of
 from .units import Pixel
-from .workbook import openpyxl_version, workbook
+from .workbook import workbook, workbook_version
 
 # The text of a record's own table, by what its name ends in.
 Table = Callable[[Record, str], str]
@@ -56,7 +56,7 @@ class Run:
         return {**files, SUMMARY: encoded("".join(line + "\n" for line in summary(self)))}
 
     def workbook(self, of_all: dict[str, bytes]) -> bytes | None:
-        """The workbook of these tables of all; None where they are too long. Missing where openpyxl is not installed."""
+        """The workbook of these tables of all; None where they are too long."""
         return workbook({name: data for name, data in of_all.items() if name.endswith(".csv")})
 
     def page(self, of_all: Iterable[str], tables: dict[str, bytes], shown: Shown) -> bytes:
@@ -83,7 +83,7 @@ def finish(folder: Path, images: list[Image], options: dict[str, Any]) -> dict[s
     """Writes the tables, the summary and the record of a run; the record. A Fault where the folder cannot be written."""
     run = Run(options, measure_of(options, (image.record for image in images if image.record)), images, versions())
     files = run.of_all(lambda record, suffix: _read(folder / evidence(record["image"], suffix)))
-    if openpyxl_version() and (book := run.workbook(files)):
+    if book := run.workbook(files):
         files[WORKBOOK] = book
     if jinja_version():
         files[PAGE] = run.page(files, files, lambda record, suffix: _bytes(folder / evidence(record["image"], suffix)))
@@ -107,7 +107,7 @@ def originals(folder: Path, made: dict[str, Any]) -> Iterator[str]:
 
 def versions() -> dict[str, Any]:
     """What made a run: the versions of this package, of those that it stands on and of the page, and the sum of the program."""
-    packages = {"Python": platform.python_version(), "numpy": np.__version__, "Pillow": pillow_version(), "Jinja2": jinja_version(), "openpyxl": openpyxl_version(), "page": page_version()}
+    packages = {"Python": platform.python_version(), "numpy": np.__version__, "Pillow": pillow_version(), "Jinja2": jinja_version(), "page": page_version(), "workbook": workbook_version()}
     return {"shapefront": __version__, "versions": packages, "programs": sums()}
 
 

@@ -34,11 +34,18 @@ def make_labels(picture: Picture, plan: Plan, stem: Path) -> dict[str, Any]:
             stem.with_name(stem.name + suffix).write_bytes(table)
         if picture.labels.ndim == 2:
             lines = [border for row, (box, report) in enumerate(zip(own, reports), 1) for border in _moved(report.read_bytes(), box, row)]
-            write_shown(Overlay(coloured(picture.original), lines, numbers(dicts_of(made[".csv"].decode()), "label"), picture.fit), stem)
+            backdrop = coloured(picture.original) if picture.valued is None else picture.backdrop
+            write_shown(Overlay(backdrop, lines, numbers(dicts_of(made[".csv"].decode()), "label"), picture.fit, _rows_in(picture.labels)), stem)
         else:
             write_solid_shown(Solid(picture.mask, picture.original, picture.fit, picture.spacing), None, stem)
         counts = [counts_of(report) for report in reports]
     return {"parts": total([parts for parts, _ in counts]), "kept": total([kept for _, kept in counts])}
+
+
+def _rows_in(labels: np.ndarray) -> np.ndarray:
+    """For each point of a label image the number of the row of its label, from 1 on; 0 where it has none."""
+    found, where = np.unique(labels, return_inverse=True)
+    return np.where(found == 0, 0, np.cumsum(found != 0))[where].reshape(labels.shape)
 
 
 def _text(path: Path) -> str:

@@ -1,4 +1,7 @@
-"""The command `shapes`: measure, volume and check, for people who do not live in a shell."""
+"""The command `shapes`: measure, volume and check, for people who do not live in a shell.
+
+What only a check or an export needs is imported in these: it takes as long to load as a small image to measure.
+"""
 from __future__ import annotations
 
 import argparse
@@ -6,28 +9,24 @@ import io
 import sys
 from collections.abc import Iterable, Iterator
 from pathlib import Path
-from typing import Any
+from typing import TYPE_CHECKING, Any
 
 from .batch import images_of, run
-from .beside import Asked, Covered
-from .checking import Finding
 from .convert import picture_of, volume_of
-from .exports import dxf, ply
 from .faults import Fault
 from .files import make_folder, shown, write
 from .folder import finish, originals
-from .foldercheck import check_folder
 from .inventory import others
 from .layout import MADE, PAGE
 from .making import clear_aside
-from .original import check_original
-from .outlines import outlines_of, summary
 from .plan import Plan
 from .programs import find
-from .report import Analysis, contours_in, read
-from .second import Second, reports_of
 from .units import Pixel
 from .words import options_of, parser, settings_of
+
+if TYPE_CHECKING:
+    from .beside import Covered
+    from .checking import Finding
 
 DONE, FAILED, USAGE, NOTHING, STOPPED = 0, 1, 2, 3, 130
 
@@ -60,10 +59,9 @@ def measure(words: argparse.Namespace) -> int:
     if PAGE not in made["files"]:
         print(f"no {PAGE}, as Jinja2 is not installed: `apt install python3-jinja2`, or `pip install jinja2`", file=sys.stderr)
     _tell_of_others(words.folder, made)
-    if PAGE in made["files"] and sys.stderr.isatty():
-        print(f"open {shown(words.folder / PAGE)} in a browser", file=sys.stderr)
     failed = sum(image.failure is not None for image in images)
-    print(f"{len(images) - failed} of {len(images)} measured, in {words.folder}: summary.txt tells how")
+    what_next = f"; open {words.folder / PAGE}" if PAGE in made["files"] else ": summary.txt tells how"
+    print(f"{len(images) - failed} of {len(images)} measured, in {words.folder}{what_next}")
     return FAILED if failed else DONE
 
 
@@ -76,6 +74,10 @@ def _tell_of_others(folder: Path, made: dict[str, Any]) -> None:
 
 def check(words: argparse.Namespace) -> int:
     """`shapes check`: one line a file, and one status."""
+    from .beside import Asked
+    from .foldercheck import check_folder
+    from .original import check_original
+
     if words.second:
         return check_second([words.image, *words.report])
     find()
@@ -86,7 +88,7 @@ def check(words: argparse.Namespace) -> int:
     if not words.report:
         if not words.image.is_dir():
             raise Fault(shown(words.image), "not a folder", "give a folder, or an image and its report")
-        findings = list(_printed(check_folder(words.image, Asked(words.jobs, tuple(words.allow), originals=words.originals))))
+        findings = list(_printed(check_folder(words.image, Asked(words.jobs, tuple(words.allow), originals=words.originals, intensities=words.intensities))))
     else:
         findings = list(_printed([check_original(words.image, words.report[0], settings_of(words))]))
     return DONE if all(finding.holds for finding in findings) else FAILED
@@ -94,6 +96,8 @@ def check(words: argparse.Namespace) -> int:
 
 def check_second(paths: list[Path]) -> int:
     """`shapes check --second`: the same by the second reading, and at last what it looked at."""
+    from .second import Second, reports_of
+
     second = Second()
     findings = list(_printed(second.check(reports_of(paths))))
     print(second.summary())
@@ -108,6 +112,10 @@ def _printed(findings: Iterable[Finding | Covered]) -> Iterator[Finding | Covere
 
 def export(words: argparse.Namespace) -> int:
     """`shapes export`: what a report says, for another program."""
+    from .exports import dxf, ply
+    from .outlines import outlines_of, summary
+    from .report import Analysis, contours_in, read
+
     size = 25.4 / words.dpi if words.dpi else words.pixel_size
     if words.format == "dxf":
         sides, contours = contours_in(words.report)

@@ -16,9 +16,10 @@ from typing import Any
 
 import numpy as np
 
+from .components import numbered
 from .convert import Picture
 from .faults import Fault
-from .files import ASIDE, gzipped, read_json, shown, sum_of, sum_of_bytes, write_json
+from .files import ASIDE, read_json, shown, sum_of, sum_of_bytes, write_json
 from .intensities import intensities
 from .labelled import make_labels
 from .labels import boxes
@@ -26,6 +27,7 @@ from .layout import FURTHER, MESH, REGION, is_own, named, part, record_of_key
 from .meshes import mesh
 from .networks import BRANCHES_OF
 from .overlay import Overlay, borders, branches, numbers
+from .packing import gzipped
 from .pictures import sides_of, spelled, suffix_of
 from .plan import Plan
 from .products import draw, evidence_of, write_network_shown, write_shown, write_solid_shown
@@ -39,7 +41,7 @@ Record = dict[str, Any]
 
 # The members of a record, in their order; the sum of its own comes behind them.
 MEMBERS = (
-    "image", "labels", "sides", "fit", "original", "channel", "filters", "spacing", "scan", "region", "cut", "notes", "rule", "plain", "masks", "wanted", "grey", "picture", "programs", "parts", "kept", "files",
+    "image", "labels", "sides", "fit", "original", "channel", "filters", "spacing", "scan", "region", "cut", "notes", "rule", "plain", "masks", "wanted", "grey", "intensities", "picture", "programs", "parts", "kept", "files",
 )  # fmt: skip
 
 # What the record of a run is called, without its ending: an image cannot be called so.
@@ -83,7 +85,7 @@ def head_of(picture: Picture, plan: Plan) -> Record:
         "spacing": picture.spacing.record if picture.spacing else None, "scan": picture.settings.scan.record,
         "region": sum_of_bytes(spelled(picture.region)) if picture.region is not None and picture.labels is None else None,
         "cut": asdict(picture.cut) if picture.cut else None, "notes": list(picture.notes), "rule": plan.rule, "plain": plan.plain, "masks": list(plan.masks), "wanted": plan.wanted(picture.fit, picture.spacing).record,
-        "grey": None if picture.grey is None else sum_of_bytes(picture.grey.tobytes()), "picture": sum_of_bytes(told), "programs": sums(),
+        "grey": None if picture.grey is None else sum_of_bytes(picture.grey.tobytes()), "intensities": picture.valued and picture.valued.record, "picture": sum_of_bytes(told), "programs": sums(),
     }  # fmt: skip
 
 
@@ -127,6 +129,8 @@ def _draw_solid(picture: Picture, skeleton: np.ndarray, has_mesh: bool, stem: Pa
 def _products(picture: Picture, plan: Plan, work: Path) -> Record:
     """Writes the files of a picture into the folder `work`; what the record says of them."""
     stem = work / Path(picture.image).name
+    if picture.grey is not None:
+        stem.with_name(stem.name + FURTHER["objects.csv"]).write_bytes(spelled_rows(intensities(picture)))
     if picture.labels is not None:
         return make_labels(picture, plan, stem)
     if picture.region is not None:
@@ -135,14 +139,12 @@ def _products(picture: Picture, plan: Plan, work: Path) -> Record:
     draw(report, stem, picture.image, is_flat)
     if is_flat:
         rows = dicts_of(stem.with_name(stem.name + ".csv").read_text())
-        write_shown(Overlay(picture.original, borders(report.read_bytes()), numbers(rows), picture.fit), stem)
+        write_shown(Overlay(picture.backdrop, borders(report.read_bytes()), numbers(rows), picture.fit, numbered(picture.mask, by_corners=True)), stem)
         if plan.wanted(picture.fit, picture.spacing).network:
-            own = Overlay(picture.original, *branches(part(stem, BRANCHES_OF, ".report").read_bytes()), picture.fit)
+            own = Overlay(picture.backdrop, *branches(part(stem, BRANCHES_OF, ".report").read_bytes()), picture.fit)
             write_network_shown(own, stem)
     else:
         _draw_solid(picture, read(report).skeleton, plan.wanted(picture.fit, picture.spacing).mesh, stem)
-    if picture.grey is not None:
-        stem.with_name(stem.name + FURTHER["objects.csv"]).write_bytes(spelled_rows(intensities(picture.mask, picture.grey)))
     counts = dict(zip(("parts", "kept"), counts_of(report)))
     for path in sorted(work.glob("*.report")) if not plan.plain else ():
         path.with_name(path.name + ".gz").write_bytes(gzipped(path.read_bytes()))

@@ -5,6 +5,7 @@ from __future__ import annotations
 import re
 from collections.abc import Callable, Iterable, Iterator
 from dataclasses import dataclass
+from functools import cached_property
 from pathlib import Path
 from typing import Protocol
 
@@ -49,7 +50,7 @@ class _OfHoles:
 
     rule, suffixes = "none", (HOLES,)
 
-    @property
+    @cached_property
     def pictures(self) -> dict[str, bytes]:
         return {f"holes-{k}": spelled(picture) for k, picture in enumerate(self.holes.pictures(), 1)}
 

@@ -125,9 +125,10 @@ def mask_suffix(kind: str, sides: Sequence[int]) -> str:
 
 
 def suffixes_of(record: dict[str, Any], sides: Sequence[int], packed: str) -> set[str]:
-    """What the names of the evidence end in of a picture with such a record and these sides, whose reports end in `.report` and what is given; without its parts."""
+    """What the names of the evidence end in of a picture, or of that of a label, with such a record and these sides, whose reports end in `.report` and what
+    is given; without its parts."""
     suffixes = {told_suffix(sides), ".report" + packed, *(mask_suffix(kind, sides) for kind in record["masks"])}
-    if record["grey"]:
+    if record["grey"] and record["labels"] is None:
         suffixes.add(FURTHER["objects.csv"])
     if record["region"]:
         suffixes.add(f".{REGION}{told_suffix(sides)}")
@@ -142,7 +143,8 @@ def names_of(key: str, record: dict[str, Any]) -> set[str]:
     shown = {drawing(key, ".png"), drawing(key, ".network.png"), evidence(key, THUMBNAIL), evidence(key, PLACES), evidence(key, HOLES), drawing(key, ".svg")}
     shown = (shown | {evidence(key, SHEET), *(drawing(key, suffix) for suffix in (FACES, SKELETON_VIEWS, SLICES, MESH))}) & record["files"].keys()
     if record["labels"] is not None:
-        return shown | {evidence(key, suffix) for suffix in {ARCHIVE, *tables_of(Wanted.of(record), len(record["sides"]) == 2)}}
+        further = {FURTHER["objects.csv"]} if record["grey"] else set()
+        return shown | {evidence(key, suffix) for suffix in {ARCHIVE, *further, *tables_of(Wanted.of(record), len(record["sides"]) == 2)}}
     drawn, packed = {drawing(key, ".svg")} if len(record["sides"]) == 2 else set(), "" if record["plain"] else ".gz"
     suffixes = suffixes_of(record, record["sides"], packed) | part_suffixes(names_in(Path(key), record["files"]), packed, told_suffix(record["sides"]))
     return shown | drawn | {evidence(key, suffix) for suffix in suffixes}

@@ -301,5 +301,8 @@ def borders_of(text: bytes) -> tuple[np.ndarray, np.ndarray]:
 def _lines_of_contours(text: bytes, name: str) -> Lines:
     """Of a flat picture's report the lines of contours, behind an empty one in the place of the heading."""
     begin = text.find(b"\ncontour ") + 1
-    ends = [end + 1 for word in (b"\ndel ", b"\ntip ", b"\nkept ") if (end := text.find(word, begin)) > 0]
-    return Lines.of(b"\n" + (text[begin : min(ends, default=len(text))] if begin else b""), name)
+    end = len(text)
+    for word in (b"\ndel ", b"\ntip ", b"\nkept "):
+        found = text.find(word, begin, end) + 1
+        end = found or end
+    return Lines.of(b"\n" + (text[begin:end] if begin else b""), name)

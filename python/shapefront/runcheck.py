@@ -33,9 +33,10 @@ from .programs import sums
 from .report import heading_of
 from .seals import SEAL
 from .tables import rows_of, text_of
-from .workbook import is_same, openpyxl_version
+from .workbook import is_same, workbook_version
 
 _BY_ORIGINALS = "what only the original images tell (names, labels, thresholds, intensities, what was done to them), and "
+_BY_VALUED = "the intensities, as --intensities was not given, and "
 _UNTOLD = "the pixel's size"
 _FOREIGN = "it, or a record that it names, is none that `shapes` wrote"
 _NOT_RECORDS = (KeyError, TypeError, ValueError, AttributeError, IndexError)
@@ -209,7 +210,7 @@ class RunCheck:
     def _of_originals(self, originals: Path, checked: dict[str, Checked]) -> Iterator[Told]:
         """The findings on the images that were measured, each by the record of its first picture, or by `made.json` where it has none."""
         records = {name: one.record for name, one in checked.items() if one.record is not None}
-        for told, finding in ImageCheck(originals, self.folder, self.made, records).findings(self.asked.jobs):
+        for told, finding in ImageCheck(originals, self.folder, self.made, records, self.asked.intensities).findings(self.asked.jobs):
             yield self.folder / (told["record"] or MADE), finding
 
     def _of_all(self, checked: dict[str, Checked]) -> Iterator[Told]:
@@ -240,7 +241,7 @@ class RunCheck:
     def _untold(self) -> list[str]:
         """The files of all that are compared by their sums alone, as another version made them, or what makes them is not installed."""
         versions = self.made["versions"]
-        is_there = {PAGE: bool(jinja_version()) and page_version() == versions.get("page"), WORKBOOK: openpyxl_version() == versions.get("openpyxl")}
+        is_there = {PAGE: bool(jinja_version()) and page_version() == versions.get("page"), WORKBOOK: workbook_version() == versions.get("workbook")}
         return [name for name, here in is_there.items() if name in self.made["files"] and not here]
 
     def _shown(self, record: Record, suffix: str) -> bytes | None:
@@ -279,10 +280,14 @@ class RunCheck:
         good = sum(self._is_good(checked[image["record"]]) for image in images)
         failed = sum(image["failure"] is not None for image in self.made["images"])
         told = f" ({failed} failed when {'they were' if failed > 1 else 'it was'} measured)" if failed else ""
-        untold = _UNTOLD if self.asked.originals else _BY_ORIGINALS + _UNTOLD
+        untold = (_BY_VALUED if self._lacks_values() else "") + _UNTOLD if self.asked.originals else _BY_ORIGINALS + _UNTOLD
         by_sums = f"; by sums alone, as another version made them, or what makes them is not installed: {', '.join(names)}" if (names := self._untold()) else ""
         other = "" if self.made["programs"] == sums() else "; another build of the program made it, by the sum in made.json"
         return f"checked {good} of {len(images)} images{told}, {self.rows:,} rows, {files:,} files; not checked: {untold}{by_sums}{other}"
+
+    def _lacks_values(self) -> bool:
+        """Whether the intensities are those of other images that nobody gave."""
+        return bool(self.made["options"].get("intensities")) and self.asked.intensities is None
 
     def _is_good(self, one: Checked) -> bool:
         if one.record is None or not all(finding.holds for _, finding in one.findings):

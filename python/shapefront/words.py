@@ -3,19 +3,17 @@ from __future__ import annotations
 
 import argparse
 from pathlib import Path
-from typing import Any
+from typing import TYPE_CHECKING, Any
 
 from secondreading.limits import MOST_FLAT, MOST_SOLID
 
 from . import __version__
-from .arrays import RULES
-from .channels import NAMES as CHANNELS
-from .filters import Filters
-from .scans.asked import Asked
+from .choices import CHANNELS, MASKS, RULES
 from .scans.words import size_words, volume_words
-from .thresholds import Settings
 
-MASKS = ("object", "skeleton", "distances", "squares")
+if TYPE_CHECKING:
+    from .thresholds import Settings
+
 _STATUS = """
 status: 0 all is well; 1 an image failed, or something in a folder is not as it has to be; 2 the words are no command; 3 nothing could be done;
 130 stopped: the same command goes on where it was.
@@ -150,6 +148,16 @@ def network_words(parser: argparse.ArgumentParser) -> None:
     )
 
 
+def _valued(parser: argparse.ArgumentParser) -> None:
+    """The word that says whose grey values are measured."""
+    parser.add_argument(
+        "--intensities",
+        metavar="IMAGES",
+        help="measure the intensities of other images, as those of labels or masks: the folder that has one of the same name, with any ending, for each; "
+        "or such an image. --channel is then one of theirs",
+    )
+
+
 def _checking(words: argparse._SubParsersAction) -> argparse.ArgumentParser:
     """The words of `shapes check` alone."""
     check = words.add_parser("check", help="whether all of a folder, or a report of an image, is right, and why not", epilog=_STATUS)
@@ -185,6 +193,7 @@ def parser() -> argparse.ArgumentParser:
     words = top.add_subparsers(dest="command", required=True, metavar="COMMAND")
     measure = words.add_parser("measure", help="images to tables, drawings and reports", epilog=_STATUS)
     measure.add_argument("images", nargs="+", type=Path, metavar="IMAGE", help="an image, or a folder of images")
+    _valued(measure)
     _further(measure)
     volume = words.add_parser("volume", help="the same for volumes", epilog=_STATUS)
     volume_words(volume)
@@ -195,6 +204,7 @@ def parser() -> argparse.ArgumentParser:
         if part is volume:
             size_words(sizes)
     check = _checking(words)
+    _valued(check)
     for part in (measure, volume, check):
         _conversion(part)
         part.add_argument("--jobs", type=_count, default=1, metavar="N", help="how many images at once")
@@ -219,8 +229,12 @@ def settings_of(words: argparse.Namespace) -> Settings:
 
 def settings_told(options: dict[str, Any]) -> Settings:
     """How images are made black and white, by the options of a command or of a run."""
+    from .filters import Filters
+    from .scans.asked import Asked
+    from .thresholds import Settings
+
     fit = None if options["fit"] else 1
-    return Settings(options["threshold"], options["objects"], options["labels"], fit, options["channel"], Filters.told(options), Asked.told(options))
+    return Settings(options["threshold"], options["objects"], options["labels"], fit, options["channel"], Filters.told(options), options.get("intensities"), Asked.told(options))
 
 
 def options_of(words: argparse.Namespace) -> dict[str, object]:

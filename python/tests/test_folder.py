@@ -17,7 +17,7 @@ from pathlib import Path
 
 import numpy as np
 
-from .common import PAGE, STORED, InFolder, installed, needs_pillow, needs_shape, random_mask, slow
+from .common import PAGE, STORED, InFolder, installed, measured, needs_pillow, needs_shape, random_mask, slow
 
 from shapefront import programs
 from shapefront.files import spelled_json
@@ -562,7 +562,7 @@ class Told(OfFolders):
         Path("here").mkdir()
         shutil.copy(self.made / "one.pbm", "here/one.pbm")
         os.chdir("here")
-        self.assertEqual(self.shapes("measure", "one.pbm", "-o", "."), (0, ["1 of 1 measured, in .: summary.txt tells how"], []))
+        self.assertEqual(self.shapes("measure", "one.pbm", "-o", "."), (0, [measured("1 of 1", ".")], []))
         self.assertEqual(self.check(".")[0], 0)
         Path("one.pbm").write_bytes(Path("one.pbm").read_bytes() + b"x")
         status, out = self.check(".")
@@ -617,7 +617,7 @@ class Told(OfFolders):
         Image.fromarray(np.eye(9, dtype=np.uint8) * 255).save("made.png")
         Path("made.png").rename("made")
         status, out, error = self.shapes("measure", "made", "-o", "out")
-        self.assertEqual((status, out), (1, ["0 of 1 measured, in out: summary.txt tells how"]))
+        self.assertEqual((status, out), (1, [measured("0 of 1")]))
         self.assertIn("made: its record would have the name of that of all, made.json; rename it", error[0])
 
     def test_a_record_of_a_stranger(self):
