@@ -4,18 +4,24 @@ from __future__ import annotations
 import os
 import sys
 from collections.abc import Callable, Iterable, Iterator
-from concurrent.futures import Future, ThreadPoolExecutor, as_completed
 from dataclasses import dataclass
+from functools import partial
 from pathlib import Path
+from typing import TypeVar
 
 from .convert import Picture
-from .faults import Fault, Missing
+from .crew import Crew
+from .faults import Busy, Fault, Full, Missing
 from .files import shown, sum_of, sum_of_bytes
 from .images import SUFFIXES
 from .making import Record, make
 from .plan import Plan
 
+T = TypeVar("T")
 Convert = Callable[[Path, str], Picture]
+# An image's file and its name; and the sum of the file, the record of its picture, and why it failed.
+Thing = tuple[Path, str]
+Found = tuple[str | None, Record | None, str | None]
 
 
 @dataclass
@@ -50,30 +56,41 @@ def images_of(paths: Iterable[Path], is_volume: bool) -> tuple[list[Image], int]
 
 
 def run(images: list[Image], plan: Plan, convert: Convert, jobs: int) -> None:
-    """Makes all that the images give, `jobs` of them at once. What became of each is told in it, and a failure on standard error."""
-    pool = ThreadPoolExecutor(jobs)
-    futures: dict[Future[None], Image] = {pool.submit(_one, image, plan, convert): image for image in images}
-    try:
-        for future in _progress(as_completed(futures), len(images)):
-            future.result()
-            if futures[future].failure:
-                say(futures[future].failure)
-    except BaseException:
-        pool.shutdown(cancel_futures=True)
-        raise
-    pool.shutdown()
+    """Makes all that the images give, `jobs` of them at once. What became of each is told in it, and a failure on standard error.
+
+    What is wrong with every image ends it: a Fault that is Missing, Full or Busy.
+    """
+    crew = Crew(partial(_one, plan=plan, convert=convert), jobs)
+    named = {image.name: image for image in images}
+    for (path, name), found in _progress(crew.results((image.path, image.name) for image in images), len(images)):
+        image = named[name]
+        if isinstance(found, (Missing, Full, Busy)):
+            raise found
+        if isinstance(found, Fault):
+            image.failure = _line(path, found)
+        else:
+            image.source, image.record, image.failure = found
+        if image.failure:
+            say(image.failure)
 
 
-def _one(image: Image, plan: Plan, convert: Convert) -> None:
+def _one(thing: Thing, plan: Plan, convert: Convert) -> Found:
+    """What is found of an image: the sum of its file, the record of its picture, and why it failed."""
+    path, name = thing
+    source, record, failure = source_sum(path), None, None
     try:
-        image.source = source_sum(image.path)
-        image.record = make(convert(image.path, image.name), plan)
-    except Missing:
+        record = make(convert(path, name), plan)
+    except (Missing, Full, Busy):
         raise
     except Fault as fault:
-        image.failure = f"{shown(image.path)}: {fault.reason}" + (f"; {fault.remedy}" if fault.remedy else "")
+        failure = _line(path, fault)
     except MemoryError:
-        image.failure = f"{shown(image.path)}: not enough memory; give fewer --jobs"
+        failure = f"{shown(path)}: not enough memory; give fewer --jobs"
+    return source, record, failure
+
+
+def _line(path: Path, fault: Fault) -> str:
+    return f"{shown(path)}: {fault.reason}" + (f"; {fault.remedy}" if fault.remedy else "")
 
 
 def source_sum(path: Path) -> str | None:
@@ -92,7 +109,7 @@ def say(line: str) -> None:
         print(line, file=sys.stderr, flush=True)
 
 
-def _progress(done: Iterable[Future[None]], count: int) -> Iterable[Future[None]]:
+def _progress(done: Iterable[T], count: int) -> Iterable[T]:
     """The same, with a bar on a terminal where tqdm is installed, or a count where not."""
     if not sys.stderr.isatty() or count < 2:
         return done
@@ -103,7 +120,7 @@ def _progress(done: Iterable[Future[None]], count: int) -> Iterable[Future[None]
     return tqdm(done, total=count, unit="image", file=sys.stderr)
 
 
-def _counted(done: Iterable[Future[None]], count: int) -> Iterator[Future[None]]:
-    for k, future in enumerate(done, 1):
+def _counted(done: Iterable[T], count: int) -> Iterator[T]:
+    for k, one in enumerate(done, 1):
         print(f"\r{k} of {count}", end="\n" if k == count else "", file=sys.stderr, flush=True)
-        yield future
+        yield one

@@ -1,20 +1,27 @@
 """Files written aside and renamed, their sums, and their names in messages."""
 from __future__ import annotations
 
+import errno
 import gzip
 import hashlib
 import json
 import os
+import re
+import secrets
+import shutil
+import socket
 import tempfile
 from collections.abc import Iterator
 from contextlib import contextmanager
 from pathlib import Path
 from typing import IO, Any
 
-from .faults import Fault
+from .faults import Fault, Full
 
-# How what is not finished is called, with the number of its process and a stroke behind.
+# How what is not finished is called, with the word of its run behind.
 ASIDE = ".making-"
+# The word of this run: that of no other, on whatever host.
+TOKEN = f"{re.sub('[^A-Za-z0-9.]', '_', socket.gethostname())}-{os.getpid()}-{secrets.token_hex(4)}"
 
 
 @contextmanager
@@ -24,19 +31,37 @@ def aside(path: Path) -> Iterator[IO[bytes]]:
     A Fault where the system refuses it.
     """
     try:
-        handle, name = tempfile.mkstemp(prefix=f"{ASIDE}{os.getpid()}-", dir=path.parent)
+        handle, name = tempfile.mkstemp(prefix=f"{ASIDE}{TOKEN}-", dir=path.parent)
     except OSError as error:
-        raise Fault(path, f"cannot be written ({error.strerror})", "choose another folder with -o") from error
+        raise unwritten(path, error, "choose another folder with -o") from error
     try:
         with os.fdopen(handle, "wb") as out:
             yield out
         os.chmod(name, 0o666 & ~_umask())
         os.replace(name, path)
     except OSError as error:
-        raise Fault(path, f"cannot be written ({error.strerror})", "is the disk full?") from error
+        raise unwritten(path, error, "may you write there?") from error
     finally:
         if os.path.exists(name):
             os.unlink(name)
+
+
+def unwritten(path: object, error: OSError, remedy: str) -> Fault:
+    """What it means that the system refuses to write a file: `Full` where there is no room."""
+    if error.errno in (errno.ENOSPC, errno.EDQUOT):
+        return Full(path, f"cannot be written ({error.strerror})", "make room: the same command goes on where it was")
+    return Fault(path, f"cannot be written ({error.strerror})", remedy)
+
+
+def clear_aside(folder: Path, own: bool = False) -> None:
+    """Takes away what other runs left unfinished in a folder, or this one, if that is wanted."""
+    for work in folder.glob(ASIDE + "*") if folder.is_dir() else ():
+        if work.name.startswith(ASIDE + TOKEN) != own:
+            continue
+        if work.is_dir():
+            shutil.rmtree(work, ignore_errors=True)
+        else:
+            work.unlink(missing_ok=True)
 
 
 def _umask() -> int:

@@ -6,13 +6,14 @@ from __future__ import annotations
 
 import glob
 from collections.abc import Iterable, Iterator
-from concurrent.futures import ThreadPoolExecutor
 from dataclasses import replace
+from functools import partial
 from pathlib import Path, PurePosixPath
 from typing import Any
 
 from .beside import SUFFIXES, Asked, Covered, check_beside, refused, stem_of, wrong_in_parts
 from .checking import Finding, Judge
+from .crew import Crew
 from .faults import Fault
 from .files import read_json, shown
 from .inventory import is_below, lying
@@ -99,11 +100,10 @@ def _reports(folder: Path, names: list[str], asked: Asked) -> Iterator[Finding |
     """The findings on all reports among these names and on what lies beside them, without a list of what has to be there."""
     reports = sorted((folder / name for name in names if name.endswith(SUFFIXES)), key=lambda report: (report.parent, stem_of(report).name))
     good, beside = 0, set()
-    with ThreadPoolExecutor(asked.jobs) as pool:
-        for report, findings in zip(reports, pool.map(lambda report: _of_report(report, asked.judge), reports)):
-            good += all(finding.holds for finding in findings)
-            beside |= {str(path.relative_to(folder)) for path in _beside(report)}
-            yield from findings
+    for report, findings in zip(reports, Crew(partial(_of_report, judge=asked.judge), asked.jobs).in_order(reports)):
+        good += all(finding.holds for finding in findings)
+        beside |= {str(path.relative_to(folder)) for path in _beside(report)}
+        yield from findings
     others = [name for name in names if name not in beside]
     more = f", and {len(others)} other file{'s' if len(others) > 1 else ''} ({_listed(others)})" if others else ""
     yield Covered(

@@ -5,6 +5,8 @@ import argparse
 import io
 import sys
 from collections.abc import Iterable, Iterator
+from contextlib import contextmanager
+from functools import partial
 from pathlib import Path
 from typing import Any
 
@@ -14,22 +16,23 @@ from .checking import Finding
 from .convert import picture_of, volume_of
 from .exports import dxf, ply
 from .faults import Fault
-from .files import make_folder, shown, write
+from .files import clear_aside, make_folder, shown, write
 from .folder import finish, originals
 from .foldercheck import check_folder
+from .hands import Hand
 from .inventory import others
-from .layout import MADE, PAGE
-from .making import clear_aside
+from .layout import EVIDENCE, MADE, PAGE
 from .original import check_original
 from .outlines import outlines_of, summary
 from .plan import Plan
 from .programs import find
 from .report import Analysis, contours_in, read
 from .second import Second, reports_of
+from .stopping import SAID, STOPPED, cleared, stoppable
 from .units import Pixel
 from .words import options_of, parser, settings_of
 
-DONE, FAILED, USAGE, NOTHING, STOPPED = 0, 1, 2, 3, 130
+DONE, FAILED, USAGE, NOTHING = 0, 1, 2, 3
 
 
 def measure(words: argparse.Namespace) -> int:
@@ -47,12 +50,11 @@ def measure(words: argparse.Namespace) -> int:
         raise Fault(shown(words.images[0]), "no image is in this folder", "name the files themselves")
     if any(path.is_dir() and path.resolve() == words.folder.resolve() for path in words.images):
         raise Fault("-o", "the folder of the images themselves", "choose another one for what is written")
-    make_folder(words.folder)
-    clear_aside(words.folder)
-    plan = Plan.told(words.folder, options_of(words))
-    convert = volume_of if is_volume else picture_of
-    run(images, plan, lambda path, name: convert(path, name, settings), words.jobs)
-    made = finish(words.folder, images, pixel, options_of(words))
+    convert = partial(volume_of if is_volume else picture_of, settings=settings)
+    with _in_hand(words.folder, words.patience) as hand:
+        run(images, Plan.told(words.folder, options_of(words), hand), convert, words.jobs)
+        hand.keep()
+        made = finish(words.folder, images, pixel, options_of(words))
     if PAGE not in made["files"]:
         print(f"no {PAGE}, as Jinja2 is not installed: `apt install python3-jinja2`, or `pip install jinja2`", file=sys.stderr)
     _tell_of_others(words.folder, made)
@@ -61,6 +63,21 @@ def measure(words: argparse.Namespace) -> int:
     failed = sum(image.failure is not None for image in images)
     print(f"{len(images) - failed} of {len(images)} measured, in {words.folder}: summary.txt tells how")
     return FAILED if failed else DONE
+
+
+@contextmanager
+def _in_hand(folder: Path, patience: float) -> Iterator[Hand]:
+    """A folder that is made where there is none, in the hand of this run: what others left there unfinished is taken away, and at the end what this one did."""
+    make_folder(folder)
+    places = (folder, folder / EVIDENCE)
+
+    def clear(own: bool) -> None:
+        for place in places:
+            clear_aside(place, own)
+
+    with Hand(folder, patience) as hand, cleared(hand.give_back), cleared(partial(clear, True)):
+        clear(False)
+        yield hand
 
 
 def _tell_of_others(folder: Path, made: dict[str, Any]) -> None:
@@ -125,12 +142,13 @@ def main(words: list[str] | None = None) -> int:
             stream.reconfigure(errors="surrogateescape")
     given = parser().parse_args(words)
     try:
-        return {"check": check, "export": export}.get(given.command, measure)(given)
+        with stoppable():
+            return {"check": check, "export": export}.get(given.command, measure)(given)
     except Fault as fault:
         print(f"shapes: {fault}", file=sys.stderr)
         return USAGE if fault.about.startswith("-") else NOTHING
     except KeyboardInterrupt:
-        print("\nshapes: stopped; the same command goes on where it was", file=sys.stderr)
+        print(SAID, file=sys.stderr)
         return STOPPED
     except BrokenPipeError:
         sys.stderr.close()

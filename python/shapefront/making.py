@@ -7,7 +7,6 @@ from __future__ import annotations
 
 import os
 import shutil
-import tempfile
 from collections.abc import Iterator
 from contextlib import contextmanager
 from dataclasses import asdict
@@ -18,11 +17,11 @@ import numpy as np
 
 from .convert import Picture
 from .faults import Fault
-from .files import ASIDE, gzipped, read_json, shown, sum_of, sum_of_bytes, write_json
+from .files import ASIDE, TOKEN, gzipped, read_json, shown, spelled_json, sum_of, sum_of_bytes, unwritten
 from .intensities import intensities
 from .labelled import make_labels
 from .labels import boxes
-from .layout import FURTHER, is_own, named, part, record_of_key
+from .layout import EVIDENCE, FURTHER, is_own, named, part, record_of_key
 from .networks import BRANCHES_OF
 from .overlay import Overlay, borders, branches, numbers
 from .pictures import sides_of, spelled
@@ -52,14 +51,16 @@ def make(picture: Picture, plan: Plan) -> Record:
     before = read_json(told) or {}
     if is_sealed(told) and _is_made(before, head, plan.folder):
         return before
-    with _folder_aside(told.parent) as work:
+    with _folder_aside(plan.folder) as work:
         counts = _products(picture, plan, work)
         files = dict(sorted((named(picture.image, path.name), sum_of(path)) for path in work.iterdir()))
-        for name in files:
+        record = record_of({**head, **counts, "files": files})
+        (work / told.name).write_bytes(spelled_json(record))
+        if plan.hand:
+            plan.hand.keep()
+        for name in (*files, record_of_key(picture.image)):
             (plan.folder / name).parent.mkdir(parents=True, exist_ok=True)
             os.replace(work / Path(name).name, plan.folder / name)
-        record = record_of({**head, **counts, "files": files})
-        write_json(told, record)
         for name in before.get("files", {}):
             if name not in files and is_own(picture.image, name):
                 (plan.folder / name).unlink(missing_ok=True)
@@ -91,25 +92,18 @@ def _is_made(record: Record, head: Record, folder: Path) -> bool:
 
 
 @contextmanager
-def _folder_aside(place: Path) -> Iterator[Path]:
+def _folder_aside(folder: Path) -> Iterator[Path]:
+    """A folder of this process to work in, which is empty; what stays in it is taken away."""
+    work = folder / EVIDENCE / f"{ASIDE}{TOKEN}" / str(os.getpid())
     try:
-        place.mkdir(parents=True, exist_ok=True)
-        with tempfile.TemporaryDirectory(prefix=f"{ASIDE}{os.getpid()}-", dir=place) as work:
-            yield Path(work)
+        work.mkdir(parents=True, exist_ok=True)
+        try:
+            yield work
+        finally:
+            for left in list(work.iterdir()):
+                shutil.rmtree(left) if left.is_dir() else left.unlink()
     except OSError as error:
-        raise Fault(shown(place), f"cannot be written ({error.strerror})", "is the disk full, or may you not write there?") from error
-
-
-def clear_aside(folder: Path) -> None:
-    """Takes away what a run left in the folder that was ended in the middle and is no more."""
-    for work in folder.rglob(ASIDE + "*"):
-        process = work.name.removeprefix(ASIDE).split("-")[0]
-        if not process.isdigit() or Path("/proc", process).exists():
-            continue
-        if work.is_dir():
-            shutil.rmtree(work)
-        else:
-            work.unlink(missing_ok=True)
+        raise unwritten(shown(folder), error, "may you write there?") from error
 
 
 def _products(picture: Picture, plan: Plan, work: Path) -> Record:

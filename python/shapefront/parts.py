@@ -132,6 +132,8 @@ class Again:
                 pictures, tables = pictures | own, tables | work.tables(given)
         except OSError as error:
             raise Fault(error.filename, f"{shown(error.filename)} cannot be read ({error.strerror})") from error
+        except Fault:
+            raise
         except (KeyError, ValueError, ArithmeticError, AttributeError, IndexError, StopIteration) as error:
             raise Fault(stem, _UNFIT) from error
         return cls(pictures, tables)

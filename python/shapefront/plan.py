@@ -6,6 +6,7 @@ from decimal import Decimal
 from pathlib import Path
 from typing import Any
 
+from .hands import Hand
 from .units import Pixel
 
 # How wide the classes of widths are at least that nobody names, in pixels.
@@ -48,19 +49,20 @@ class Wanted:
 
 @dataclass(frozen=True)
 class Plan:
-    """Where the files go, the rule of the thinning, whether reports stay plain text, the masks that are wanted, and the options that tell
-    what else."""
+    """Where the files go, the rule of the thinning, whether reports stay plain text, the masks that are wanted, the options that tell
+    what else, and the hand that has the folder, where files are written."""
 
     folder: Path
     rule: str
     plain: bool
     masks: tuple[str, ...]
     options: dict[str, Any]
+    hand: Hand | None = None
 
     @classmethod
-    def told(cls, folder: Path, options: dict[str, Any]) -> Plan:
+    def told(cls, folder: Path, options: dict[str, Any], hand: Hand | None = None) -> Plan:
         """The plan of a run with these options, into this folder."""
-        return cls(folder, options["rule"], options["plain"], tuple(dict.fromkeys(options["masks"])), options)
+        return cls(folder, options["rule"], options["plain"], tuple(dict.fromkeys(options["masks"])), options, hand)
 
     def wanted(self, fit: int) -> Wanted:
         """What is wanted of a picture of which a pixel is `fit` of the image's wide."""

@@ -8,6 +8,7 @@ from __future__ import annotations
 import os
 import shutil
 import subprocess
+import tempfile
 from dataclasses import dataclass
 from functools import lru_cache
 from pathlib import Path
@@ -15,8 +16,9 @@ from typing import IO
 
 from secondreading.limits import MOST_FLAT, MOST_SOLID
 
-from .faults import Fault, Missing
+from .faults import Fault, Full, Missing
 from .files import sum_of
+from .stopping import cleared
 
 NAME = "shape"
 
@@ -27,7 +29,6 @@ _WORDS = (
     ("bytes after the volume", "the volume has more bytes than its sides say", "are the sides right?"),
     ("picture ends early", "the file ends before its last pixel", "was it cut on the way, or are the sides others?"),
     ("read failed", "a file could not be read", "is it there, and may you read it?"),
-    ("write failed", "the output could not be written", "is the disk full?"),
     ("no memory", "not enough memory", "give fewer --jobs"),
     ("usage: ", "the program shape that is found is of another version", "build it anew, or name the folder of the new one in SHAPE_BIN"),
 )  # fmt: skip
@@ -81,14 +82,35 @@ class Answer:
 def call(*words: object, out: IO[bytes] | None = None) -> Answer:
     """Calls the program; what it writes goes to `out` where that is given. A Fault where it is not found or ends by a signal."""
     path = find()
+    with paper() as told, paper() as message:
+        status = _run([str(path), *map(str, words)], out or told, message)
+        if status < 0:
+            raise Fault(path, f"was ended by signal {-status}", "give fewer --jobs, if memory is short")
+        text, line = (b"" if out else _read(told)), _read(message)
+    return Answer(status, text.decode(errors="replace"), line.decode(errors="replace").strip().removeprefix(NAME + ": "))
+
+
+def paper() -> IO[bytes]:
+    """A file without a name to write into, in memory where the system has such."""
+    if hasattr(os, "memfd_create"):
+        return os.fdopen(os.memfd_create(NAME), "w+b", 0)
+    return tempfile.TemporaryFile()
+
+
+def _read(file: IO[bytes]) -> bytes:
+    """All that was written into a file by another process."""
+    file.seek(0)
+    return file.read()
+
+
+def _run(words: list[str], out: IO[bytes], message: IO[bytes]) -> int:
+    """Calls a program and waits for its end: its status. It is ended where this is. A Fault where it cannot be run."""
     try:
-        done = subprocess.run([path, *map(str, words)], stdin=subprocess.DEVNULL, stdout=out or subprocess.PIPE, stderr=subprocess.PIPE)
+        process = subprocess.Popen(words, stdin=subprocess.DEVNULL, stdout=out, stderr=message)
     except OSError as error:
-        raise Fault(path, f"cannot be run ({error.strerror})", "is it built for this machine?") from error
-    if done.returncode < 0:
-        raise Fault(path, f"was ended by signal {-done.returncode}", "give fewer --jobs, if memory is short")
-    message = done.stderr.decode(errors="replace").strip().removeprefix(NAME + ": ")
-    return Answer(done.returncode, (done.stdout or b"").decode(errors="replace"), message)
+        raise Fault(words[0], f"cannot be run ({error.strerror})", "is it built for this machine?") from error
+    with process, cleared(process.kill):
+        return process.wait()
 
 
 def explained(about: object, answer: Answer) -> Fault:
@@ -96,6 +118,8 @@ def explained(about: object, answer: Answer) -> Fault:
     for words, reason, remedy in _WORDS:
         if answer.message.startswith(words):
             return Fault(about, f"{reason} ({answer.message})" if answer.message != reason else reason, remedy)
+    if answer.message.startswith("write failed"):
+        return Full(about, f"the output could not be written ({answer.message})", "make room: the same command goes on where it was")
     return Fault(about, answer.message or f"refused with status {answer.status}")
 
 

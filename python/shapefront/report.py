@@ -212,6 +212,8 @@ def read(report: str | Path | bytes):
         )
     try:
         return further.of(lines, heading) if further else _analysis(lines, text, heading)
+    except Fault:
+        raise
     except (ValueError, IndexError, OverflowError) as error:
         raise Fault(name, "not a report: its lines do not fit together", REMEDY) from error
 
@@ -286,6 +288,8 @@ def contours_in(report: str | Path | bytes) -> tuple[tuple[int, ...], Contours]:
         raise Fault(name, "not the report of `shape analyse` of a flat picture", "is it the right file?")
     try:
         return (int(heading[3]), int(heading[4])), _contours(_lines_of_contours(text, name))
+    except Fault:
+        raise
     except (ValueError, IndexError) as error:
         raise Fault(name, "not a report: its lines do not fit together", REMEDY) from error
 

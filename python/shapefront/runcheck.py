@@ -6,7 +6,6 @@ The proved program gives each verdict on a report, a table, a drawing or a mask;
 from __future__ import annotations
 
 from collections.abc import Callable, Iterable, Iterator
-from concurrent.futures import ThreadPoolExecutor
 from dataclasses import dataclass, field
 from pathlib import Path
 from typing import Any
@@ -17,6 +16,7 @@ from .archives import unpacked
 from .beside import Asked, Beside, Covered, check_beside, refused, stem_of, wrong_in_parts
 from .checking import Finding
 from .comparing import of_members, of_tables, of_texts
+from .crew import Crew
 from .faults import Fault
 from .files import read_json, shown, sum_of, sum_of_bytes
 from .folder import originals
@@ -88,10 +88,9 @@ class RunCheck:
         """All findings: on pictures, on files of all, and on what is missing, changed or added; and what they cover."""
         names = sorted((image["record"] for image in self.made["images"] if image["record"]), key=lambda name: Path(name).with_suffix(""))
         checked = {}
-        with ThreadPoolExecutor(self.asked.jobs) as pool:
-            for name, one in zip(names, pool.map(self._picture, names)):
-                checked[name] = one
-                yield from self._said(one.findings)
+        for name, one in zip(names, Crew(self._picture, self.asked.jobs).in_order(names)):
+            checked[name] = one
+            yield from self._said(one.findings)
         if self.asked.originals:
             yield from self._said(self._of_originals(self.asked.originals, checked))
         yield from self._said(self._of_all(checked))
@@ -183,6 +182,8 @@ class RunCheck:
         try:
             again = record_again(record, self.made, beside.report)
             return again, of_members({**record, SEAL: again[SEAL]}, again)
+        except Fault:
+            raise
         except _NOT_RECORDS:
             return None, "it is no record that `shapes` wrote of this report"
 

@@ -11,6 +11,7 @@ from . import __version__
 from .arrays import RULES
 from .channels import NAMES as CHANNELS
 from .filters import Filters
+from .hands import PATIENCE
 from .thresholds import Settings
 
 MASKS = ("object", "skeleton", "distances", "squares")
@@ -114,6 +115,9 @@ def _making(parser: argparse.ArgumentParser) -> None:
     parser.add_argument(
         "--masks", action="append", choices=MASKS, default=[], help="also write a picture of this; may be given again for another"
     )
+    parser.add_argument(
+        "--patience", type=_size, default=PATIENCE, metavar="SECONDS", help="how long another run that has the folder in hand may give no sign of life before it is taken over (60)"
+    )
     parser.add_argument("-o", dest="folder", type=Path, default=Path("measured"), metavar="FOLDER", help="where all is written (measured)")
 
 
@@ -216,5 +220,5 @@ def settings_told(options: dict[str, Any]) -> Settings:
 
 def options_of(words: argparse.Namespace) -> dict[str, object]:
     """The options for the record of a run, but those that change no number."""
-    left_out = ("command", "images", "jobs", "folder")
+    left_out = ("command", "images", "jobs", "folder", "patience")
     return {"command": words.command, **{name: value for name, value in vars(words).items() if name not in left_out}}
