@@ -30,7 +30,7 @@ def run_again(made: dict[str, Any], records: dict[str, Record]) -> Run:
     images = []
     for told in made["images"]:
         images.append(Image(Path(told["image"]), told["image"], records.get(told["record"]), told["failure"], told["sum"]))
-    return Run(made["options"], Pixel.told(made["options"]), images, {name: made[name] for name in _VERSIONS})
+    return Run(made["options"], Pixel.told(made["options"]), images, {name: made[name] for name in _VERSIONS}, made.get("share"))
 
 
 def record_again(record: Record, made: dict[str, Any], report: Path) -> Record:

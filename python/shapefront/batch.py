@@ -35,10 +35,11 @@ class Image:
     source: str | None = None
 
 
-def images_of(paths: Iterable[Path], is_volume: bool) -> tuple[list[Image], int]:
+def images_of(paths: Iterable[Path], is_volume: bool, base: Path | None = None) -> tuple[list[Image], int]:
     """The images of a run, by their order on the command line, and how many files of folders were passed over as no images.
 
-    For flat pictures a folder stands for the images in it. Names are those below the deepest folder that holds all.
+    For flat pictures a folder stands for the images in it. Names are those below the folder `base`, or where that is not given below the deepest
+    folder that holds all. A Fault where an image does not lie there.
     """
     files, passed = [], 0
     for path in paths:
@@ -51,8 +52,10 @@ def images_of(paths: Iterable[Path], is_volume: bool) -> tuple[list[Image], int]
     absolute = {Path(os.path.abspath(path)): path for path in files}
     if not absolute:
         return [], passed
-    base = os.path.commonpath([path.parent for path in absolute])
-    return [Image(shown_path, str(path.relative_to(base))) for path, shown_path in absolute.items()], passed
+    below = os.path.abspath(base) if base else os.path.commonpath([path.parent for path in absolute])
+    if outside := next((shown_path for path, shown_path in absolute.items() if not path.is_relative_to(below)), None):
+        raise Fault("--base", f"{shown(outside)} does not lie below {shown(below)}", "name a folder that holds all images")
+    return [Image(shown_path, str(path.relative_to(below))) for path, shown_path in absolute.items()], passed
 
 
 def run(images: list[Image], plan: Plan, convert: Convert, jobs: int) -> None:

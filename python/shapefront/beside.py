@@ -24,13 +24,14 @@ SUFFIXES = (".report", ".report.gz")
 
 @dataclass(frozen=True)
 class Asked:
-    """How a folder is to be checked: how many reports at once, what may lie there though nothing made it, who judges reports, and where
-    the original images lie, if they are to be looked at."""
+    """How a folder is to be checked: how many reports at once, what may lie there though nothing made it, who judges reports, where
+    the original images lie, if they are to be looked at, and whether only the tables of joined shares are, without the shares."""
 
     jobs: int = 1
     allowed: tuple[str, ...] = ()
     judge: Judge = verdict
     originals: Path | None = None
+    tables: bool = False
 
 
 @dataclass(frozen=True)

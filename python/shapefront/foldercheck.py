@@ -17,6 +17,7 @@ from .crew import Crew
 from .faults import Fault
 from .files import read_json, shown
 from .inventory import is_below, lying
+from .joincheck import findings_of_joined
 from .layout import JOINED, MADE, PICTURES, part, root_of
 from .networks import PRUNED, SKELETON
 from .parts import Again, tables_of
@@ -31,6 +32,11 @@ MADE_BEFORE = "made.json"
 
 def check_folder(folder: Path, asked: Asked) -> Iterator[Finding | Covered]:
     """The findings on a folder: on each run in it, and on reports that lie there by hand. A Fault where there is nothing to check."""
+    if (made := _joined(folder)) is not None:
+        yield from findings_of_joined(folder, made, asked)
+        return
+    if asked.tables:
+        raise Fault(shown(folder), "no shares were joined here", "shapes join FOLDER")
     names = [name for name in lying(folder) if not is_below(name, asked.allowed)]
     runs = _runs(names)
     if asked.originals and not runs:
@@ -43,6 +49,12 @@ def check_folder(folder: Path, asked: Asked) -> Iterator[Finding | Covered]:
         yield from _by_hand(folder, rest, asked)
     elif not runs:
         raise Fault(shown(folder), "no report is in this folder", "reports are files whose names end in .report or .report.gz")
+
+
+def _joined(folder: Path) -> dict[str, Any] | None:
+    """What the record of a folder of joined shares says; None where it is no such folder."""
+    made = opened((folder / MADE).read_bytes()) if (folder / MADE).is_file() else None
+    return made if made is not None and "shares" in made else None
 
 
 def _runs(names: list[str]) -> list[str]:

@@ -11,6 +11,7 @@ MADE = f"{EVIDENCE}/made.json"
 PAGE, SUMMARY, PICTURES, WORKBOOK = "index.html", "summary.txt", "pictures.csv", "objects.xlsx"
 # What the name of a table ends in that a picture has which has holes.
 HOLES = ".holes.csv"
+OBJECTS = "objects.csv"
 # The tables of all pictures together, and what the names of a picture's own end in.
 JOINED = {
     "objects.csv": ".csv", "holes.csv": HOLES, "networks.csv": ".network.csv", "branches.csv": ".branches.csv", "widths.csv": ".widths.csv",

@@ -10,7 +10,7 @@ from functools import partial
 from pathlib import Path
 from typing import Any
 
-from .batch import images_of, run
+from .batch import Image, images_of, run
 from .beside import Asked, Covered
 from .checking import Finding
 from .convert import picture_of, volume_of
@@ -21,6 +21,8 @@ from .folder import finish, originals
 from .foldercheck import check_folder
 from .hands import Hand
 from .inventory import others
+from .joincheck import findings_of_share
+from .joining import absent, join
 from .layout import EVIDENCE, MADE, PAGE
 from .original import check_original
 from .outlines import outlines_of, summary
@@ -28,6 +30,7 @@ from .plan import Plan
 from .programs import find
 from .report import Analysis, contours_in, read
 from .second import Second, reports_of
+from .shares import SHARES, Share
 from .stopping import SAID, STOPPED, cleared, stoppable
 from .units import Pixel
 from .words import options_of, parser, settings_of
@@ -43,18 +46,20 @@ def measure(words: argparse.Namespace) -> int:
         raise Fault("--network", f"the rule {words.rule} does not keep the ends of branches", "leave out --rule")
     if not words.network and (words.prune is not None or words.classes is not None):
         raise Fault("--prune, --classes", "they are about a network", "give --network, too")
-    images, passed = images_of(words.images, is_volume)
-    if passed:
-        print(f"passed over, as their names are not those of images: {passed} of the files", file=sys.stderr)
-    if not images:
-        raise Fault(shown(words.images[0]), "no image is in this folder", "name the files themselves")
+    images, share = _images(words, is_volume), words.share
     if any(path.is_dir() and path.resolve() == words.folder.resolve() for path in words.images):
         raise Fault("-o", "the folder of the images themselves", "choose another one for what is written")
     convert = partial(volume_of if is_volume else picture_of, settings=settings)
-    with _in_hand(words.folder, words.patience) as hand:
-        run(images, Plan.told(words.folder, options_of(words), hand), convert, words.jobs)
+    folder, told = words.folder, None
+    if share:
+        told, folder = {"number": share.number, "of": share.of, "given": len(images)}, share.folder(words.folder)
+        images = [image for image in images if share.takes(image.name)]
+    with _in_hand(folder, words.patience) as hand:
+        run(images, Plan.told(folder, options_of(words), hand), convert, words.jobs)
         hand.keep()
-        made = finish(words.folder, images, pixel, options_of(words))
+        made = finish(folder, images, pixel, options_of(words), told)
+    if share:
+        return _tell_of_share(share, folder, images, made)
     if PAGE not in made["files"]:
         print(f"no {PAGE}, as Jinja2 is not installed: `apt install python3-jinja2`, or `pip install jinja2`", file=sys.stderr)
     _tell_of_others(words.folder, made)
@@ -63,6 +68,41 @@ def measure(words: argparse.Namespace) -> int:
     failed = sum(image.failure is not None for image in images)
     print(f"{len(images) - failed} of {len(images)} measured, in {words.folder}: summary.txt tells how")
     return FAILED if failed else DONE
+
+
+def _images(words: argparse.Namespace, is_volume: bool) -> list[Image]:
+    """The images that the words name, and on standard error how many files were passed over. A Fault where there is none."""
+    images, passed = images_of(words.images, is_volume, words.base)
+    if passed:
+        print(f"passed over, as their names are not those of images: {passed} of the files", file=sys.stderr)
+    if not images:
+        raise Fault(shown(words.images[0]), "no image is in this folder", "name the files themselves")
+    return images
+
+
+def _tell_of_share(share: Share, folder: Path, images: list[Image], made: dict[str, Any]) -> int:
+    """Says what became of a share; its status."""
+    _tell_of_others(folder, made)
+    failed = sum(image.failure is not None for image in images)
+    print(f"share {share}: {len(images) - failed} of {len(images)} measured, in {folder}; shapes join makes the tables of all shares")
+    return FAILED if failed else DONE
+
+
+def join_shares(words: argparse.Namespace) -> int:
+    """`shapes join`: the tables, the page and the record of all shares."""
+    if not (words.folder / SHARES).is_dir():
+        raise Fault(shown(words.folder), "no share is in this folder", "shapes measure --share K/N IMAGES -o FOLDER makes them")
+    with _in_hand(words.folder, words.patience):
+        shares = join(words.folder)
+    if words.images:
+        names = [image.name for image in images_of(words.images, shares.like["options"]["command"] == "volume", words.base)[0]]
+        for name in absent(shares, names):
+            print(f"missing: {name}", file=sys.stderr)
+    for line in (*shares.lacks(), *(f"failed: {failure}" for failure in shares.failures)):
+        print(line, file=sys.stderr)
+    lacks = bool(list(shares.lacks()) or shares.failures)
+    print(f"{len(shares.images)} of {max(shares.given, shares.count)} measured, in {words.folder}: summary.txt tells how")
+    return FAILED if lacks else DONE
 
 
 @contextmanager
@@ -96,10 +136,12 @@ def check(words: argparse.Namespace) -> int:
         raise Fault("--second", "only it takes more than one report", "give an image and one report, or a folder")
     if words.originals and (words.report or not words.originals.is_dir()):
         raise Fault("--originals", "it takes the folder of the images of a measured folder", "shapes check MEASURED --originals IMAGES")
-    if not words.report:
+    if words.share:
+        findings = list(_printed(findings_of_share(words.image, words.share, Asked(words.jobs, tuple(words.allow), originals=words.originals))))
+    elif not words.report:
         if not words.image.is_dir():
             raise Fault(shown(words.image), "not a folder", "give a folder, or an image and its report")
-        findings = list(_printed(check_folder(words.image, Asked(words.jobs, tuple(words.allow), originals=words.originals))))
+        findings = list(_printed(check_folder(words.image, Asked(words.jobs, tuple(words.allow), originals=words.originals, tables=words.tables))))
     else:
         findings = list(_printed([check_original(words.image, words.report[0], settings_of(words))]))
     return DONE if all(finding.holds for finding in findings) else FAILED
@@ -143,7 +185,7 @@ def main(words: list[str] | None = None) -> int:
     given = parser().parse_args(words)
     try:
         with stoppable():
-            return {"check": check, "export": export}.get(given.command, measure)(given)
+            return {"check": check, "export": export, "join": join_shares}.get(given.command, measure)(given)
     except Fault as fault:
         print(f"shapes: {fault}", file=sys.stderr)
         return USAGE if fault.about.startswith("-") else NOTHING

@@ -42,7 +42,7 @@ _NOT_RECORDS = (KeyError, TypeError, ValueError, AttributeError, IndexError)
 Told = tuple[Path, Finding]
 
 
-def _sum(path: Path) -> str | None:
+def sum_of_file(path: Path) -> str | None:
     """The sum of a file; that of a page without what an earlier check said in it."""
     return sum_of_bytes(without_verdict(path.read_bytes())) if path.name == PAGE and path.is_file() else sum_of(path)
 
@@ -82,7 +82,7 @@ class RunCheck:
     @classmethod
     def of(cls, folder: Path, made: dict[str, Any], asked: Asked) -> RunCheck:
         allowed = [*asked.allowed, MADE, *originals(folder, made)]
-        return cls(folder, made, asked, Inventory.of(folder, made["files"], allowed, _sum))
+        return cls(folder, made, asked, Inventory.of(folder, made["files"], allowed, sum_of_file))
 
     def findings(self) -> Iterator[Finding | Covered]:
         """All findings: on pictures, on files of all, and on what is missing, changed or added; and what they cover."""
@@ -217,9 +217,14 @@ class RunCheck:
         records = {name: one.record for name, one in checked.items() if one.record is not None}
         if len(records) < len(checked):
             return
+
+        def table(record: Record, suffix: str) -> str:
+            return self._table(checked[record_of_key(record["image"])], record, suffix)
+
         try:
             run = run_again(self.made, records)
-            files = run.of_all(lambda record, suffix: self._table(checked[record_of_key(record["image"])], record, suffix))
+            files, kept = run.of_all(table), {name: sum_ for name, sum_ in self.made["files"].items() if name == WORKBOOK or name in self._untold()}
+            made = None if files else run.made(files, table, kept)
         except Fault as fault:
             yield Path(fault.about), refused(shown(fault.about), fault)
             return
@@ -227,14 +232,13 @@ class RunCheck:
             path = self.folder / name
             if path.is_file():
                 yield path, self._compared(path, data)
-        kept = {name: sum_ for name, sum_ in self.made["files"].items() if name == WORKBOOK or name in self._untold()}
         if WORKBOOK in kept and WORKBOOK not in self._untold():
             book = run.workbook(files)
             yield from self._same(WORKBOOK, lambda own: book is not None and is_same(own, book), "its cells are not those of the tables")
         if PAGE in self.made["files"] and PAGE not in kept:
             files[PAGE] = page = run.page([*files, *kept], files.get("objects.csv", b""), self._shown)
             yield from self._same(PAGE, lambda own: without_verdict(own) == page, "it is not the page that the tables and the records give")
-        why = of_members(self.made, run.made(files, kept))
+        why = of_members(self.made, made or run.made(files, table, kept))
         yield self.folder / MADE, Finding(shown(self.folder / MADE), why is None, why or "")
 
     def _untold(self) -> list[str]:

@@ -12,6 +12,7 @@ from .arrays import RULES
 from .channels import NAMES as CHANNELS
 from .filters import Filters
 from .hands import PATIENCE
+from .shares import Share
 from .thresholds import Settings
 
 MASKS = ("object", "skeleton", "distances", "squares")
@@ -45,6 +46,10 @@ def _count(word: str) -> int:
     if int(word) < 1:
         raise ValueError(word)
     return int(word)
+
+
+def _share(word: str) -> Share:
+    return Share.told(word)
 
 
 def _channel(word: str) -> str:
@@ -116,6 +121,10 @@ def _making(parser: argparse.ArgumentParser) -> None:
         "--masks", action="append", choices=MASKS, default=[], help="also write a picture of this; may be given again for another"
     )
     parser.add_argument(
+        "--share", type=_share, metavar="K/N", help="measure share K of N alone, into FOLDER/shares/K: which images are its follows from their names; shapes join makes the tables of all"
+    )
+    parser.add_argument("--base", type=Path, metavar="BASE", help="names of images are those below this folder (else below the deepest one that holds all)")
+    parser.add_argument(
         "--patience", type=_size, default=PATIENCE, metavar="SECONDS", help="how long another run that has the folder in hand may give no sign of life before it is taken over (60)"
     )
     parser.add_argument("-o", dest="folder", type=Path, default=Path("measured"), metavar="FOLDER", help="where all is written (measured)")
@@ -156,6 +165,9 @@ def _checking(words: argparse._SubParsersAction) -> argparse.ArgumentParser:
         action="store_true",
         help="check FOLDER, or reports that lie beside their pictures, by a second reading in Python, without the proved program",
     )
+    part = check.add_mutually_exclusive_group()
+    part.add_argument("--share", type=_share, metavar="K/N", help="check share K of N of FOLDER alone")
+    part.add_argument("--tables", action="store_true", help="check what shapes join wrote in FOLDER, without its shares")
     check.add_argument(
         "--originals",
         type=Path,
@@ -189,6 +201,11 @@ def parser() -> argparse.ArgumentParser:
     volume.set_defaults(network=False, prune=None, classes=None, sides=False, long=20)
     for part in (measure, volume):
         _making(part)
+    join = words.add_parser("join", help="the tables, the page and the record of all shares of a folder", epilog=_STATUS)
+    join.add_argument("folder", type=Path, metavar="FOLDER", help="the folder that the shares were measured into")
+    join.add_argument("images", nargs="*", type=Path, metavar="IMAGE", help="the images that have to be there: those that are missing are named")
+    join.add_argument("--base", type=Path, metavar="BASE", help="names of images are those below this folder (else below the deepest one that holds all)")
+    join.add_argument("--patience", type=_size, default=PATIENCE, metavar="SECONDS", help="as for shapes measure (60)")
     check = _checking(words)
     for part in (measure, volume, check):
         _conversion(part)
@@ -220,5 +237,5 @@ def settings_told(options: dict[str, Any]) -> Settings:
 
 def options_of(words: argparse.Namespace) -> dict[str, object]:
     """The options for the record of a run, but those that change no number."""
-    left_out = ("command", "images", "jobs", "folder", "patience")
+    left_out = ("command", "images", "jobs", "folder", "patience", "share", "base")
     return {"command": words.command, **{name: value for name, value in vars(words).items() if name not in left_out}}

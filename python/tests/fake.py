@@ -14,7 +14,7 @@ case "$1" in
 analyse)
     [ -n "$SHAPE_BEGUN" ] && : > "$SHAPE_BEGUN/$$"
     [ -n "$SHAPE_PACE" ] && sleep "$SHAPE_PACE"
-    cat {report} 2> /dev/null || full ;;
+    sed "1s/none/$4/" {report} 2> /dev/null || full ;;
 check) echo yes ;;
 measure) printf 'object,area,left,top,right,bottom,x,y,radius,cx,cy\\n1,95,13,7,22,16,17.500,11.500,1.000,15,10\\n' 2> /dev/null || full ;;
 draw) echo '<svg xmlns="http://www.w3.org/2000/svg"/>' 2> /dev/null || full ;;
