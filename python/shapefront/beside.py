@@ -13,7 +13,7 @@ from .comparing import of_tables
 from .faults import Fault
 from .files import shown
 from .layout import part
-from .networks import SKELETON
+from .network import SKELETON
 from .parts import Again
 from .products import DRAWINGS
 from .programs import NAME, call, sums

@@ -19,7 +19,7 @@ from .files import read_json, shown
 from .inventory import is_below, lying
 from .joincheck import findings_of_joined
 from .layout import JOINED, MADE, PICTURES, part, root_of
-from .networks import PRUNED, SKELETON
+from .network import PRUNED, SKELETON
 from .parts import Again, tables_of
 from .plan import Wanted
 from .report import counts_of

@@ -30,7 +30,7 @@ from .plan import Plan
 from .programs import find
 from .report import Analysis, contours_in, read
 from .second import Second, reports_of
-from .shares import SHARES, Share
+from .shares import SHARES
 from .stopping import SAID, STOPPED, cleared, stoppable
 from .units import Pixel
 from .words import options_of, parser, settings_of
@@ -40,6 +40,23 @@ DONE, FAILED, USAGE, NOTHING = 0, 1, 2, 3
 
 def measure(words: argparse.Namespace) -> int:
     """`shapes measure` and `shapes volume`: all that the images give, in one folder."""
+    images, made = measured(words)
+    folder = words.share.folder(words.folder) if words.share else words.folder
+    _tell_of_others(folder, made)
+    failed = sum(image.failure is not None for image in images)
+    if words.share:
+        print(f"share {words.share}: {len(images) - failed} of {len(images)} measured, in {folder}; shapes join makes the tables of all shares")
+        return FAILED if failed else DONE
+    if PAGE not in made["files"]:
+        print(f"no {PAGE}, as Jinja2 is not installed: `apt install python3-jinja2`, or `pip install jinja2`", file=sys.stderr)
+    if PAGE in made["files"] and sys.stderr.isatty():
+        print(f"open {shown(words.folder / PAGE)} in a browser", file=sys.stderr)
+    print(f"{len(images) - failed} of {len(images)} measured, in {words.folder}: summary.txt tells how")
+    return FAILED if failed else DONE
+
+
+def measured(words: argparse.Namespace) -> tuple[list[Image], dict[str, Any]]:
+    """Measures the images that the words name, or a share of them; what became of each, and the record of the run."""
     pixel, is_volume, settings = Pixel.told(vars(words)), words.command == "volume", settings_of(words)
     find()
     if words.network and words.rule != "curve":
@@ -49,25 +66,14 @@ def measure(words: argparse.Namespace) -> int:
     images, share = _images(words, is_volume), words.share
     if any(path.is_dir() and path.resolve() == words.folder.resolve() for path in words.images):
         raise Fault("-o", "the folder of the images themselves", "choose another one for what is written")
-    convert = partial(volume_of if is_volume else picture_of, settings=settings)
-    folder, told = words.folder, None
+    convert, folder, told = partial(volume_of if is_volume else picture_of, settings=settings), words.folder, None
     if share:
         told, folder = {"number": share.number, "of": share.of, "given": len(images)}, share.folder(words.folder)
         images = [image for image in images if share.takes(image.name)]
     with _in_hand(folder, words.patience) as hand:
         run(images, Plan.told(folder, options_of(words), hand), convert, words.jobs)
         hand.keep()
-        made = finish(folder, images, pixel, options_of(words), told)
-    if share:
-        return _tell_of_share(share, folder, images, made)
-    if PAGE not in made["files"]:
-        print(f"no {PAGE}, as Jinja2 is not installed: `apt install python3-jinja2`, or `pip install jinja2`", file=sys.stderr)
-    _tell_of_others(words.folder, made)
-    if PAGE in made["files"] and sys.stderr.isatty():
-        print(f"open {shown(words.folder / PAGE)} in a browser", file=sys.stderr)
-    failed = sum(image.failure is not None for image in images)
-    print(f"{len(images) - failed} of {len(images)} measured, in {words.folder}: summary.txt tells how")
-    return FAILED if failed else DONE
+        return images, finish(folder, images, pixel, options_of(words), told)
 
 
 def _images(words: argparse.Namespace, is_volume: bool) -> list[Image]:
@@ -78,14 +84,6 @@ def _images(words: argparse.Namespace, is_volume: bool) -> list[Image]:
     if not images:
         raise Fault(shown(words.images[0]), "no image is in this folder", "name the files themselves")
     return images
-
-
-def _tell_of_share(share: Share, folder: Path, images: list[Image], made: dict[str, Any]) -> int:
-    """Says what became of a share; its status."""
-    _tell_of_others(folder, made)
-    failed = sum(image.failure is not None for image in images)
-    print(f"share {share}: {len(images) - failed} of {len(images)} measured, in {folder}; shapes join makes the tables of all shares")
-    return FAILED if failed else DONE
 
 
 def join_shares(words: argparse.Namespace) -> int:

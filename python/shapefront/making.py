@@ -22,7 +22,7 @@ from .intensities import intensities
 from .labelled import make_labels
 from .labels import boxes
 from .layout import EVIDENCE, FURTHER, is_own, named, part, record_of_key
-from .networks import BRANCHES_OF
+from .network import BRANCHES_OF
 from .overlay import Overlay, borders, branches, numbers
 from .pictures import sides_of, spelled
 from .plan import Plan

@@ -14,7 +14,7 @@ from .faults import Fault
 from .files import shown
 from .holes import Holes
 from .layout import HOLES, part
-from .networks import Network
+from .network import Network
 from .outlines import arranged, outlines_of
 from .pictures import pbm_mask, spelled
 from .plan import Wanted

@@ -12,7 +12,7 @@ from .arrays import verdict
 from .faults import Fault
 from .images import pillow_version
 from .layout import FURTHER, HOLES, PLACES, THUMBNAIL, drawing, evidence, part
-from .networks import SKELETON
+from .network import SKELETON
 from .overlay import Overlay, middle_slice
 from .parts import names_in, tables_of, works
 from .parts import suffixes_of as part_suffixes
