@@ -53,7 +53,7 @@ def _again(record: Record, made: dict[str, Any], told: dict[str, Any]) -> Record
     """The members of a record, with what is told of it, and what the run's options and its own members give."""
     options = made["options"]
     again = {
-        **record, **told, "channel": options["channel"], "filters": asdict(Filters.told(options)), "plain": options["plain"],
+        **record, **told, "channel": options["channel"], "filters": asdict(Filters.told(options)), "plain": options["plain"], "drawn": not options["no_draw"], "kept_reports": not options["no_report"],
         "masks": list(dict.fromkeys(options["masks"])), "wanted": Wanted.told(options, record["fit"]).record, "programs": made["programs"],
     }  # fmt: skip
     if record["cut"]:

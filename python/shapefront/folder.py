@@ -186,6 +186,8 @@ def heading(images: int, failures: Sequence[str], options: dict[str, Any], pixel
     """The first lines of a summary: how many images, how all were made, and what to look at."""
     yield f"{images} image{'s' if images != 1 else ''}: {images - len(failures)} measured, {len(failures)} failed"
     yield f"thinned by the rule {options['rule']}; " + (f"a pixel is {pixel} wide" if pixel else "lengths in pixels")
+    if options["no_report"]:
+        yield "no reports were kept: nothing here can be checked, and all of it has to be measured again where that is wanted"
     yield from traits.warnings()
 
 

@@ -24,9 +24,9 @@ from .labels import boxes
 from .layout import EVIDENCE, FURTHER, is_own, named, part, record_of_key
 from .network import BRANCHES_OF
 from .overlay import Overlay, borders, branches, numbers
-from .pictures import sides_of, spelled
+from .pictures import sides_of, spelled, suffix_of
 from .plan import Plan
-from .products import draw, evidence_of, write_network_shown, write_shown, write_slice
+from .products import clear_evidence, draw, evidence_of, write_network_shown, write_shown, write_slice
 from .programs import sums
 from .report import counts_of
 from .seals import is_sealed, sealed
@@ -36,7 +36,7 @@ Record = dict[str, Any]
 
 # The members of a record, in their order; the sum of its own comes behind them.
 MEMBERS = (
-    "image", "labels", "sides", "fit", "original", "channel", "filters", "cut", "notes", "rule", "plain", "masks", "wanted", "grey", "picture", "programs", "parts", "kept", "files",
+    "image", "labels", "sides", "fit", "original", "channel", "filters", "cut", "notes", "rule", "plain", "drawn", "kept_reports", "masks", "wanted", "grey", "picture", "programs", "parts", "kept", "files",
 )  # fmt: skip
 
 # What the record of a run is called, without its ending: an image cannot be called so.
@@ -79,7 +79,7 @@ def head_of(picture: Picture, plan: Plan) -> Record:
     return {
         "image": picture.image, "labels": labels, "sides": list(sides_of(picture.mask)), "fit": picture.fit, "original": list(picture.original_sides),
         "channel": picture.settings.channel, "filters": asdict(picture.settings.filters),
-        "cut": asdict(picture.cut) if picture.cut else None, "notes": list(picture.notes), "rule": plan.rule, "plain": plan.plain, "masks": list(plan.masks), "wanted": plan.wanted(picture.fit).record,
+        "cut": asdict(picture.cut) if picture.cut else None, "notes": list(picture.notes), "rule": plan.rule, "plain": plan.plain, "drawn": plan.draws, "kept_reports": plan.keeps, "masks": list(plan.masks), "wanted": plan.wanted(picture.fit).record,
         "grey": None if picture.grey is None else sum_of_bytes(picture.grey.tobytes()), "picture": sum_of_bytes(told), "programs": sums(),
     }  # fmt: skip
 
@@ -111,20 +111,28 @@ def _products(picture: Picture, plan: Plan, work: Path) -> Record:
     stem = work / Path(picture.image).name
     if picture.labels is not None:
         return make_labels(picture, plan, stem)
+    made = _of_picture(picture, plan, stem)
+    for path in sorted(work.glob("*.report")) if not plan.plain and plan.keeps else ():
+        path.with_name(path.name + ".gz").write_bytes(gzipped(path.read_bytes()))
+        path.unlink()
+    if not plan.keeps:
+        clear_evidence(stem, suffix_of(picture.mask))
+    return made
+
+
+def _of_picture(picture: Picture, plan: Plan, stem: Path) -> Record:
+    """Writes the files of a picture, whose names begin with `stem`, and its reports as text; what the record says of them."""
     report, is_flat = evidence_of(picture.mask, stem, plan, plan.wanted(picture.fit), picture.image), picture.mask.ndim == 2
-    draw(report, stem, picture.image, is_flat)
-    if is_flat:
+    if plan.draws:
+        draw(report, stem, picture.image, is_flat)
+    if is_flat and plan.draws:
         rows = dicts_of(stem.with_name(stem.name + ".csv").read_text())
         write_shown(Overlay(picture.original, borders(report.read_bytes()), numbers(rows), picture.fit), stem)
         if plan.wanted(picture.fit).network:
             own = Overlay(picture.original, *branches(part(stem, BRANCHES_OF, ".report").read_bytes()), picture.fit)
             write_network_shown(own, stem)
-    else:
+    elif plan.draws:
         write_slice(picture.original, picture.mask, picture.fit, stem)
     if picture.grey is not None:
         stem.with_name(stem.name + FURTHER["objects.csv"]).write_bytes(spelled_rows(intensities(picture.mask, picture.grey)))
-    counts = dict(zip(("parts", "kept"), counts_of(report)))
-    for path in sorted(work.glob("*.report")) if not plan.plain else ():
-        path.with_name(path.name + ".gz").write_bytes(gzipped(path.read_bytes()))
-        path.unlink()
-    return counts
+    return dict(zip(("parts", "kept"), counts_of(report)))

@@ -86,6 +86,11 @@ class RunCheck:
 
     def findings(self) -> Iterator[Finding | Covered]:
         """All findings: on pictures, on files of all, and on what is missing, changed or added; and what they cover."""
+        if self.made["options"]["no_report"]:
+            unchecked = Finding(shown(self.folder / MADE), False, "it was measured with --no-report, so there is nothing to check its numbers by; measure again without it")
+            yield from self._said([(self.folder / MADE, unchecked)])
+            yield from self._said(self._of_inventory())
+            return
         names = sorted((image["record"] for image in self.made["images"] if image["record"]), key=lambda name: Path(name).with_suffix(""))
         checked = {}
         for name, one in zip(names, Crew(self._picture, self.asked.jobs).in_order(names)):

@@ -117,6 +117,8 @@ def _making(parser: argparse.ArgumentParser) -> None:
     packing = parser.add_mutually_exclusive_group()
     packing.add_argument("--plain", action="store_true", help="keep the reports as text: else they are packed, to a fourth of their size")
     packing.add_argument("--gzip", dest="plain", action="store_false", default=False, help=argparse.SUPPRESS)
+    parser.add_argument("--no-draw", action="store_true", help="make no drawings and no small pictures, which take most of the time")
+    parser.add_argument("--no-report", action="store_true", help="keep the tables alone, without reports and pictures: then nothing can be checked later")
     parser.add_argument(
         "--masks", action="append", choices=MASKS, default=[], help="also write a picture of this; may be given again for another"
     )
