@@ -17,7 +17,8 @@ from typing import Any, Generic, TypeVar
 from .faults import Fault
 from .stopping import SIGNALS, cleared
 
-Thing, Made = TypeVar("Thing"), TypeVar("Made")
+Thing = TypeVar("Thing")
+Made = TypeVar("Made")
 
 
 class Lost(Fault):

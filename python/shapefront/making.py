@@ -10,14 +10,14 @@ import shutil
 from collections.abc import Iterator
 from contextlib import contextmanager
 from dataclasses import asdict
-from pathlib import Path
+from pathlib import Path, PurePosixPath
 from typing import Any
 
 import numpy as np
 
 from .convert import Picture
 from .faults import Fault
-from .files import ASIDE, TOKEN, gzipped, read_json, shown, spelled_json, sum_of, sum_of_bytes, unwritten
+from .files import ASIDE, TOKEN, gzipped, shown, spelled_json, sum_of, sum_of_bytes, unwritten
 from .intensities import intensities
 from .labelled import make_labels
 from .labels import boxes
@@ -29,7 +29,7 @@ from .plan import Plan
 from .products import clear_evidence, draw, evidence_of, write_network_shown, write_shown, write_slice
 from .programs import sums
 from .report import counts_of
-from .seals import is_sealed, sealed
+from .seals import opened, sealed
 from .tables import dicts_of, spelled_rows
 
 Record = dict[str, Any]
@@ -48,8 +48,8 @@ def make(picture: Picture, plan: Plan) -> Record:
     if picture.image == OF_ALL:
         raise Fault(picture.image, f"its record would have the name of that of all, {OF_ALL}.json", "rename it")
     head, told = head_of(picture, plan), plan.folder / record_of_key(picture.image)
-    before = read_json(told) or {}
-    if is_sealed(told) and _is_made(before, head, plan.folder):
+    before = opened(_bytes(told))
+    if before is not None and _is_made(before, head, plan.folder):
         return before
     with _folder_aside(plan.folder) as work:
         counts = _products(picture, plan, work)
@@ -59,12 +59,28 @@ def make(picture: Picture, plan: Plan) -> Record:
         if plan.hand:
             plan.hand.keep()
         for name in (*files, record_of_key(picture.image)):
-            (plan.folder / name).parent.mkdir(parents=True, exist_ok=True)
-            os.replace(work / Path(name).name, plan.folder / name)
-        for name in before.get("files", {}):
+            _put(work / PurePosixPath(name).name, plan.folder / name)
+        for name in (before or {}).get("files", {}):
             if name not in files and is_own(picture.image, name):
                 (plan.folder / name).unlink(missing_ok=True)
     return record
+
+
+def _put(made: Path, path: Path) -> None:
+    """Gives a file its name, in a folder that is made where it is not there."""
+    try:
+        os.replace(made, path)
+    except FileNotFoundError:
+        path.parent.mkdir(parents=True, exist_ok=True)
+        os.replace(made, path)
+
+
+def _bytes(path: Path) -> bytes:
+    """What a file holds; nothing where it is not there."""
+    try:
+        return path.read_bytes()
+    except OSError:
+        return b""
 
 
 def record_of(members: Record) -> Record:

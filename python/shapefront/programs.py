@@ -9,6 +9,8 @@ import os
 import shutil
 import subprocess
 import tempfile
+from collections.abc import Iterator
+from contextlib import contextmanager
 from dataclasses import dataclass
 from functools import lru_cache
 from pathlib import Path
@@ -42,6 +44,11 @@ def _places() -> list[Path]:
 
 def find() -> Path:
     """Where the program is. Missing, a Fault, where it is nowhere."""
+    return _found(os.environ.get("SHAPE_BIN"), os.environ.get("PATH"))
+
+
+@lru_cache
+def _found(_given: str | None, _path: str | None) -> Path:
     for place in _places():
         if place.is_file() and os.access(place, os.X_OK):
             return place
@@ -82,31 +89,50 @@ class Answer:
 def call(*words: object, out: IO[bytes] | None = None) -> Answer:
     """Calls the program; what it writes goes to `out` where that is given. A Fault where it is not found or ends by a signal."""
     path = find()
-    with paper() as told, paper() as message:
-        status = _run([str(path), *map(str, words)], out or told, message)
+    with _paper() as told, _paper() as message:
+        status = _run([str(path), *map(str, words)], out.fileno() if out else told, message)
         if status < 0:
             raise Fault(path, f"was ended by signal {-status}", "give fewer --jobs, if memory is short")
-        text, line = (b"" if out else _read(told)), _read(message)
+        text, line = (b"" if out else _written(told)), _written(message)
     return Answer(status, text.decode(errors="replace"), line.decode(errors="replace").strip().removeprefix(NAME + ": "))
 
 
-def paper() -> IO[bytes]:
-    """A file without a name to write into, in memory where the system has such."""
-    if hasattr(os, "memfd_create"):
-        return os.fdopen(os.memfd_create(NAME), "w+b", 0)
-    return tempfile.TemporaryFile()
-
-
-def _read(file: IO[bytes]) -> bytes:
-    """All that was written into a file by another process."""
-    file.seek(0)
-    return file.read()
-
-
-def _run(words: list[str], out: IO[bytes], message: IO[bytes]) -> int:
-    """Calls a program and waits for its end: its status. It is ended where this is. A Fault where it cannot be run."""
+@contextmanager
+def _paper() -> Iterator[int]:
+    """A file without a name to write into, in memory where the system has such: its number."""
+    if not hasattr(os, "memfd_create"):
+        with tempfile.TemporaryFile() as file:
+            yield file.fileno()
+        return
+    number = os.memfd_create(NAME)
     try:
-        process = subprocess.Popen(words, stdin=subprocess.DEVNULL, stdout=out, stderr=message)
+        yield number
+    finally:
+        os.close(number)
+
+
+def _written(number: int) -> bytes:
+    """All that was written into a file by another process."""
+    if not (size := os.fstat(number).st_size):
+        return b""
+    os.lseek(number, 0, os.SEEK_SET)
+    parts = []
+    while size > 0 and (part := os.read(number, size)):
+        parts.append(part)
+        size -= len(part)
+    return b"".join(parts)
+
+
+@lru_cache
+def _nothing() -> int:
+    """The number of an empty file to read from."""
+    return os.open(os.devnull, os.O_RDONLY)
+
+
+def _run(words: list[str], out: int, message: int) -> int:
+    """Calls a program that writes into files of these numbers, and waits for its end: its status. It is ended where this is. A Fault where it cannot be run."""
+    try:
+        process = subprocess.Popen(words, stdin=_nothing(), stdout=out, stderr=message)
     except OSError as error:
         raise Fault(words[0], f"cannot be run ({error.strerror})", "is it built for this machine?") from error
     with process, cleared(process.kill):

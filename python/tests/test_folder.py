@@ -64,9 +64,9 @@ class Remembered:
             done = subprocess.run(words, stdin=subprocess.DEVNULL, stdout=subprocess.PIPE, stderr=subprocess.PIPE)
             self.answers[key] = done.returncode, done.stdout, done.stderr
         status, *told = self.answers[key]
-        for file, data in zip((out, message), told):
-            file.write(data)
-            file.flush()
+        for number, data in zip((out, message), told):
+            with open(number, "wb", closefd=False) as file:
+                file.write(data)
         return status
 
 
