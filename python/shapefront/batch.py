@@ -41,7 +41,8 @@ def images_of(paths: Iterable[Path], is_volume: bool, base: Path | None = None) 
     For flat pictures a folder stands for the images in it. Names are those below the folder `base`, or where that is not given below the deepest
     folder that holds all. A Fault where an image does not lie there.
     """
-    files, passed = [], 0
+    files: list[Path] = []
+    passed = 0
     for path in paths:
         if path.is_dir() and not is_volume:
             inside = sorted(p for p in path.iterdir() if p.is_file() and not p.name.startswith("."))

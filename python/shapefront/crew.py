@@ -10,9 +10,10 @@ import signal
 from collections.abc import Callable, Iterable, Iterator
 from contextlib import suppress
 from dataclasses import dataclass
+from itertools import islice
 from multiprocessing.connection import Connection, wait
 from multiprocessing.process import BaseProcess
-from typing import Any, Generic, TypeVar
+from typing import Any, Generic, TypeVar, cast
 
 from .faults import Fault
 from .stopping import SIGNALS, cleared
@@ -67,8 +68,8 @@ class Crew(Generic[Thing, Made]):
             while at_work := [worker for worker in self._workers if worker.thing is not None]:
                 for pipe in wait([worker.pipe for worker in at_work]):
                     worker = next(worker for worker in at_work if worker.pipe is pipe)
-                    done, answer = worker.thing, self._answer(worker)
-                    if (thing := next(rest, None)) is not None:
+                    done, answer = cast(Thing, worker.thing), self._answer(worker)
+                    for thing in islice(rest, 1):
                         self._begin(worker if worker in self._workers else self._hired(), thing)
                     yield done, answer
 

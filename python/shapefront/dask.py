@@ -15,11 +15,11 @@ from __future__ import annotations
 from collections.abc import Iterable, Sequence
 from dataclasses import dataclass
 from functools import partial
+from importlib import import_module
 from os import PathLike
 from pathlib import Path
 from typing import Any
 
-import dask.bag
 import numpy.typing as npt
 
 from .faults import Fault
@@ -27,6 +27,8 @@ from .joining import join as _join
 from .library import measure
 from .main import measured
 from .words import parser
+
+bags: Any = import_module("dask.bag")
 
 Name = str | PathLike[str]
 
@@ -45,7 +47,7 @@ def shares(images: Sequence[Name], out: Name, of: int, *words: str) -> Any:
 
     A Fault, which ends the computation, where a share cannot be measured at all.
     """
-    return dask.bag.from_sequence(range(1, of + 1), npartitions=of).map(partial(_share, list(map(str, images)), str(out), of, words))
+    return bags.from_sequence(range(1, of + 1), npartitions=of).map(partial(_share, list(map(str, images)), str(out), of, words))
 
 
 def _share(images: list[str], out: str, of: int, words: Sequence[str], share: int) -> Done:
@@ -59,12 +61,12 @@ def join(out: Name) -> list[str]:
     return [*found.lacks(), *found.failures]
 
 
-def arrays(masks: Iterable[npt.ArrayLike] | dask.bag.Bag, rule: str = "curve", npartitions: int | None = None) -> Any:
+def arrays(masks: Iterable[npt.ArrayLike] | Any, rule: str = "curve", npartitions: int | None = None) -> Any:
     """A bag of the columns of the objects of each mask, as `shapefront.measure` gives them; of a Fault where a mask is none.
 
     `masks` are arrays [y, x] or [z, y, x] of booleans or whole numbers, or a bag of such, as `dask.bag.from_delayed(image.to_delayed().ravel())` gives it.
     """
-    bag = masks if isinstance(masks, dask.bag.Bag) else dask.bag.from_sequence(masks, npartitions=npartitions)
+    bag = masks if isinstance(masks, bags.Bag) else bags.from_sequence(masks, npartitions=npartitions)
     return bag.map(partial(_measured, rule))
 
 

@@ -5,20 +5,22 @@ import errno
 import gzip
 import hashlib
 import json
+import json.encoder
 import os
 import re
 import secrets
 import shutil
 import socket
 import tempfile
-from collections.abc import Iterator
+from collections.abc import Callable, Iterator
 from contextlib import contextmanager
-from json.encoder import encode_basestring as _quoted
 from pathlib import Path
 from typing import IO, Any
 
 from .faults import Fault, Full
 
+# A text as JSON spells it.
+_quoted: Callable[[str], str] = getattr(json.encoder, "encode_basestring")
 # How what is not finished is called, with the word of its run behind.
 ASIDE = ".making-"
 # The word of this run: that of no other, on whatever host.

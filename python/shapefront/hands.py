@@ -116,8 +116,8 @@ class Hand:
     def holds(self) -> bool:
         """Whether the folder is still in this run's hand: no other has taken it over."""
         mark = self._mark()
-        owner = mark and Owner.told(mark)
-        return bool(owner) and owner.token == self.owner.token
+        owner = Owner.told(mark) if mark else None
+        return owner is not None and owner.token == self.owner.token
 
     def keep(self) -> None:
         """Busy, a Fault, where another run has taken the folder over."""

@@ -44,7 +44,11 @@ class Shares:
     def of_folder(cls, folder: Path) -> Shares:
         """The shares in a folder. A Fault where there is none, or they are not of one run."""
         like: dict[str, Any] = {}
-        told, images, failures, traits, of, given = [], [], [], [], 0, 0
+        told: list[dict[str, Any]] = []
+        images: list[tuple[str, int]] = []
+        failures: list[str] = []
+        traits: list[Traits] = []
+        of = given = 0
         for number, place in shares_in(folder):
             data = _bytes(place / MADE)
             if data is None or (place / MARK).exists():
@@ -61,7 +65,7 @@ class Shares:
             of, given = made["share"]["of"], max(given, made["share"]["given"])
         if not told:
             raise Fault(shown(folder), "no share is in this folder", "shapes measure --share K/N IMAGES -o FOLDER makes them")
-        images.sort(key=lambda image: image[0].split("/"))
+        images.sort(key=_order)
         return cls(folder, like, told, images, failures, Traits.joined(traits), of, given)
 
     @property
@@ -125,7 +129,7 @@ class Shares:
         """The page, of the first images where there are many; these are the names of the files of all, and the first rows of all objects. Missing without Jinja2."""
         first = self.images[:MOST_PICTURES]
         places = {name: self.place(number) for name, number in first}
-        images = [(name, self.record(name, number), None) for name, number in first]
+        images: list[tuple[str, Record | None, str | None]] = [(name, self.record(name, number), None) for name, number in first]
         return Page(
             images, self.like["options"], self.pixel, {**versions(), "programs": self.like["programs"]}, [*self.lacks(), *self.traits.warnings()], list(files), rows,
             lambda record, suffix: _bytes(places[record["image"]] / evidence(record["image"], suffix)),
@@ -193,6 +197,11 @@ def absent(shares: Shares, names: Iterable[str]) -> list[str]:
         made = opened(_bytes(place / MADE) or b"")
         own |= {image["image"] for image in made["images"]} if made else set()
     return [name for name in names if name not in own]
+
+
+def _order(image: tuple[str, int]) -> list[str]:
+    """The order of images: that of their names, folder by folder."""
+    return image[0].split("/")
 
 
 def _alike(place: Path, like: dict[str, Any], made: dict[str, Any], number: int) -> dict[str, Any]:

@@ -15,7 +15,7 @@ from typing import cast
 import numpy as np
 import numpy.typing as npt
 
-from .arrays import RULES, as_file, report_of, table
+from .arrays import as_file, table
 from .faults import Fault
 from .further import BallReport, EdgeReport, PieceReport
 from .pictures import checked_mask
@@ -100,6 +100,3 @@ def networks(mask: npt.ArrayLike, prune: float | None = None, classes: Iterable[
         evidence_of(own, stem, Plan(stem.parent, "curve", True, (), {}), Wanted(True, prune, edges_of), "the array")
         read_csv = [columns_of(stem.with_name(f"picture.{kind}.csv").read_text()) for kind in ("network", "branches", "widths")]
     return Networks(*read_csv)
-
-
-__all__ = ["RULES", "Columns", "Networks", "balls", "columns_of", "edges", "measure", "networks", "pieces", "report_of"]

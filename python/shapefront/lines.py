@@ -64,7 +64,8 @@ class Lines:
 
     def begin(self, lines: np.ndarray, word: str) -> np.ndarray:
         """Whether each of these lines begins with the word."""
-        return self.codes[lines] == _code(word)
+        begun: np.ndarray = self.codes[lines] == _code(word)
+        return begun
 
     def where_any(self, *words: str) -> np.ndarray:
         """Which lines begin with one of the words, in order; not the first one."""
@@ -100,7 +101,8 @@ class Lines:
             return span
         taken = np.zeros(last - first + 1, bool)
         taken[lines - first] = True
-        return span[np.repeat(taken, np.diff(self.starts[first : last + 2]))]
+        own: np.ndarray = span[np.repeat(taken, np.diff(self.starts[first : last + 2]))]
+        return own
 
 
 def _parsed(block: bytes) -> np.ndarray:

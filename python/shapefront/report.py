@@ -7,7 +7,7 @@ from __future__ import annotations
 
 import gzip
 import zlib
-from collections.abc import Iterator, Sequence
+from collections.abc import Callable, Iterator, Sequence
 from dataclasses import dataclass
 from functools import cached_property
 from pathlib import Path
@@ -21,6 +21,9 @@ from .further import BallReport, EdgeReport, PieceReport
 from .lines import REMEDY, Lines
 from .runs import Runs, offsets
 
+
+# How the further reports are read, by their first words.
+_FURTHER: dict[str, Callable[[Lines, list[str]], EdgeReport | PieceReport | BallReport]] = {"edges": EdgeReport.of, "pieces": PieceReport.of, "balls": BallReport.of}
 
 _FLAT = ("parts", "near", "contour", "at", "seg", "least", "turn", "cut", "del", "tip", "kept", "end")
 _SOLID = ("parts", "near", "face", "patch", "on", "off", "del", "tip", "kept", "end")
@@ -144,7 +147,7 @@ class Analysis:
         return f"<Analysis of {sides} {'pixels' if len(self.sides) == 2 else 'voxels'}, rule {self.rule}: {points} points, {pieces} pieces, {self.parts.holes} holes>"
 
     def __eq__(self, other: object) -> bool:
-        return self.text == other.text if isinstance(other, Analysis) else NotImplemented
+        return isinstance(other, Analysis) and self.text == other.text
 
     def __hash__(self) -> int:
         return hash(self.text)
@@ -155,7 +158,8 @@ class Analysis:
     @cached_property
     def distances(self) -> np.ndarray:
         """For each of `points` the distance to its nearest background point in pixels: the roots of `squares`."""
-        return np.sqrt(self.squares)
+        roots: np.ndarray = np.sqrt(self.squares)
+        return roots
 
     @cached_property
     def mask(self) -> np.ndarray:
@@ -175,25 +179,27 @@ class Analysis:
     @cached_property
     def skeleton_mask(self) -> np.ndarray:
         """The skeleton as an image of booleans: the object points that no `del` line takes away."""
-        left = self.mask.copy()
+        left: np.ndarray = self.mask.copy()
         left[self._index(self.events[~self.marked])] = False
         return left
 
     @cached_property
     def skeleton(self) -> np.ndarray:
         """The points of the skeleton, in raster order."""
-        return self.points[self.skeleton_mask[self._index(self.points)]]
+        left: np.ndarray = self.points[self.skeleton_mask[self._index(self.points)]]
+        return left
 
     @property
     def tips(self) -> np.ndarray:
         """The points that the rule marked as ends, in the order of the thinning."""
-        return self.events[self.marked]
+        marked: np.ndarray = self.events[self.marked]
+        return marked
 
     def _index(self, points: np.ndarray) -> tuple[np.ndarray, ...]:
         return tuple(points[:, k] for k in reversed(range(len(self.sides))))
 
     def _image(self, points: np.ndarray, values: np.ndarray) -> np.ndarray:
-        image = np.zeros(self.sides[::-1], values.dtype)
+        image: np.ndarray = np.zeros(self.sides[::-1], values.dtype)
         image[self._index(points)] = values
         return image
 
@@ -240,13 +246,13 @@ def read(report: str | Path | bytes) -> Analysis | EdgeReport | PieceReport | Ba
     text, name = text_of(report)
     lines = Lines.of(text, name)
     heading = lines.words(0)
-    further = {"edges": EdgeReport, "pieces": PieceReport, "balls": BallReport}.get(heading[0])
+    further = _FURTHER.get(heading[0])
     if heading[0] != "shape" and further is None:
         raise Fault(
             name, "not a report: its first line begins with none of `shape`, `edges`, `pieces` and `balls`", "is it the right file?"
         )
     try:
-        return further.of(lines, heading) if further else _analysis(lines, text, heading)
+        return further(lines, heading) if further else _analysis(lines, text, heading)
     except Fault:
         raise
     except (ValueError, IndexError, OverflowError) as error:

@@ -84,8 +84,8 @@ class Compared:
     """
 
     def __init__(self, file: IO[bytes], is_marked: bool = True) -> None:
-        self.file, self.wrong, self._is_ascii, self._is_marked = file, None, True, is_marked and file.read(len(MARK)) == MARK
-        self.wrong: tuple[bytes, bytes] | None
+        self.wrong: tuple[bytes, bytes] | None = None
+        self.file, self._is_ascii, self._is_marked = file, True, is_marked and file.read(len(MARK)) == MARK
         if not self._is_marked:
             file.seek(0)
         self._may_be_marked = is_marked

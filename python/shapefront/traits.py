@@ -58,7 +58,8 @@ class Traits:
     def told(cls, record: dict[str, Any]) -> Traits:
         """Those that the record of a run tells."""
         tables = {name: (header, more) for name, (header, more) in record["tables"].items()}
-        return cls(**{**record, "thresholds": tuple(record["thresholds"]), "tables": tables})
+        own: dict[str, Any] = {**record, "thresholds": tuple(record["thresholds"]), "tables": tables}
+        return cls(**own)
 
     @property
     def record(self) -> dict[str, Any]:
