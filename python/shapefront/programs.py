@@ -1,13 +1,14 @@
 """Finds the proved program `shape` and calls it. All measuring is done there.
 
 It is looked for in the folder that SHAPE_BIN names, then in the clone of the repository that this package lies in, then
-on the PATH.
+where `./install` put it beside this package, then in the environment of this Python, and at last on the PATH.
 """
 from __future__ import annotations
 
 import os
 import shutil
 import subprocess
+import sys
 import tempfile
 from collections.abc import Iterator
 from contextlib import contextmanager
@@ -38,8 +39,9 @@ _WORDS = (
 
 def _places() -> list[Path]:
     given = os.environ.get("SHAPE_BIN")
-    clone = Path(__file__).resolve().parents[2] / "crates" / NAME / "out" / NAME
-    return ([Path(given) / NAME] if given else []) + [clone]
+    above = Path(__file__).resolve().parents
+    clone, installed, environment = above[2] / "crates" / NAME / "out" / NAME, above[min(3, len(above) - 1)] / "bin" / NAME, Path(sys.prefix) / "bin" / NAME
+    return ([Path(given) / NAME] if given else []) + [clone, installed, environment]
 
 
 def find() -> Path:
