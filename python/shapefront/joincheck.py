@@ -18,7 +18,7 @@ from .layout import MADE, OBJECTS, PAGE, SUMMARY, WORKBOOK
 from .page import jinja_version, page_version, tell, without_verdict
 from .runcheck import findings_of_run, sum_of_file
 from .seals import opened, why_not
-from .shares import SHARES, Share, shares_in
+from .shares import SHARES, Share
 from .streams import Compared
 from .workbook import is_same, openpyxl_version
 
