@@ -8,7 +8,7 @@ from pathlib import Path
 
 import numpy as np
 
-from .common import HERE, STORED, installed, needs_shape, random_mask
+from .common import HERE, STORED, installed, needs_shape, random_mask, slow
 
 import shapefront
 from shapefront import Fault
@@ -135,6 +135,7 @@ class ByProgram(unittest.TestCase):
             shapefront.networks(np.ones((3, 3, 3), bool))
 
 
+@slow
 @unittest.skipUnless(installed("mypy"), "mypy is not installed")
 class Types(unittest.TestCase):
     def test_the_library_and_a_program_that_calls_it_are_typed(self):

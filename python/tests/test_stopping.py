@@ -92,7 +92,7 @@ def is_alive(process):
 class Stopping(WithFake):
     def stopped(self, kind, jobs, pace, to_group):
         """A run that is stopped in the middle: it ends soon, leaves nothing half-made, and goes on later to what a whole run gives."""
-        save(40)
+        save(24)
         run = self.start("measure", "in", "--dark", "--jobs", jobs, "-o", "out", pace=pace, start_new_session=True)
         self.until(lambda: len(self.begun()) > (jobs if float(pace) > 1 else 3 * jobs) - 1)
         began = time.monotonic()
