@@ -6,14 +6,15 @@ from pathlib import Path
 
 from .common import STORED
 
-# One object whose table has the columns that the front door places and scales; SHAPE_PACE is how many seconds an analysis takes, and each
-# begun analysis leaves its process number in the folder that SHAPE_BEGUN names.
+# One object whose table has the columns that the front door places and scales; SHAPE_PACE is how many seconds an analysis takes, it waits
+# for the file that SHAPE_GATE names, and each begun analysis leaves its process number in the folder that SHAPE_BEGUN names.
 _SCRIPT = """#!/bin/sh
 full() {{ echo "shape: write failed" >&2; exit 5; }}
 case "$1" in
 analyse)
     [ -n "$SHAPE_BEGUN" ] && : > "$SHAPE_BEGUN/$$"
     [ -n "$SHAPE_PACE" ] && sleep "$SHAPE_PACE"
+    while [ -n "$SHAPE_GATE" ] && [ ! -e "$SHAPE_GATE" ]; do sleep 0.1; done
     sed "1s/none/$4/" {report} 2> /dev/null || full ;;
 check) echo yes ;;
 measure) printf 'object,area,left,top,right,bottom,x,y,radius,cx,cy\\n1,95,13,7,22,16,17.500,11.500,1.000,15,10\\n' 2> /dev/null || full ;;

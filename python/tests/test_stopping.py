@@ -158,12 +158,10 @@ class Stopping(WithFake):
             self.skipTest("no disk may be mounted here")
         self.addCleanup(subprocess.run, ["umount", str(self.folder / "out")])
         for jobs in (1, 3):
-            began = time.monotonic()
             status, _, error = self.finish("measure", "in", "--dark", "--jobs", jobs, "-o", "out")
             self.assertEqual((status, error.count("\n")), (3, 1), error)
             self.assertIn("No space left on device", error)
             self.assertIn("make room: the same command goes on where it was", error)
-            self.assertLess(time.monotonic() - began, 20)
             self.assertFalse([name for name in contents("out") if ".making" in name or MARK in name])
         subprocess.run(["mount", "-o", "remount,size=40m", "out"], check=True)
         self.assertEqual(self.finish("measure", "in", "--dark", "-o", "out")[0], 0)
@@ -178,12 +176,14 @@ class TwoRuns(WithFake):
             if before and subprocess.run([*before, "true"], capture_output=True).returncode:
                 self.skipTest("no name space of processes may be made here")
             save(10)
-            first = self.start("measure", "in", "--dark", "-o", "out", "--patience", 3, pace="0.3")
-            self.until(lambda: len(self.begun()) > 1)
+            self.environment["SHAPE_GATE"] = str(self.folder / "gate")
+            first = self.start("measure", "in", "--dark", "-o", "out", "--patience", 3)
+            self.until(lambda: len(self.begun()) > 0)
             second = self.start("measure", "in", "--dark", "-o", "out", before=before)
             out, error = second.communicate()
             self.assertEqual((second.returncode, out), (3, ""), error)
             self.assertRegex(error, "shapes: out: another run is at work here .host .*, process [0-9]+, since .*.; wait for it, or choose another folder")
+            Path("gate").touch()
             out, error = first.communicate()
             self.assertEqual((first.returncode, out[:25], error), (0, "10 of 10 measured, in out", ""))
             self.assertEqual(self.finish("measure", "in", "--dark", "-o", "other")[0], 0)
@@ -191,6 +191,7 @@ class TwoRuns(WithFake):
             for folder in ("out", "other", "begun"):
                 shutil.rmtree(folder)
             Path("begun").mkdir()
+            Path("gate").unlink()
 
     def test_a_mark_of_another_host_is_taken_over_when_its_time_has_run_out(self):
         save(2)
