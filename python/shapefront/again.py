@@ -30,7 +30,8 @@ def run_again(made: dict[str, Any], records: dict[str, Record]) -> Run:
     images = []
     for told in made["images"]:
         images.append(Image(Path(told["image"]), told["image"], records.get(told["record"]), told["failure"], told["sum"]))
-    return Run(made["options"], measure_of(made["options"], (image.record for image in images if image.record)), images, {name: made[name] for name in _VERSIONS})
+    measure = measure_of(made["options"], (image.record for image in images if image.record))
+    return Run(made["options"], measure, images, {name: made[name] for name in _VERSIONS}, made.get("share"))
 
 
 def record_again(record: Record, made: dict[str, Any], report: Path) -> Record:
@@ -55,7 +56,7 @@ def _again(record: Record, made: dict[str, Any], told: dict[str, Any]) -> Record
     """The members of a record, with what is told of it, and what the run's options and its own members give."""
     options = made["options"]
     again = {
-        **record, **told, "channel": options["channel"], "filters": asdict(Filters.told(options)), "plain": options["plain"],
+        **record, **told, "channel": options["channel"], "filters": asdict(Filters.told(options)), "plain": options["plain"], "drawn": not options["no_draw"], "kept_reports": not options["no_report"],
         "masks": list(dict.fromkeys(options["masks"])), "wanted": Wanted.told(options, record["fit"], Spacing.recorded(record["spacing"])).record, "programs": made["programs"],
     }  # fmt: skip
     if record["cut"]:

@@ -13,7 +13,7 @@ from .comparing import of_tables
 from .faults import Fault
 from .files import shown
 from .layout import part
-from .networks import SKELETON
+from .network import SKELETON
 from .parts import Again
 from .pictures import suffix_beside
 from .products import DRAWINGS, tables_words
@@ -25,14 +25,16 @@ SUFFIXES = (".report", ".report.gz")
 
 @dataclass(frozen=True)
 class Asked:
-    """How a folder is to be checked: how many reports at once, what may lie there though nothing made it, who judges reports, and where
-    the original images lie, if they are to be looked at, and those whose intensities were measured, if they are others."""
+    """How a folder is to be checked: how many reports at once, what may lie there though nothing made it, who judges reports, where
+    the original images lie, if they are to be looked at, and those whose intensities were measured, if they are others; and whether only the tables of
+    joined shares are looked at, without the shares."""
 
     jobs: int = 1
     allowed: tuple[str, ...] = ()
     judge: Judge = verdict
     originals: Path | None = None
     intensities: str | None = None
+    tables: bool = False
 
 
 @dataclass(frozen=True)

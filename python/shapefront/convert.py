@@ -45,8 +45,8 @@ class Picture:
     the image's values were taken as labels; `labels` has the label of each pixel where each is a picture of its own.
     `original` is the image as it was before it was made smaller, [y, x] or in colours [y, x, 3]. `grey` are the grey values that the image
     has where the picture is, before any filter; None where it has no more than two values. `settings` are those that a user asked for.
-    `valued` is the other image that these values are of, where a user named one: its name, its file's sum, and how it is shown.
     `spacing` is the size of one of the image's voxels where it is told, and `region` what alone is looked at, where that is not all.
+    `valued` is the other image that these values are of, where a user named one: its name, its file's sum, and how it is shown.
     """
 
     image: str
@@ -58,9 +58,9 @@ class Picture:
     labels: np.ndarray | None = None
     grey: np.ndarray | None = None
     settings: Settings = Settings()
-    valued: Valued | None = None
     spacing: Spacing | None = None
     region: np.ndarray | None = None
+    valued: Valued | None = None
 
     @property
     def backdrop(self) -> np.ndarray:

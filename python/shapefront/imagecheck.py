@@ -5,7 +5,6 @@ This covers what no report can tell: names, labels, thresholds, what was done to
 from __future__ import annotations
 
 from collections.abc import Iterator
-from concurrent.futures import ThreadPoolExecutor
 from dataclasses import dataclass, replace
 from pathlib import Path
 from typing import Any
@@ -16,6 +15,7 @@ from .batch import source_sum
 from .checking import Finding
 from .comparing import of_members, of_tables
 from .convert import Picture, picture_of, volume_of
+from .crew import Crew
 from .faults import Fault, Missing
 from .files import shown
 from .intensities import intensities
@@ -42,8 +42,7 @@ class ImageCheck:
 
     def findings(self, jobs: int) -> Iterator[tuple[dict[str, Any], Finding]]:
         """For each image of the run what was found of its original; so many are looked at at once."""
-        with ThreadPoolExecutor(jobs) as pool:
-            yield from zip(self.made["images"], pool.map(self._image, self.made["images"]))
+        yield from zip(self.made["images"], Crew(self._image, jobs).in_order(self.made["images"]))
 
     def _image(self, told: dict[str, Any]) -> Finding:
         path = self.originals / told["image"]

@@ -29,10 +29,13 @@ def make_labels(picture: Picture, plan: Plan, stem: Path) -> dict[str, Any]:
         folder = Path(place)
         reports = [evidence_of(box.mask, folder / str(box.label), plan, wanted, f"{picture.image}, label {box.label}") for box in own]
         made = tables(own, sides, lambda box, suffix: _text(folder / f"{box.label}{suffix}"), tables_of(wanted, picture.labels.ndim == 2))
-        pack(folder, stem.with_name(stem.name + ARCHIVE))
+        if plan.keeps:
+            pack(folder, stem.with_name(stem.name + ARCHIVE))
         for suffix, table in made.items():
             stem.with_name(stem.name + suffix).write_bytes(table)
-        if picture.labels.ndim == 2:
+        if not plan.draws:
+            pass
+        elif picture.labels.ndim == 2:
             lines = [border for row, (box, report) in enumerate(zip(own, reports), 1) for border in _moved(report.read_bytes(), box, row)]
             backdrop = coloured(picture.original) if picture.valued is None else picture.backdrop
             write_shown(Overlay(backdrop, lines, numbers(dicts_of(made[".csv"].decode()), "label"), picture.fit, _rows_in(picture.labels)), stem)

@@ -11,6 +11,7 @@ MADE = f"{EVIDENCE}/made.json"
 PAGE, SUMMARY, PICTURES, WORKBOOK = "index.html", "summary.txt", "pictures.csv", "objects.xlsx"
 # What the name of a table ends in that a picture has which has holes.
 HOLES = ".holes.csv"
+OBJECTS = "objects.csv"
 # What the name of the table of a whole volume ends in, and the part of the name of the region that alone was looked at.
 VOLUME, REGION = ".volume.csv", "region"
 # The tables of all pictures together, and what the names of a picture's own end in.

@@ -76,7 +76,11 @@ class Card:
 
 @dataclass(frozen=True)
 class Page:
-    """What a page is made of: the run's records and failures by the names of its images, its options, its unit, and the table of all objects."""
+    """What a page is made of: the run's records and failures by the names of its images, its options, its unit, and the table of all objects.
+
+    `below` tells in which folder an image's drawings lie, where that is not the page's. Of many images it has the first ones, and then it is told
+    how many images and rows there are in all.
+    """
 
     images: list[tuple[str, dict[str, Any] | None, str | None]]
     options: dict[str, Any]
@@ -87,6 +91,9 @@ class Page:
     rows: list[Row]
     shown: Shown
     volumes: list[Row] = field(default_factory=list)
+    below: dict[str, str] = field(default_factory=dict)
+    all_images: int | None = None
+    all_rows: int | None = None
 
     @property
     def _is_solid(self) -> bool:
@@ -96,7 +103,7 @@ class Page:
         """The page's bytes, without a verdict. Missing where Jinja2 is not installed; see `jinja_version`."""
         thing = "label" if self.rows and "label" in self.rows[0] else "object"
         what = "volume" if self._is_solid else "image"
-        told = f"{_count(len(self.images), what)}, {_count(max(len(self.rows) - 1, 0), thing)}"
+        told = f"{_count(self.all_images or len(self.images), what)}, {_count(self.all_rows or max(len(self.rows) - 1, 0), thing)}"
         text = _template().render(
             title=told, told=self._told(), things=thing + "s", warnings=[*self.warnings, *self._left_out()], limits=_LIMITS, said=self._said(), foot=list(self._foot()),
             what=what, whole=whole_of(self.volumes, self.pixel), images=list(self._cards()), files=[(name, about) for name, about in _FILES if name in self.files],
@@ -113,8 +120,10 @@ class Page:
         return f"{which} was checked by the proved program when it was made."
 
     def _left_out(self) -> Iterator[str]:
-        if len(self.rows) - 1 > MOST_ROWS:
-            yield f"the page has the first {MOST_ROWS:,} rows; objects.csv has all {len(self.rows) - 1:,}"
+        if self.all_images and self.all_images > len(self.images):
+            yield f"the page has the first {len(self.images):,} images; pictures.csv has all {self.all_images:,}"
+        if (count := self.all_rows or len(self.rows) - 1) > min(len(self.rows) - 1, MOST_ROWS):
+            yield f"the page has the first {min(len(self.rows) - 1, MOST_ROWS):,} rows; objects.csv has all {count:,}"
         if len(self.images) > MOST_PICTURES:
             yield f"the page has small pictures of the first {MOST_PICTURES} images; drawings has those of all"
 
@@ -133,7 +142,7 @@ class Page:
                 continue
             why = "no small picture: the drawings show it" if k >= MOST_PICTURES else "it has no small picture"
             badges = badges_of(record, records, areas.get(name, []))
-            yield Card(name, self._picture(k, record, THUMBNAIL, "jpeg"), why, _counts(record), _sides(record), badges, record["notes"], _links(name, record))
+            yield Card(name, self._picture(k, record, THUMBNAIL, "jpeg"), why, _counts(record), _sides(record), badges, record["notes"], _links(name, record, self.below.get(name, "")))
 
     def _areas(self) -> dict[str, list[int]]:
         """The areas of the objects of each image."""
@@ -194,9 +203,9 @@ _FILES = [
 ]  # fmt: skip
 
 
-def _links(name: str, record: dict[str, Any]) -> list[tuple[str, str]]:
-    """The drawings of an image, each with what it is called on the page."""
-    return [(told, target) for told, suffix in _DRAWINGS if (target := drawing(name, suffix)) in record["files"]]
+def _links(name: str, record: dict[str, Any], below: str) -> list[tuple[str, str]]:
+    """The drawings of an image, which lie below this folder, each with what it is called on the page."""
+    return [(told, below + target) for told, suffix in _DRAWINGS if (target := drawing(name, suffix)) in record["files"]]
 
 
 def _counts(record: dict[str, Any]) -> str:

@@ -16,7 +16,7 @@ from .files import shown
 from .holes import Holes
 from .layout import HOLES, VOLUME, part
 from .morphometry import SEPARATION, Morphometry, region_beside
-from .networks import Network
+from .network import Network
 from .outlines import arranged, outlines_of
 from .pictures import pbm_mask, solid_mask, solid_sides, spelled, suffix_beside, told_suffix
 from .plan import Wanted
@@ -168,6 +168,8 @@ class Again:
                 pictures, tables = pictures | own, tables | work.tables(given)
         except OSError as error:
             raise Fault(error.filename, f"{shown(error.filename)} cannot be read ({error.strerror})") from error
+        except Fault:
+            raise
         except (KeyError, ValueError, ArithmeticError, AttributeError, IndexError, StopIteration) as error:
             raise Fault(stem, _UNFIT) from error
         return cls(pictures, tables)

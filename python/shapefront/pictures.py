@@ -8,6 +8,7 @@ from dataclasses import dataclass
 from pathlib import Path
 
 import numpy as np
+import numpy.typing as npt
 
 from secondreading.limits import MOST_FLAT, MOST_SOLID
 
@@ -74,9 +75,14 @@ def pbm_mask(data: bytes) -> np.ndarray:
     return np.unpackbits(rows, axis=1, count=width).astype(bool)
 
 
-def checked_mask(mask: np.ndarray, name: str = "the array") -> np.ndarray:
-    """The array as booleans. A Fault where it is none of two or three axes with sides that the program takes."""
-    mask = np.asarray(mask)
+def checked_mask(given: npt.ArrayLike, name: str = "the array") -> np.ndarray:
+    """The array as booleans: as it is, or of whole numbers of which one beside 0 occurs. A Fault where it is none of two or three axes with sides that
+    the program takes."""
+    mask: np.ndarray = np.asarray(given)
+    if np.issubdtype(mask.dtype, np.integer):
+        if mask.size and not ((mask == 0) | (mask == mask.flat[np.argmax(mask != 0)])).all():
+            raise Fault(name, f"an array of {mask.dtype} with several values beside 0", "compare it with a threshold: `image > t`; of labels: `labels == k`")
+        mask = mask != 0
     if mask.dtype != bool:
         raise Fault(name, f"an array of {mask.dtype}, not of booleans", "compare it with a threshold: `image > t`")
     if mask.ndim not in (2, 3):

@@ -6,6 +6,7 @@ from decimal import Decimal
 from pathlib import Path
 from typing import Any
 
+from .hands import Hand
 from .spacing import Spacing
 from .units import Pixel
 
@@ -55,19 +56,22 @@ class Wanted:
 
 @dataclass(frozen=True)
 class Plan:
-    """Where the files go, the rule of the thinning, whether reports stay plain text, the masks that are wanted, and the options that tell
-    what else."""
+    """Where the files go, the rule of the thinning, whether reports stay plain text, the masks that are wanted, the options that tell
+    what else, the hand that has the folder, where files are written, and whether drawings are made, and reports are kept."""
 
     folder: Path
     rule: str
     plain: bool
     masks: tuple[str, ...]
     options: dict[str, Any]
+    hand: Hand | None = None
+    draws: bool = True
+    keeps: bool = True
 
     @classmethod
-    def told(cls, folder: Path, options: dict[str, Any]) -> Plan:
+    def told(cls, folder: Path, options: dict[str, Any], hand: Hand | None = None) -> Plan:
         """The plan of a run with these options, into this folder."""
-        return cls(folder, options["rule"], options["plain"], tuple(dict.fromkeys(options["masks"])), options)
+        return cls(folder, options["rule"], options["plain"], tuple(dict.fromkeys(options["masks"])), options, hand, not options["no_draw"], not options["no_report"])
 
     def wanted(self, fit: int, spacing: Spacing | None = None) -> Wanted:
         """What is wanted of a picture of which a pixel is `fit` of the image's wide, which has voxels of this size if it is a volume."""

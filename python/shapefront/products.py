@@ -12,7 +12,7 @@ from .arrays import verdict
 from .faults import Fault
 from .images import pillow_version
 from .layout import FACES, FURTHER, HOLES, MESH, PLACES, REGION, SHEET, SKELETON_VIEWS, SLICES, THUMBNAIL, drawing, evidence, part
-from .networks import SKELETON
+from .network import SKELETON
 from .overlay import Overlay
 from .parts import names_in, tables_of, works
 from .parts import suffixes_of as part_suffixes
@@ -124,6 +124,14 @@ def mask_suffix(kind: str, sides: Sequence[int]) -> str:
     return f".{kind}" + (told_suffix(sides).removesuffix("raw") + "16bit.raw" if kind == "distances" else told_suffix(sides))
 
 
+def clear_evidence(stem: Path, suffix: str) -> None:
+    """Takes away what a picture's numbers are checked by, where its file ends in this: its file and its report, and all files of its parts."""
+    names = [name for path in stem.parent.glob("*.report") if (name := path.name.removesuffix(".report"))]
+    for name in names:
+        for own in (suffix, ".report", *([".csv"] if name != stem.name else [])):
+            stem.with_name(name + own).unlink(missing_ok=True)
+
+
 def suffixes_of(record: dict[str, Any], sides: Sequence[int], packed: str) -> set[str]:
     """What the names of the evidence end in of a picture, or of that of a label, with such a record and these sides, whose reports end in `.report` and what
     is given; without its parts."""
@@ -145,7 +153,7 @@ def names_of(key: str, record: dict[str, Any]) -> set[str]:
     if record["labels"] is not None:
         further = {FURTHER["objects.csv"]} if record["grey"] else set()
         return shown | {evidence(key, suffix) for suffix in {ARCHIVE, *further, *tables_of(Wanted.of(record), len(record["sides"]) == 2)}}
-    drawn, packed = {drawing(key, ".svg")} if len(record["sides"]) == 2 else set(), "" if record["plain"] else ".gz"
+    drawn, packed = {drawing(key, ".svg")} if len(record["sides"]) == 2 and record["drawn"] else set(), "" if record["plain"] else ".gz"
     suffixes = suffixes_of(record, record["sides"], packed) | part_suffixes(names_in(Path(key), record["files"]), packed, told_suffix(record["sides"]))
     return shown | drawn | {evidence(key, suffix) for suffix in suffixes}
 

@@ -45,6 +45,8 @@ class Spacing:
         """The spacing that a file tells, by seven digits, which is as much as the numbers of files hold; None where it is none."""
         try:
             return cls.of([f"{float(size):.7g}" for size in sizes], unit)
+        except Fault:
+            raise
         except (TypeError, ValueError):
             return None
 

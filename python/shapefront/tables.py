@@ -17,7 +17,7 @@ from .units import POWERS, Size
 
 Row = list[str]
 
-_MARK = b"\xef\xbb\xbf"
+MARK = b"\xef\xbb\xbf"
 
 
 @dataclass(frozen=True)
@@ -52,33 +52,36 @@ def spelled_rows(rows: Iterable[Row]) -> bytes:
 
 def marked(table: bytes) -> bytes:
     """A table as a spreadsheet opens it right: with the mark of UTF-8 before it where it has other letters than those of ASCII."""
-    return table if table.isascii() else _MARK + table
+    return table if table.isascii() else MARK + table
 
 
 def text_of(table: bytes) -> str:
     """The text of a table's file, without that mark."""
-    return table.removeprefix(_MARK).decode("utf-8", "surrogateescape")
+    return table.removeprefix(MARK).decode("utf-8", "surrogateescape")
 
 
-def joined(parts: Iterable[Part], size: Size | None) -> Iterator[Row]:
-    """The rows of all tables, the header first. A Fault where a picture's table has another header than the first one's, or its further table other rows."""
-    parts, header = list(parts), None
-    fits = any(part.fit > 1 for part in parts)
-    more = next((rows_of(part.rest)[0] for part in parts if part.rest), [])
-    for part in parts:
+@dataclass(frozen=True)
+class Joint:
+    """How the tables of pictures are put together: the columns of each, those of their further tables, whether each row tells how many of the
+    image's pixels one of the picture's is wide, and in what lengths are told."""
+
+    header: Row
+    more: Row
+    fits: bool
+    pixel: Size | None
+
+    def names(self, part: Part) -> Row:
+        """The names of the columns, where this is one of the pictures."""
+        further = _further(self.header, part, self.pixel, self.fits)
+        return ["image", *(["fit"] if self.fits else []), *self.header, *(column.name for column in further), *self.more]
+
+    def rows(self, part: Part) -> Iterator[Row]:
+        """The rows of a picture. A Fault where its table has other columns, or its further table other rows."""
         first, *rest = rows_of(part.table) or [[]]
-        further = list(_further(first, part, size, fits))
-        if header is None:
-            header = first
-            yield ["image", *(["fit"] if fits else []), *header, *(column.name for column in further), *more]
-        if first != header:
-            raise Fault(
-                part.image,
-                "its table has other columns than the others have",
-                "was it made by another version? measure again into an empty folder",
-            )
-        own = [part.image, *([str(part.fit)] if fits else [])]
-        for row, others in zip(rest, _rest(part, more, len(rest))):
+        if first != self.header:
+            raise Fault(part.image, "its table has other columns than the others have", "was it made by another version? measure again into an empty folder")
+        further, own = list(_further(first, part, self.pixel, self.fits)), [part.image, *([str(part.fit)] if self.fits else [])]
+        for row, others in zip(rest, _rest(part, self.more, len(rest))):
             yield [*own, *row, *(column.of(row[column.at]) if row[column.at] else "" for column in further), *others]
 
 

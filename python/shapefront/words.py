@@ -9,7 +9,10 @@ from secondreading.limits import MOST_FLAT, MOST_SOLID
 
 from . import __version__
 from .choices import CHANNELS, MASKS, RULES
+from .hands import PATIENCE
+from .scans.asked import Asked
 from .scans.words import size_words, volume_words
+from .shares import Share
 
 if TYPE_CHECKING:
     from .thresholds import Settings
@@ -44,6 +47,10 @@ def _count(word: str) -> int:
     if int(word) < 1:
         raise ValueError(word)
     return int(word)
+
+
+def _share(word: str) -> Share:
+    return Share.told(word)
 
 
 def _channel(word: str) -> str:
@@ -111,8 +118,17 @@ def _making(parser: argparse.ArgumentParser) -> argparse._MutuallyExclusiveGroup
     packing = parser.add_mutually_exclusive_group()
     packing.add_argument("--plain", action="store_true", help="keep the reports as text: else they are packed, to a fourth of their size")
     packing.add_argument("--gzip", dest="plain", action="store_false", default=False, help=argparse.SUPPRESS)
+    parser.add_argument("--no-draw", action="store_true", help="make no drawings and no small pictures, which take most of the time")
+    parser.add_argument("--no-report", action="store_true", help="keep the tables alone, without reports and pictures: then nothing can be checked later")
     parser.add_argument(
         "--masks", action="append", choices=MASKS, default=[], help="also write a picture of this; may be given again for another"
+    )
+    parser.add_argument(
+        "--share", type=_share, metavar="K/N", help="measure share K of N alone, into FOLDER/shares/K: which images are its follows from their names; shapes join makes the tables of all"
+    )
+    parser.add_argument("--base", type=Path, metavar="BASE", help="names of images are those below this folder (else below the deepest one that holds all)")
+    parser.add_argument(
+        "--patience", type=_size, default=PATIENCE, metavar="SECONDS", help="how long another run that has the folder in hand may give no sign of life before it is taken over (60)"
     )
     parser.add_argument("-o", dest="folder", type=Path, default=Path("measured"), metavar="FOLDER", help="where all is written (measured)")
     return size
@@ -168,6 +184,9 @@ def _checking(words: argparse._SubParsersAction) -> argparse.ArgumentParser:
         action="store_true",
         help="check FOLDER, or reports that lie beside their pictures, by a second reading in Python, without the proved program",
     )
+    part = check.add_mutually_exclusive_group()
+    part.add_argument("--share", type=_share, metavar="K/N", help="check share K of N of FOLDER alone")
+    part.add_argument("--tables", action="store_true", help="check what shapes join wrote in FOLDER, without its shares")
     check.add_argument(
         "--originals",
         type=Path,
@@ -182,6 +201,14 @@ def _checking(words: argparse._SubParsersAction) -> argparse.ArgumentParser:
         help="a file in FOLDER, or a folder in it, that may be there though nothing made it; may be given again for another",
     )
     return check
+
+
+def _joining(words: argparse._SubParsersAction) -> None:
+    join = words.add_parser("join", help="the tables, the page and the record of all shares of a folder", epilog=_STATUS)
+    join.add_argument("folder", type=Path, metavar="FOLDER", help="the folder that the shares were measured into")
+    join.add_argument("images", nargs="*", type=Path, metavar="IMAGE", help="the images that have to be there: those that are missing are named")
+    join.add_argument("--base", type=Path, metavar="BASE", help="names of images are those below this folder (else below the deepest one that holds all)")
+    join.add_argument("--patience", type=_size, default=PATIENCE, metavar="SECONDS", help="as for shapes measure (60)")
 
 
 def parser() -> argparse.ArgumentParser:
@@ -203,6 +230,7 @@ def parser() -> argparse.ArgumentParser:
         sizes = _making(part)
         if part is volume:
             size_words(sizes)
+    _joining(words)
     check = _checking(words)
     _valued(check)
     for part in (measure, volume, check):
@@ -230,15 +258,15 @@ def settings_of(words: argparse.Namespace) -> Settings:
 def settings_told(options: dict[str, Any]) -> Settings:
     """How images are made black and white, by the options of a command or of a run."""
     from .filters import Filters
-    from .scans.asked import Asked
     from .thresholds import Settings
 
     fit = None if options["fit"] else 1
-    return Settings(options["threshold"], options["objects"], options["labels"], fit, options["channel"], Filters.told(options), options.get("intensities"), Asked.told(options))
+    told = (options["threshold"], options["objects"], options["labels"], fit, options["channel"])
+    return Settings(*told, Filters.told(options), Asked.told(options), options.get("intensities"))
 
 
 def options_of(words: argparse.Namespace) -> dict[str, object]:
     """The options for the record of a run, but those that change no number."""
-    left_out = ("command", "images", "jobs", "folder")
+    left_out = ("command", "images", "jobs", "folder", "patience", "share", "base")
     told = {name: str(value) if isinstance(value, Path) else value for name, value in vars(words).items() if name not in left_out}
     return {"command": words.command, **told}

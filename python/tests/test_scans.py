@@ -10,7 +10,7 @@ from pathlib import Path
 
 import numpy as np
 
-from .common import InFolder, installed, needs_pillow, needs_shape, random_mask
+from .common import InFolder, installed, needs_pillow, random_mask
 
 from shapefront import Fault, Missing
 from shapefront.convert import volume_of

@@ -12,10 +12,9 @@ import numpy as np
 from .browser import HAS_BROWSER, Browser
 from .common import InFolder, installed, needs_pillow, needs_shape, random_mask
 
-from shapefront import meshes, programs, read
+from shapefront import meshes, programs
 from shapefront.graphs import Graph, length, pruned
 from shapefront.morphometry import COLUMNS, Morphometry
-from shapefront.plan import Wanted
 from shapefront.solidviews import Solid, Tiles
 from shapefront.spacing import Spacing
 

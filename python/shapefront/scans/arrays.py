@@ -28,6 +28,8 @@ def read_archive(path: Path, inside: str) -> Grey:
             if inside and inside not in file.files:
                 raise Fault(path, f"it has no array {inside}", f"it has {', '.join(file.files) or 'none'}")
             found = {name: file[name] for name in file.files if not inside or name == inside}
+    except Fault:
+        raise
     except (OSError, ValueError, EOFError, zipfile.BadZipFile, zlib.error) as error:
         raise Fault(path, "not arrays of numpy", "save them by `numpy.savez`") from error
     solids = {name: values for name, values in found.items() if inside or values.ndim == 3}

@@ -60,6 +60,8 @@ def _spacing(path: Path) -> Spacing | None:
     try:
         with tifffile.TiffFile(path) as file:
             return _of_ome(file.ome_metadata) if file.ome_metadata else _of_imagej(file) if file.imagej_metadata else None
+    except Fault:
+        raise
     except (tifffile.TiffFileError, OSError, ValueError, KeyError, ElementTree.ParseError, ZeroDivisionError):
         return None
 
