@@ -31,7 +31,7 @@ from .pictures import sides_of, spelled, suffix_of
 from .plan import Plan
 from .products import clear_evidence, draw, evidence_of, write_network_shown, write_shown, write_solid_shown
 from .programs import sums
-from .report import counts_of, read
+from .report import Analysis, counts_of, read
 from .seals import opened, sealed
 from .solidviews import Solid
 from .tables import dicts_of, spelled_rows
@@ -168,5 +168,7 @@ def _of_picture(picture: Picture, plan: Plan, stem: Path) -> Record:
             own = Overlay(picture.backdrop, *branches(part(stem, BRANCHES_OF, ".report").read_bytes()), picture.fit)
             write_network_shown(own, stem)
     elif plan.draws:
-        _draw_solid(picture, read(report).skeleton, plan.wanted(picture.fit, picture.spacing).mesh, stem)
+        analysis = read(report)
+        assert isinstance(analysis, Analysis)
+        _draw_solid(picture, analysis.skeleton, plan.wanted(picture.fit, picture.spacing).mesh, stem)
     return dict(zip(("parts", "kept"), counts_of(report)))

@@ -50,7 +50,10 @@ def suffix_beside(stem: Path) -> str | None:
 def solid_sides(suffix: str) -> tuple[int, int, int] | None:
     """The sides of a volume whose name ends so; None of a flat picture."""
     told = _SIDES_IN_NAME.fullmatch(suffix)
-    return tuple(map(int, told.groups())) if told else None
+    if told is None:
+        return None
+    x, y, z = map(int, told.groups())
+    return x, y, z
 
 
 def solid_mask(path: Path, sides: Sequence[int]) -> np.ndarray:
