@@ -13,14 +13,14 @@ from .batch import Image
 from .filters import Filters
 from .folder import Run
 from .labelled import total
-from .layout import evidence
+from .layout import REGION, evidence
 from .making import Record, record_of
 from .pictures import told_suffix
 from .plan import Wanted
 from .products import names_of
 from .report import counts_of, heading_of
+from .spacing import Spacing, measure_of
 from .thresholds import Cut
-from .units import Pixel
 
 _VERSIONS = ("shapefront", "versions", "programs")
 
@@ -30,7 +30,8 @@ def run_again(made: dict[str, Any], records: dict[str, Record]) -> Run:
     images = []
     for told in made["images"]:
         images.append(Image(Path(told["image"]), told["image"], records.get(told["record"]), told["failure"], told["sum"]))
-    return Run(made["options"], Pixel.told(made["options"]), images, {name: made[name] for name in _VERSIONS})
+    measure = measure_of(made["options"], (image.record for image in images if image.record))
+    return Run(made["options"], measure, images, {name: made[name] for name in _VERSIONS}, made.get("share"))
 
 
 def record_again(record: Record, made: dict[str, Any], report: Path) -> Record:
@@ -38,7 +39,9 @@ def record_again(record: Record, made: dict[str, Any], report: Path) -> Record:
     heading = heading_of(report)
     parts, kept = counts_of(report)
     again = _again(record, made, {"sides": [int(side) for side in heading[3:-1]], "rule": heading[-1], "parts": parts, "kept": kept})
-    again["picture"] = again["files"][evidence(record["image"], told_suffix(again["sides"]))]
+    suffix = told_suffix(again["sides"])
+    again["picture"] = again["files"][evidence(record["image"], suffix)]
+    again["region"] = again["files"].get(evidence(record["image"], f".{REGION}{suffix}"))
     return record_of(again)
 
 
@@ -53,8 +56,8 @@ def _again(record: Record, made: dict[str, Any], told: dict[str, Any]) -> Record
     """The members of a record, with what is told of it, and what the run's options and its own members give."""
     options = made["options"]
     again = {
-        **record, **told, "channel": options["channel"], "filters": asdict(Filters.told(options)), "plain": options["plain"],
-        "masks": list(dict.fromkeys(options["masks"])), "wanted": Wanted.told(options, record["fit"]).record, "programs": made["programs"],
+        **record, **told, "channel": options["channel"], "filters": asdict(Filters.told(options)), "plain": options["plain"], "drawn": not options["no_draw"], "kept_reports": not options["no_report"],
+        "masks": list(dict.fromkeys(options["masks"])), "wanted": Wanted.told(options, record["fit"], Spacing.recorded(record["spacing"])).record, "programs": made["programs"],
     }  # fmt: skip
     if record["cut"]:
         again["notes"] = [str(Cut(**record["cut"])), *record["notes"][1:]]

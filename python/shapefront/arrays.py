@@ -6,15 +6,15 @@ from collections.abc import Iterator
 from contextlib import contextmanager
 from dataclasses import dataclass
 from pathlib import Path
+from typing import cast
 
-import numpy as np
+import numpy.typing as npt
 
+from .choices import RULES
 from .faults import Fault
 from .pictures import Source, checked_mask, spelled, suffix_of
 from .programs import call, explained
 from .report import Analysis, read, text_of
-
-RULES = ("none", "curve", "few")
 
 
 @dataclass(frozen=True)
@@ -31,16 +31,16 @@ class Verdict:
 
 
 @contextmanager
-def as_file(mask: np.ndarray) -> Iterator[Source]:
+def as_file(mask: npt.ArrayLike) -> Iterator[Source]:
     """The picture in a file of its own, for as long as it is needed."""
-    mask = checked_mask(mask)
+    own = checked_mask(mask)
     with tempfile.TemporaryDirectory(prefix="shapes-") as folder:
-        path = Path(folder) / ("picture" + suffix_of(mask))
-        path.write_bytes(spelled(mask))
+        path = Path(folder) / ("picture" + suffix_of(own))
+        path.write_bytes(spelled(own))
         yield Source.of(path)
 
 
-def analyse(mask: np.ndarray, rule: str = "none") -> Analysis:
+def analyse(mask: npt.ArrayLike, rule: str = "none") -> Analysis:
     """The analysis of a picture [y, x] or a volume [z, y, x], True where it is object, thinned by a rule of `RULES`.
 
     A Fault where the array is none, a side is too large, or a program is missing. Lengths are in pixels.
@@ -48,10 +48,10 @@ def analyse(mask: np.ndarray, rule: str = "none") -> Analysis:
     if rule not in RULES:
         raise Fault(rule, "no rule of the thinning", f"the rules are {', '.join(RULES)}")
     with as_file(mask) as source:
-        return read(report_of(source, rule))
+        return cast(Analysis, read(report_of(source, rule)))
 
 
-def table(mask: np.ndarray, rule: str = "none") -> str:
+def table(mask: npt.ArrayLike, rule: str = "none") -> str:
     """The table of the objects of a picture or a volume, as `shape measure` writes it: CSV. A Fault as for `analyse`."""
     with as_file(mask) as source:
         report = source.path.with_name("report")
@@ -72,7 +72,7 @@ def report_of(source: Source, rule: str, about: object = "the array") -> bytes:
         return out.read()
 
 
-def check(mask: np.ndarray, report: str | Path | bytes | Analysis) -> Verdict:
+def check(mask: npt.ArrayLike, report: str | Path | bytes | Analysis) -> Verdict:
     """Whether a report, given by its file's name, its text or as an `Analysis`, holds of a picture or a volume.
 
     A Fault where there is no report or the array is none.

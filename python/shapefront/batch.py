@@ -4,18 +4,25 @@ from __future__ import annotations
 import os
 import sys
 from collections.abc import Callable, Iterable, Iterator
-from concurrent.futures import Future, ThreadPoolExecutor, as_completed
 from dataclasses import dataclass
+from functools import partial
 from pathlib import Path
+from typing import TypeVar
 
 from .convert import Picture
-from .faults import Fault, Missing
+from .crew import Crew
+from .faults import Busy, Fault, Full, Missing
 from .files import shown, sum_of, sum_of_bytes
 from .images import SUFFIXES
 from .making import Record, make
 from .plan import Plan
+from .scans.kinds import file_of
 
+T = TypeVar("T")
 Convert = Callable[[Path, str], Picture]
+# An image's file and its name; and the sum of the file, the record of its picture, and why it failed.
+Thing = tuple[Path, str]
+Found = tuple[str | None, Record | None, str | None]
 
 
 @dataclass
@@ -29,12 +36,14 @@ class Image:
     source: str | None = None
 
 
-def images_of(paths: Iterable[Path], is_volume: bool) -> tuple[list[Image], int]:
+def images_of(paths: Iterable[Path], is_volume: bool, base: Path | None = None) -> tuple[list[Image], int]:
     """The images of a run, by their order on the command line, and how many files of folders were passed over as no images.
 
-    For flat pictures a folder stands for the images in it. Names are those below the deepest folder that holds all.
+    For flat pictures a folder stands for the images in it. Names are those below the folder `base`, or where that is not given below the deepest
+    folder that holds all. A Fault where an image does not lie there.
     """
-    files, passed = [], 0
+    files: list[Path] = []
+    passed = 0
     for path in paths:
         if path.is_dir() and not is_volume:
             inside = sorted(p for p in path.iterdir() if p.is_file() and not p.name.startswith("."))
@@ -45,39 +54,53 @@ def images_of(paths: Iterable[Path], is_volume: bool) -> tuple[list[Image], int]
     absolute = {Path(os.path.abspath(path)): path for path in files}
     if not absolute:
         return [], passed
-    base = os.path.commonpath([path.parent for path in absolute])
-    return [Image(shown_path, str(path.relative_to(base))) for path, shown_path in absolute.items()], passed
+    below = os.path.abspath(base) if base else os.path.commonpath([file_of(path).parent for path in absolute])
+    if outside := next((shown_path for path, shown_path in absolute.items() if not path.is_relative_to(below)), None):
+        raise Fault("--base", f"{shown(outside)} does not lie below {shown(below)}", "name a folder that holds all images")
+    return [Image(shown_path, str(path.relative_to(below))) for path, shown_path in absolute.items()], passed
 
 
 def run(images: list[Image], plan: Plan, convert: Convert, jobs: int) -> None:
-    """Makes all that the images give, `jobs` of them at once. What became of each is told in it, and a failure on standard error."""
-    pool = ThreadPoolExecutor(jobs)
-    futures: dict[Future[None], Image] = {pool.submit(_one, image, plan, convert): image for image in images}
-    try:
-        for future in _progress(as_completed(futures), len(images)):
-            future.result()
-            if futures[future].failure:
-                say(futures[future].failure)
-    except BaseException:
-        pool.shutdown(cancel_futures=True)
-        raise
-    pool.shutdown()
+    """Makes all that the images give, `jobs` of them at once. What became of each is told in it, and a failure on standard error.
+
+    What is wrong with every image ends it: a Fault that is Missing, Full or Busy.
+    """
+    crew = Crew(partial(_one, plan=plan, convert=convert), jobs)
+    named = {image.name: image for image in images}
+    for (path, name), found in _progress(crew.results((image.path, image.name) for image in images), len(images)):
+        image = named[name]
+        if isinstance(found, (Missing, Full, Busy)):
+            raise found
+        if isinstance(found, Fault):
+            image.failure = _line(path, found)
+        else:
+            image.source, image.record, image.failure = found
+        if image.failure:
+            say(image.failure)
 
 
-def _one(image: Image, plan: Plan, convert: Convert) -> None:
+def _one(thing: Thing, plan: Plan, convert: Convert) -> Found:
+    """What is found of an image: the sum of its file, the record of its picture, and why it failed."""
+    path, name = thing
+    source, record, failure = source_sum(path), None, None
     try:
-        image.source = source_sum(image.path)
-        image.record = make(convert(image.path, image.name), plan)
-    except Missing:
+        record = make(convert(path, name), plan)
+    except (Missing, Full, Busy):
         raise
     except Fault as fault:
-        image.failure = f"{shown(image.path)}: {fault.reason}" + (f"; {fault.remedy}" if fault.remedy else "")
+        failure = _line(path, fault)
     except MemoryError:
-        image.failure = f"{shown(image.path)}: not enough memory; give fewer --jobs"
+        failure = f"{shown(path)}: not enough memory; give fewer --jobs"
+    return source, record, failure
+
+
+def _line(path: Path, fault: Fault) -> str:
+    return f"{shown(path)}: {fault.reason}" + (f"; {fault.remedy}" if fault.remedy else "")
 
 
 def source_sum(path: Path) -> str | None:
     """The SHA-256 sum of an image's file, or of the names and sums of a folder's files."""
+    path = file_of(path)
     if path.is_dir():
         told = "".join(f"{sum_of(p)}  {p.name}\n" for p in sorted(path.iterdir()) if p.is_file())
         return sum_of_bytes(told.encode())
@@ -92,7 +115,7 @@ def say(line: str) -> None:
         print(line, file=sys.stderr, flush=True)
 
 
-def _progress(done: Iterable[Future[None]], count: int) -> Iterable[Future[None]]:
+def _progress(done: Iterable[T], count: int) -> Iterable[T]:
     """The same, with a bar on a terminal where tqdm is installed, or a count where not."""
     if not sys.stderr.isatty() or count < 2:
         return done
@@ -103,7 +126,7 @@ def _progress(done: Iterable[Future[None]], count: int) -> Iterable[Future[None]
     return tqdm(done, total=count, unit="image", file=sys.stderr)
 
 
-def _counted(done: Iterable[Future[None]], count: int) -> Iterator[Future[None]]:
-    for k, future in enumerate(done, 1):
+def _counted(done: Iterable[T], count: int) -> Iterator[T]:
+    for k, one in enumerate(done, 1):
         print(f"\r{k} of {count}", end="\n" if k == count else "", file=sys.stderr, flush=True)
-        yield future
+        yield one

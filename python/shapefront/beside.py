@@ -13,9 +13,10 @@ from .comparing import of_tables
 from .faults import Fault
 from .files import shown
 from .layout import part
-from .networks import SKELETON
+from .network import SKELETON
 from .parts import Again
-from .products import DRAWINGS
+from .pictures import suffix_beside
+from .products import DRAWINGS, tables_words
 from .programs import NAME, call, sums
 from .report import text_of
 
@@ -24,13 +25,16 @@ SUFFIXES = (".report", ".report.gz")
 
 @dataclass(frozen=True)
 class Asked:
-    """How a folder is to be checked: how many reports at once, what may lie there though nothing made it, who judges reports, and where
-    the original images lie, if they are to be looked at."""
+    """How a folder is to be checked: how many reports at once, what may lie there though nothing made it, who judges reports, where
+    the original images lie, if they are to be looked at, and those whose intensities were measured, if they are others; and whether only the tables of
+    joined shares are looked at, without the shares."""
 
     jobs: int = 1
     allowed: tuple[str, ...] = ()
     judge: Judge = verdict
     originals: Path | None = None
+    intensities: str | None = None
+    tables: bool = False
 
 
 @dataclass(frozen=True)
@@ -78,11 +82,17 @@ def check_beside(report: Path, record: dict[str, Any], judge: Judge, drawing: Pa
             found = check_report(name, source, file, judge)
             if not found.holds:
                 return Beside(report, [(report, found)])
-            table = _made(("measure",), file)
+            table = _table(file, bool(source.sides), stem.with_name(stem.name + ".csv"))
             wrong = [(path, Finding(name, False, why)) for path, why in _wrong(stem, drawing, file, table, record)]
     except Fault as fault:
         return Beside(report, [(report, refused(name, fault))])
     return Beside(report, wrong or [(report, found)], table or b"")
+
+
+def _table(report: Path, is_solid: bool, own: Path) -> bytes | None:
+    """The table that the program makes of a report: that which lies there, where some of the words for it make it, else that of the first words."""
+    lying, tables = own.read_bytes() if own.is_file() else b"", [_made(words, report) for words in tables_words(is_solid)]
+    return next((table for table in tables if table == lying), next((table for table in tables if table is not None), None))
 
 
 def refused(name: str, fault: Fault) -> Finding:
@@ -130,7 +140,8 @@ def _made(words: tuple[str, ...], report: Path) -> bytes | None:
 
 def wrong_in_parts(stem: Path, again: Again) -> Iterator[tuple[Path, Finding]]:
     """The pictures and the tables of a picture's parts that are there and are others than what is made again."""
-    files = {part(stem, name, ".pbm"): data for name, data in again.pictures.items()}
+    picture = suffix_beside(stem) or ".pbm"
+    files = {part(stem, name, picture): data for name, data in again.pictures.items()}
     for path, data in {**files, **{stem.with_name(stem.name + suffix): data for suffix, data in again.tables.items()}}.items():
         if path.is_file() and (own := path.read_bytes()) != data:
             row = f": {of_tables(own, data)}" if path.suffix == ".csv" else ""

@@ -3,9 +3,9 @@ from __future__ import annotations
 
 import numpy as np
 
+from .choices import CHANNELS as NAMES
 from .faults import Fault
 
-NAMES = ("red", "green", "blue", "alpha")
 GREYED = "colours made grey"
 
 # How much of red, green and blue is in grey (ITU-R 601), in parts of 65536.

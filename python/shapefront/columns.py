@@ -7,7 +7,7 @@ from typing import Any
 from .intensities import COLUMNS as INTENSITIES
 from .places import PLACES
 from .tables import Row
-from .units import POWERS, Pixel
+from .units import POWERS, Size
 
 _ABOUT = {
     "image": "the file",
@@ -26,6 +26,10 @@ _ABOUT = {
     "junctions": "points of its skeleton with three neighbours or more",
     "touches": "1 where it touches the border of the image, and may go on outside",
     "holes": "how many holes it has",
+    "euler": "its Euler number: 1 less its holes; of a volume 1 less its tunnels, and 1 more for each of its cavities",
+    "convex_area": "the area of its convex hull",
+    "convex_perimeter": "the length of the border of its convex hull",
+    "surface": "the area of its surface",
     "border": "the length of its outer border",
     "hole_border": "the length of the borders of its holes together",
     "feret": "the greatest distance of two of its pixels",
@@ -63,7 +67,7 @@ class Column:
         }  # fmt: skip
 
 
-def columns_of(header: Row, pixel: Pixel | None) -> list[tuple[int, Column]]:
+def columns_of(header: Row, pixel: Size | None) -> list[tuple[int, Column]]:
     """The columns of a table with these names, as a page orders them, each with its place in the table.
 
     Of one that is told in pixels and in the unit the page shows the latter at first.
@@ -79,14 +83,14 @@ def _order(title: str) -> int:
     return _LAST.index(title) + 1 if title in _LAST else 0
 
 
-def _scaled(name: str, pixel: Pixel | None) -> str | None:
+def _scaled(name: str, pixel: Size | None) -> str | None:
     """What a column is called where it is told in the unit; None where it is not."""
     if pixel is None:
         return None
     return f"{name}_{pixel.unit}" if name in ("x", "y", "z") else pixel.column(name)
 
 
-def _column(name: str, base: str | None, has_scaled: bool, pixel: Pixel | None) -> Column:
+def _column(name: str, base: str | None, has_scaled: bool, pixel: Size | None) -> Column:
     plain = base or name
     is_place = plain in PLACES or name.removesuffix("_px") in PLACES
     unit = None

@@ -1,4 +1,4 @@
-"""The connected sets of an image of truth values, numbered; by numpy alone, run by run of its rows."""
+"""The connected sets of an image of truth values, numbered; by numpy alone, stretch by stretch of its rows."""
 from __future__ import annotations
 
 import itertools
@@ -13,8 +13,29 @@ def numbered(mask: np.ndarray, by_corners: bool) -> np.ndarray:
 
     Points that touch at a corner belong together where `by_corners` says so, as points of objects do; else by sides alone, as those of holes do.
     """
-    wide = np.pad(mask, [(1, 1)] * mask.ndim)
-    turns = np.flatnonzero(np.diff(wide.ravel().astype(np.int8), prepend=np.int8(0)))
+    wide = _with_margin(mask)
+    starts, ends, own = _stretches(wide, by_corners)
+    found = np.zeros(wide.size, np.int32)
+    found[starts], found[ends] = own, -own
+    return np.cumsum(found, dtype=np.int32, out=found).reshape(wide.shape)[(slice(1, -1),) * mask.ndim]
+
+
+def stretches(mask: np.ndarray, by_corners: bool) -> tuple[np.ndarray, np.ndarray]:
+    """The stretches of true points in rows, in raster order: how long each is, and the number of its connected set as `numbered` gives it."""
+    starts, ends, own = _stretches(_with_margin(mask), by_corners)
+    return ends - starts, own
+
+
+def _with_margin(mask: np.ndarray) -> np.ndarray:
+    wide = np.zeros([side + 2 for side in mask.shape], bool)
+    wide[(slice(1, -1),) * mask.ndim] = mask
+    return wide
+
+
+def _stretches(wide: np.ndarray, by_corners: bool) -> tuple[np.ndarray, np.ndarray, np.ndarray]:
+    """Of an image with a margin of false points the places where stretches begin, and those behind their last points; and the numbers of their sets."""
+    flat = wide.ravel()
+    turns = np.flatnonzero(flat[1:] != flat[:-1]) + 1
     starts, ends = turns[::2], turns[1::2]
     number = np.arange(len(starts))
     reach = 1 if by_corners else 0
@@ -22,10 +43,8 @@ def numbered(mask: np.ndarray, by_corners: bool) -> np.ndarray:
         first = np.searchsorted(ends, starts - away - reach, "right")
         last = np.searchsorted(starts, ends - away + reach, "left")
         join(number, *_pairs(first, last))
-    _, own = np.unique(number, return_inverse=True)
-    found = np.zeros(wide.size, np.int32)
-    found[np.flatnonzero(wide)] = np.repeat(own + 1, ends - starts)
-    return found.reshape(wide.shape)[(slice(1, -1),) * mask.ndim]
+    is_first = number == np.arange(len(number))
+    return starts, ends, np.cumsum(is_first, dtype=np.int32)[number]
 
 
 def _rows_before(shape: tuple[int, ...], by_corners: bool) -> list[int]:

@@ -14,7 +14,7 @@ def unevenness(values: np.ndarray, mask: np.ndarray) -> tuple[float, float] | No
     """
     if values.ndim != 2 or min(values.shape) < 8 * PARTS:
         return None
-    few = (slice(None, None, max(1, max(values.shape) // 512)),) * 2
+    few = (slice(None, None, max(1, max(values.shape) // 256)),) * 2
     values, mask = values[few], mask[few]
     medians = []
     for own, objects in zip(_parts(values), _parts(mask)):

@@ -6,18 +6,20 @@ from __future__ import annotations
 
 import glob
 from collections.abc import Iterable, Iterator
-from concurrent.futures import ThreadPoolExecutor
 from dataclasses import replace
+from functools import partial
 from pathlib import Path, PurePosixPath
 from typing import Any
 
 from .beside import SUFFIXES, Asked, Covered, check_beside, refused, stem_of, wrong_in_parts
 from .checking import Finding, Judge
+from .crew import Crew
 from .faults import Fault
 from .files import read_json, shown
 from .inventory import is_below, lying
+from .joincheck import findings_of_joined
 from .layout import JOINED, MADE, PICTURES, part, root_of
-from .networks import PRUNED, SKELETON
+from .network import PRUNED, SKELETON
 from .parts import Again, tables_of
 from .plan import Wanted
 from .report import counts_of
@@ -30,6 +32,11 @@ MADE_BEFORE = "made.json"
 
 def check_folder(folder: Path, asked: Asked) -> Iterator[Finding | Covered]:
     """The findings on a folder: on each run in it, and on reports that lie there by hand. A Fault where there is nothing to check."""
+    if (made := _joined(folder)) is not None:
+        yield from findings_of_joined(folder, made, asked)
+        return
+    if asked.tables:
+        raise Fault(shown(folder), "no shares were joined here", "shapes join FOLDER")
     names = [name for name in lying(folder) if not is_below(name, asked.allowed)]
     runs = _runs(names)
     if asked.originals and not runs:
@@ -42,6 +49,12 @@ def check_folder(folder: Path, asked: Asked) -> Iterator[Finding | Covered]:
         yield from _by_hand(folder, rest, asked)
     elif not runs:
         raise Fault(shown(folder), "no report is in this folder", "reports are files whose names end in .report or .report.gz")
+
+
+def _joined(folder: Path) -> dict[str, Any] | None:
+    """What the record of a folder of joined shares says; None where it is no such folder."""
+    made = opened((folder / MADE).read_bytes()) if (folder / MADE).is_file() else None
+    return made if made is not None and "shares" in made else None
 
 
 def _runs(names: list[str]) -> list[str]:
@@ -99,11 +112,10 @@ def _reports(folder: Path, names: list[str], asked: Asked) -> Iterator[Finding |
     """The findings on all reports among these names and on what lies beside them, without a list of what has to be there."""
     reports = sorted((folder / name for name in names if name.endswith(SUFFIXES)), key=lambda report: (report.parent, stem_of(report).name))
     good, beside = 0, set()
-    with ThreadPoolExecutor(asked.jobs) as pool:
-        for report, findings in zip(reports, pool.map(lambda report: _of_report(report, asked.judge), reports)):
-            good += all(finding.holds for finding in findings)
-            beside |= {str(path.relative_to(folder)) for path in _beside(report)}
-            yield from findings
+    for report, findings in zip(reports, Crew(partial(_of_report, judge=asked.judge), asked.jobs).in_order(reports)):
+        good += all(finding.holds for finding in findings)
+        beside |= {str(path.relative_to(folder)) for path in _beside(report)}
+        yield from findings
     others = [name for name in names if name not in beside]
     more = f", and {len(others)} other file{'s' if len(others) > 1 else ''} ({_listed(others)})" if others else ""
     yield Covered(

@@ -5,13 +5,14 @@ from dataclasses import dataclass
 
 import numpy as np
 
+from .equal import Alike
 from .faults import Fault
 from .lines import REMEDY, Lines
 from .runs import Runs, offsets
 
 
-@dataclass(frozen=True)
-class EdgeReport:
+@dataclass(frozen=True, eq=False)
+class EdgeReport(Alike):
     """The maximal straight runs of the cycles of cracks.
 
     `heads` has a row (x, y, side, cracks, arcs) for each cycle; `arcs` a row (begin, end, h, v, a, c, mu) for each arc, and
@@ -35,8 +36,8 @@ class EdgeReport:
         return self.arcs[begin:end]
 
 
-@dataclass(frozen=True)
-class PieceReport:
+@dataclass(frozen=True, eq=False)
+class PieceReport(Alike):
     """Each contour split into the fewest straight pieces.
 
     `heads` has a row (x, y, side, points, pieces) for each contour, and `pieces_of(k)` gives the pieces of contour k.
@@ -59,8 +60,8 @@ class PieceReport:
         return self.pieces[begin:end]
 
 
-@dataclass(frozen=True)
-class BallReport:
+@dataclass(frozen=True, eq=False)
+class BallReport(Alike):
     """Balls whose union is the object: `centres`, the nearest background point of each, its square, and a point of its own.
 
     A ball is the set of all points whose squared distance from its centre is less than its square.

@@ -36,20 +36,26 @@ class Holes:
         """The holes of the objects of a flat picture."""
         background = numbered(np.pad(~mask, 1, constant_values=True), by_corners=False)[1:-1, 1:-1]
         numbers = np.maximum(background - 1, 0)
-        places = np.flatnonzero(numbers)
+        places = np.flatnonzero(numbers > 0)
+        if not places.size:
+            return cls(numbers, [], [])
         first = places[np.diff(np.maximum.accumulate(numbers.ravel()[places]), prepend=0) > 0]
         objects = numbered(mask, by_corners=True).ravel()[first - mask.shape[1]].tolist()
         return cls(numbers, objects, _layers(numbers, len(objects)))
 
     def pictures(self) -> list[np.ndarray]:
         """The holes as objects of pictures, no two of which touch at a corner."""
+        if not self.layers:
+            return []
         layer = np.array([-1, *self.layers], np.int16)[self.numbers]
-        return [layer == k for k in range(max(self.layers, default=-1) + 1)]
+        return [layer == k for k in range(max(self.layers) + 1)]
 
     def rows(self, tables: Sequence[str]) -> list[Row]:
         """A row for each hole, the header first, by the program's tables of the pictures."""
+        if not self.objects:
+            return [COLUMNS]
         measured = [iter(dicts_of(table)) for table in tables]
-        y, x = np.nonzero(self.numbers)
+        y, x = _ends_in_rows(self.numbers > 0)
         widths = least_widths(self.numbers[y, x], x, y)
         found = [COLUMNS]
         for k, (of, layer, width) in enumerate(zip(self.objects, self.layers, widths), 1):
@@ -58,6 +64,13 @@ class Holes:
             own = {**{name: row[name] for name in _MEASURED}, "object": of, "hole": k, "equivalent_diameter": diameter, "min_feret": width}
             found.append([str(own[name]) for name in COLUMNS])
         return found
+
+
+def _ends_in_rows(mask: np.ndarray) -> tuple[np.ndarray, ...]:
+    """The points, as rows and columns, that are the first or the last of a stretch of true points in a row: the corners of hulls are among them."""
+    before, after = np.zeros_like(mask), np.zeros_like(mask)
+    before[:, 1:], after[:, :-1] = mask[:, :-1], mask[:, 1:]
+    return np.nonzero(mask & ~(before & after))
 
 
 def _layers(numbers: np.ndarray, count: int) -> list[int]:

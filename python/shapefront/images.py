@@ -7,11 +7,16 @@ from pathlib import Path
 
 import numpy as np
 
-from .channels import grey_of
+from .channels import GREYED, grey_of
+from .deep import deep_values, is_deep, on_white
 from .faults import Fault, Missing
-from .tiffs import Pages, better_read, pages
+from .scans.kinds import NUMPY, kind_of, refused
+from .spacing import Spacing
+from .tiffs import TURNED, Pages, better_read, pages, turned
 
 TIFF = (".tif", ".tiff")
+CLEARED = "transparent paper made white"
+_ORIENTATION = 0x0112
 SUFFIXES = {".png", ".tif", ".tiff", ".jpg", ".jpeg", ".bmp", ".gif", ".pbm", ".pgm", ".ppm", ".pnm", ".webp", ".npy"}
 
 
@@ -20,7 +25,7 @@ class Grey:
     """An image of one value a pixel, indexed [y, x], dark where the value is small, and what was done to make it, in words.
 
     `objects` is `dark` or `light` where the file's format itself says which side is the object, as a PBM does. `colours` is the image
-    in colours of eight bits, [y, x, 3], where it has some.
+    in colours of eight bits, [y, x, 3], where it has some; `spacing` the size of a voxel, where a volume's file tells it.
     """
 
     name: str
@@ -28,6 +33,7 @@ class Grey:
     notes: tuple[str, ...] = ()
     objects: str | None = None
     colours: np.ndarray | None = None
+    spacing: Spacing | None = None
 
 
 def pillow():
@@ -57,7 +63,9 @@ def load(path: Path, labels: bool = False, channel: str | None = None) -> Grey:
     """
     if not path.is_file():
         raise Fault(path, "no such file" if not path.exists() else "not a file", "is the name right?")
-    if path.suffix.lower() == ".npy":
+    if kind := kind_of(path):
+        if kind is not NUMPY:
+            raise refused(path, kind)
         return _array(path)
     frames = list(_frames(path, 2, labels, channel))
     if len(frames) > 1:
@@ -92,6 +100,8 @@ def _array(path: Path) -> Grey:
 def _frames(path: Path, most: int | None, labels: bool, channel: str | None) -> Iterator[Grey]:
     """The pages of a file, at most so many; tifffile is asked of a TIFF that Pillow does not know, or keeps a part of."""
     image_of, _ = pillow()
+    if path.suffix.lower() in TIFF:
+        from PIL import TiffImagePlugin  # noqa: F401  without it Pillow loads all of its plugins to find this one
     try:
         image = image_of.open(path)
     except Exception as error:  # noqa: BLE001  Pillow raises errors of many kinds on files that are no images
@@ -127,14 +137,16 @@ def _of_tiff(path: Path, found: Pages, most: int | None, channel: str | None) ->
 def _grey(path: Path, image, labels: bool, channel: str | None) -> Grey:
     """The grey values of the page that Pillow shows."""
     _, ops = pillow()
-    notes = []
+    notes: list[str] = []
     if labels and image.mode == "P":
         return Grey(str(path), np.array(image), ("the numbers of its colours are the labels",))
-    if _loses_bits(image):
+    if is_deep(image):
+        if (values := deep_values(path, image)) is not None:
+            return _deep(path, values, (image.getexif() or {}).get(_ORIENTATION, 1), channel)
         notes.append("the lower 8 of its 16 bits are not used, as Pillow reads no more of several channels: save it as TIFF to use them")
-    if (image.getexif() or {}).get(0x0112, 1) != 1:
+    if (image.getexif() or {}).get(_ORIENTATION, 1) != 1:
         image = ops.exif_transpose(image)
-        notes.append("turned upright as its camera says")
+        notes.append(TURNED)
     if image.mode in ("LA", "PA", "RGBA", "La", "RGBa") or "transparency" in image.info:
         image = image.convert("RGBA")
         if channel is None:
@@ -146,24 +158,28 @@ def _grey(path: Path, image, labels: bool, channel: str | None) -> Grey:
     is_pbm = image.mode == "1" and path.suffix.lower() in (".pbm", ".pnm")
     bands = np.array(image)
     grey, more = grey_of(str(path), np.atleast_3d(bands), bands.ndim == 3, channel)
-    colours = bands if image.mode == "RGB" and channel is None and "colours made grey" in more else None
+    colours = bands if image.mode == "RGB" and channel is None and GREYED in more else None
     return Grey(str(path), np.ascontiguousarray(grey), (*notes, *more), "dark" if is_pbm else None, colours)
+
+
+def _deep(path: Path, values: np.ndarray, orientation: int, channel: str | None) -> Grey:
+    """The grey values of an image of 16 bits with several channels: of grey, or red, green and blue, and alpha behind them where it has some."""
+    notes: list[str] = []
+    if orientation != 1:
+        values, told = turned(values[None], orientation)
+        values, notes = values[0], [told]
+    if channel is None and values.shape[2] in (2, 4):
+        values, is_clear = on_white(values)
+        notes += [CLEARED] if is_clear else []
+    grey, more = grey_of(str(path), values, values.shape[2] > 2, channel)
+    colours = (values >> 8).astype(np.uint8) if channel is None and GREYED in more else None
+    return Grey(str(path), np.ascontiguousarray(grey), (*notes, *more), None, colours)
 
 
 def _on_white(image, notes: list[str]):
     """The image with white paper behind it where it is transparent."""
     image_of, _ = pillow()
     if image.getextrema()[3][0] < 255:
-        notes.append("transparent paper made white")
+        notes.append(CLEARED)
     return image_of.alpha_composite(image_of.new("RGBA", image.size, "white"), image).convert("RGB")
 
-
-def _loses_bits(image) -> bool:
-    """Whether the file has more than the 8 bits a channel that Pillow keeps of several."""
-    if image.mode not in ("RGB", "RGBA", "LA"):
-        return False
-    for _, _, _, args in image.tile:
-        kind, *more = args if isinstance(args, tuple) else (args,)
-        if ";16" in str(kind) or more and image.format == "PPM" and more[0] > 255:
-            return True
-    return False

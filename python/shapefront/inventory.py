@@ -10,11 +10,11 @@ from .faults import Fault
 from .files import sum_of
 
 
-def lying(folder: Path) -> list[str]:
-    """The names, below the folder, of all that lies in it but folders with something in them; not of what begins with a point."""
+def lying(folder: Path, passed: str = "") -> list[str]:
+    """The names, below the folder, of all that lies in it but folders with something in them; not of what begins with a point, nor of the folder `passed`."""
     names = []
     for place, folders, files in os.walk(folder, onerror=_refused):
-        folders[:] = [name for name in folders if not name.startswith(".")]
+        folders[:] = [name for name in folders if not name.startswith(".") and (name != passed or Path(place) != folder)]
         links = [name for name in folders if os.path.islink(os.path.join(place, name))]
         own = [name for name in files if not name.startswith(".")] + links
         if not own and not folders and Path(place) != folder:
@@ -33,9 +33,9 @@ def is_below(name: str, allowed: Iterable[str]) -> bool:
     return any(path.is_relative_to(PurePosixPath(one)) for one in allowed)
 
 
-def others(folder: Path, told: Iterable[str], allowed: Iterable[str]) -> list[str]:
-    """The names of what lies in a folder and is none of these files, nor may be there."""
-    return [name for name in lying(folder) if name not in told and not is_below(name, allowed)]
+def others(folder: Path, told: Iterable[str], allowed: Iterable[str], passed: str = "") -> list[str]:
+    """The names of what lies in a folder and is none of these files, nor may be there; the folder `passed` is passed over."""
+    return [name for name in lying(folder, passed) if name not in told and not is_below(name, allowed)]
 
 
 @dataclass(frozen=True)
@@ -47,13 +47,13 @@ class Inventory:
     added: list[str]
 
     @classmethod
-    def of(cls, folder: Path, told: dict[str, str], allowed: Iterable[str], sum_of: Callable[[Path], str | None] = sum_of) -> Inventory:
-        """What lies in a folder, where the run's record tells these sums, and these names may be there though nothing made them."""
+    def of(cls, folder: Path, told: dict[str, str], allowed: Iterable[str], sum_of: Callable[[Path], str | None] = sum_of, passed: str = "") -> Inventory:
+        """What lies in a folder, where the run's record tells these sums, and these names may be there though nothing made them; but not in the folder `passed`."""
         for name in told:
             if PurePosixPath(name).is_absolute() or ".." in PurePosixPath(name).parts:
                 raise ValueError(name)
         spoilt = {name: why for name, sum_ in told.items() if (why := _spoilt(folder / name, sum_, sum_of))}
-        return cls(folder, spoilt, others(folder, told, allowed))
+        return cls(folder, spoilt, others(folder, told, allowed, passed))
 
     def is_whole(self, name: str) -> bool:
         return name not in self.spoilt

@@ -16,28 +16,39 @@ from .overlay import Border, Overlay, borders, coloured, numbers
 from .parts import tables_of
 from .pictures import sides_of
 from .plan import Plan
-from .products import evidence_of, write_shown, write_slice
+from .products import evidence_of, write_shown, write_solid_shown
 from .report import counts_of
+from .solidviews import Solid
 from .tables import dicts_of
 
 
 def make_labels(picture: Picture, plan: Plan, stem: Path) -> dict[str, Any]:
     """Writes the files of a label image, whose names begin with `stem`; what the record says of them."""
-    own, sides, wanted = boxes(picture.labels), sides_of(picture.labels), plan.wanted(picture.fit)
+    own, sides, wanted = boxes(picture.labels), sides_of(picture.labels), plan.wanted(picture.fit, picture.spacing)
     with tempfile.TemporaryDirectory(dir=stem.parent) as place:
         folder = Path(place)
         reports = [evidence_of(box.mask, folder / str(box.label), plan, wanted, f"{picture.image}, label {box.label}") for box in own]
         made = tables(own, sides, lambda box, suffix: _text(folder / f"{box.label}{suffix}"), tables_of(wanted, picture.labels.ndim == 2))
-        pack(folder, stem.with_name(stem.name + ARCHIVE))
+        if plan.keeps:
+            pack(folder, stem.with_name(stem.name + ARCHIVE))
         for suffix, table in made.items():
             stem.with_name(stem.name + suffix).write_bytes(table)
-        if picture.labels.ndim == 2:
+        if not plan.draws:
+            pass
+        elif picture.labels.ndim == 2:
             lines = [border for row, (box, report) in enumerate(zip(own, reports), 1) for border in _moved(report.read_bytes(), box, row)]
-            write_shown(Overlay(coloured(picture.original), lines, numbers(dicts_of(made[".csv"].decode()), "label"), picture.fit), stem)
+            backdrop = coloured(picture.original) if picture.valued is None else picture.backdrop
+            write_shown(Overlay(backdrop, lines, numbers(dicts_of(made[".csv"].decode()), "label"), picture.fit, _rows_in(picture.labels)), stem)
         else:
-            write_slice(picture.original, picture.mask, picture.fit, stem)
+            write_solid_shown(Solid(picture.mask, picture.original, picture.fit, picture.spacing), None, stem)
         counts = [counts_of(report) for report in reports]
     return {"parts": total([parts for parts, _ in counts]), "kept": total([kept for _, kept in counts])}
+
+
+def _rows_in(labels: np.ndarray) -> np.ndarray:
+    """For each point of a label image the number of the row of its label, from 1 on; 0 where it has none."""
+    found, where = np.unique(labels, return_inverse=True)
+    return np.where(found == 0, 0, np.cumsum(found != 0))[where].reshape(labels.shape)
 
 
 def _text(path: Path) -> str:

@@ -11,18 +11,22 @@ MADE = f"{EVIDENCE}/made.json"
 PAGE, SUMMARY, PICTURES, WORKBOOK = "index.html", "summary.txt", "pictures.csv", "objects.xlsx"
 # What the name of a table ends in that a picture has which has holes.
 HOLES = ".holes.csv"
+OBJECTS = "objects.csv"
+# What the name of the table of a whole volume ends in, and the part of the name of the region that alone was looked at.
+VOLUME, REGION = ".volume.csv", "region"
 # The tables of all pictures together, and what the names of a picture's own end in.
 JOINED = {
     "objects.csv": ".csv", "holes.csv": HOLES, "networks.csv": ".network.csv", "branches.csv": ".branches.csv", "widths.csv": ".widths.csv",
-    "sides.csv": ".sides.csv", "corners.csv": ".corners.csv", "circles.csv": ".circles.csv",
+    "nodes.csv": ".nodes.csv", "volumes.csv": VOLUME, "sides.csv": ".sides.csv", "corners.csv": ".corners.csv", "circles.csv": ".circles.csv",
 }  # fmt: skip
 # What the names of tables end in that have the rest of the rows of another: the grey values of objects.
 FURTHER = {"objects.csv": ".intensities.csv"}
 
 # What the names of a picture's drawings end in: the program's of its report, the original image with the borders over it, and with the branches of its
-# network; and of what the page shows.
-DRAWN = (".svg", ".png", ".network.png")
-THUMBNAIL, PLACES = ".thumbnail.jpg", ".places.png"
+# network, of a volume its faces, its skeleton and slices, and its mesh; and of what the page shows.
+FACES, SKELETON_VIEWS, SLICES, MESH = ".faces.png", ".skeleton.png", ".slices.png", ".ply"
+DRAWN = (".svg", ".png", ".network.png", FACES, SKELETON_VIEWS, SLICES, MESH)
+THUMBNAIL, PLACES, SHEET = ".thumbnail.jpg", ".places.png", ".sheet.jpg"
 
 
 def evidence(key: str, suffix: str) -> str:

@@ -20,8 +20,7 @@ _AXES_AND_SIGNS = ((b" x ", b" 0 "), (b" y ", b" 1 "), (b" z ", b" 2 "), (b"- ",
 
 def _code(word: str) -> int:
     """The first three bytes of a line that begins with the word, as one number."""
-    first, second, third = (word + " ").encode()[:3]
-    return first << 16 | second << 8 | third
+    return int.from_bytes((word + " ").encode()[:3], "little")
 
 
 @dataclass(frozen=True)
@@ -41,8 +40,9 @@ class Lines:
         if not ends.size or ends[-1] != data.size - 1:
             raise Fault(name, "not a whole report: its last line has no end", "was it cut on the way?")
         starts = np.concatenate([[0], ends + 1])
-        first, second, third = (data[np.minimum(starts[:-1] + k, data.size - 1)].astype(np.uint32) for k in range(3))
-        return cls(name, data, starts, first << 16 | second << 8 | third)
+        # the text as numbers of four bytes, one for each place where four begin
+        fours: np.ndarray = np.ndarray((data.size + 1,), "<u4", text + bytes(4), 0, (1,))
+        return cls(name, data, starts, fours[starts[:-1]] & 0xFFFFFF)
 
     def __len__(self) -> int:
         return len(self.codes)
@@ -61,6 +61,18 @@ class Lines:
     def where(self, word: str) -> np.ndarray:
         """Which lines begin with the word, from the second line on; the first is the heading."""
         return np.flatnonzero(self.codes[1:] == _code(word)) + 1
+
+    def begin(self, lines: np.ndarray, word: str) -> np.ndarray:
+        """Whether each of these lines begins with the word."""
+        begun: np.ndarray = self.codes[lines] == _code(word)
+        return begun
+
+    def where_any(self, *words: str) -> np.ndarray:
+        """Which lines begin with one of the words, in order; not the first one."""
+        found = self.codes[1:] == _code(words[0])
+        for word in words[1:]:
+            found |= self.codes[1:] == _code(word)
+        return np.flatnonzero(found) + 1
 
     def numbers(self, word: str, fields: int) -> np.ndarray:
         """The numbers of all lines that begin with the word: a row for each, with so many numbers; axes are 0, 1 and 2."""
@@ -89,11 +101,13 @@ class Lines:
             return span
         taken = np.zeros(last - first + 1, bool)
         taken[lines - first] = True
-        return span[np.repeat(taken, np.diff(self.starts[first : last + 2]))]
+        own: np.ndarray = span[np.repeat(taken, np.diff(self.starts[first : last + 2]))]
+        return own
 
 
 def _parsed(block: bytes) -> np.ndarray:
     """All numbers of a block; fewer where something in it is no number."""
     for word, number in _AXES_AND_SIGNS:
-        block = block.replace(word, number)
+        if word in block:
+            block = block.replace(word, number)
     return np.fromstring(block.translate(_LETTERS), np.int64, sep=" ")

@@ -1,66 +1,127 @@
-"""The command `shapes`: measure, volume and check, for people who do not live in a shell."""
+"""The command `shapes`: measure, volume and check, for people who do not live in a shell.
+
+What only a check or an export needs is imported in these: it takes as long to load as a small image to measure.
+"""
 from __future__ import annotations
 
 import argparse
 import io
 import sys
 from collections.abc import Iterable, Iterator
+from contextlib import contextmanager
+from functools import partial
 from pathlib import Path
-from typing import Any
+from typing import TYPE_CHECKING, Any
 
-from .batch import images_of, run
-from .beside import Asked, Covered
-from .checking import Finding
+from .batch import Image, images_of, run
 from .convert import picture_of, volume_of
-from .exports import dxf, ply
 from .faults import Fault
-from .files import make_folder, shown, write
+from .files import clear_aside, make_folder, shown, write
 from .folder import finish, originals
-from .foldercheck import check_folder
+from .hands import Hand
 from .inventory import others
-from .layout import MADE, PAGE
-from .making import clear_aside
-from .original import check_original
-from .outlines import outlines_of, summary
+from .layout import EVIDENCE, MADE, PAGE
 from .plan import Plan
 from .programs import find
-from .report import Analysis, contours_in, read
-from .second import Second, reports_of
+from .shares import SHARES
+from .stopping import SAID, STOPPED, cleared, stoppable
 from .units import Pixel
 from .words import options_of, parser, settings_of
 
-DONE, FAILED, USAGE, NOTHING, STOPPED = 0, 1, 2, 3, 130
+if TYPE_CHECKING:
+    from .beside import Covered
+    from .checking import Finding
+
+DONE, FAILED, USAGE, NOTHING = 0, 1, 2, 3
 
 
 def measure(words: argparse.Namespace) -> int:
     """`shapes measure` and `shapes volume`: all that the images give, in one folder."""
-    pixel, is_volume, settings = Pixel.told(vars(words)), words.command == "volume", settings_of(words)
+    images, made = measured(words)
+    folder = words.share.folder(words.folder) if words.share else words.folder
+    _tell_of_others(folder, made)
+    failed = sum(image.failure is not None for image in images)
+    if words.share:
+        print(f"share {words.share}: {len(images) - failed} of {len(images)} measured, in {folder}; shapes join makes the tables of all shares")
+        return FAILED if failed else DONE
+    if PAGE not in made["files"]:
+        print(f"no {PAGE}, as Jinja2 is not installed: `apt install python3-jinja2`, or `pip install jinja2`", file=sys.stderr)
+    print(f"{len(images) - failed} of {len(images)} measured, in {_where(words.folder)}")
+    return FAILED if failed else DONE
+
+
+def _where(folder: Path) -> str:
+    """Where all is that was made, and what to look at first."""
+    return f"{folder}; open {folder / PAGE}" if (folder / PAGE).is_file() else f"{folder}: summary.txt tells how"
+
+
+def measured(words: argparse.Namespace) -> tuple[list[Image], dict[str, Any]]:
+    """Measures the images that the words name, or a share of them; what became of each, and the record of the run."""
+    is_volume, settings = words.command == "volume", settings_of(words)
+    if not is_volume:
+        Pixel.told(vars(words))
     find()
     if words.network and words.rule != "curve":
         raise Fault("--network", f"the rule {words.rule} does not keep the ends of branches", "leave out --rule")
+    if words.network and is_volume and words.labels == "each":
+        raise Fault("--network", "not of labels one by one", "give --labels-together")
     if not words.network and (words.prune is not None or words.classes is not None):
         raise Fault("--prune, --classes", "they are about a network", "give --network, too")
-    images, passed = images_of(words.images, is_volume)
+    images, share = _images(words, is_volume), words.share
+    if any(path.is_dir() and path.resolve() == words.folder.resolve() for path in words.images):
+        raise Fault("-o", "the folder of the images themselves", "choose another one for what is written")
+    convert, folder, told = partial(volume_of if is_volume else picture_of, settings=settings), words.folder, None
+    if share:
+        told, folder = {"number": share.number, "of": share.of, "given": len(images)}, share.folder(words.folder)
+        images = [image for image in images if share.takes(image.name)]
+    with _in_hand(folder, words.patience) as hand:
+        run(images, Plan.told(folder, options_of(words), hand), convert, words.jobs)
+        hand.keep()
+        return images, finish(folder, images, options_of(words), told)
+
+
+def _images(words: argparse.Namespace, is_volume: bool) -> list[Image]:
+    """The images that the words name, and on standard error how many files were passed over. A Fault where there is none."""
+    images, passed = images_of(words.images, is_volume, words.base)
     if passed:
         print(f"passed over, as their names are not those of images: {passed} of the files", file=sys.stderr)
     if not images:
         raise Fault(shown(words.images[0]), "no image is in this folder", "name the files themselves")
-    if any(path.is_dir() and path.resolve() == words.folder.resolve() for path in words.images):
-        raise Fault("-o", "the folder of the images themselves", "choose another one for what is written")
-    make_folder(words.folder)
-    clear_aside(words.folder)
-    plan = Plan.told(words.folder, options_of(words))
-    convert = volume_of if is_volume else picture_of
-    run(images, plan, lambda path, name: convert(path, name, settings), words.jobs)
-    made = finish(words.folder, images, pixel, options_of(words))
-    if PAGE not in made["files"]:
-        print(f"no {PAGE}, as Jinja2 is not installed: `apt install python3-jinja2`, or `pip install jinja2`", file=sys.stderr)
-    _tell_of_others(words.folder, made)
-    if PAGE in made["files"] and sys.stderr.isatty():
-        print(f"open {shown(words.folder / PAGE)} in a browser", file=sys.stderr)
-    failed = sum(image.failure is not None for image in images)
-    print(f"{len(images) - failed} of {len(images)} measured, in {words.folder}: summary.txt tells how")
-    return FAILED if failed else DONE
+    return images
+
+
+def join_shares(words: argparse.Namespace) -> int:
+    """`shapes join`: the tables, the page and the record of all shares."""
+    from .joining import absent, join
+
+    if not (words.folder / SHARES).is_dir():
+        raise Fault(shown(words.folder), "no share is in this folder", "shapes measure --share K/N IMAGES -o FOLDER makes them")
+    with _in_hand(words.folder, words.patience):
+        shares = join(words.folder)
+    if words.images:
+        names = [image.name for image in images_of(words.images, shares.like["options"]["command"] == "volume", words.base)[0]]
+        for name in absent(shares, names):
+            print(f"missing: {name}", file=sys.stderr)
+    for line in (*shares.lacks(), *(f"failed: {failure}" for failure in shares.failures)):
+        print(line, file=sys.stderr)
+    lacks = bool(list(shares.lacks()) or shares.failures)
+    print(f"{len(shares.images)} of {max(shares.given, shares.count)} measured, in {_where(words.folder)}")
+    return FAILED if lacks else DONE
+
+
+@contextmanager
+def _in_hand(folder: Path, patience: float) -> Iterator[Hand]:
+    """A folder that is made where there is none, in the hand of this run: what others left there unfinished is taken away, and at the end what this one did."""
+    make_folder(folder)
+    places = (folder, folder / EVIDENCE)
+
+    def clear(own: bool) -> None:
+        for place in places:
+            clear_aside(place, own)
+
+    with Hand(folder, patience) as hand, cleared(hand.give_back), cleared(partial(clear, True)):
+        clear(False)
+        yield hand
 
 
 def _tell_of_others(folder: Path, made: dict[str, Any]) -> None:
@@ -72,6 +133,11 @@ def _tell_of_others(folder: Path, made: dict[str, Any]) -> None:
 
 def check(words: argparse.Namespace) -> int:
     """`shapes check`: one line a file, and one status."""
+    from .beside import Asked
+    from .foldercheck import check_folder
+    from .joincheck import findings_of_share
+    from .original import check_original
+
     if words.second:
         return check_second([words.image, *words.report])
     find()
@@ -79,10 +145,13 @@ def check(words: argparse.Namespace) -> int:
         raise Fault("--second", "only it takes more than one report", "give an image and one report, or a folder")
     if words.originals and (words.report or not words.originals.is_dir()):
         raise Fault("--originals", "it takes the folder of the images of a measured folder", "shapes check MEASURED --originals IMAGES")
-    if not words.report:
+    if words.share:
+        findings = list(_printed(findings_of_share(words.image, words.share, Asked(words.jobs, tuple(words.allow), originals=words.originals, intensities=words.intensities))))
+    elif not words.report:
         if not words.image.is_dir():
             raise Fault(shown(words.image), "not a folder", "give a folder, or an image and its report")
-        findings = list(_printed(check_folder(words.image, Asked(words.jobs, tuple(words.allow), originals=words.originals))))
+        asked = Asked(words.jobs, tuple(words.allow), originals=words.originals, intensities=words.intensities, tables=words.tables)
+        findings = list(_printed(check_folder(words.image, asked)))
     else:
         findings = list(_printed([check_original(words.image, words.report[0], settings_of(words))]))
     return DONE if all(finding.holds for finding in findings) else FAILED
@@ -90,6 +159,8 @@ def check(words: argparse.Namespace) -> int:
 
 def check_second(paths: list[Path]) -> int:
     """`shapes check --second`: the same by the second reading, and at last what it looked at."""
+    from .second import Second, reports_of
+
     second = Second()
     findings = list(_printed(second.check(reports_of(paths))))
     print(second.summary())
@@ -104,6 +175,10 @@ def _printed(findings: Iterable[Finding | Covered]) -> Iterator[Finding | Covere
 
 def export(words: argparse.Namespace) -> int:
     """`shapes export`: what a report says, for another program."""
+    from .exports import dxf, ply
+    from .outlines import outlines_of, summary
+    from .report import Analysis, contours_in, read
+
     size = 25.4 / words.dpi if words.dpi else words.pixel_size
     if words.format == "dxf":
         sides, contours = contours_in(words.report)
@@ -125,12 +200,13 @@ def main(words: list[str] | None = None) -> int:
             stream.reconfigure(errors="surrogateescape")
     given = parser().parse_args(words)
     try:
-        return {"check": check, "export": export}.get(given.command, measure)(given)
+        with stoppable():
+            return {"check": check, "export": export, "join": join_shares}.get(given.command, measure)(given)
     except Fault as fault:
         print(f"shapes: {fault}", file=sys.stderr)
         return USAGE if fault.about.startswith("-") else NOTHING
     except KeyboardInterrupt:
-        print("\nshapes: stopped; the same command goes on where it was", file=sys.stderr)
+        print(SAID, file=sys.stderr)
         return STOPPED
     except BrokenPipeError:
         sys.stderr.close()

@@ -7,37 +7,41 @@ from __future__ import annotations
 
 import os
 import shutil
-import tempfile
 from collections.abc import Iterator
 from contextlib import contextmanager
 from dataclasses import asdict
-from pathlib import Path
+from pathlib import Path, PurePosixPath
 from typing import Any
 
 import numpy as np
 
+from .components import numbered
 from .convert import Picture
 from .faults import Fault
-from .files import ASIDE, gzipped, read_json, shown, sum_of, sum_of_bytes, write_json
+from .files import ASIDE, TOKEN, shown, spelled_json, sum_of, sum_of_bytes, unwritten
 from .intensities import intensities
 from .labelled import make_labels
 from .labels import boxes
-from .layout import FURTHER, is_own, named, part, record_of_key
-from .networks import BRANCHES_OF
+from .layout import EVIDENCE, FURTHER, MESH, REGION, is_own, named, part, record_of_key
+from .meshes import mesh
+from .network import BRANCHES_OF
 from .overlay import Overlay, borders, branches, numbers
-from .pictures import sides_of, spelled
+from .packing import gzipped
+from .pictures import sides_of, spelled, suffix_of
 from .plan import Plan
-from .products import draw, evidence_of, write_network_shown, write_shown, write_slice
+from .products import clear_evidence, draw, evidence_of, write_network_shown, write_shown, write_solid_shown
 from .programs import sums
-from .report import counts_of
-from .seals import is_sealed, sealed
+from .report import Analysis, counts_of, read
+from .seals import opened, sealed
+from .solidviews import Solid
 from .tables import dicts_of, spelled_rows
 
 Record = dict[str, Any]
 
 # The members of a record, in their order; the sum of its own comes behind them.
 MEMBERS = (
-    "image", "labels", "sides", "fit", "original", "channel", "filters", "cut", "notes", "rule", "plain", "masks", "wanted", "grey", "picture", "programs", "parts", "kept", "files",
+    "image", "labels", "sides", "fit", "original", "channel", "filters", "spacing", "scan", "region", "cut", "notes", "rule", "plain", "drawn", "kept_reports",
+    "masks", "wanted", "grey", "intensities", "picture", "programs", "parts", "kept", "files",
 )  # fmt: skip
 
 # What the record of a run is called, without its ending: an image cannot be called so.
@@ -49,21 +53,39 @@ def make(picture: Picture, plan: Plan) -> Record:
     if picture.image == OF_ALL:
         raise Fault(picture.image, f"its record would have the name of that of all, {OF_ALL}.json", "rename it")
     head, told = head_of(picture, plan), plan.folder / record_of_key(picture.image)
-    before = read_json(told) or {}
-    if is_sealed(told) and _is_made(before, head, plan.folder):
+    before = opened(_bytes(told))
+    if before is not None and _is_made(before, head, plan.folder):
         return before
-    with _folder_aside(told.parent) as work:
+    with _folder_aside(plan.folder) as work:
         counts = _products(picture, plan, work)
         files = dict(sorted((named(picture.image, path.name), sum_of(path)) for path in work.iterdir()))
-        for name in files:
-            (plan.folder / name).parent.mkdir(parents=True, exist_ok=True)
-            os.replace(work / Path(name).name, plan.folder / name)
         record = record_of({**head, **counts, "files": files})
-        write_json(told, record)
-        for name in before.get("files", {}):
+        (work / told.name).write_bytes(spelled_json(record))
+        if plan.hand:
+            plan.hand.keep()
+        for name in (*files, record_of_key(picture.image)):
+            _put(work / PurePosixPath(name).name, plan.folder / name)
+        for name in (before or {}).get("files", {}):
             if name not in files and is_own(picture.image, name):
                 (plan.folder / name).unlink(missing_ok=True)
     return record
+
+
+def _put(made: Path, path: Path) -> None:
+    """Gives a file its name, in a folder that is made where it is not there."""
+    try:
+        os.replace(made, path)
+    except FileNotFoundError:
+        path.parent.mkdir(parents=True, exist_ok=True)
+        os.replace(made, path)
+
+
+def _bytes(path: Path) -> bytes:
+    """What a file holds; nothing where it is not there."""
+    try:
+        return path.read_bytes()
+    except OSError:
+        return b""
 
 
 def record_of(members: Record) -> Record:
@@ -78,8 +100,11 @@ def head_of(picture: Picture, plan: Plan) -> Record:
     return {
         "image": picture.image, "labels": labels, "sides": list(sides_of(picture.mask)), "fit": picture.fit, "original": list(picture.original_sides),
         "channel": picture.settings.channel, "filters": asdict(picture.settings.filters),
-        "cut": asdict(picture.cut) if picture.cut else None, "notes": list(picture.notes), "rule": plan.rule, "plain": plan.plain, "masks": list(plan.masks), "wanted": plan.wanted(picture.fit).record,
-        "grey": None if picture.grey is None else sum_of_bytes(picture.grey.tobytes()), "picture": sum_of_bytes(told), "programs": sums(),
+        "spacing": picture.spacing.record if picture.spacing else None, "scan": picture.settings.scan.record,
+        "region": sum_of_bytes(spelled(picture.region)) if picture.region is not None and picture.labels is None else None,
+        "cut": asdict(picture.cut) if picture.cut else None, "notes": list(picture.notes), "rule": plan.rule, "plain": plan.plain, "drawn": plan.draws, "kept_reports": plan.keeps,
+        "masks": list(plan.masks), "wanted": plan.wanted(picture.fit, picture.spacing).record,
+        "grey": None if picture.grey is None else sum_of_bytes(picture.grey.tobytes()), "intensities": picture.valued and picture.valued.record, "picture": sum_of_bytes(told), "programs": sums(),
     }  # fmt: skip
 
 
@@ -91,46 +116,59 @@ def _is_made(record: Record, head: Record, folder: Path) -> bool:
 
 
 @contextmanager
-def _folder_aside(place: Path) -> Iterator[Path]:
+def _folder_aside(folder: Path) -> Iterator[Path]:
+    """A folder of this process to work in, which is empty; what stays in it is taken away."""
+    work = folder / EVIDENCE / f"{ASIDE}{TOKEN}" / str(os.getpid())
     try:
-        place.mkdir(parents=True, exist_ok=True)
-        with tempfile.TemporaryDirectory(prefix=f"{ASIDE}{os.getpid()}-", dir=place) as work:
-            yield Path(work)
+        work.mkdir(parents=True, exist_ok=True)
+        try:
+            yield work
+        finally:
+            for left in list(work.iterdir()):
+                shutil.rmtree(left) if left.is_dir() else left.unlink()
     except OSError as error:
-        raise Fault(shown(place), f"cannot be written ({error.strerror})", "is the disk full, or may you not write there?") from error
+        raise unwritten(shown(folder), error, "may you write there?") from error
 
 
-def clear_aside(folder: Path) -> None:
-    """Takes away what a run left in the folder that was ended in the middle and is no more."""
-    for work in folder.rglob(ASIDE + "*"):
-        process = work.name.removeprefix(ASIDE).split("-")[0]
-        if not process.isdigit() or Path("/proc", process).exists():
-            continue
-        if work.is_dir():
-            shutil.rmtree(work)
-        else:
-            work.unlink(missing_ok=True)
+def _draw_solid(picture: Picture, skeleton: np.ndarray, has_mesh: bool, stem: Path) -> None:
+    """Writes the drawings of a volume, and its mesh where it is wanted."""
+    solid = Solid(picture.mask, picture.original, picture.fit, picture.spacing)
+    write_solid_shown(solid, skeleton, stem)
+    if has_mesh:
+        stem.with_name(stem.name + MESH).write_bytes(mesh(solid.mask, picture.spacing.by(picture.fit) if picture.spacing else None))
 
 
 def _products(picture: Picture, plan: Plan, work: Path) -> Record:
     """Writes the files of a picture into the folder `work`; what the record says of them."""
     stem = work / Path(picture.image).name
+    if picture.grey is not None:
+        stem.with_name(stem.name + FURTHER["objects.csv"]).write_bytes(spelled_rows(intensities(picture)))
     if picture.labels is not None:
         return make_labels(picture, plan, stem)
-    report, is_flat = evidence_of(picture.mask, stem, plan, plan.wanted(picture.fit), picture.image), picture.mask.ndim == 2
-    draw(report, stem, picture.image, is_flat)
-    if is_flat:
-        rows = dicts_of(stem.with_name(stem.name + ".csv").read_text())
-        write_shown(Overlay(picture.original, borders(report.read_bytes()), numbers(rows), picture.fit), stem)
-        if plan.wanted(picture.fit).network:
-            own = Overlay(picture.original, *branches(part(stem, BRANCHES_OF, ".report").read_bytes()), picture.fit)
-            write_network_shown(own, stem)
-    else:
-        write_slice(picture.original, picture.mask, picture.fit, stem)
-    if picture.grey is not None:
-        stem.with_name(stem.name + FURTHER["objects.csv"]).write_bytes(spelled_rows(intensities(picture.mask, picture.grey)))
-    counts = dict(zip(("parts", "kept"), counts_of(report)))
-    for path in sorted(work.glob("*.report")) if not plan.plain else ():
+    made = _of_picture(picture, plan, stem)
+    for path in sorted(work.glob("*.report")) if not plan.plain and plan.keeps else ():
         path.with_name(path.name + ".gz").write_bytes(gzipped(path.read_bytes()))
         path.unlink()
-    return counts
+    if not plan.keeps:
+        clear_evidence(stem, suffix_of(picture.mask))
+    return made
+
+
+def _of_picture(picture: Picture, plan: Plan, stem: Path) -> Record:
+    """Writes the files of a picture, whose names begin with `stem`, and its reports as text; what the record says of them."""
+    if picture.region is not None:
+        part(stem, REGION, suffix_of(picture.mask)).write_bytes(spelled(picture.region))
+    report, is_flat = evidence_of(picture.mask, stem, plan, plan.wanted(picture.fit, picture.spacing), picture.image), picture.mask.ndim == 2
+    if plan.draws:
+        draw(report, stem, picture.image, is_flat)
+    if is_flat and plan.draws:
+        rows = dicts_of(stem.with_name(stem.name + ".csv").read_text())
+        write_shown(Overlay(picture.backdrop, borders(report.read_bytes()), numbers(rows), picture.fit, numbered(picture.mask, by_corners=True)), stem)
+        if plan.wanted(picture.fit, picture.spacing).network:
+            own = Overlay(picture.backdrop, *branches(part(stem, BRANCHES_OF, ".report").read_bytes()), picture.fit)
+            write_network_shown(own, stem)
+    elif plan.draws:
+        analysis = read(report)
+        assert isinstance(analysis, Analysis)
+        _draw_solid(picture, analysis.skeleton, plan.wanted(picture.fit, picture.spacing).mesh, stem)
+    return dict(zip(("parts", "kept"), counts_of(report)))

@@ -19,6 +19,7 @@ from .labels import boxes
 from .making import Record
 from .pictures import Source, spelled, suffix_of
 from .report import text_of
+from .scans.asked import Asked
 from .thresholds import Settings
 
 
@@ -76,7 +77,8 @@ def _picture_of(image: Path, report: Path, settings: Settings, is_volume: bool) 
 
 def _recorded(record: dict) -> Settings:
     """The settings that a record tells: with them the same image gives the same picture."""
-    cut, same = record["cut"], {"fit": record["fit"], "channel": record["channel"], "filters": Filters(**record["filters"])}
+    cut, same = record["cut"], {"fit": record["fit"], "channel": record["channel"], "filters": Filters(**record["filters"]), "scan": Asked.recorded(record.get("scan"))}
+    same["intensities"] = "" if record["intensities"] else None
     if cut is None:
         return Settings(labels="all" if record["labels"] is None else "each", **same)
     return Settings(repr(cut["threshold"]), cut["objects"], **same)

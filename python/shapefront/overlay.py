@@ -6,13 +6,14 @@ from __future__ import annotations
 
 import io
 from collections.abc import Iterable, Iterator
-from dataclasses import dataclass
+from dataclasses import dataclass, field
 from functools import lru_cache
 from typing import Any
 
 import numpy as np
 
 from .images import pillow
+from .packing import png
 from .report import borders_of
 
 # The longest side of a drawing is at most the first, small images are enlarged to about the second, and that of a thumbnail is the third.
@@ -20,13 +21,10 @@ LONGEST, WANTED, THUMBNAIL = 4096, 1200, 512
 OUTER, INNER, INK = (255, 64, 32), (0, 153, 255), (120, 0, 160)
 # How wide the white rim of a number is.
 _RIM = 2
-# A drawing over a grey image has a palette: greys, shades from the ink of numbers to white, and the colours of borders.
-# So it is a third as large, and written in a third of the time.
-_GREYS, _SHADES = 232, 16
-_PALETTE = (
-    *(round(255 * k / (_GREYS - 1)) for k in range(_GREYS) for _ in range(3)),
-    *(round(ink + (255 - ink) * k / (_SHADES - 1)) for k in range(_SHADES) for ink in INK), *OUTER, *INNER,
-)  # fmt: skip
+# A drawing over an image of at most so many grey levels has a palette: these levels, shades from the ink of numbers to white, and the colours of borders.
+# So it is half as large, and written in half the time.
+GREYS, _SHADES = 246, 8
+_COLOURS = (*(round(ink + (255 - ink) * k / (_SHADES - 1)) for k in range(_SHADES) for ink in INK), *OUTER, *INNER)
 
 
 @dataclass(frozen=True)
@@ -74,12 +72,14 @@ def branches(report: bytes) -> tuple[list[Border], list[Number]]:
 
 @dataclass(frozen=True)
 class Overlay:
-    """An image [y, x] or, in colours, [y, x, 3], with the borders and numbers of its picture, of which one pixel is `fit` of the image's wide."""
+    """An image [y, x] or, in colours, [y, x, 3], with the borders and numbers of its picture, of which one pixel is `fit` of the image's wide; and for each
+    point of the picture the number of the row that it is of, 0 for background."""
 
     image: np.ndarray
     borders: list[Border]
     numbers: list[Number]
     fit: int = 1
+    rows: np.ndarray = field(default_factory=lambda: np.zeros((1, 1), np.int32))
 
     def drawing(self, thick: int = 1) -> bytes:
         """The drawing as a PNG: the image, enlarged by whole numbers where it is small, its borders so many times as thick as they are usually, and as many
@@ -90,7 +90,7 @@ class Overlay:
         sheet = self._sheet(scale, image_of.NEAREST if scale > 1 else image_of.BOX)
         self._draw_borders(sheet, scale, thick * max(1, round(longest * scale / WANTED)))
         self._draw_numbers(sheet, scale)
-        return _saved(sheet, "PNG", compress_level=2)
+        return png(np.array(sheet), sheet.getpalette() if sheet.mode == "P" else ())
 
     def thumbnail(self) -> bytes:
         """The image with its borders, as a JPEG whose longest side has `THUMBNAIL` pixels."""
@@ -98,34 +98,32 @@ class Overlay:
         scale = 2 * THUMBNAIL / max(self.image.shape[:2])
         sheet = self._sheet(scale, image_of.BOX if scale < 1 else image_of.NEAREST)
         self._draw_borders(sheet, scale, 2)
-        return _saved(sheet.convert("RGB").reduce(2), "JPEG", quality=80)
+        out = io.BytesIO()
+        sheet.convert("RGB").reduce(2).save(out, "JPEG", quality=80)
+        return out.getvalue()
 
     def places(self) -> bytes:
-        """The numbers of the objects at each point of the thumbnail, as a PNG: red and 256 times green and 65536 times blue; 0 is background."""
-        image_of, _ = pillow()
-        scale = THUMBNAIL / max(self.image.shape[:2])
-        sheet = image_of.new("I", self._sides(scale))
-        pen = _pen(sheet)
-        for border, points in zip(self.borders, self._lines(scale)):
-            own = border.number
-            if border.is_hole:
-                own = sheet.getpixel(tuple(min(max(round(at), 0), side - 1) for at, side in zip(points, sheet.size)))
-            _fill(pen, points, border.number, own)
-        values = np.array(sheet)
-        return _saved(image_of.fromarray(np.stack([values >> shift & 255 for shift in (0, 8, 16)], 2).astype(np.uint8)), "PNG")
+        """The numbers of the rows at each point of the thumbnail, as a PNG: red and 256 times green and 65536 times blue; 0 is background."""
+        values, scale = self.rows, THUMBNAIL / max(self.image.shape[:2])
+        for axis, side in enumerate(reversed(self._sides(scale))):
+            first = np.minimum((np.arange(side) / (scale * self.fit)).astype(int), values.shape[axis] - 1)
+            values = np.maximum.reduceat(values, first, axis) if scale * self.fit < 1 else values.take(first, axis)
+        return png(np.stack([values >> shift & 255 for shift in (0, 8, 16)], 2).astype(np.uint8))
 
     def _sides(self, scale: float) -> tuple[int, int]:
         height, width = self.image.shape[:2]
         return max(1, round(width * scale)), max(1, round(height * scale))
 
     def _sheet(self, scale: float, way: int) -> Any:
-        """The image at a scale: in colours, or with the palette where it is grey."""
+        """The image at a scale, with each of its grey levels as it is: with a palette where it has room for them all, else in colours."""
         image_of, _ = pillow()
         sheet = image_of.fromarray(shown(self.image)).resize(self._sides(scale), way)
-        if sheet.mode != "L":
+        levels = [level for level, count in enumerate(sheet.histogram()) if count] if sheet.mode == "L" else []
+        if not 0 < len(levels) <= GREYS:
             return sheet.convert("RGB")
-        sheet = sheet.point([k * (_GREYS - 1) // 255 for k in range(256)])
-        sheet.putpalette(_PALETTE)
+        places = {level: place for place, level in enumerate(levels)}
+        sheet = sheet.point([places.get(level, 0) for level in range(256)])
+        sheet.putpalette(_palette(levels))
         return sheet
 
     def _placed(self, points: np.ndarray, scale: float) -> np.ndarray:
@@ -141,6 +139,12 @@ class Overlay:
                 yield flat[end - 2 * len(border.points) : end]
 
     def _draw_borders(self, sheet: Any, scale: float, width: int) -> None:
+        """The borders of holes over the others: as points where these are next to one another, which is quicker, and else as lines."""
+        if scale <= 1:
+            for colour, is_hole in ((OUTER, False), (INNER, True)):
+                if own := [border.points for border in self.borders if border.is_hole == is_hole]:
+                    _paint(sheet, np.rint(self._placed(np.concatenate(own), scale)).astype(int), colour, width)
+            return
         pen = _pen(sheet)
         for border, points in zip(self.borders, self._lines(scale)):
             colour = INNER if border.is_hole else OUTER
@@ -153,10 +157,10 @@ class Overlay:
         """The numbers, those of the greatest objects first, beside an object that is smaller; one that would lie over another is left out."""
         size = max(11, max(sheet.size) // 90)
         taken = np.zeros((sheet.size[1] // 4 + 1, sheet.size[0] // 4 + 1), bool)
-        for number in sorted(self.numbers, key=lambda number: -number.area):
+        places = self._placed(np.array([(number.x, number.y) for number in self.numbers]).reshape(-1, 2), scale).tolist()
+        for number, (x, y) in sorted(zip(self.numbers, places), key=lambda own: -own[0].area):
             signs = [_sign(sign, size, sheet.mode) for sign in number.text]
             width, height = sum(sign.width - 2 * _RIM for sign, _ in signs), signs[0][0].height
-            x, y = self._placed(np.array([number.x, number.y]), scale).tolist()
             if (radius := number.radius * self.fit * scale) < width / 2:
                 x += radius + width / 2 + 1
             left, top = (int(min(max(at - own / 2, 0), side - own)) for at, own, side in ((x, width, sheet.size[0]), (y, height, sheet.size[1])))
@@ -169,17 +173,6 @@ class Overlay:
                 left += sign.width - 2 * _RIM
 
 
-def middle_slice(original: np.ndarray, mask: np.ndarray, fit: int) -> np.ndarray:
-    """The middle slice of a volume [z, y, x] in colours, with the outermost points of the object in it marked; a point of the mask is `fit` of the volume's wide."""
-    at = len(mask) // 2
-    grey = shown(original[min(at * fit + fit // 2, len(original) - 1)])
-    inside = np.pad(mask[at].repeat(fit, 0).repeat(fit, 1)[: grey.shape[0], : grey.shape[1]], 1)
-    around = [np.roll(inside, step, axis) for axis in (0, 1) for step in (-1, 1)]
-    colours = np.repeat(grey[:, :, None], 3, 2)
-    colours[(inside & ~np.logical_and.reduce(around))[1:-1, 1:-1]] = OUTER
-    return colours
-
-
 def coloured(labels: np.ndarray) -> np.ndarray:
     """A label image in colours: those of labels that follow one another lie far apart, and 0 is nearly black."""
     found, where = np.unique(labels, return_inverse=True)
@@ -190,7 +183,8 @@ def coloured(labels: np.ndarray) -> np.ndarray:
 
 
 def shown(image: np.ndarray) -> np.ndarray:
-    """An image as one of eight bits that an eye can see: other values than those of eight bits are spread over all of them, but for one in a thousand at both ends."""
+    """An image as one of eight bits that an eye can see: other values than those of eight bits are spread over so many of them as a palette has room for, but
+    for one in a thousand at both ends."""
     if image.dtype == bool:
         return image.astype(np.uint8) * 255
     if image.dtype == np.uint8:
@@ -200,16 +194,25 @@ def shown(image: np.ndarray) -> np.ndarray:
     low, high = np.nanquantile(few, [0.001, 0.999])
     if low == high:
         low, high = np.nanmin(values), np.nanmax(values)
-    return (np.nan_to_num(np.clip((values - low) / ((high - low) or 1), 0, 1)) * 255).astype(np.uint8)
+    places = (np.nan_to_num(np.clip((values - low) / ((high - low) or 1), 0, 1)) * (GREYS - 1)).astype(np.uint8)
+    return np.rint(np.arange(GREYS) * (255 / (GREYS - 1))).astype(np.uint8)[places]
 
 
-def _fill(pen: Any, points: list[float], number: int, own: int) -> None:
-    """Fills a border with a number, and draws it with that of its object."""
-    if len(points) > 4:
-        pen.polygon(points, number, own)
-    else:
-        pen.line(points + points[:2], own)
-    pen.point(points[:2], own)
+def _palette(levels: list[int]) -> list[int]:
+    """The palette of a drawing over an image with these grey levels, which come first; the other colours come last."""
+    return [own for level in levels for own in (level,) * 3] + [0] * 3 * (GREYS - len(levels)) + [*_COLOURS]
+
+
+def _paint(sheet: Any, points: np.ndarray, colour: tuple[int, int, int], width: int) -> None:
+    """Paints a square of this width about each of these points (x, y)."""
+    image_of, _ = pillow()
+    shape = np.zeros(sheet.size[::-1], np.uint8)
+    steps = range((1 - width) // 2, (1 - width) // 2 + width)
+    columns, rows = ([np.clip(own + step, 0, side - 1) for step in steps] for own, side in zip(points.T, sheet.size))
+    for row in rows:
+        for column in columns:
+            shape[row, column] = 255
+    sheet.paste(GREYS + _SHADES + (colour == INNER) if sheet.mode == "P" else colour, None, image_of.fromarray(shape))
 
 
 @lru_cache
@@ -225,8 +228,8 @@ def _sign(text: str, size: int, mode: str) -> tuple[Any, Any]:
         for y in range(-_RIM, _RIM + 1):
             if x * x + y * y <= _RIM * _RIM:
                 _pen(shape).text((_RIM - left + x, _RIM - top + y), text, 255, font)
-    sign = ink.point([_GREYS + _SHADES - 1 - k * (_SHADES - 1) // 255 for k in range(256)])
-    sign.putpalette(_PALETTE)
+    sign = ink.point([GREYS + _SHADES - 1 - k * (_SHADES - 1) // 255 for k in range(256)])
+    sign.putpalette(_palette([0]))
     return sign.convert(mode) if mode != "P" else sign, shape.point([0] * 96 + [255] * 160).convert("1")
 
 
@@ -245,9 +248,3 @@ def _pen(sheet: Any) -> Any:
     from PIL import ImageDraw
 
     return ImageDraw.Draw(sheet)
-
-
-def _saved(sheet: Any, kind: str, **options: int) -> bytes:
-    out = io.BytesIO()
-    sheet.save(out, kind, **options)
-    return out.getvalue()

@@ -10,7 +10,7 @@ import json
 import re
 from collections.abc import Callable, Iterator
 from contextlib import suppress
-from dataclasses import dataclass
+from dataclasses import asdict, dataclass, field
 from datetime import UTC, datetime
 from functools import lru_cache
 from pathlib import Path
@@ -20,10 +20,13 @@ from .badges import Badge, badges_of
 from .columns import columns_of
 from .faults import Fault
 from .files import parsed, sum_of_bytes, write
-from .layout import JOINED, MADE, PICTURES, PLACES, SUMMARY, THUMBNAIL, WORKBOOK, drawing
+from .layout import FACES, JOINED, MADE, MESH, PICTURES, PLACES, SHEET, SKELETON_VIEWS, SLICES, SUMMARY, THUMBNAIL, WORKBOOK, drawing
 from .overlay import THUMBNAIL as LONGEST
+from .solidviews import Tiles
+from .spacing import InUnit
 from .tables import Row
 from .units import Pixel
+from .wholes import whole_of
 
 WEB = Path(__file__).parent / "web"
 # A page has at most so many rows, and small pictures of so many images: with more no browser is quick.
@@ -53,7 +56,7 @@ def jinja_version() -> str | None:
 @lru_cache
 def page_version() -> str:
     """The sum of all that shapes a page: its templates, and the modules that say what stands in it."""
-    sources = [*sorted(WEB.iterdir()), *(WEB.parent / name for name in ("page.py", "columns.py", "badges.py"))]
+    sources = [*sorted(WEB.iterdir()), *(WEB.parent / name for name in ("page.py", "columns.py", "badges.py", "solidviews.py", "wholes.py"))]
     return sum_of_bytes(b"".join(path.read_bytes() for path in sources if path.is_file()))
 
 
@@ -73,30 +76,43 @@ class Card:
 
 @dataclass(frozen=True)
 class Page:
-    """What a page is made of: the run's records and failures by the names of its images, its options, its unit, and the table of all objects."""
+    """What a page is made of: the run's records and failures by the names of its images, its options, its unit, and the table of all objects.
+
+    `below` tells in which folder an image's drawings lie, where that is not the page's. Of many images it has the first ones, and then it is told
+    how many images and rows there are in all.
+    """
 
     images: list[tuple[str, dict[str, Any] | None, str | None]]
     options: dict[str, Any]
-    pixel: Pixel | None
+    pixel: Pixel | InUnit | None
     versions: dict[str, Any]
     warnings: list[str]
     files: list[str]
     rows: list[Row]
     shown: Shown
+    volumes: list[Row] = field(default_factory=list)
+    below: dict[str, str] = field(default_factory=dict)
+    all_images: int | None = None
+    all_rows: int | None = None
+
+    @property
+    def _is_solid(self) -> bool:
+        return self.options.get("command") == "volume"
 
     def spelled(self) -> bytes:
         """The page's bytes, without a verdict. Missing where Jinja2 is not installed; see `jinja_version`."""
         thing = "label" if self.rows and "label" in self.rows[0] else "object"
-        told = f"{_count(len(self.images), 'image')}, {_count(max(len(self.rows) - 1, 0), thing)}"
+        what = "volume" if self._is_solid else "image"
+        told = f"{_count(self.all_images or len(self.images), what)}, {_count(self.all_rows or max(len(self.rows) - 1, 0), thing)}"
         text = _template().render(
             title=told, told=self._told(), things=thing + "s", warnings=[*self.warnings, *self._left_out()], limits=_LIMITS, said=self._said(), foot=list(self._foot()),
-            images=list(self._cards()), files=[(name, about) for name, about in _FILES if name in self.files],
-            data=_safe(self._data()), style=_safe_text("page.css"), script=_safe_text("page.js"),
+            what=what, whole=whole_of(self.volumes, self.pixel), images=list(self._cards()), files=[(name, about) for name, about in _FILES if name in self.files],
+            data=_safe(self._data()), style=_safe_text("page.css"), script=_safe_text("page.js") + _safe_text("slices.js"),
         )  # fmt: skip
         return text.encode("utf-8", "surrogateescape")
 
     def _told(self) -> str:
-        return f"thinned by the rule {self.options['rule']}; " + (f"a pixel is {self.pixel} wide" if self.pixel else "lengths in pixels")
+        return f"thinned by the rule {self.options['rule']}; " + (self.pixel.in_words if self.pixel else "lengths in voxels" if self._is_solid else "lengths in pixels")
 
     def _said(self) -> str:
         count = sum(record is not None for _, record, _ in self.images)
@@ -104,8 +120,10 @@ class Page:
         return f"{which} was checked by the proved program when it was made."
 
     def _left_out(self) -> Iterator[str]:
-        if len(self.rows) - 1 > MOST_ROWS:
-            yield f"the page has the first {MOST_ROWS:,} rows; objects.csv has all {len(self.rows) - 1:,}"
+        if self.all_images and self.all_images > len(self.images):
+            yield f"the page has the first {len(self.images):,} images; pictures.csv has all {self.all_images:,}"
+        if (count := self.all_rows or len(self.rows) - 1) > min(len(self.rows) - 1, MOST_ROWS):
+            yield f"the page has the first {min(len(self.rows) - 1, MOST_ROWS):,} rows; objects.csv has all {count:,}"
         if len(self.images) > MOST_PICTURES:
             yield f"the page has small pictures of the first {MOST_PICTURES} images; drawings has those of all"
 
@@ -124,7 +142,7 @@ class Page:
                 continue
             why = "no small picture: the drawings show it" if k >= MOST_PICTURES else "it has no small picture"
             badges = badges_of(record, records, areas.get(name, []))
-            yield Card(name, self._picture(k, record, THUMBNAIL, "jpeg"), why, _counts(record), _sides(record), badges, record["notes"], _links(name, record))
+            yield Card(name, self._picture(k, record, THUMBNAIL, "jpeg"), why, _counts(record), _sides(record), badges, record["notes"], _links(name, record, self.below.get(name, "")))
 
     def _areas(self) -> dict[str, list[int]]:
         """The areas of the objects of each image."""
@@ -154,7 +172,13 @@ class Page:
         if record is None:
             return {"name": name, "first": first, "places": None, "scale": 1, "fit": 1}
         scale = LONGEST / max(record["original"])
-        return {"name": name, "first": first, "places": self._picture(k, record, PLACES, "png"), "scale": round(scale, 6), "fit": record["fit"]}
+        told = {"name": name, "first": first, "places": self._picture(k, record, PLACES, "png"), "scale": round(scale, 6), "fit": record["fit"]}
+        return told | ({"slices": slices} if (slices := self._slices(k, record)) else {})
+
+    def _slices(self, k: int, record: dict[str, Any]) -> dict[str, Any] | None:
+        """The slices of a volume, for those who slide through them; None of a flat image, and where they were not drawn."""
+        sheet = self._picture(k, record, SHEET, "jpeg") if len(record["original"]) == 3 else None
+        return {"sheet": sheet, **asdict(Tiles.of(record["sides"], record["original"])), "depth": record["sides"][2]} if sheet else None
 
 
 @lru_cache
@@ -165,9 +189,12 @@ def _template() -> Any:
     return Environment(loader=FileSystemLoader(WEB), autoescape=True, undefined=StrictUndefined, trim_blocks=True, keep_trailing_newline=True).get_template("page.html")
 
 
-_DRAWINGS = (("over the image", ".png"), ("its branches", ".network.png"), ("lines and skeleton", ".svg"))
+_DRAWINGS = (
+    ("over the image", ".png"), ("its branches", ".network.png"), ("faces", FACES), ("skeleton", SKELETON_VIEWS), ("slices", SLICES), ("mesh", MESH), ("lines and skeleton", ".svg"),
+)  # fmt: skip
 _ROWS = {
     "holes.csv": "a row for each hole", "networks.csv": "a row for each network", "branches.csv": "a row for each branch", "widths.csv": "a row for each class of width",
+    "nodes.csv": "a row for each end and junction of a network", "volumes.csv": "a row for each volume: volume fraction, thickness, connectivity",
     "sides.csv": "a row for each straight side", "corners.csv": "a row for each corner", "circles.csv": "a row for each circle",
 }  # fmt: skip
 _FILES = [
@@ -176,16 +203,16 @@ _FILES = [
 ]  # fmt: skip
 
 
-def _links(name: str, record: dict[str, Any]) -> list[tuple[str, str]]:
-    """The drawings of an image, each with what it is called on the page."""
-    return [(told, target) for told, suffix in _DRAWINGS if (target := drawing(name, suffix)) in record["files"]]
+def _links(name: str, record: dict[str, Any], below: str) -> list[tuple[str, str]]:
+    """The drawings of an image, which lie below this folder, each with what it is called on the page."""
+    return [(told, below + target) for told, suffix in _DRAWINGS if (target := drawing(name, suffix)) in record["files"]]
 
 
 def _counts(record: dict[str, Any]) -> str:
     """How many objects, or labels, and holes an image has."""
     _, pieces, background = record["parts"]
     things = _count(pieces, "object") if record["labels"] is None else _count(len(record["labels"]), "label")
-    return f"{things} · {_count(background - 1, 'hole')}"
+    return f"{things} · {_count(background - 1, 'hole' if len(record['original']) == 2 else 'closed pore')}"
 
 
 def _sides(record: dict[str, Any]) -> str:

@@ -1,12 +1,14 @@
 """Pictures and volumes of two values, as the proved program reads them: a raw PBM, or a file of one byte a voxel."""
 from __future__ import annotations
 
+import glob
 import re
 from collections.abc import Sequence
 from dataclasses import dataclass
 from pathlib import Path
 
 import numpy as np
+import numpy.typing as npt
 
 from secondreading.limits import MOST_FLAT, MOST_SOLID
 
@@ -36,6 +38,29 @@ def told_suffix(sides: Sequence[int]) -> str:
     return ".pbm" if len(sides) == 2 else ".%dx%dx%d.raw" % tuple(sides)
 
 
+def suffix_beside(stem: Path) -> str | None:
+    """What the name of the picture ends in whose files' names begin with `stem`; None where none lies there, or several volumes do."""
+    if stem.with_name(stem.name + ".pbm").is_file():
+        return ".pbm"
+    found = [path.name.removeprefix(stem.name) for path in stem.parent.glob(glob.escape(stem.name) + ".*x*x*.raw")]
+    found = [suffix for suffix in found if _SIDES_IN_NAME.fullmatch(suffix)]
+    return found[0] if len(found) == 1 else None
+
+
+def solid_sides(suffix: str) -> tuple[int, int, int] | None:
+    """The sides of a volume whose name ends so; None of a flat picture."""
+    told = _SIDES_IN_NAME.fullmatch(suffix)
+    if told is None:
+        return None
+    x, y, z = map(int, told.groups())
+    return x, y, z
+
+
+def solid_mask(path: Path, sides: Sequence[int]) -> np.ndarray:
+    """The volume with these sides in a file, indexed [z, y, x]."""
+    return np.frombuffer(path.read_bytes(), np.uint8).reshape(tuple(sides)[::-1]) > 0
+
+
 def spelled(mask: np.ndarray) -> bytes:
     """The bytes of the picture's file: 1 where the mask is true."""
     if mask.ndim == 2:
@@ -53,9 +78,14 @@ def pbm_mask(data: bytes) -> np.ndarray:
     return np.unpackbits(rows, axis=1, count=width).astype(bool)
 
 
-def checked_mask(mask: np.ndarray, name: str = "the array") -> np.ndarray:
-    """The array as booleans. A Fault where it is none of two or three axes with sides that the program takes."""
-    mask = np.asarray(mask)
+def checked_mask(given: npt.ArrayLike, name: str = "the array") -> np.ndarray:
+    """The array as booleans: as it is, or of whole numbers of which one beside 0 occurs. A Fault where it is none of two or three axes with sides that
+    the program takes."""
+    mask: np.ndarray = np.asarray(given)
+    if np.issubdtype(mask.dtype, np.integer):
+        if mask.size and not ((mask == 0) | (mask == mask.flat[np.argmax(mask != 0)])).all():
+            raise Fault(name, f"an array of {mask.dtype} with several values beside 0", "compare it with a threshold: `image > t`; of labels: `labels == k`")
+        mask = mask != 0
     if mask.dtype != bool:
         raise Fault(name, f"an array of {mask.dtype}, not of booleans", "compare it with a threshold: `image > t`")
     if mask.ndim not in (2, 3):

@@ -3,7 +3,7 @@ from __future__ import annotations
 
 from collections.abc import Sequence
 from pathlib import Path
-from typing import Any
+from typing import IO, Any
 
 import numpy as np
 
@@ -11,20 +11,26 @@ from .archives import SUFFIX as ARCHIVE
 from .arrays import verdict
 from .faults import Fault
 from .images import pillow_version
-from .layout import FURTHER, HOLES, PLACES, THUMBNAIL, drawing, evidence, part
-from .networks import SKELETON
-from .overlay import Overlay, middle_slice
+from .layout import FACES, FURTHER, HOLES, MESH, PLACES, REGION, SHEET, SKELETON_VIEWS, SLICES, THUMBNAIL, drawing, evidence, part
+from .network import SKELETON
+from .overlay import Overlay
 from .parts import names_in, tables_of, works
 from .parts import suffixes_of as part_suffixes
-from .pictures import Source, sides_of, spelled, suffix_of, told_suffix
+from .pictures import Source, sides_of, spelled, suffix_beside, suffix_of, told_suffix
 from .plan import Plan, Wanted
 from .programs import Answer, call, explained, made
+from .solidviews import Solid
 
 # The words for a drawing, the best one first: with the numbers of the objects, where the program knows this word; and of the contours alone, where any other is too large.
 DRAWINGS = (("draw", "labels"), ("draw",), ("draw", "contours"))
 
 # The masks that have two bytes for each point.
 GREY = ("distances", "thickness")
+
+
+def tables_words(is_solid: bool) -> tuple[tuple[str, ...], ...]:
+    """The words for the table of a report, the best ones first: of a volume with the thickness, where the program knows it."""
+    return (("measure", "thickness"), ("measure",)) if is_solid else (("measure",),)
 
 
 def measured(image: Path, stem: Path, rule: str, about: str) -> Path:
@@ -39,8 +45,19 @@ def measured(image: Path, stem: Path, rule: str, about: str) -> Path:
     if not answer:
         raise Fault(about, f"its fresh report does not hold ({answer})", "this must never be: is the disk or the memory broken?")
     with open(stem.with_name(stem.name + ".csv"), "wb") as out:
-        made("measure", report, out=out, about=about)
+        write_table(report, bool(source.sides), out, about)
     return report
+
+
+def write_table(report: Path, is_solid: bool, out: IO[bytes], about: str) -> None:
+    """Writes the table of a report by the first of the words for it that the program knows. A Fault about the image `about` where it refuses."""
+    for words in tables_words(is_solid):
+        answer = call(*words, report, out=out)
+        if not answer.status:
+            return
+        out.seek(0)
+        out.truncate()
+    raise explained(about, answer)
 
 
 def evidence_of(mask: np.ndarray, stem: Path, plan: Plan, wanted: Wanted, about: str) -> Path:
@@ -78,10 +95,14 @@ def _drawn(report: Path, drawing: Path) -> Answer:
     return answer
 
 
-def write_slice(original: np.ndarray, mask: np.ndarray, fit: int, stem: Path) -> None:
-    """Writes the middle slice of a volume for the page, with what was found in it; nothing where Pillow is not installed."""
+def write_solid_shown(solid: Solid, skeleton: np.ndarray | None, stem: Path) -> None:
+    """Writes drawings of a volume, and what the page shows of it; of its skeleton where its points are given. Nothing where Pillow is not installed."""
     if pillow_version() is not None:
-        stem.with_name(stem.name + THUMBNAIL).write_bytes(Overlay(middle_slice(original, mask, fit), [], []).thumbnail())
+        data = {FACES: solid.faces(), SLICES: solid.slices(), SHEET: solid.sheet(), THUMBNAIL: solid.thumbnail()}
+        if skeleton is not None:
+            data[SKELETON_VIEWS] = solid.skeleton(skeleton)
+        for suffix, own in data.items():
+            stem.with_name(stem.name + suffix).write_bytes(own)
 
 
 def write_shown(overlay: Overlay, stem: Path) -> None:
@@ -106,11 +127,22 @@ def mask_suffix(kind: str, sides: Sequence[int]) -> str:
     return f".{kind}" + (told_suffix(sides).removesuffix("raw") + "16bit.raw" if kind in GREY else told_suffix(sides))
 
 
+def clear_evidence(stem: Path, suffix: str) -> None:
+    """Takes away what a picture's numbers are checked by, where its file ends in this: its file and its report, and all files of its parts."""
+    names = [name for path in stem.parent.glob("*.report") if (name := path.name.removesuffix(".report"))]
+    for name in names:
+        for own in (suffix, ".report", *([".csv"] if name != stem.name else [])):
+            stem.with_name(name + own).unlink(missing_ok=True)
+
+
 def suffixes_of(record: dict[str, Any], sides: Sequence[int], packed: str) -> set[str]:
-    """What the names of the evidence end in of a picture with such a record and these sides, whose reports end in `.report` and what is given; without its parts."""
+    """What the names of the evidence end in of a picture, or of that of a label, with such a record and these sides, whose reports end in `.report` and what
+    is given; without its parts."""
     suffixes = {told_suffix(sides), ".report" + packed, *(mask_suffix(kind, sides) for kind in record["masks"])}
-    if record["grey"]:
+    if record["grey"] and record["labels"] is None:
         suffixes.add(FURTHER["objects.csv"])
+    if record["region"]:
+        suffixes.add(f".{REGION}{told_suffix(sides)}")
     return suffixes | tables_of(Wanted.of(record), len(sides) == 2)
 
 
@@ -119,11 +151,13 @@ def names_of(key: str, record: dict[str, Any]) -> set[str]:
 
     Those that show the original image, the drawing of a volume, and what is about holes and other parts are there where the record names them.
     """
-    shown = {drawing(key, ".png"), drawing(key, ".network.png"), evidence(key, THUMBNAIL), evidence(key, PLACES), evidence(key, HOLES), drawing(key, ".svg")} & record["files"].keys()
+    shown = {drawing(key, ".png"), drawing(key, ".network.png"), evidence(key, THUMBNAIL), evidence(key, PLACES), evidence(key, HOLES), drawing(key, ".svg")}
+    shown = (shown | {evidence(key, SHEET), *(drawing(key, suffix) for suffix in (FACES, SKELETON_VIEWS, SLICES, MESH))}) & record["files"].keys()
     if record["labels"] is not None:
-        return shown | {evidence(key, suffix) for suffix in {ARCHIVE, *tables_of(Wanted.of(record), len(record["sides"]) == 2)}}
-    drawn, packed = {drawing(key, ".svg")} if len(record["sides"]) == 2 else set(), "" if record["plain"] else ".gz"
-    suffixes = suffixes_of(record, record["sides"], packed) | part_suffixes(names_in(Path(key), record["files"]), packed)
+        further = {FURTHER["objects.csv"]} if record["grey"] else set()
+        return shown | {evidence(key, suffix) for suffix in {ARCHIVE, *further, *tables_of(Wanted.of(record), len(record["sides"]) == 2)}}
+    drawn, packed = {drawing(key, ".svg")} if len(record["sides"]) == 2 and record["drawn"] else set(), "" if record["plain"] else ".gz"
+    suffixes = suffixes_of(record, record["sides"], packed) | part_suffixes(names_in(Path(key), record["files"]), packed, told_suffix(record["sides"]))
     return shown | drawn | {evidence(key, suffix) for suffix in suffixes}
 
 
@@ -132,13 +166,14 @@ def write_parts(stem: Path, report: Path, wanted: Wanted, about: str) -> None:
 
     A Fault about the image `about` where the program refuses.
     """
-    if wanted.network:
+    picture = suffix_beside(stem)
+    if wanted.network and picture == ".pbm":
         with open(part(stem, SKELETON, ".pbm"), "wb") as out:
             made("mask", "skeleton", report, out=out, about=about)
     for work in works(stem, wanted):
         tables = {}
         for name, data in work.pictures.items():
-            image = part(stem, name, ".pbm")
+            image = part(stem, name, picture)
             image.write_bytes(data)
             measured(image, part(stem, name, ""), work.rule, about)
             tables[name] = part(stem, name, ".csv").read_text()

@@ -1,13 +1,17 @@
 """Finds the proved program `shape` and calls it. All measuring is done there.
 
 It is looked for in the folder that SHAPE_BIN names, then in the clone of the repository that this package lies in, then
-on the PATH.
+where `./install` put it beside this package, then in the environment of this Python, and at last on the PATH.
 """
 from __future__ import annotations
 
 import os
 import shutil
 import subprocess
+import sys
+import tempfile
+from collections.abc import Iterator
+from contextlib import contextmanager
 from dataclasses import dataclass
 from functools import lru_cache
 from pathlib import Path
@@ -15,8 +19,9 @@ from typing import IO
 
 from secondreading.limits import MOST_FLAT, MOST_SOLID
 
-from .faults import Fault, Missing
+from .faults import Fault, Full, Missing
 from .files import sum_of
+from .stopping import cleared
 
 NAME = "shape"
 
@@ -27,7 +32,6 @@ _WORDS = (
     ("bytes after the volume", "the volume has more bytes than its sides say", "are the sides right?"),
     ("picture ends early", "the file ends before its last pixel", "was it cut on the way, or are the sides others?"),
     ("read failed", "a file could not be read", "is it there, and may you read it?"),
-    ("write failed", "the output could not be written", "is the disk full?"),
     ("no memory", "not enough memory", "give fewer --jobs"),
     ("usage: ", "the program shape that is found is of another version", "build it anew, or name the folder of the new one in SHAPE_BIN"),
 )  # fmt: skip
@@ -35,12 +39,18 @@ _WORDS = (
 
 def _places() -> list[Path]:
     given = os.environ.get("SHAPE_BIN")
-    clone = Path(__file__).resolve().parents[2] / "crates" / NAME / "out" / NAME
-    return ([Path(given) / NAME] if given else []) + [clone]
+    above = Path(__file__).resolve().parents
+    clone, installed, environment = above[2] / "crates" / NAME / "out" / NAME, above[min(3, len(above) - 1)] / "bin" / NAME, Path(sys.prefix) / "bin" / NAME
+    return ([Path(given) / NAME] if given else []) + [clone, installed, environment]
 
 
 def find() -> Path:
     """Where the program is. Missing, a Fault, where it is nowhere."""
+    return _found(os.environ.get("SHAPE_BIN"), os.environ.get("PATH"))
+
+
+@lru_cache
+def _found(_given: str | None, _path: str | None) -> Path:
     for place in _places():
         if place.is_file() and os.access(place, os.X_OK):
             return place
@@ -81,14 +91,54 @@ class Answer:
 def call(*words: object, out: IO[bytes] | None = None) -> Answer:
     """Calls the program; what it writes goes to `out` where that is given. A Fault where it is not found or ends by a signal."""
     path = find()
+    with _paper() as told, _paper() as message:
+        status = _run([str(path), *map(str, words)], out.fileno() if out else told, message)
+        if status < 0:
+            raise Fault(path, f"was ended by signal {-status}", "give fewer --jobs, if memory is short")
+        text, line = (b"" if out else _written(told)), _written(message)
+    return Answer(status, text.decode(errors="replace"), line.decode(errors="replace").strip().removeprefix(NAME + ": "))
+
+
+@contextmanager
+def _paper() -> Iterator[int]:
+    """A file without a name to write into, in memory where the system has such: its number."""
+    if not hasattr(os, "memfd_create"):
+        with tempfile.TemporaryFile() as file:
+            yield file.fileno()
+        return
+    number = os.memfd_create(NAME)
     try:
-        done = subprocess.run([path, *map(str, words)], stdin=subprocess.DEVNULL, stdout=out or subprocess.PIPE, stderr=subprocess.PIPE)
+        yield number
+    finally:
+        os.close(number)
+
+
+def _written(number: int) -> bytes:
+    """All that was written into a file by another process."""
+    if not (size := os.fstat(number).st_size):
+        return b""
+    os.lseek(number, 0, os.SEEK_SET)
+    parts = []
+    while size > 0 and (part := os.read(number, size)):
+        parts.append(part)
+        size -= len(part)
+    return b"".join(parts)
+
+
+@lru_cache
+def _nothing() -> int:
+    """The number of an empty file to read from."""
+    return os.open(os.devnull, os.O_RDONLY)
+
+
+def _run(words: list[str], out: int, message: int) -> int:
+    """Calls a program that writes into files of these numbers, and waits for its end: its status. It is ended where this is. A Fault where it cannot be run."""
+    try:
+        process = subprocess.Popen(words, stdin=_nothing(), stdout=out, stderr=message)
     except OSError as error:
-        raise Fault(path, f"cannot be run ({error.strerror})", "is it built for this machine?") from error
-    if done.returncode < 0:
-        raise Fault(path, f"was ended by signal {-done.returncode}", "give fewer --jobs, if memory is short")
-    message = done.stderr.decode(errors="replace").strip().removeprefix(NAME + ": ")
-    return Answer(done.returncode, (done.stdout or b"").decode(errors="replace"), message)
+        raise Fault(words[0], f"cannot be run ({error.strerror})", "is it built for this machine?") from error
+    with process, cleared(process.kill):
+        return process.wait()
 
 
 def explained(about: object, answer: Answer) -> Fault:
@@ -96,6 +146,8 @@ def explained(about: object, answer: Answer) -> Fault:
     for words, reason, remedy in _WORDS:
         if answer.message.startswith(words):
             return Fault(about, f"{reason} ({answer.message})" if answer.message != reason else reason, remedy)
+    if answer.message.startswith("write failed"):
+        return Full(about, f"the output could not be written ({answer.message})", "make room: the same command goes on where it was")
     return Fault(about, answer.message or f"refused with status {answer.status}")
 
 

@@ -7,19 +7,23 @@ from __future__ import annotations
 
 import gzip
 import zlib
-from collections.abc import Iterator, Sequence
+from collections.abc import Callable, Iterator, Sequence
 from dataclasses import dataclass
 from functools import cached_property
 from pathlib import Path
+from typing import overload
 
 import numpy as np
 
+from .equal import Alike
 from .faults import Fault
 from .further import BallReport, EdgeReport, PieceReport
 from .lines import REMEDY, Lines
 from .runs import Runs, offsets
 
-Report = "Analysis | EdgeReport | PieceReport | BallReport"
+
+# How the further reports are read, by their first words.
+_FURTHER: dict[str, Callable[[Lines, list[str]], EdgeReport | PieceReport | BallReport]] = {"edges": EdgeReport.of, "pieces": PieceReport.of, "balls": BallReport.of}
 
 _FLAT = ("parts", "near", "contour", "at", "seg", "least", "turn", "cut", "del", "tip", "kept", "end")
 _SOLID = ("parts", "near", "face", "patch", "on", "off", "del", "tip", "kept", "end")
@@ -39,8 +43,8 @@ class Counts:
         return self.background - 1
 
 
-@dataclass(frozen=True)
-class Contour:
+@dataclass(frozen=True, eq=False)
+class Contour(Alike):
     """A border: its points in order, with the object on the right hand, and its maximal segments."""
 
     points: np.ndarray
@@ -63,14 +67,22 @@ class Contours(Sequence[Contour]):
     def __len__(self) -> int:
         return len(self.heads)
 
-    def __getitem__(self, k: int) -> Contour:
+    @overload
+    def __getitem__(self, k: int) -> Contour: ...
+
+    @overload
+    def __getitem__(self, k: slice) -> list[Contour]: ...
+
+    def __getitem__(self, k: int | slice) -> Contour | list[Contour]:
+        if isinstance(k, slice):
+            return [self[one] for one in range(len(self))[k]]
         k = range(len(self))[k]
         points = self.points[self._points[k] : self._points[k + 1]]
         return Contour(points, int(self.heads[k, 2]), self.segments[self._segments[k] : self._segments[k + 1]])
 
 
-@dataclass(frozen=True)
-class Patch:
+@dataclass(frozen=True, eq=False)
+class Patch(Alike):
     """A facet of a volume's surface, seen along an axis (0, 1, 2) against or with it (sense -1 or 1).
 
     Its voxels (x, y, z) lie on the plane (a, b, c, mu): `mu <= a x + b y + c z < mu + main`, with the coefficient of the axis.
@@ -92,15 +104,28 @@ class Patches(Sequence[Patch]):
     def __len__(self) -> int:
         return len(self.planes)
 
-    def __getitem__(self, k: int) -> Patch:
+    @overload
+    def __getitem__(self, k: int) -> Patch: ...
+
+    @overload
+    def __getitem__(self, k: slice) -> list[Patch]: ...
+
+    def __getitem__(self, k: int | slice) -> Patch | list[Patch]:
+        if isinstance(k, slice):
+            return [self[one] for one in range(len(self))[k]]
         k = range(len(self))[k]
         a, b, c, mu = map(int, self.planes[k])
         return Patch(int(self.axes[k]), int(self.senses[k]), (a, b, c, mu), self.points[self._points[k] : self._points[k + 1]])
 
 
-@dataclass(frozen=True)
+@dataclass(frozen=True, eq=False, repr=False)
 class Analysis:
-    """A report of `shape analyse`: of a flat picture (two sides) or of a volume (three)."""
+    """A report of `shape analyse`: of a flat picture (two sides) or of a volume (three). Two are equal where their texts are.
+
+    `sides` are those of the picture, x first. Of arrays of int64 there is a row (x, y) or (x, y, z) for each object point in `points`, its nearest point of
+    the background in `nearest` and their squared distance in `squares`; for each step of the thinning its point in `events`, and in `marked` (of
+    booleans) whether the rule marked it as an end. `parts` and `kept` count the picture's points and those of the skeleton. Lengths are in pixels.
+    """
 
     name: str
     text: bytes
@@ -117,10 +142,24 @@ class Analysis:
     events: np.ndarray
     marked: np.ndarray
 
+    def __repr__(self) -> str:
+        sides, (points, pieces) = " by ".join(map(str, self.sides)), (self.parts.points, self.parts.pieces)
+        return f"<Analysis of {sides} {'pixels' if len(self.sides) == 2 else 'voxels'}, rule {self.rule}: {points} points, {pieces} pieces, {self.parts.holes} holes>"
+
+    def __eq__(self, other: object) -> bool:
+        return isinstance(other, Analysis) and self.text == other.text
+
+    def __hash__(self) -> int:
+        return hash(self.text)
+
+    def __reduce__(self) -> tuple[object, ...]:
+        return _read_again, (self.text, self.name)
+
     @cached_property
     def distances(self) -> np.ndarray:
         """For each of `points` the distance to its nearest background point in pixels: the roots of `squares`."""
-        return np.sqrt(self.squares)
+        roots: np.ndarray = np.sqrt(self.squares)
+        return roots
 
     @cached_property
     def mask(self) -> np.ndarray:
@@ -140,25 +179,27 @@ class Analysis:
     @cached_property
     def skeleton_mask(self) -> np.ndarray:
         """The skeleton as an image of booleans: the object points that no `del` line takes away."""
-        left = self.mask.copy()
+        left: np.ndarray = self.mask.copy()
         left[self._index(self.events[~self.marked])] = False
         return left
 
     @cached_property
     def skeleton(self) -> np.ndarray:
         """The points of the skeleton, in raster order."""
-        return self.points[self.skeleton_mask[self._index(self.points)]]
+        left: np.ndarray = self.points[self.skeleton_mask[self._index(self.points)]]
+        return left
 
     @property
     def tips(self) -> np.ndarray:
         """The points that the rule marked as ends, in the order of the thinning."""
-        return self.events[self.marked]
+        marked: np.ndarray = self.events[self.marked]
+        return marked
 
     def _index(self, points: np.ndarray) -> tuple[np.ndarray, ...]:
         return tuple(points[:, k] for k in reversed(range(len(self.sides))))
 
     def _image(self, points: np.ndarray, values: np.ndarray) -> np.ndarray:
-        image = np.zeros(self.sides[::-1], values.dtype)
+        image: np.ndarray = np.zeros(self.sides[::-1], values.dtype)
         image[self._index(points)] = values
         return image
 
@@ -197,7 +238,7 @@ def heading_of(path: Path) -> list[str]:
     return head.split(b"\n", 1)[0].decode("ascii", "replace").split(" ")
 
 
-def read(report: str | Path | bytes):
+def read(report: str | Path | bytes) -> Analysis | EdgeReport | PieceReport | BallReport:
     """Reads a report, given by the name of its file (gzipped or not) or as its text.
 
     An `Analysis`, or an `EdgeReport`, a `PieceReport` or a `BallReport` by its first word. A Fault where it is no report.
@@ -205,15 +246,23 @@ def read(report: str | Path | bytes):
     text, name = text_of(report)
     lines = Lines.of(text, name)
     heading = lines.words(0)
-    further = {"edges": EdgeReport, "pieces": PieceReport, "balls": BallReport}.get(heading[0])
+    further = _FURTHER.get(heading[0])
     if heading[0] != "shape" and further is None:
         raise Fault(
             name, "not a report: its first line begins with none of `shape`, `edges`, `pieces` and `balls`", "is it the right file?"
         )
     try:
-        return further.of(lines, heading) if further else _analysis(lines, text, heading)
+        return further(lines, heading) if further else _analysis(lines, text, heading)
+    except Fault:
+        raise
     except (ValueError, IndexError, OverflowError) as error:
         raise Fault(name, "not a report: its lines do not fit together", REMEDY) from error
+
+
+def _read_again(text: bytes, name: str) -> Analysis:
+    """The analysis that was pickled as the text of its report."""
+    lines = Lines.of(text, name)
+    return _analysis(lines, text, lines.words(0))
 
 
 def _analysis(lines: Lines, text: bytes, heading: list[str]) -> Analysis:
@@ -226,14 +275,14 @@ def _analysis(lines: Lines, text: bytes, heading: list[str]) -> Analysis:
     sides = tuple(map(int, heading[3:-1]))
     near = lines.numbers("near", 2 * axes + 1)
     points, nearest, squares = near[:, :axes], near[:, axes:-1], near[:, -1]
-    happened = np.union1d(lines.where("del"), lines.where("tip"))
+    happened = lines.where_any("del", "tip")
     events = lines.numbers_at(happened, axes)
     for where in (points, events):
-        if ((where < 0) | (where >= sides)).any():
+        if where.size and (where.min() < 0 or (where.max(0) >= sides).any()):
             raise Fault(lines.name, "not a report: a point lies outside the picture", REMEDY)
     return Analysis(
         lines.name, text, int(heading[1]), sides, heading[-1], _counts(lines, "parts"), _counts(lines, "kept"),
-        points, nearest, squares, _contours(lines), _patches(lines), events, np.isin(happened, lines.where("tip")),
+        points, nearest, squares, _contours(lines), _patches(lines), events, lines.begin(happened, "tip"),
     )  # fmt: skip
 
 
@@ -286,6 +335,8 @@ def contours_in(report: str | Path | bytes) -> tuple[tuple[int, ...], Contours]:
         raise Fault(name, "not the report of `shape analyse` of a flat picture", "is it the right file?")
     try:
         return (int(heading[3]), int(heading[4])), _contours(_lines_of_contours(text, name))
+    except Fault:
+        raise
     except (ValueError, IndexError) as error:
         raise Fault(name, "not a report: its lines do not fit together", REMEDY) from error
 
@@ -301,5 +352,8 @@ def borders_of(text: bytes) -> tuple[np.ndarray, np.ndarray]:
 def _lines_of_contours(text: bytes, name: str) -> Lines:
     """Of a flat picture's report the lines of contours, behind an empty one in the place of the heading."""
     begin = text.find(b"\ncontour ") + 1
-    ends = [end + 1 for word in (b"\ndel ", b"\ntip ", b"\nkept ") if (end := text.find(word, begin)) > 0]
-    return Lines.of(b"\n" + (text[begin : min(ends, default=len(text))] if begin else b""), name)
+    end = len(text)
+    for word in (b"\ndel ", b"\ntip ", b"\nkept "):
+        found = text.find(word, begin, end) + 1
+        end = found or end
+    return Lines.of(b"\n" + (text[begin:end] if begin else b""), name)

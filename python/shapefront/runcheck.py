@@ -6,7 +6,6 @@ The proved program gives each verdict on a report, a table, a drawing or a mask;
 from __future__ import annotations
 
 from collections.abc import Callable, Iterable, Iterator
-from concurrent.futures import ThreadPoolExecutor
 from dataclasses import dataclass, field
 from pathlib import Path
 from typing import Any
@@ -17,6 +16,7 @@ from .archives import unpacked
 from .beside import Asked, Beside, Covered, check_beside, refused, stem_of, wrong_in_parts
 from .checking import Finding
 from .comparing import of_members, of_tables, of_texts
+from .crew import Crew
 from .faults import Fault
 from .files import read_json, shown, sum_of, sum_of_bytes
 from .folder import originals
@@ -27,14 +27,16 @@ from .layout import EVIDENCE, HOLES, MADE, PAGE, SUMMARY, WORKBOOK, drawing, evi
 from .making import Record
 from .page import jinja_version, page_version, tell, without_verdict
 from .parts import Again, names_in
+from .pictures import suffix_beside
 from .plan import Wanted
 from .programs import sums
 from .report import heading_of
 from .seals import SEAL
 from .tables import rows_of, text_of
-from .workbook import is_same, openpyxl_version
+from .workbook import is_same, workbook_version
 
 _BY_ORIGINALS = "what only the original images tell (names, labels, thresholds, intensities, what was done to them), and "
+_BY_VALUED = "the intensities, as --intensities was not given, and "
 _UNTOLD = "the pixel's size"
 _FOREIGN = "it, or a record that it names, is none that `shapes` wrote"
 _NOT_RECORDS = (KeyError, TypeError, ValueError, AttributeError, IndexError)
@@ -42,7 +44,7 @@ _NOT_RECORDS = (KeyError, TypeError, ValueError, AttributeError, IndexError)
 Told = tuple[Path, Finding]
 
 
-def _sum(path: Path) -> str | None:
+def sum_of_file(path: Path) -> str | None:
     """The sum of a file; that of a page without what an earlier check said in it."""
     return sum_of_bytes(without_verdict(path.read_bytes())) if path.name == PAGE and path.is_file() else sum_of(path)
 
@@ -82,16 +84,20 @@ class RunCheck:
     @classmethod
     def of(cls, folder: Path, made: dict[str, Any], asked: Asked) -> RunCheck:
         allowed = [*asked.allowed, MADE, *originals(folder, made)]
-        return cls(folder, made, asked, Inventory.of(folder, made["files"], allowed, _sum))
+        return cls(folder, made, asked, Inventory.of(folder, made["files"], allowed, sum_of_file))
 
     def findings(self) -> Iterator[Finding | Covered]:
         """All findings: on pictures, on files of all, and on what is missing, changed or added; and what they cover."""
+        if self.made["options"]["no_report"]:
+            unchecked = Finding(shown(self.folder / MADE), False, "it was measured with --no-report, so there is nothing to check its numbers by; measure again without it")
+            yield from self._said([(self.folder / MADE, unchecked)])
+            yield from self._said(self._of_inventory())
+            return
         names = sorted((image["record"] for image in self.made["images"] if image["record"]), key=lambda name: Path(name).with_suffix(""))
         checked = {}
-        with ThreadPoolExecutor(self.asked.jobs) as pool:
-            for name, one in zip(names, pool.map(self._picture, names)):
-                checked[name] = one
-                yield from self._said(one.findings)
+        for name, one in zip(names, Crew(self._picture, self.asked.jobs).in_order(names)):
+            checked[name] = one
+            yield from self._said(one.findings)
         if self.asked.originals:
             yield from self._said(self._of_originals(self.asked.originals, checked))
         yield from self._said(self._of_all(checked))
@@ -183,6 +189,8 @@ class RunCheck:
         try:
             again = record_again(record, self.made, beside.report)
             return again, of_members({**record, SEAL: again[SEAL]}, again)
+        except Fault:
+            raise
         except _NOT_RECORDS:
             return None, "it is no record that `shapes` wrote of this report"
 
@@ -199,7 +207,7 @@ class RunCheck:
             return [(stem, refused(shown(stem), fault))], {}
         wrong = list(wrong_in_parts(stem, again))
         told = {stem.with_name(stem.name + suffix): suffix in again.tables for suffix in (HOLES,)}
-        told |= {part(stem, name, ".pbm"): name in again.pictures for name in again.pictures.keys() | set(names)}
+        told |= {part(stem, name, suffix_beside(stem) or ".pbm"): name in again.pictures for name in again.pictures.keys() | set(names)}
         for path, is_made in told.items():
             if is_made != (str(path.relative_to(self.folder)) in self.made["files"]):
                 wrong.append((path, Finding(shown(path), False, "made.json does not name it" if is_made else "nothing made it")))
@@ -208,7 +216,7 @@ class RunCheck:
     def _of_originals(self, originals: Path, checked: dict[str, Checked]) -> Iterator[Told]:
         """The findings on the images that were measured, each by the record of its first picture, or by `made.json` where it has none."""
         records = {name: one.record for name, one in checked.items() if one.record is not None}
-        for told, finding in ImageCheck(originals, self.folder, self.made, records).findings(self.asked.jobs):
+        for told, finding in ImageCheck(originals, self.folder, self.made, records, self.asked.intensities).findings(self.asked.jobs):
             yield self.folder / (told["record"] or MADE), finding
 
     def _of_all(self, checked: dict[str, Checked]) -> Iterator[Told]:
@@ -216,9 +224,14 @@ class RunCheck:
         records = {name: one.record for name, one in checked.items() if one.record is not None}
         if len(records) < len(checked):
             return
+
+        def table(record: Record, suffix: str) -> str:
+            return self._table(checked[record_of_key(record["image"])], record, suffix)
+
         try:
             run = run_again(self.made, records)
-            files = run.of_all(lambda record, suffix: self._table(checked[record_of_key(record["image"])], record, suffix))
+            files, kept = run.of_all(table), {name: sum_ for name, sum_ in self.made["files"].items() if name == WORKBOOK or name in self._untold()}
+            made = None if files else run.made(files, table, kept)
         except Fault as fault:
             yield Path(fault.about), refused(shown(fault.about), fault)
             return
@@ -226,20 +239,19 @@ class RunCheck:
             path = self.folder / name
             if path.is_file():
                 yield path, self._compared(path, data)
-        kept = {name: sum_ for name, sum_ in self.made["files"].items() if name == WORKBOOK or name in self._untold()}
         if WORKBOOK in kept and WORKBOOK not in self._untold():
             book = run.workbook(files)
             yield from self._same(WORKBOOK, lambda own: book is not None and is_same(own, book), "its cells are not those of the tables")
         if PAGE in self.made["files"] and PAGE not in kept:
-            files[PAGE] = page = run.page([*files, *kept], files.get("objects.csv", b""), self._shown)
+            files[PAGE] = page = run.page([*files, *kept], files, self._shown)
             yield from self._same(PAGE, lambda own: without_verdict(own) == page, "it is not the page that the tables and the records give")
-        why = of_members(self.made, run.made(files, kept))
+        why = of_members(self.made, made or run.made(files, table, kept))
         yield self.folder / MADE, Finding(shown(self.folder / MADE), why is None, why or "")
 
     def _untold(self) -> list[str]:
         """The files of all that are compared by their sums alone, as another version made them, or what makes them is not installed."""
         versions = self.made["versions"]
-        is_there = {PAGE: bool(jinja_version()) and page_version() == versions.get("page"), WORKBOOK: openpyxl_version() == versions.get("openpyxl")}
+        is_there = {PAGE: bool(jinja_version()) and page_version() == versions.get("page"), WORKBOOK: workbook_version() == versions.get("workbook")}
         return [name for name, here in is_there.items() if name in self.made["files"] and not here]
 
     def _shown(self, record: Record, suffix: str) -> bytes | None:
@@ -278,10 +290,14 @@ class RunCheck:
         good = sum(self._is_good(checked[image["record"]]) for image in images)
         failed = sum(image["failure"] is not None for image in self.made["images"])
         told = f" ({failed} failed when {'they were' if failed > 1 else 'it was'} measured)" if failed else ""
-        untold = _UNTOLD if self.asked.originals else _BY_ORIGINALS + _UNTOLD
+        untold = (_BY_VALUED if self._lacks_values() else "") + _UNTOLD if self.asked.originals else _BY_ORIGINALS + _UNTOLD
         by_sums = f"; by sums alone, as another version made them, or what makes them is not installed: {', '.join(names)}" if (names := self._untold()) else ""
         other = "" if self.made["programs"] == sums() else "; another build of the program made it, by the sum in made.json"
         return f"checked {good} of {len(images)} images{told}, {self.rows:,} rows, {files:,} files; not checked: {untold}{by_sums}{other}"
+
+    def _lacks_values(self) -> bool:
+        """Whether the intensities are those of other images that nobody gave."""
+        return bool(self.made["options"].get("intensities")) and self.asked.intensities is None
 
     def _is_good(self, one: Checked) -> bool:
         if one.record is None or not all(finding.holds for _, finding in one.findings):

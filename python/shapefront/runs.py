@@ -5,14 +5,16 @@ from dataclasses import dataclass
 
 import numpy as np
 
+from .equal import Alike
+
 
 def offsets(counts: np.ndarray) -> np.ndarray:
     """Where each of some stretches begins that lie one behind the other, and where the last one ends."""
     return np.concatenate([[0], np.cumsum(counts)])
 
 
-@dataclass(frozen=True)
-class Runs:
+@dataclass(frozen=True, eq=False)
+class Runs(Alike):
     """Runs on naive lines, a row for each: `begin, end, axis, a, b, mu`, and their `least` lines where the report has them.
 
     A run holds the contour's points from place `begin` to place `end`, counted on round it; its points lie on

@@ -4,7 +4,6 @@ There is one spelling of a record, so its bytes are made again from what it says
 """
 from __future__ import annotations
 
-from pathlib import Path
 from typing import Any
 
 from .files import parsed, spelled_json, sum_of_bytes
@@ -24,14 +23,6 @@ def opened(data: bytes) -> dict[str, Any] | None:
         return None
     own = {name: member for name, member in value.items() if name != SEAL}
     return value if spelled_json(sealed(own)) == data else None
-
-
-def is_sealed(path: Path) -> bool:
-    """Whether a file is there and is a sealed value as it was written."""
-    try:
-        return opened(path.read_bytes()) is not None
-    except OSError:
-        return False
 
 
 def why_not(data: bytes) -> str:

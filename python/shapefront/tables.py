@@ -13,18 +13,18 @@ from functools import partial
 from .faults import Fault
 from .files import encoded
 from .places import PLACES, in_image
-from .units import POWERS, Pixel
+from .units import POWERS, Size
 
 Row = list[str]
 
-_MARK = b"\xef\xbb\xbf"
+MARK = b"\xef\xbb\xbf"
 
 
 @dataclass(frozen=True)
 class Part:
     """One picture's table, with what the rows of all of them say of the picture: how many of the image's pixels one is wide, and the image's sides.
 
-    `rest` is a further table with the rest of each row, where there is one.
+    `rest` is a further table with the rest of each row, where there is one; `size` the size of its own voxels, where it has one.
     """
 
     image: str
@@ -32,6 +32,7 @@ class Part:
     original: Sequence[int]
     table: str
     rest: str | None = None
+    size: Size | None = None
 
 
 def rows_of(table: str) -> list[Row]:
@@ -51,33 +52,36 @@ def spelled_rows(rows: Iterable[Row]) -> bytes:
 
 def marked(table: bytes) -> bytes:
     """A table as a spreadsheet opens it right: with the mark of UTF-8 before it where it has other letters than those of ASCII."""
-    return table if table.isascii() else _MARK + table
+    return table if table.isascii() else MARK + table
 
 
 def text_of(table: bytes) -> str:
     """The text of a table's file, without that mark."""
-    return table.removeprefix(_MARK).decode("utf-8", "surrogateescape")
+    return table.removeprefix(MARK).decode("utf-8", "surrogateescape")
 
 
-def joined(parts: Iterable[Part], pixel: Pixel | None) -> Iterator[Row]:
-    """The rows of all tables, the header first. A Fault where a picture's table has another header than the first one's, or its further table other rows."""
-    parts, header = list(parts), None
-    fits = any(part.fit > 1 for part in parts)
-    more = next((rows_of(part.rest)[0] for part in parts if part.rest), [])
-    for part in parts:
+@dataclass(frozen=True)
+class Joint:
+    """How the tables of pictures are put together: the columns of each, those of their further tables, whether each row tells how many of the
+    image's pixels one of the picture's is wide, and in what lengths are told."""
+
+    header: Row
+    more: Row
+    fits: bool
+    pixel: Size | None
+
+    def names(self, part: Part) -> Row:
+        """The names of the columns, where this is one of the pictures."""
+        further = _further(self.header, part, self.pixel, self.fits)
+        return ["image", *(["fit"] if self.fits else []), *self.header, *(column.name for column in further), *self.more]
+
+    def rows(self, part: Part) -> Iterator[Row]:
+        """The rows of a picture. A Fault where its table has other columns, or its further table other rows."""
         first, *rest = rows_of(part.table) or [[]]
-        further = list(_further(first, part, pixel, fits))
-        if header is None:
-            header = first
-            yield ["image", *(["fit"] if fits else []), *header, *(column.name for column in further), *more]
-        if first != header:
-            raise Fault(
-                part.image,
-                "its table has other columns than the others have",
-                "was it made by another version? measure again into an empty folder",
-            )
-        own = [part.image, *([str(part.fit)] if fits else [])]
-        for row, others in zip(rest, _rest(part, more, len(rest))):
+        if first != self.header:
+            raise Fault(part.image, "its table has other columns than the others have", "was it made by another version? measure again into an empty folder")
+        further, own = list(_further(first, part, self.pixel, self.fits)), [part.image, *([str(part.fit)] if self.fits else [])]
+        for row, others in zip(rest, _rest(part, self.more, len(rest))):
             yield [*own, *row, *(column.of(row[column.at]) if row[column.at] else "" for column in further), *others]
 
 
@@ -100,16 +104,17 @@ class Further:
     of: Callable[[str], str]
 
 
-def _further(header: Row, part: Part, pixel: Pixel | None, fits: bool) -> Iterator[Further]:
+def _further(header: Row, part: Part, size: Size | None, fits: bool) -> Iterator[Further]:
     """Places in pixels of the image where some image was made smaller; and in the unit the lengths and areas, and where centroids are."""
     at = {name: k for k, name in enumerate(header)}
     placed = {name: partial(in_image, name, fit=part.fit, sides=part.original) for name in header if name in PLACES}
     if fits:
         yield from (Further(f"{name}_px", at[name], of) for name, of in placed.items())
-    if pixel:
-        yield from (Further(pixel.column(name), at[name], partial(pixel.times, power=POWERS[name], fit=part.fit)) for name in header if name in POWERS)
-        yield from (Further(f"{name}_{pixel.unit}", at[name], _scaled(pixel, placed[name])) for name in "xyz" if name in at)
+    if size:
+        own = part.size or size
+        yield from (Further(size.column(name), at[name], partial(own.times, power=POWERS[name], fit=part.fit)) for name in header if name in POWERS)
+        yield from (Further(f"{name}_{size.unit}", at[name], _scaled(own, axis, placed[name])) for axis, name in enumerate("xyz") if name in at)
 
 
-def _scaled(pixel: Pixel, place: Callable[[str], str]) -> Callable[[str], str]:
-    return lambda value: pixel.times(place(value), 1)
+def _scaled(size: Size, axis: int, place: Callable[[str], str]) -> Callable[[str], str]:
+    return lambda value: size.along(axis, place(value))

@@ -8,14 +8,16 @@ import numpy as np
 from .faults import Fault
 from .filters import Filters
 from .images import Grey
+from .scans.asked import Asked
 
 
 @dataclass(frozen=True)
 class Settings:
     """What a user asked for: a threshold (`107`, `50%` or None: chosen), the object's side of it (`dark`, `light` or None: chosen),
     how labels are taken (`each`, `all`, or None: no labels), how many pixels of an image one pixel of its picture is wide (or
-    None: as few as the greatest side lets), which channel is taken (None: the only one with values, or colours made grey), and what is
-    done before and after the threshold."""
+    None: as few as the greatest side lets), which channel is taken (None: the only one with values, or colours made grey), what is
+    done before and after the threshold, how a volume is read, and where the images lie whose intensities are measured (None: those of the image itself; empty:
+    others, that are not there)."""
 
     threshold: str | None = None
     objects: str | None = None
@@ -23,6 +25,8 @@ class Settings:
     fit: int | None = 1
     channel: str | None = None
     filters: Filters = Filters()
+    scan: Asked = Asked()
+    intensities: str | None = None
 
 
 @dataclass(frozen=True)

@@ -14,6 +14,7 @@ from .faults import Fault, Missing
 
 _BITS, _SAMPLES, _PLANES, _ORIENTATION = 258, 277, 284, 274
 _CHANNELS = "SC"
+TURNED = "turned upright as its camera says"
 
 # By the tag `orientation`: whether rows and columns change places, and then which axes are turned over.
 _TURNS = {2: (0, (1,)), 3: (0, (0, 1)), 4: (0, (0,)), 5: (1, ()), 6: (1, (1,)), 7: (1, (0, 1)), 8: (1, (0,))}
@@ -95,7 +96,12 @@ def _upright(values: np.ndarray, page: Any) -> tuple[np.ndarray, list[str]]:
         values, notes = np.iinfo(values.dtype).max - values, ["turned from white to black, as it says that 0 is white"]
     tag = page.tags.get(_ORIENTATION)
     if tag is not None and tag.value in _TURNS:
-        swap, turned = _TURNS[tag.value]
-        values = np.flip(values.swapaxes(1, 2) if swap else values, [1 + axis for axis in turned])
-        notes.append("turned upright as its camera says")
+        values, told = turned(values, tag.value)
+        notes.append(told)
     return values, notes
+
+
+def turned(values: np.ndarray, orientation: int) -> tuple[np.ndarray, str]:
+    """Pages [page, y, x, ..] as a tag `orientation` says that they are to be seen, and in words what was done."""
+    swap, over = _TURNS.get(orientation, (0, ()))
+    return np.flip(values.swapaxes(1, 2) if swap else values, [1 + axis for axis in over]), TURNED

@@ -3,17 +3,20 @@ from __future__ import annotations
 
 import argparse
 from pathlib import Path
-from typing import Any
+from typing import TYPE_CHECKING, Any
 
 from secondreading.limits import MOST_FLAT, MOST_SOLID
 
 from . import __version__
-from .arrays import RULES
-from .channels import NAMES as CHANNELS
-from .filters import Filters
-from .thresholds import Settings
+from .choices import CHANNELS, MASKS, RULES
+from .hands import PATIENCE
+from .scans.asked import Asked
+from .scans.words import size_words, volume_words
+from .shares import Share
 
-MASKS = ("object", "skeleton", "distances", "squares", "thickness")
+if TYPE_CHECKING:
+    from .thresholds import Settings
+
 _STATUS = """
 status: 0 all is well; 1 an image failed, or something in a folder is not as it has to be; 2 the words are no command; 3 nothing could be done;
 130 stopped: the same command goes on where it was.
@@ -44,6 +47,10 @@ def _count(word: str) -> int:
     if int(word) < 1:
         raise ValueError(word)
     return int(word)
+
+
+def _share(word: str) -> Share:
+    return Share.told(word)
 
 
 def _channel(word: str) -> str:
@@ -98,8 +105,8 @@ def _conversion(parser: argparse.ArgumentParser) -> None:
     parser.add_argument("--fit", action="store_true", help=f"make images that are too large smaller, by whole numbers of pixels: sides go up to {MOST_FLAT} pixels, or {MOST_SOLID} voxels")
 
 
-def _making(parser: argparse.ArgumentParser) -> None:
-    """The words that say what is made of the pictures."""
+def _making(parser: argparse.ArgumentParser) -> argparse._MutuallyExclusiveGroup:
+    """The words that say what is made of the pictures; those about the size of a pixel are given back."""
     size = parser.add_mutually_exclusive_group()
     size.add_argument(
         "--pixel-size", nargs=2, metavar=("L", "UNIT"), help="how wide a pixel is: lengths and areas are told in this unit, too"
@@ -111,35 +118,60 @@ def _making(parser: argparse.ArgumentParser) -> None:
     packing = parser.add_mutually_exclusive_group()
     packing.add_argument("--plain", action="store_true", help="keep the reports as text: else they are packed, to a fourth of their size")
     packing.add_argument("--gzip", dest="plain", action="store_false", default=False, help=argparse.SUPPRESS)
+    parser.add_argument("--no-draw", action="store_true", help="make no drawings and no small pictures, which take most of the time")
+    parser.add_argument("--no-report", action="store_true", help="keep the tables alone, without reports and pictures: then nothing can be checked later")
     parser.add_argument(
         "--masks", action="append", choices=MASKS, default=[], help="also write a picture of this; may be given again for another"
     )
+    parser.add_argument(
+        "--share", type=_share, metavar="K/N", help="measure share K of N alone, into FOLDER/shares/K: which images are its follows from their names; shapes join makes the tables of all"
+    )
+    parser.add_argument("--base", type=Path, metavar="BASE", help="names of images are those below this folder (else below the deepest one that holds all)")
+    parser.add_argument(
+        "--patience", type=_size, default=PATIENCE, metavar="SECONDS", help="how long another run that has the folder in hand may give no sign of life before it is taken over (60)"
+    )
     parser.add_argument("-o", dest="folder", type=Path, default=Path("measured"), metavar="FOLDER", help="where all is written (measured)")
+    return size
 
 
 def _further(measure: argparse.ArgumentParser) -> None:
     """The words of `shapes measure` alone: what is made of a picture beside its table."""
+    network_words(measure)
     measure.add_argument(
+        "--sides", action="store_true", help="also find straight sides, corners and circles: sides.csv, corners.csv, circles.csv"
+    )
+    measure.add_argument("--long", type=_count, default=20, metavar="STEPS", help="a straight side has at least so many steps (20)")
+
+
+def network_words(parser: argparse.ArgumentParser) -> None:
+    """The words about networks, of images and of volumes."""
+    parser.add_argument(
         "--network",
         action="store_true",
         help="also measure each skeleton as a network: networks.csv, branches.csv with a row for each branch, and widths.csv",
     )
-    measure.add_argument(
+    parser.add_argument(
         "--prune",
         type=_size,
         metavar="L",
         help="with --network, leave out branches shorter than L: in the unit of the pixel's size if that is given, else in pixels",
     )
-    measure.add_argument(
+    parser.add_argument(
         "--classes",
         type=_classes,
         metavar="W,W,..",
         help="with --network, the widths between the classes of widths.csv, in the same unit (else some 2 pixels each)",
     )
-    measure.add_argument(
-        "--sides", action="store_true", help="also find straight sides, corners and circles: sides.csv, corners.csv, circles.csv"
+
+
+def _valued(parser: argparse.ArgumentParser) -> None:
+    """The word that says whose grey values are measured."""
+    parser.add_argument(
+        "--intensities",
+        metavar="IMAGES",
+        help="measure the intensities of other images, as those of labels or masks: the folder that has one of the same name, with any ending, for each; "
+        "or such an image. --channel is then one of theirs",
     )
-    measure.add_argument("--long", type=_count, default=20, metavar="STEPS", help="a straight side has at least so many steps (20)")
 
 
 def _checking(words: argparse._SubParsersAction) -> argparse.ArgumentParser:
@@ -152,6 +184,9 @@ def _checking(words: argparse._SubParsersAction) -> argparse.ArgumentParser:
         action="store_true",
         help="check FOLDER, or reports that lie beside their pictures, by a second reading in Python, without the proved program",
     )
+    part = check.add_mutually_exclusive_group()
+    part.add_argument("--share", type=_share, metavar="K/N", help="check share K of N of FOLDER alone")
+    part.add_argument("--tables", action="store_true", help="check what shapes join wrote in FOLDER, without its shares")
     check.add_argument(
         "--originals",
         type=Path,
@@ -168,6 +203,14 @@ def _checking(words: argparse._SubParsersAction) -> argparse.ArgumentParser:
     return check
 
 
+def _joining(words: argparse._SubParsersAction) -> None:
+    join = words.add_parser("join", help="the tables, the page and the record of all shares of a folder", epilog=_STATUS)
+    join.add_argument("folder", type=Path, metavar="FOLDER", help="the folder that the shares were measured into")
+    join.add_argument("images", nargs="*", type=Path, metavar="IMAGE", help="the images that have to be there: those that are missing are named")
+    join.add_argument("--base", type=Path, metavar="BASE", help="names of images are those below this folder (else below the deepest one that holds all)")
+    join.add_argument("--patience", type=_size, default=PATIENCE, metavar="SECONDS", help="as for shapes measure (60)")
+
+
 def parser() -> argparse.ArgumentParser:
     """The words of the command."""
     top = argparse.ArgumentParser(
@@ -177,15 +220,19 @@ def parser() -> argparse.ArgumentParser:
     words = top.add_subparsers(dest="command", required=True, metavar="COMMAND")
     measure = words.add_parser("measure", help="images to tables, drawings and reports", epilog=_STATUS)
     measure.add_argument("images", nargs="+", type=Path, metavar="IMAGE", help="an image, or a folder of images")
+    _valued(measure)
     _further(measure)
     volume = words.add_parser("volume", help="the same for volumes", epilog=_STATUS)
-    volume.add_argument(
-        "images", nargs="+", type=Path, metavar="VOLUME", help="a folder of slices, a TIFF of several pages, or a .npy file [z, y, x]"
-    )
-    volume.set_defaults(network=False, prune=None, classes=None, sides=False, long=20)
+    volume_words(volume)
+    network_words(volume)
+    volume.set_defaults(sides=False, long=20)
     for part in (measure, volume):
-        _making(part)
+        sizes = _making(part)
+        if part is volume:
+            size_words(sizes)
+    _joining(words)
     check = _checking(words)
+    _valued(check)
     for part in (measure, volume, check):
         _conversion(part)
         part.add_argument("--jobs", type=_count, default=1, metavar="N", help="how many images at once")
@@ -210,11 +257,16 @@ def settings_of(words: argparse.Namespace) -> Settings:
 
 def settings_told(options: dict[str, Any]) -> Settings:
     """How images are made black and white, by the options of a command or of a run."""
+    from .filters import Filters
+    from .thresholds import Settings
+
     fit = None if options["fit"] else 1
-    return Settings(options["threshold"], options["objects"], options["labels"], fit, options["channel"], Filters.told(options))
+    told = (options["threshold"], options["objects"], options["labels"], fit, options["channel"])
+    return Settings(*told, Filters.told(options), Asked.told(options), options.get("intensities"))
 
 
 def options_of(words: argparse.Namespace) -> dict[str, object]:
     """The options for the record of a run, but those that change no number."""
-    left_out = ("command", "images", "jobs", "folder")
-    return {"command": words.command, **{name: value for name, value in vars(words).items() if name not in left_out}}
+    left_out = ("command", "images", "jobs", "folder", "patience", "share", "base")
+    told = {name: str(value) if isinstance(value, Path) else value for name, value in vars(words).items() if name not in left_out}
+    return {"command": words.command, **told}

@@ -24,8 +24,15 @@ def installed(*packages: str) -> bool:
     return all(importlib.util.find_spec(package) for package in packages)
 
 
-# The workbook and the page of a run, where they are made.
-PAGE = [name for name, package in (("objects.xlsx", "openpyxl"), ("index.html", "jinja2")) if installed(package)]
+# The workbook of a run, and its page, where it is made.
+PAGE = ["objects.xlsx", *(["index.html"] if installed("jinja2") else [])]
+
+
+def measured(told: str, folder: str = "out") -> str:
+    """The last line of a run that measured so many images, as `3 of 3`, and made a page where that can be."""
+    page = f"{folder}/index.html" if folder != "." else "index.html"
+    return f"{told} measured, in {folder}" + (f"; open {page}" if installed("jinja2") else ": summary.txt tells how")
+
 
 needs_shape = unittest.skipUnless(programs.has(), "the program shape is not built")
 slow = unittest.skipUnless(os.environ.get("SHAPES_SLOW"), "it takes minutes: set SHAPES_SLOW=1")

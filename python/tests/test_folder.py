@@ -9,7 +9,6 @@ import random
 import shutil
 import subprocess
 import tempfile
-import types
 import unittest
 import unittest.mock
 import zipfile
@@ -17,7 +16,7 @@ from pathlib import Path
 
 import numpy as np
 
-from .common import PAGE, STORED, InFolder, installed, needs_pillow, needs_shape, random_mask, slow
+from .common import PAGE, STORED, InFolder, installed, measured, needs_pillow, needs_shape, random_mask, slow
 
 from shapefront import programs
 from shapefront.files import spelled_json
@@ -56,21 +55,19 @@ def save_images():
 class Remembered:
     """The program's answers by its words and the bytes of the files that they name: equal ones are not asked for again."""
 
-    PIPE, DEVNULL = subprocess.PIPE, subprocess.DEVNULL
-
     def __init__(self):
         self.answers = {}
 
-    def run(self, words, stdin, stdout, stderr):
+    def run(self, words, out, message):
         key = tuple(hashlib.sha256(Path(word).read_bytes()).digest() if os.path.isfile(word) else str(word) for word in words[1:])
         if key not in self.answers:
-            done = subprocess.run(words, stdin=stdin, stdout=subprocess.PIPE, stderr=stderr)
+            done = subprocess.run(words, stdin=subprocess.DEVNULL, stdout=subprocess.PIPE, stderr=subprocess.PIPE)
             self.answers[key] = done.returncode, done.stdout, done.stderr
-        status, text, message = self.answers[key]
-        if stdout is not subprocess.PIPE:
-            stdout.write(text)
-            stdout.flush()
-        return types.SimpleNamespace(returncode=status, stdout=text, stderr=message)
+        status, *told = self.answers[key]
+        for number, data in zip((out, message), told):
+            with open(number, "wb", closefd=False) as file:
+                file.write(data)
+        return status
 
 
 def contents(folder):
@@ -91,7 +88,7 @@ class OfFolders(InFolder):
     def setUp(self):
         super().setUp()
         if not os.environ.get("SHAPES_SLOW"):
-            patch = unittest.mock.patch.object(programs, "subprocess", self.remembered)
+            patch = unittest.mock.patch.object(programs, "_run", self.remembered.run)
             patch.start()
             self.addCleanup(patch.stop)
         if not any(self.made.iterdir()):
@@ -562,7 +559,7 @@ class Told(OfFolders):
         Path("here").mkdir()
         shutil.copy(self.made / "one.pbm", "here/one.pbm")
         os.chdir("here")
-        self.assertEqual(self.shapes("measure", "one.pbm", "-o", "."), (0, ["1 of 1 measured, in .: summary.txt tells how"], []))
+        self.assertEqual(self.shapes("measure", "one.pbm", "-o", "."), (0, [measured("1 of 1", ".")], []))
         self.assertEqual(self.check(".")[0], 0)
         Path("one.pbm").write_bytes(Path("one.pbm").read_bytes() + b"x")
         status, out = self.check(".")
@@ -617,7 +614,7 @@ class Told(OfFolders):
         Image.fromarray(np.eye(9, dtype=np.uint8) * 255).save("made.png")
         Path("made.png").rename("made")
         status, out, error = self.shapes("measure", "made", "-o", "out")
-        self.assertEqual((status, out), (1, ["0 of 1 measured, in out: summary.txt tells how"]))
+        self.assertEqual((status, out), (1, [measured("0 of 1")]))
         self.assertIn("made: its record would have the name of that of all, made.json; rename it", error[0])
 
     def test_a_record_of_a_stranger(self):

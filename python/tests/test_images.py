@@ -40,14 +40,15 @@ def disc(side=60, radius=15, x=30, y=25):
     return (columns - x) ** 2 + (rows - y) ** 2 < radius**2
 
 
-def deep_png(path, values):
-    """A PNG of 16 bits with red, green and blue."""
+def deep_png(path, values, *further):
+    """A PNG of 16 bits with the channels of these values, and with further chunks."""
     def chunk(kind, data):
         return struct.pack(">I", len(data)) + kind + data + struct.pack(">I", zlib.crc32(kind + data))
 
     rows = b"".join(b"\0" + row.astype(">u2").tobytes() for row in values)
-    head = struct.pack(">IIBBBBB", values.shape[1], values.shape[0], 16, 2, 0, 0, 0)
-    Path(path).write_bytes(b"\x89PNG\r\n\x1a\n" + chunk(b"IHDR", head) + chunk(b"IDAT", zlib.compress(rows)) + chunk(b"IEND", b""))
+    head = struct.pack(">IIBBBBB", values.shape[1], values.shape[0], 16, {2: 4, 3: 2, 4: 6}[values.shape[2]], 0, 0, 0)
+    parts = ((b"IHDR", head), *further, (b"IDAT", zlib.compress(rows)), (b"IEND", b""))
+    Path(path).write_bytes(b"\x89PNG\r\n\x1a\n" + b"".join(chunk(*part) for part in parts))
 
 
 @needs_tifffile
@@ -132,11 +133,45 @@ class Channels(InFolder):
         tifffile.imwrite("fax.tif", self.colours[:2], photometric="miniswhite")
         np.testing.assert_array_equal(load(Path("fax.tif"), channel="1").values, 65535 - self.colours[0])
 
+    def test_sixteen_bits_of_a_png_and_a_ppm(self):
+        colours = np.moveaxis(self.colours, 0, 2)
+        deep_png("deep.png", colours)
+        Path("deep.ppm").write_bytes(b"P6\n# a comment\n60 60 65535\n" + colours.astype(">u2").tobytes())
+        for name in ("deep.png", "deep.ppm"):
+            np.testing.assert_array_equal(load(Path(name)).values, self.grey)
+            self.assertEqual(load(Path(name)).notes, ("colours made grey",))
+            np.testing.assert_array_equal(load(Path(name), channel="green").values, self.colours[1])
+            np.testing.assert_array_equal(load(Path(name)).colours, colours >> 8)
+        draw = np.random.default_rng(2)
+        for channels in (2, 4):
+            values = draw.integers(0, 65536, (20, 30, channels)).astype(np.uint16)
+            deep_png("alpha.png", values)
+            for k in range(channels):
+                np.testing.assert_array_equal(load(Path("alpha.png"), channel=str(k + 1)).values, values[:, :, k])
+        values[:10, :, 3], values[10:, :, 3] = 0, 65535
+        deep_png("clear.png", values)
+        clear = load(Path("clear.png"))
+        self.assertEqual(clear.notes, ("transparent paper made white", "colours made grey"))
+        np.testing.assert_array_equal(clear.values[:10], 65535)
+        np.testing.assert_array_equal(clear.values[10:], luminance(values[10:, :, :3]))
+
+    def test_a_deep_png_with_a_clear_colour_or_on_its_side(self):
+        colours = np.moveaxis(self.colours, 0, 2)[:50]
+        deep_png("clear.png", colours, (b"tRNS", colours[7, 9].astype(">u2").tobytes()))
+        clear = load(Path("clear.png"))
+        self.assertEqual(clear.notes, ("transparent paper made white", "colours made grey"))
+        np.testing.assert_array_equal(clear.values, np.where((colours == colours[7, 9]).all(2), 65535, self.grey[:50]))
+        deep_png("turned.png", colours, (b"eXIf", b"II*\0\x08\0\0\0\x01\0\x12\x01\x03\0\x01\0\0\0\x06\0\0\0\0\0\0\0"))
+        np.testing.assert_array_equal(load(Path("turned.png")).values, np.rot90(self.grey[:50], -1))
+
     def test_bits_that_are_not_used_are_told(self):
         deep_png("deep.png", np.moveaxis(self.colours, 0, 2))
-        self.assertIn("the lower 8 of its 16 bits are not used", load(Path("deep.png")).notes[0])
-        Path("deep.ppm").write_bytes(b"P6 60 60 65535\n" + np.moveaxis(self.colours, 0, 2).astype(">u2").tobytes())
-        self.assertIn("the lower 8 of its 16 bits are not used", load(Path("deep.ppm")).notes[0])
+        with unittest.mock.patch("shapefront.images.deep_values", lambda *_: None):
+            self.assertIn("the lower 8 of its 16 bits are not used", load(Path("deep.png")).notes[0])
+        data = Path("deep.png").read_bytes()
+        Path("cut.png").write_bytes(data[: len(data) // 2])
+        with self.assertRaisesRegex(Fault, "a broken image"):
+            load(Path("cut.png"))
         Image.fromarray(self.colours[0]).save("one.png")
         self.assertEqual(load(Path("one.png")).notes, ())
         np.testing.assert_array_equal(load(Path("one.png")).values, self.colours[0])

@@ -15,7 +15,7 @@ from pathlib import Path
 
 import numpy as np
 
-from .common import HERE, PAGE, InFolder, installed, needs_pillow, needs_shape, random_mask
+from .common import HERE, PAGE, InFolder, installed, measured, needs_pillow, needs_shape, random_mask
 
 from secondreading.limits import MOST_SOLID
 from shapefront import programs, read
@@ -45,7 +45,7 @@ class Measuring(InFolder):
         self.save(3)
         Path("in/notes.txt").write_text("not an image")
         status, out, error = self.shapes("measure", "in", "--pixel-size", "0.5", "mm", "-o", "out")
-        self.assertEqual((status, out), (0, ["3 of 3 measured, in out: summary.txt tells how"]), error)
+        self.assertEqual((status, out), (0, [measured("3 of 3")]), error)
         self.assertIn("passed over, as their names are not those of images: 1 of the files", error)
         wanted = [f"evidence/{k:03}.png{suffix}" for k in range(3) for suffix in (".csv", ".json", ".pbm", ".report.gz")]
         self.assertLessEqual({*wanted, *(f"drawings/{k:03}.png.svg" for k in range(3)), "evidence/made.json", "objects.csv", "pictures.csv", "summary.txt"}, set(contents("out")))
@@ -85,7 +85,7 @@ class Measuring(InFolder):
         self.save(12, 12)
         Path("in/005.png").write_bytes(Path("in/005.png").read_bytes()[:-40])
         status, out, error = self.shapes("measure", "in", "-o", "out", "--jobs", "2")
-        self.assertEqual((status, out), (1, ["11 of 12 measured, in out: summary.txt tells how"]))
+        self.assertEqual((status, out), (1, [measured("11 of 12")]))
         self.assertEqual(sum("005.png: a broken image" in line for line in error), 1)
         self.assertEqual(len(list(Path("out").rglob("*.png.report.gz"))), 11)
         self.assertIn("in/005.png", json.loads(Path("out/evidence/made.json").read_text())["images"][5]["failure"])
@@ -174,7 +174,7 @@ class Measuring(InFolder):
         for k, page in enumerate(mask):
             Image.fromarray(page.astype(np.uint8) * 255).save(f"slices/s{k}.png")
         status, out, error = self.shapes("volume", "v.npy", "slices", "--light", "--pixel-size", "2", "mm", "-o", "out")
-        self.assertEqual((status, out), (0, ["2 of 2 measured, in out: summary.txt tells how"]), error)
+        self.assertEqual((status, out), (0, [measured("2 of 2")]), error)
         self.assertIn("v.npy: x 12, y 10, z 8", Path("out/summary.txt").read_text())
         self.assertEqual(Path("out/evidence/v.npy.report.gz").read_bytes(), Path("out/evidence/slices.report.gz").read_bytes())
         self.assertEqual(self.shapes("check", "out")[0], 0)
@@ -188,7 +188,7 @@ class Measuring(InFolder):
         for name, side in (("a1.png", 4), ("a2.png", 5)):
             Image.fromarray(np.zeros((3, side), np.uint8)).save(f"mixed/{name}")
         status, out, error = self.shapes("volume", "good.npy", "large.npy", "mixed", "nowhere", "-o", "out")
-        self.assertEqual((status, out, len(error)), (1, ["1 of 4 measured, in out: summary.txt tells how"], 3))
+        self.assertEqual((status, out, len(error)), (1, [measured("1 of 4")], 3))
         for line, begin in zip(error, (f"large.npy: too large: x {MOST_SOLID + 1}, y 3, z 3", "mixed: slices of different sizes", "nowhere: no such file")):
             self.assertTrue(line.startswith(begin), error)
 

@@ -13,7 +13,7 @@ from .common import PAGE, ROOT, STORED, InFolder, installed, needs_pillow, needs
 from shapefront import read
 from shapefront.components import numbered
 from shapefront.filters import holes_of
-from shapefront.networks import length
+from shapefront.network import length
 from shapefront.pictures import pbm_mask, spelled
 from shapefront.thin import neighbours, pruned, split
 

@@ -23,6 +23,7 @@ if installed("PIL"):
 
 needs_jinja = unittest.skipUnless(installed("jinja2"), "Jinja2 is not installed")
 ROWS = "return [...document.querySelectorAll('tbody tr[data-row]')].map((line) => [...line.children].map((cell) => cell.textContent))"
+TOLD = ROWS.replace("cell.textContent", "cell.title || cell.textContent")
 COUNT = "return document.getElementById('count').textContent"
 POINTED = "return [...document.querySelectorAll('tr.pointed')].map((line) => Number(line.dataset.row))"
 LIT = """const mark = document.getElementById('mark'), data = mark.getContext('2d').getImageData(0, 0, mark.width, mark.height).data;
@@ -82,7 +83,15 @@ class InBrowser(InFolder):
         self.assertEqual(names[:3], ["image", "object", "area_um2"])
         shown = self.browser.run(ROWS)
         self.assertGreater(len(shown), 10)
-        self.assertEqual(shown, [[row[name] for name in names] for row in self.rows[: len(shown)]])
+        told = self.browser.run(TOLD)
+        self.assertEqual(told, [[row[name] for name in names] for row in self.rows[: len(told)]])
+        for name, few, all_of_it in ((name, *cells) for own, whole in zip(shown, told) for name, *cells in zip(names, own, whole)):
+            if name.startswith("intensity_"):
+                self.assertLessEqual(len(few.partition(".")[2].lstrip("0")), 4, few)
+                self.assertLessEqual(abs(float(few) - float(all_of_it)), 5.001e-4 * abs(float(all_of_it)))
+            else:
+                self.assertEqual(few, all_of_it)
+        self.assertTrue(any(len(few) < len(whole) for own in zip(shown, told) for few, whole in zip(*own)))
         self.browser.click("#all")
         self.assertEqual(sorted(self.browser.run("return visible().map((column) => column.name)")), sorted(self.rows[0]))
 

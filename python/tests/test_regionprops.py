@@ -1,11 +1,12 @@
 """Beside scikit-image's regionprops_table of the same masks: every column that both have agrees. And intensities beside numpy."""
 import csv
+import re
 import unittest
 from pathlib import Path
 
 import numpy as np
 
-from .common import InFolder, installed, needs_pillow, needs_shape, random_mask
+from .common import ROOT, InFolder, installed, needs_pillow, needs_shape, random_mask
 
 from shapefront.components import numbered
 
@@ -23,6 +24,8 @@ def table(path):
     return {name: np.array(column) if name == "image" else np.array(column, float) for name, column in zip(names, columns)}
 
 
+# Columns that a later program prints, of which the page tells when it does.
+NEW = ("euler", "convex_area", "convex_perimeter")
 # Our columns by those of regionprops_table, where the two mean the same; a box there ends behind its last pixel, rows come first.
 SAME = {
     "label": "object", "area": "area", "bbox-0": "top", "bbox-1": "left", "bbox-2": "bottom", "bbox-3": "right",
@@ -63,6 +66,19 @@ class Regionprops(InFolder):
             for name in ("intensity_mean", "intensity_min", "intensity_max"):
                 np.testing.assert_allclose(ours[SAME[name]], theirs[name], rtol=1e-9)
             np.testing.assert_array_equal(1 - ours["holes"], theirs["euler_number"])
+            np.testing.assert_array_equal(ours.get("euler", theirs["euler_number"]), theirs["euler_number"])
+
+    @unittest.skipUnless(installed("skimage"), "scikit-image is not installed")
+    def test_who_has_which_column_is_told(self):
+        from skimage.measure._regionprops import PROPS
+
+        page = (ROOT / "docs" / "FRONT.md").read_text()
+        told = page[page.index("Who has which column:") : page.index("## In millimetres")]
+        ours, theirs = (set(re.findall(r"`(\w+)[`-]", "\n".join(line.split(" | ")[k] for line in told.splitlines() if line.startswith("| ")))) for k in (0, 1))
+        self.assertEqual({name for name in PROPS.values() if name.removesuffix("_normalized").removesuffix("_central").removesuffix("_hu") not in theirs}, set())
+        self.measured(next(pictures())[1], 120)
+        names = set(Path("out/objects.csv").read_text().split("\n", 1)[0].split(",")) - ours
+        self.assertEqual({name for name in names if not name.startswith(("intensity_", "from_", "to_"))} - {"image", *NEW}, set())
 
     def test_intensities_are_those_of_numpy(self):
         for mask, grey, threshold in pictures():

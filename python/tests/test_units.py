@@ -4,8 +4,13 @@ import unittest
 from .common import ROOT  # noqa: F401  (puts the package on the path)
 
 from shapefront import Fault
-from shapefront.tables import Part, joined
+from shapefront.tables import Joint, Part, rows_of
 from shapefront.units import Pixel
+
+
+def joined(parts, pixel):
+    joint = Joint(rows_of(parts[0].table)[0], [], any(part.fit > 1 for part in parts), pixel)
+    return [joint.names(parts[0]), *(row for part in parts for row in joint.rows(part))]
 
 
 class Units(unittest.TestCase):

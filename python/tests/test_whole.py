@@ -16,7 +16,7 @@ from pathlib import Path
 
 import numpy as np
 
-from .common import HERE, PAGE, InFolder, installed, needs_pillow, needs_shape, random_mask, slow
+from .common import HERE, PAGE, InFolder, installed, measured, needs_pillow, needs_shape, random_mask, slow
 
 import shapefront
 from secondreading.limits import MOST_FLAT
@@ -83,7 +83,7 @@ class TwelveImages(InFolder):
     def test_what_is_said_and_found(self):
         names = [*self.SAID, *self.FAILED]
         status, out, error = self.shapes("measure", *names, "-o", "out", "--jobs", "4")
-        self.assertEqual((status, out, sorted(error)), (1, ["10 of 12 measured, in out: summary.txt tells how"], sorted(self.FAILED.values())))
+        self.assertEqual((status, out, sorted(error)), (1, [measured("10 of 12")], sorted(self.FAILED.values())))
         said = dict(re.findall(r"^(\S+): x .*\n((?:  .*\n)+)", Path("out/summary.txt").read_text(), re.M))
         pictures = {row["image"]: row for row in table("out/pictures.csv")}
         objects = table("out/objects.csv")
@@ -134,7 +134,7 @@ class TwoHundred(InFolder):
 
     def test_one_broken_and_a_stop_in_the_middle(self):
         whole = self.run_to_the_end("whole", "4")
-        self.assertEqual((whole.returncode, whole.stdout), (1, "199 of 200 measured, in whole: summary.txt tells how\n"))
+        self.assertEqual((whole.returncode, whole.stdout), (1, measured("199 of 200", "whole") + "\n"))
         self.assertEqual(whole.stderr.count("\n"), 1)
         self.assertTrue(whole.stderr.startswith("in/117.png: a broken image ("), whole.stderr)
         self.assertEqual(len([name for name in contents("whole") if re.fullmatch(r"evidence/\d+\.png\.csv", name)]), 199)

@@ -1,6 +1,4 @@
 """`objects.xlsx`, and tables that a spreadsheet opens right."""
-import json
-import sys
 import unittest
 import unittest.mock
 from pathlib import Path
@@ -9,7 +7,6 @@ import numpy as np
 
 from .common import InFolder, installed, needs_pillow, needs_shape, random_mask
 
-from shapefront.layout import MADE
 from shapefront.tables import marked, rows_of, text_of
 from shapefront.workbook import is_same, workbook
 
@@ -41,6 +38,10 @@ class Workbooks(unittest.TestCase):
         self.assertEqual(book.sheetnames, ["objects", "pictures"])
         self.assertEqual([[cell.value for cell in row] for row in book["objects"]], [["image", "area", "x"], ["=1+1.png", 3, 2.5], ["µ.png", 4, None], ["?.png", 1, 2]])
         self.assertEqual(book["objects"]["A2"].data_type, "s")
+        self.assertEqual(book["objects"].freeze_panes, "B2")
+        names = io.BytesIO(workbook({"objects.csv": "image,area\n007,1e-5\n<&\">,-0.25\n12,inf\n".encode()}))
+        cells = [[cell.value for cell in row] for row in openpyxl.load_workbook(names)["objects"]]
+        self.assertEqual(cells, [["image", "area"], ["007", 1e-5], ['<&">', -0.25], ["12", "inf"]])
         self.assertEqual(workbook(self.TABLES), data)
         self.assertTrue(is_same(data, data))
         self.assertFalse(is_same(data, workbook({"objects.csv": b"image,area,x\na,1,1\n"})))
@@ -84,14 +85,13 @@ class OfARun(InFolder):
         status, out, _ = self.shapes("check", "out")
         self.assertEqual((status, [line for line in out if ": no, " in line]), (1, ["out/objects.xlsx: no, its cells are not those of the tables"]))
 
-    def test_without_openpyxl(self):
-        with unittest.mock.patch.dict(sys.modules, {"openpyxl": None}):
+    def test_one_of_another_version_is_compared_by_its_sum(self):
+        with unittest.mock.patch("shapefront.runcheck.workbook_version", lambda: "other"):
             status, out, _ = self.shapes("check", "out")
             self.assertEqual(status, 0, out)
             self.assertIn("by sums alone, as another version made them, or what makes them is not installed: objects.xlsx", out[-1])
-            self.assertEqual(self.shapes("measure", "µm.png", "-o", "out")[0], 0)
-        self.assertFalse(Path("out/objects.xlsx").exists())
-        self.assertNotIn("objects.xlsx", json.loads(Path("out", MADE).read_text())["files"])
+            Path("out/objects.xlsx").write_bytes(Path("out/objects.xlsx").read_bytes()[:-1])
+            self.assertEqual(self.shapes("check", "out")[0], 1)
 
 
 def _plain(word):

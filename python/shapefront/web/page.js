@@ -31,7 +31,9 @@ function drawn(name, attributes) {
 }
 
 const text = (column, row) => (column.isImage ? images[column.values[row]].name : column.cells[row]);
-const brief = (told) => (told.length > 9 && Number.isFinite(Number(told)) ? String(Number(Number(told).toPrecision(6))) : told);
+// A number as a person reads it: with the digits that the program printed, and of a long one six, or four of what shapes computed from the image.
+const fewer = (told, digits) => String(Number(Number(told).toPrecision(Math.max(digits, Math.trunc(Math.abs(told)).toString().length))));
+const brief = (column, told) => (told.length > (column.isOwn ? 5 : 9) && told.includes(".") && Number.isFinite(Number(told)) ? fewer(told, column.isOwn ? 4 : 6) : told);
 const short = (value) => (Number.isFinite(value) ? String(Number(value.toPrecision(4))) : "");
 const visible = () => columns.filter((column) => state.isAll || !column.isHidden);
 const measured = () => columns.filter((column) => column.isMeasure && (state.isAll || !column.isHidden));
@@ -138,11 +140,16 @@ function body() {
   for (let k = first; k < last; k++) {
     const row = state.rows[k], line = element("tr", { class: row === state.pointed ? "pointed" : "" });
     line.dataset.row = row;
-    for (const column of shown) line.append(element("td", { class: column.isImage ? "left" : "", text: text(column, row) }));
+    for (const column of shown) line.append(cell(column, row));
     lines.push(line);
   }
   lines.push(space(state.rows.length - last, shown.length));
   document.querySelector("tbody").replaceChildren(...lines);
+}
+
+function cell(column, row) {
+  const told = text(column, row), few = column.isImage ? told : brief(column, told);
+  return element("td", few === told ? { class: column.isImage ? "left" : "", text: told } : { text: few, title: told });
 }
 
 function space(count, width) {
@@ -194,7 +201,7 @@ function values(row) {
   const told = row < 0 ? [] : columns.filter((column) => !column.isImage && !column.isHidden && text(column, row) !== "");
   if (row < 0) return at("values").replaceChildren(element("p", { class: "quiet", text: "Point at a row, or at an object in the image." }));
   at("values").replaceChildren(...told.map((column) =>
-    element("div", {}, element("dt", { text: column.title }), element("dd", { text: `${brief(text(column, row))} ${column.unit ?? ""}`, title: text(column, row) }))));
+    element("div", {}, element("dt", { text: column.title }), element("dd", { text: `${brief(column, text(column, row))} ${column.unit ?? ""}`, title: text(column, row) }))));
 }
 
 function mark(map, row) {
