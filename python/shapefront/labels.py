@@ -15,7 +15,7 @@ from .layout import HOLES
 from .places import moved
 from .tables import Row, rows_of, spelled_rows
 
-_SUMS = ("area", "voxels", "skeleton", "ends", "junctions", "holes", "border", "hole_border", "sides")
+_SUMS = ("area", "voxels", "skeleton", "ends", "junctions", "holes", "border", "hole_border", "sides", "euler", "surface")
 _LEAST, _GREATEST = ("left", "top", "x0", "y0", "z0"), ("right", "bottom", "x1", "y1", "z1")
 _DEEPEST = ("radius", "cx", "cy", "cz")
 _FERET = ("feret", "from_x", "from_y", "to_x", "to_y")

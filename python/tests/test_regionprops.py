@@ -24,8 +24,6 @@ def table(path):
     return {name: np.array(column) if name == "image" else np.array(column, float) for name, column in zip(names, columns)}
 
 
-# Columns that a later program prints, of which the page tells when it does.
-NEW = ("euler", "convex_area", "convex_perimeter")
 # Our columns by those of regionprops_table, where the two mean the same; a box there ends behind its last pixel, rows come first.
 SAME = {
     "label": "object", "area": "area", "bbox-0": "top", "bbox-1": "left", "bbox-2": "bottom", "bbox-3": "right",
@@ -66,7 +64,7 @@ class Regionprops(InFolder):
             for name in ("intensity_mean", "intensity_min", "intensity_max"):
                 np.testing.assert_allclose(ours[SAME[name]], theirs[name], rtol=1e-9)
             np.testing.assert_array_equal(1 - ours["holes"], theirs["euler_number"])
-            np.testing.assert_array_equal(ours.get("euler", theirs["euler_number"]), theirs["euler_number"])
+            np.testing.assert_array_equal(ours["euler"], theirs["euler_number"])
 
     @unittest.skipUnless(installed("skimage"), "scikit-image is not installed")
     def test_who_has_which_column_is_told(self):
@@ -78,7 +76,7 @@ class Regionprops(InFolder):
         self.assertEqual({name for name in PROPS.values() if name.removesuffix("_normalized").removesuffix("_central").removesuffix("_hu") not in theirs}, set())
         self.measured(next(pictures())[1], 120)
         names = set(Path("out/objects.csv").read_text().split("\n", 1)[0].split(",")) - ours
-        self.assertEqual({name for name in names if not name.startswith(("intensity_", "from_", "to_"))} - {"image", *NEW}, set())
+        self.assertEqual({name for name in names if not name.startswith(("intensity_", "from_", "to_"))} - {"image"}, set())
 
     def test_intensities_are_those_of_numpy(self):
         for mask, grey, threshold in pictures():
