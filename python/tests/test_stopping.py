@@ -14,7 +14,7 @@ from pathlib import Path
 import numpy as np
 
 from . import fake
-from .common import HERE, InFolder, needs_pillow
+from .common import HERE, InFolder, needs_pillow, slow
 
 from shapefront import Fault, Missing
 from shapefront.faults import Busy, Full
@@ -89,6 +89,7 @@ def is_alive(process):
 
 
 @needs_pillow
+@slow
 class Stopping(WithFake):
     def stopped(self, kind, jobs, pace, to_group):
         """A run that is stopped in the middle: it ends soon, leaves nothing half-made, and goes on later to what a whole run gives."""
@@ -171,6 +172,7 @@ class Stopping(WithFake):
 
 @needs_pillow
 class TwoRuns(WithFake):
+    @slow
     def test_the_second_is_told_of_the_first_and_both_are_whole(self):
         for before in ([], ["unshare", "--pid", "--fork", "--mount-proc"]):
             if before and subprocess.run([*before, "true"], capture_output=True).returncode:
